@@ -1,0 +1,4 @@
+pub mod Word
+pub mod Code
+pub mod Arithmetic
+pub mod FaultLine

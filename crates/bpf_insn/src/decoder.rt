@@ -1,0 +1,76 @@
+ghost use Rattle.std.specs.Prelude.{◌≡◌, ◌≢◌, ◌*◌, ◌≤◌, ◌<◌, ◌%◌, List, length, IfOk, IfErr, ◌⊎◌, OnOk, MatchResult, IsErrAnd};
+ghost use Rattle.bpf_insn.specs.Word.{words_of};
+ghost use Rattle.bpf_insn.specs.Code.{IsCodeOf, IsFirstFault, spelled};
+ghost use Rattle.bpf_insn.specs.declared.fault.CodeFault.{CodeFault};
+ghost use Rattle.bpf_insn.specs.declared.instruction.Insn.{Insn};
+
+use crate::code::{Code, WORD_LIMIT};
+use crate::fault::CodeFault;
+use crate::instruction::Insn;
+use crate::word::Word;
+use std::alloc::Allocator;
+
+/// How many bytes a word has.
+const WORD_BYTES: usize = 8;
+
+/// The code of a program's bytes, which are little-endian words (RFC 9669, section 3.1). The code
+/// keeps the allocator and takes nothing of `bytes`. Memory is asked for once, after the length was
+/// looked at.
+pub fn decode<A: Allocator + Copy>(alloc: A, bytes: &[u8]) -> Result<Code<A>, CodeFault>
+    ensures ok { IfOk result (IsCodeOf bytes.now) }
+    ensures err { IfErr result (IsFirstFault bytes.now) }
+
+    // Bytes that have a code are refused for memory alone, and have no other code.
+    ensures only { (code : List Insn) → IsCodeOf bytes.now code
+        → MatchResult result (λ decoded. decoded ≡ code) (λ fault. fault ≡ CodeFault.Memory) }
+
+    // Bytes that have a first fault are refused, with it or for memory.
+    ensures refused { (fault : CodeFault) → IsFirstFault bytes.now fault → fault ≢ CodeFault.Memory
+        → IsErrAnd result (λ given. (given ≡ fault) ⊎ (given ≡ CodeFault.Memory)) }
+{
+    read_code(alloc, bytes)
+}
+
+fn read_code<A: Allocator + Copy>(alloc: A, bytes: &[u8]) -> Result<Code<A>, CodeFault>
+    ensures ok { IfOk result (IsCodeOf bytes.now) }
+    ensures err { IfErr result (IsFirstFault bytes.now) }
+{
+    check_length(bytes)?;
+    let instructions = read_instructions(alloc, bytes)?;
+    Ok(Code::of(instructions))
+}
+
+/// Whether so many bytes can be a program.
+fn check_length(bytes: &[u8]) -> Result<(), CodeFault>
+    ensures ok { OnOk result
+        ((length bytes.now % 8 ≡ 0) × (0 < length bytes.now) × (length bytes.now ≤ 8 * WORD_LIMIT)) }
+    ensures err { IfErr result (IsFirstFault bytes.now) }
+{
+    if bytes.is_empty() {
+        return Err(CodeFault::Empty);
+    }
+    if bytes.len() % WORD_BYTES != 0 {
+        return Err(CodeFault::NotWhole);
+    }
+    if bytes.len() > WORD_BYTES * WORD_LIMIT {
+        return Err(CodeFault::TooLong);
+    }
+    Ok(())
+}
+
+fn read_instructions<A: Allocator + Copy>(alloc: A, bytes: &[u8]) -> Result<Vec<Insn, A>, CodeFault>
+    requires whole { length bytes.now % 8 ≡ 0 }
+    requires within { length bytes.now ≤ 8 * WORD_LIMIT }
+    ensures ok { IfOk result (λ instructions. words_of bytes.now ≡ spelled instructions.items) }
+    ensures err { IfErr result (IsFirstFault bytes.now) }
+{
+    let count = bytes.len() / WORD_BYTES;
+    let mut instructions = Vec::with_capacity(alloc, count)?;
+    for place in 0..count {
+        match Word::read(&bytes[place * WORD_BYTES..]).instruction() {
+            Ok(instruction) => instructions.push(instruction)?,
+            Err(fault) => return Err(CodeFault::InWord { place, fault }),
+        }
+    }
+    Ok(instructions)
+}

@@ -1,0 +1,18 @@
+//! What holds of the definitions themselves. The functions do nothing: each one's contract is the
+//! law.
+ghost use Rattle.std.specs.Prelude.{◌≡◌, ◌≢◌, ℕ, List};
+ghost use Rattle.bpf_insn.specs.Code.{IsCodeOf, IsFirstFault};
+ghost use Rattle.bpf_insn.specs.declared.fault.CodeFault.{CodeFault};
+ghost use Rattle.bpf_insn.specs.declared.instruction.Insn.{Insn};
+
+/// Bytes have at most one code.
+pub fn one_code()
+    ensures { (bytes : List ℕ) (a b : List Insn) → IsCodeOf bytes a → IsCodeOf bytes b → a ≡ b }
+{}
+
+/// Bytes have at most one first fault, apart from want of memory, which depends on more than the
+/// bytes.
+pub fn one_fault()
+    ensures { (bytes : List ℕ) (a b : CodeFault) → IsFirstFault bytes a → IsFirstFault bytes b
+        → a ≢ CodeFault.Memory → b ≢ CodeFault.Memory → a ≡ b }
+{}

@@ -1,0 +1,42 @@
+-- What several reads, or several writes, do to known bytes one after the other.
+use Rattle.std.proofs.Common.{ℕ, List, [], ◌++◌, Option, None, Some, sym, ◌∙◌, ap, append_assoc, refl}
+use Rattle.std.proofs.lemmas.List.{append-nil}
+use Rattle.std.specs.Io.KnownBytes.{Appends, Consumes, Keeps}
+
+-- where nothing was written, no byte was added
+pub Appends-refl : (known : Option (List ℕ)) → Appends known known []
+Appends-refl None = tt
+Appends-refl (Some xs) = sym (append-nil xs)
+
+-- a write, and then another
+pub Appends-append : (a b c : Option (List ℕ)) (xs ys : List ℕ) → Appends a b xs → Appends b c ys → Appends a c (xs ++ ys)
+Appends-append None b c xs ys first second = tt
+Appends-append (Some us) None c xs ys first second = absurd first
+Appends-append (Some us) (Some vs) None xs ys first second = absurd second
+Appends-append (Some us) (Some vs) (Some ws) xs ys first second =
+    second ∙ ap (λ front. front ++ ys) first ∙ append_assoc us xs ys
+
+-- a failed write added no byte
+pub Appends-from_keeps : (a b : Option (List ℕ)) → Keeps a b → Appends a b []
+Appends-from_keeps None b kept = tt
+Appends-from_keeps (Some us) None kept = absurd kept
+Appends-from_keeps (Some us) (Some vs) kept = kept ∙ sym (append-nil us)
+
+-- where nothing was read, no byte was taken
+pub Consumes-refl : (known : Option (List ℕ)) → Consumes known known []
+Consumes-refl None = tt
+Consumes-refl (Some xs) = refl
+
+-- a read, and then another
+pub Consumes-append : (a b c : Option (List ℕ)) (xs ys : List ℕ) → Consumes a b xs → Consumes b c ys → Consumes a c (xs ++ ys)
+Consumes-append None b c xs ys first second = tt
+Consumes-append (Some us) None c xs ys first second = absurd first
+Consumes-append (Some us) (Some vs) None xs ys first second = absurd second
+Consumes-append (Some us) (Some vs) (Some ws) xs ys first second =
+    first ∙ ap (λ rest. xs ++ rest) second ∙ sym (append_assoc xs ys ws)
+
+-- a failed read took no byte
+pub Consumes-from_keeps : (a b : Option (List ℕ)) → Keeps a b → Consumes a b []
+Consumes-from_keeps None b kept = tt
+Consumes-from_keeps (Some us) None kept = absurd kept
+Consumes-from_keeps (Some us) (Some vs) kept = sym kept

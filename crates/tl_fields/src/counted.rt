@@ -1,0 +1,207 @@
+//! Readers and writers that count the calls that went wrong.
+ghost use Rattle.std.specs.Prelude.{◌≡◌, ℕ};
+ghost use Rattle.std.specs.Io.{ReadsAtMost, WritesAtMost};
+ghost use Rattle.std.specs.Io.KnownBytes.{Keeps, ReadConsumes, WriteAppends};
+ghost use Rattle.tl_fields.specs.Counted.{CountsFailure, CountsEmptyWrite, CountsOneFailure, CountsOneEmptyWrite, KeepsCounts, next_count};
+
+use std::io;
+use std::io::{Read, Write};
+use std::marker::Model;
+
+/// A reader that counts its failures.
+///
+/// By the count a caller can prove that it reports a failed read only where a read failed, also of
+/// a file or a socket, of whose bytes no contract speaks.
+pub trait CountedRead: Read {
+    // How many reads failed, modulo 2^64.
+    ghost failed_reads: { Self → ℕ };
+
+    /// One read, with what `read` of [`Read`] says of its bytes.
+    fn read_counted(&mut self, buf: &mut [u8]) -> io::Result<usize>
+        ensures bound { ReadsAtMost result buf.new }
+        ensures bytes { ReadConsumes (Self.remaining self.old) (Self.remaining self.new) result buf.new }
+        ensures failures { CountsFailure result (failed_reads self.old) (failed_reads self.new) };
+}
+
+/// A writer that counts its failures, and the writes that were handed bytes and took none.
+///
+/// It serves the writing side as [`CountedRead`] does the reading side.
+pub trait CountedWrite: Write {
+    // How many writes failed, modulo 2^64.
+    ghost failed_writes: { Self → ℕ };
+
+    // How many writes were handed bytes and took none, modulo 2^64.
+    ghost empty_writes: { Self → ℕ };
+
+    /// One write, with what `write` of [`Write`] says of its bytes.
+    fn write_counted(&mut self, buf: &[u8]) -> io::Result<usize>
+        ensures bound { WritesAtMost result buf.now }
+        ensures bytes { WriteAppends (Self.contents self.old) (Self.contents self.new) result buf.now }
+        ensures failures { CountsFailure result (failed_writes self.old) (failed_writes self.new) }
+        ensures empty { CountsEmptyWrite result buf.now (empty_writes self.old) (empty_writes self.new) };
+}
+
+/// Any reader or writer, with its counts.
+///
+/// It adds no buffer: each call is one call of the inner reader or writer, and a failed one is not
+/// tried again. The counts begin at 0 and wrap at 2^64. A call of `flush` is never counted.
+#[derive(Drop)]
+pub struct Counting<T> {
+    inner: T,
+    failed_reads: u64,
+    failed_writes: u64,
+    empty_writes: u64,
+}
+
+impl<T> Model for Counting<T> {
+    ghost use Rattle.tl_fields.specs.Counted.{Counted, counted_code};
+
+    ghost Value = { Counted T };
+
+    ghost coded = { counted_code T.code };
+
+    ghost view = { λ c. record {
+      inner = c.inner;
+      failed_reads = c.failed_reads;
+      failed_writes = c.failed_writes;
+      empty_writes = c.empty_writes;
+    } };
+}
+
+impl<T> Counting<T> {
+    /// Takes the reader or writer as it stands, with every count at 0.
+    pub fn new(inner: T) -> Self
+        ensures { result ≡ record { inner = inner; failed_reads = 0; failed_writes = 0; empty_writes = 0 } }
+    {
+        Counting {
+            inner,
+            failed_reads: 0,
+            failed_writes: 0,
+            empty_writes: 0,
+        }
+    }
+
+    /// The inner reader or writer. What is done through it isn't counted.
+    pub fn get_ref(&self) -> &T
+        ensures { result.now ≡ self.now.inner }
+    {
+        &self.inner
+    }
+
+    /// Gives the inner reader or writer back, without the counts.
+    pub fn into_inner(self) -> T
+        ensures { result ≡ self.inner }
+    {
+        self.inner
+    }
+
+    /// How many reads failed, modulo 2^64.
+    pub fn failed_reads(&self) -> u64
+        ensures { result ≡ self.now.failed_reads }
+    {
+        self.failed_reads
+    }
+
+    /// How many writes failed, modulo 2^64.
+    pub fn failed_writes(&self) -> u64
+        ensures { result ≡ self.now.failed_writes }
+    {
+        self.failed_writes
+    }
+
+    /// How many writes were handed bytes and took none, modulo 2^64.
+    pub fn empty_writes(&self) -> u64
+        ensures { result ≡ self.now.empty_writes }
+    {
+        self.empty_writes
+    }
+}
+
+#[cold]
+fn count_one(count: &mut u64)
+    ensures { count.new ≡ next_count count.old }
+{
+    *count = count.wrapping_add(1);
+}
+
+impl<T: Read> Read for Counting<T> {
+    ghost remaining = { λ c. T.remaining c.inner };
+
+    #[inline]
+    fn read(&mut self, buf: &mut [u8]) -> io::Result<usize>
+        ensures bound { ReadsAtMost result buf.new }
+        ensures bytes { ReadConsumes (T.remaining self.old.inner) (T.remaining self.new.inner) result buf.new }
+        ensures failed_reads { CountsOneFailure result self.old.failed_reads self.new.failed_reads }
+        ensures failed_writes { self.new.failed_writes ≡ self.old.failed_writes }
+        ensures empty_writes { self.new.empty_writes ≡ self.old.empty_writes }
+    {
+        let result = self.inner.read(buf);
+        if result.is_err() {
+            count_one(&mut self.failed_reads);
+        }
+        result
+    }
+}
+
+impl<T: Write> Write for Counting<T> {
+    ghost contents = { λ c. T.contents c.inner };
+
+    #[inline]
+    fn write(&mut self, buf: &[u8]) -> io::Result<usize>
+        ensures bound { WritesAtMost result buf.now }
+        ensures bytes { WriteAppends (T.contents self.old.inner) (T.contents self.new.inner) result buf.now }
+        ensures failed_reads { self.new.failed_reads ≡ self.old.failed_reads }
+        ensures failed_writes { CountsOneFailure result self.old.failed_writes self.new.failed_writes }
+        ensures empty_writes { CountsOneEmptyWrite result buf.now self.old.empty_writes self.new.empty_writes }
+    {
+        let result = self.inner.write(buf);
+        match result {
+            Ok(0) if !buf.is_empty() => count_one(&mut self.empty_writes),
+            Ok(_) => {}
+            Err(_) => count_one(&mut self.failed_writes),
+        }
+        result
+    }
+
+    fn flush(&mut self) -> io::Result<()>
+        ensures bytes { Keeps (T.contents self.old.inner) (T.contents self.new.inner) }
+        ensures counts { KeepsCounts self.old self.new }
+    {
+        self.inner.flush()
+    }
+}
+
+impl<T: Read> CountedRead for Counting<T> {
+    ghost failed_reads = { λ c. c.failed_reads };
+
+    #[inline]
+    fn read_counted(&mut self, buf: &mut [u8]) -> io::Result<usize>
+        ensures bound { ReadsAtMost result buf.new }
+        ensures bytes { ReadConsumes (T.remaining self.old.inner) (T.remaining self.new.inner) result buf.new }
+        ensures failures { CountsFailure result self.old.failed_reads self.new.failed_reads }
+        ensures failed_reads { CountsOneFailure result self.old.failed_reads self.new.failed_reads }
+        ensures failed_writes { self.new.failed_writes ≡ self.old.failed_writes }
+        ensures empty_writes { self.new.empty_writes ≡ self.old.empty_writes }
+    {
+        self.read(buf)
+    }
+}
+
+impl<T: Write> CountedWrite for Counting<T> {
+    ghost failed_writes = { λ c. c.failed_writes };
+
+    ghost empty_writes = { λ c. c.empty_writes };
+
+    #[inline]
+    fn write_counted(&mut self, buf: &[u8]) -> io::Result<usize>
+        ensures bound { WritesAtMost result buf.now }
+        ensures bytes { WriteAppends (T.contents self.old.inner) (T.contents self.new.inner) result buf.now }
+        ensures failures { CountsFailure result self.old.failed_writes self.new.failed_writes }
+        ensures empty { CountsEmptyWrite result buf.now self.old.empty_writes self.new.empty_writes }
+        ensures failed_reads { self.new.failed_reads ≡ self.old.failed_reads }
+        ensures failed_writes { CountsOneFailure result self.old.failed_writes self.new.failed_writes }
+        ensures empty_writes { CountsOneEmptyWrite result buf.now self.old.empty_writes self.new.empty_writes }
+    {
+        self.write(buf)
+    }
+}

@@ -1,0 +1,12 @@
+//! Fields of a record line, their numbers, and readers and writers that count their failures.
+#![tactic(auto)]
+
+mod counted;
+mod fields;
+mod numbers;
+#[cfg(test)]
+mod tests;
+
+pub use counted::{CountedRead, CountedWrite, Counting};
+pub use fields::field;
+pub use numbers::number;
