@@ -1,0 +1,58 @@
+-- Runs are determined: two runs of one code on one segment agree as far as both go.
+use Rattle.std.proofs.Common.{◌≡◌, ℕ, ◌≤◌, List, [], ◌∷◌, ◌++◌, length, refl, sym, ap, ◌∙◌, subst, arith}
+use Rattle.bpf_insn.specs.declared.instruction.Insn.{Insn}
+use Rattle.bpf_meaning.specs.Segment.{Contents}
+use Rattle.bpf_meaning.specs.State.{start}
+use Rattle.bpf_meaning.specs.Step.{Configuration, Running, Exited, Stuck, after}
+use Rattle.bpf_meaning.specs.Run.{Step, HasOneNext, HasNoNext, FollowSteps, IsRun, last_of, Answers}
+use Rattle.bpf_meaning.specs.declared.cause.Cause.{Cause}
+use Rattle.bpf_meaning.specs.declared.state.State.{State}
+
+-- a configuration that has a next isn't ended, and has one next
+pub one_next : (code : List Insn) (segment : Contents) (from next other : Configuration) → Step code segment from next → Step code segment from other → next ≡ other
+one_next code segment (Running state) next other a b = a ∙ sym b
+one_next code segment (Exited answer score) next other a b = absurd a
+one_next code segment (Stuck place cause) next other a b = absurd a
+
+pub running_goes_on : (code : List Insn) (segment : Contents) (state : State) → HasOneNext code segment (Running state)
+running_goes_on code segment state = record { next = after code segment state; is_next = refl; only = λ other step. step }
+
+pub exited_ends : (code : List Insn) (segment : Contents) (answer score : ℕ) → HasNoNext code segment (Exited answer score)
+exited_ends code segment answer score next step = step
+
+pub stuck_ends : (code : List Insn) (segment : Contents) (place : ℕ) (cause : Cause) → HasNoNext code segment (Stuck place cause)
+stuck_ends code segment place cause next step = step
+
+-- two ways from one configuration agree as far as both go
+pub agree_from : (code : List Insn) (segment : Contents) (from : Configuration) (run longer : List Configuration) → FollowSteps code segment from run → FollowSteps code segment from longer → length run ≤ length longer → (rest : List Configuration) × (longer ≡ run ++ rest)
+agree_from code segment from [] longer f g short = (longer, refl)
+agree_from code segment from (next ∷ run) [] f g short = let no : ⊥ = omega (arith, short) in absurd no
+agree_from code segment from (next ∷ run) (there ∷ longer) f g short =
+    let same = one_next code segment from there next g.0 f.0 in
+    let more = agree_from code segment next run longer f.1 (subst (λ from. FollowSteps code segment from longer) same g.1) (omega (arith, short)) in
+    (more.0, ap (λ (c : Configuration). c ∷ longer) same ∙ ap (λ (l : List Configuration). next ∷ l) more.1)
+
+pub runs_agree_lem : (code : List Insn) (segment : Contents) (run longer : List Configuration) → IsRun code segment run → IsRun code segment longer → length run ≤ length longer → (rest : List Configuration) × (longer ≡ run ++ rest)
+runs_agree_lem code segment run longer f g short = agree_from code segment (Running start) run longer f g short
+
+-- from an ended configuration nothing follows
+pub ends_there : (code : List Insn) (segment : Contents) (answer score : ℕ) (run : List Configuration) → FollowSteps code segment (Exited answer score) run → last_of (Exited answer score) run ≡ Exited answer score
+ends_there code segment answer score [] follow = refl
+ends_there code segment answer score (next ∷ run) follow = absurd follow.0
+
+-- two ways that both exit, exit alike
+pub same_exit : (code : List Insn) (segment : Contents) (from : Configuration) (run others : List Configuration) (answer score other other_score : ℕ) → FollowSteps code segment from run → FollowSteps code segment from others → last_of from run ≡ Exited answer score → last_of from others ≡ Exited other other_score → Exited answer score ≡ Exited other other_score
+same_exit code segment from [] others answer score other other_score f g e h =
+    sym (ends_there code segment answer score others (subst (λ from. FollowSteps code segment from others) e g))
+    ∙ subst (λ from. last_of from others ≡ Exited other other_score) e h
+same_exit code segment from (next ∷ run) [] answer score other other_score f g e h =
+    absurd (subst (λ from. Step code segment from next) h f.0)
+same_exit code segment from (next ∷ run) (there ∷ others) answer score other other_score f g e h =
+    let same = one_next code segment from there next g.0 f.0 in
+    same_exit code segment next run others answer score other other_score f.1
+    (subst (λ from. FollowSteps code segment from others) same g.1) e (subst (λ from. last_of from others ≡ Exited other other_score) same h)
+
+pub one_answer_lem : (code : List Insn) (segment : Contents) (answer score other other_score : ℕ) → Answers code segment answer score → Answers code segment other other_score → (answer ≡ other) × (score ≡ other_score)
+one_answer_lem code segment answer score other other_score a b =
+    let same = same_exit code segment (Running start) a.run b.run answer score other other_score a.is_run b.is_run a.exits b.exits in
+    (cc, cc)

@@ -1,0 +1,66 @@
+-- Runs of a code on a segment, its answer, and when it is safe. The bound on steps is this project's own.
+use Rattle.std.specs.Prelude.{◌≡◌, ◌≢◌, ℕ, ◌≤◌, List, [], ◌∷◌, length}
+use Rattle.bpf_insn.specs.declared.instruction.Insn.{Insn}
+use Rattle.bpf_meaning.specs.Segment.{Contents, IsSegment}
+use Rattle.bpf_meaning.specs.State.{start}
+use Rattle.bpf_meaning.specs.Step.{Configuration, Running, Exited, Stuck, after}
+use Rattle.bpf_meaning.specs.declared.cause.Cause.{Cause}
+
+-- one step: a running configuration has one next, and an ended one none
+abbrev pub Step : List Insn → Contents → Configuration → Configuration → Type 0
+Step code segment (Running state) next = next ≡ after code segment state
+Step code segment (Exited answer score) next = ⊥
+Step code segment (Stuck place cause) next = ⊥
+
+-- exactly one configuration comes next
+pub record HasOneNext (code : List Insn) (segment : Contents) (from : Configuration) : Type 0 where
+  pub next : Configuration
+  pub is_next : Step code segment from next
+  pub only : (other : Configuration) → Step code segment from other → other ≡ next
+
+-- no configuration comes next
+abbrev pub HasNoNext : List Insn → Contents → Configuration → Type 0
+HasNoNext code segment from = (next : Configuration) → Step code segment from next → ⊥
+
+-- each of the configurations is a step from the one before
+abbrev pub FollowSteps : List Insn → Contents → Configuration → List Configuration → Type 0
+FollowSteps code segment from [] = Unit {0}
+FollowSteps code segment from (next ∷ rest) = Step code segment from next × FollowSteps code segment next rest
+
+-- a run: the configurations after the start. Its steps are its length, and the step into an end counts.
+abbrev pub IsRun : List Insn → Contents → List Configuration → Type 0
+IsRun code segment run = FollowSteps code segment (Running start) run
+
+-- the last configuration
+abbrev pub last_of : Configuration → List Configuration → Configuration
+last_of from [] = from
+last_of from (next ∷ rest) = last_of next rest
+
+-- where a run has come to
+abbrev pub end_of : List Configuration → Configuration
+end_of run = last_of (Running start) run
+
+-- some run ends with this answer and score
+pub record Answers (code : List Insn) (segment : Contents) (answer score : ℕ) : Type 0 where
+  pub run : List Configuration
+  pub is_run : IsRun code segment run
+  pub exits : end_of run ≡ Exited answer score
+
+-- no run is stuck
+abbrev pub IsNeverStuck : List Insn → Contents → Type 0
+IsNeverStuck code segment =
+    (run : List Configuration) → IsRun code segment run → (place : ℕ) (cause : Cause) → end_of run ≢ Stuck place cause
+
+-- some run exits, in at most as many steps as there are instructions
+pub record Exits (code : List Insn) (segment : Contents) : Type 0 where
+  pub run : List Configuration
+  pub is_run : IsRun code segment run
+  pub answer : ℕ
+  pub score : ℕ
+  pub exits : end_of run ≡ Exited answer score
+  pub short : length run ≤ length code
+
+-- on every segment whatever no run is stuck, and some run exits in at most as many steps as there are instructions
+pub record IsSafe (code : List Insn) : Type 0 where
+  pub never_stuck : (segment : Contents) → IsSegment segment → IsNeverStuck code segment
+  pub exits : (segment : Contents) → IsSegment segment → Exits code segment

@@ -1,0 +1,28 @@
+-- States of a program on its way. Registers are numbered 0 to 10 (RFC 9669, section 3.1) and hold 64 bits, or a pointer; the state
+-- in which a program starts is this project's own.
+use Rattle.std.specs.Prelude.{◌≡◌, ℕ, pos, [], ◌∷◌, length, replicate, get_or}
+use Rattle.bpf_insn.specs.declared.value.Area.TheVariants as area
+use Rattle.bpf_insn.specs.declared.value.Value.{Value}
+use Rattle.bpf_insn.specs.declared.value.Value.TheVariants as value
+use Rattle.bpf_meaning.specs.declared.state.FrameByte.TheVariants.{Unwritten}
+use Rattle.bpf_meaning.specs.declared.state.State.{State}
+use Rattle.bpf_meaning.specs.declared.state.TheConstants.{FRAME_LENGTH, REGISTERS}
+
+-- at the start: register 1 points to the record's first byte, register 10 behind the frame's last, nothing else is written
+abbrev pub start : State
+start = record {
+  place = 0;
+  registers = value.Empty ∷ value.Pointer (record { area = area.Record; offset = pos 0 }) ∷ value.Empty ∷ value.Empty ∷ value.Empty ∷ value.Empty
+      ∷ value.Empty ∷ value.Empty ∷ value.Empty ∷ value.Empty ∷ value.Pointer (record { area = area.Frame; offset = pos 512 }) ∷ [];
+  frame = record { bytes = replicate FRAME_LENGTH Unwritten };
+  score = 0;
+}
+
+-- eleven registers and a whole frame, as every State of the code has them: a premise for laws over states that are only lists
+pub record IsWhole (state : State) : Type 0 where
+  pub registers : length state.registers ≡ REGISTERS
+  pub frame : length state.frame.bytes ≡ FRAME_LENGTH
+
+-- what a register holds
+abbrev pub register_value : State → ℕ → Value
+register_value state number = get_or state.registers number value.Empty

@@ -1,0 +1,38 @@
+//! Laws, each the contract of a function that does nothing.
+ghost use Rattle.std.specs.Prelude.{◌≡◌, ◌≤◌, ◌++◌, ℕ, List, length};
+ghost use Rattle.bpf_insn.specs.declared.instruction.Insn.{Insn};
+ghost use Rattle.bpf_meaning.specs.Segment.{Contents};
+ghost use Rattle.bpf_meaning.specs.Step.{Configuration, Running, Exited, Stuck};
+ghost use Rattle.bpf_meaning.specs.Run.{Answers, HasNoNext, HasOneNext, IsRun};
+ghost use Rattle.bpf_meaning.specs.declared.cause.Cause.{Cause};
+ghost use Rattle.bpf_meaning.specs.declared.segment.TheConstants.{RECORD_LENGTH};
+ghost use Rattle.bpf_meaning.specs.declared.state.State.{State};
+ghost use Rattle.bpf_meaning.specs.declared.state.TheConstants.{FRAME_LENGTH, REGISTERS};
+
+/// How long the record, the frame and the list of registers are, in figures.
+pub fn lengths()
+    ensures segment { RECORD_LENGTH ≡ 228 }
+    ensures frame { FRAME_LENGTH ≡ 512 }
+    ensures registers { REGISTERS ≡ 11 }
+{}
+
+/// A running configuration has exactly one next, and one that has ended has none.
+pub fn one_step()
+    ensures running { (code : List Insn) (segment : Contents) (state : State) → HasOneNext code segment (Running state) }
+    ensures exited { (code : List Insn) (segment : Contents) (answer score : ℕ) → HasNoNext code segment (Exited answer score) }
+    ensures stuck { (code : List Insn) (segment : Contents) (place : ℕ) (cause : Cause) → HasNoNext code segment (Stuck place cause) }
+{}
+
+/// Two runs of a code on a segment agree as far as both go: the longer one begins with the other.
+pub fn runs_agree()
+    ensures { (code : List Insn) (segment : Contents) (run longer : List Configuration)
+        → IsRun code segment run → IsRun code segment longer → length run ≤ length longer
+        → (rest : List Configuration) × (longer ≡ run ++ rest) }
+{}
+
+/// A code has at most one answer on a segment.
+pub fn one_answer()
+    ensures { (code : List Insn) (segment : Contents) (answer score other other_score : ℕ)
+        → Answers code segment answer score → Answers code segment other other_score
+        → (answer ≡ other) × (score ≡ other_score) }
+{}
