@@ -1,0 +1,179 @@
+-- Reading the segments of a file line by line, where the reader's bytes are known and where they aren't.
+use Rattle.std.proofs.Common.{◌≡◌, ◌≢◌, ℕ, ◌<◌, ◌≤◌, ◌^◌, List, [], ◌∷◌, ◌++◌, length, All, Option, Some, None, IfSome, Ok, Err, refl, sym, ap, ◌∙◌, subst, length-append, arith}
+use Rattle.std.proofs.lemmas.List.{map-append}
+use Rattle.std.proofs.lemmas.Bool.Decides.{nat_tests}
+use Rattle.std.proofs.lemmas.List.Elements.{All-nil, All-head, All-tail, All-push}
+use Rattle.bpf_meaning.specs.Segment.{Contents}
+use Rattle.extract.specs.Lines.{LineParts, HasNoLineFeed, IsEnded, by_lf, by_cr_lf, missing, IsFirstLine, AreFirstLines, AreLines, LineFlaw, OtherLength, OtherType, NoTlid, type1_fault, IsGoodLine, IsFaultOf, WhereKnown, IsNextLine, BeginsTooLong, FailsWithin, most_bytes, HasOneMore, IsLineRead}
+use Rattle.extract.specs.Segments.{segments_of, AreSegmentsOf, HasFlawAfter, HasMoreAfter, BeginsWith, ComesAfterGood, IsFirstFault}
+use Rattle.extract.specs.declared.lines.LineFault.{LineFault}
+use Rattle.extract.specs.declared.lines.LineFault.TheVariants.{WrongLength, WrongType, BadTlid, Read, TooManyLines}
+use Rattle.extract.specs.declared.segments.SegmentsFault.TheVariants.{Line}
+use Rattle.extract.proofs.LineLemmas.{cr_lf, has_first_line}
+
+-- what two calls say of known bytes, one after the other, says this of those before both
+pub known_then : (bytes now left : Option (List ℕ)) (P Q : List ℕ → List ℕ → Type 0) (R : List ℕ → Type 0) → ((file mid rest : List ℕ) → P file mid → Q mid rest → R file) → WhereKnown bytes now P → WhereKnown now left Q → IfSome bytes R
+known_then None now left P Q R f p q = tt
+known_then (Some file) None left P Q R f p q = absurd p
+known_then (Some file) (Some mid) None P Q R f p q = absurd q
+known_then (Some file) (Some mid) (Some rest) P Q R f p q = f file mid rest p q
+
+-- what two calls say of known bytes, one after the other, says this of both together
+pub known_both : (bytes now left : Option (List ℕ)) (P Q R : List ℕ → List ℕ → Type 0) → ((file mid rest : List ℕ) → P file mid → Q mid rest → R file rest) → WhereKnown bytes now P → WhereKnown now left Q → WhereKnown bytes left R
+known_both None now left P Q R f p q = tt
+known_both (Some file) None left P Q R f p q = absurd p
+known_both (Some file) (Some mid) None P Q R f p q = absurd q
+known_both (Some file) (Some mid) (Some rest) P Q R f p q = f file mid rest p q
+
+-- one first line more
+pub AreFirstLines-push : (lines : List (List ℕ)) (file mid line rest : List ℕ) → AreFirstLines file lines mid → IsFirstLine mid line rest → AreFirstLines file (lines ++ line ∷ []) rest
+AreFirstLines-push [] file mid line rest a first = (rest, subst (λ file. IsFirstLine file line rest) (sym a) first, refl)
+AreFirstLines-push (l ∷ lines) file mid line rest a first =
+    (a.0, a.1, AreFirstLines-push lines a.0 mid line rest a.2 first)
+
+-- bytes without a line feed end before the first one
+no_feed-short : (taken rest front after : List ℕ) → HasNoLineFeed taken → taken ++ rest ≡ front ++ 10 ∷ after → length taken ≤ length front
+no_feed-short [] rest front after p e = omega arith
+no_feed-short (b ∷ taken) rest [] after p e = absurd (All-head (λ b. b ≢ 10) b taken p (cc))
+no_feed-short (b ∷ taken) rest (c ∷ front) after p e =
+    let shorter = no_feed-short taken rest front after (All-tail (λ b. b ≢ 10) b taken p) (cc) in omega arith
+
+long_line : (file line rest taken after : List ℕ) → HasNoLineFeed taken → file ≡ taken ++ after → length taken ≡ 231 → IsEnded file line rest → 230 ≤ length line
+long_line file line rest taken after p e long (by_lf f n) =
+    let fits = no_feed-short taken after line rest p (sym e ∙ f) in omega arith
+long_line file line rest taken after p e long (by_cr_lf f) =
+    let cut = no_feed-short taken after (line ++ 13 ∷ []) rest p (sym e ∙ f ∙ cr_lf line rest) in
+    omega (arith, length-append line (13 ∷ []))
+long_line file line rest taken after p e long (missing f g n) =
+    omega (arith, length-append taken after, ap length (sym f ∙ e))
+
+pub other_length : (line : List ℕ) → 230 ≤ length line → type1_fault line ≡ Some OtherLength
+other_length line long = grind (arith, nat_tests)
+
+not_empty : (file taken rest : List ℕ) → file ≡ taken ++ rest → length taken ≡ 231 → file ≢ []
+not_empty file taken rest e long none = omega (arith, length-append taken rest, ap length (sym none ∙ e))
+
+-- a file that begins with 231 bytes without a line feed has a first line that is too long for its type
+pub too_long_after : (file mid rest : List ℕ) (lines : List (List ℕ)) → AreFirstLines file lines mid → BeginsTooLong mid rest → HasFlawAfter file lines OtherLength
+too_long_after file mid rest lines before (taken, e, p, long) =
+    let first = has_first_line mid (not_empty mid taken rest e long) in
+    record {
+      after = mid;
+      line = first.line;
+      rest = first.rest;
+      before = before;
+      first = first.first;
+      flawed = other_length first.line (long_line mid first.line first.rest taken rest p e long first.first.ended);
+    }
+
+one_more_not_empty : (file rest : List ℕ) → HasOneMore file rest → file ≢ []
+one_more_not_empty file rest (byte, e) none = cc
+
+-- the lines that were read so far, all good, and their segments
+pub record IsReadSoFar (segments : List Contents) (line : LineParts) (bytes left : Option (List ℕ)) (failures failures' : ℕ) : Type 0 where
+  pub lines : List (List ℕ)
+  pub good : All IsGoodLine lines
+  pub same : segments ≡ segments_of lines
+  pub counted : line.number ≡ length lines
+  pub small : line.number < 2 ^ 32
+  pub unfailed : failures' ≡ failures
+  pub known : WhereKnown bytes left (λ file rest. AreFirstLines file lines rest)
+
+known_start : (bytes : Option (List ℕ)) → WhereKnown bytes bytes (λ file rest. AreFirstLines file [] rest)
+known_start None = tt
+known_start (Some file) = refl
+
+pub none_read : (segments : List Contents) (line : LineParts) (bytes : Option (List ℕ)) (failures : ℕ) → segments ≡ [] → line.number ≡ 0 → IsReadSoFar segments line bytes bytes failures failures
+none_read segments line bytes failures none zeroth = record {
+  lines = [];
+  good = All-nil IsGoodLine;
+  same = none;
+  counted = zeroth;
+  small = omega arith;
+  unfailed = refl;
+  known = known_start bytes;
+}
+
+module _ (segments : List Contents) (line new : LineParts) (bytes now left : Option (List ℕ)) (failures so_far failures' : ℕ) (read : IsReadSoFar segments line bytes now failures so_far) where
+  -- a good line more
+  pub one_line_more : (segments' : List Contents) (done : Unit {0}) → IsLineRead line new now left so_far failures' (Ok (Some done)) → IsGoodLine new.bytes → segments' ≡ segments ++ record { bytes = new.bytes } ∷ [] → IsReadSoFar segments' new bytes left failures failures'
+  one_line_more segments' done next good pushed = record {
+    lines = read.lines ++ new.bytes ∷ [];
+    good = All-push IsGoodLine read.lines new.bytes read.good good;
+    same = pushed ∙ ap (λ s. s ++ record { bytes = new.bytes } ∷ []) read.same ∙ sym (map-append (λ (line : List ℕ). record { bytes = line }) read.lines (new.bytes ∷ []));
+    counted = omega (arith, next.2, read.counted, length-append read.lines (new.bytes ∷ []));
+    small = omega (arith, next.1, next.2);
+    unfailed = next.0 ∙ read.unfailed;
+    known = known_both bytes now left (λ file rest. AreFirstLines file read.lines rest) (IsNextLine new.bytes) (λ file rest. AreFirstLines file (read.lines ++ new.bytes ∷ []) rest) (λ file mid rest a b. AreFirstLines-push read.lines file mid new.bytes rest a b.0) read.known next.3;
+  }
+
+  -- the input ended
+  pub all_read : IsLineRead line new now left so_far failures' (Ok None) → AreSegmentsOf bytes segments
+  all_read next = record {
+    lines = read.lines;
+    good = read.good;
+    few = omega (arith, read.counted, read.small);
+    same = read.same;
+    known = known_then bytes now left (λ file rest. AreFirstLines file read.lines rest) (λ file rest. file ≡ []) (λ file. AreLines file read.lines) (λ file mid rest a b. subst (λ rest. AreFirstLines file read.lines rest) b a) read.known next.3;
+  }
+
+  flawed_after : (flaw : LineFlaw) (place : ℕ) (done : Unit {0}) → IsLineRead line new now left so_far failures' (Ok (Some done)) → place ≡ new.number → type1_fault new.bytes ≡ Some flaw → (failures' ≡ failures) × (place < 2 ^ 32) × ComesAfterGood bytes place (λ file lines. HasFlawAfter file lines flaw)
+  flawed_after flaw place done next at flawed = (
+    next.0 ∙ read.unfailed,
+    omega (arith, at, next.1, next.2),
+    record {
+      lines = read.lines;
+      good = read.good;
+      counted = omega (arith, at, next.2, read.counted);
+      known = known_then bytes now left (λ file rest. AreFirstLines file read.lines rest) (IsNextLine new.bytes) (λ file. HasFlawAfter file read.lines flaw) (λ file mid rest a b. record {
+        after = mid;
+        line = new.bytes;
+        rest = rest;
+        before = a;
+        first = b.0;
+        flawed = flawed;
+      }) read.known next.3;
+    },
+  )
+
+  -- a line with a flaw
+  pub at_flaw : (fault : LineFault) (done : Unit {0}) → IsLineRead line new now left so_far failures' (Ok (Some done)) → IsFaultOf new fault → IsFirstFault bytes failures failures' (Line fault)
+  at_flaw (WrongLength place) done next of = flawed_after OtherLength place done next of.0 of.1
+  at_flaw (WrongType place) done next of = flawed_after OtherType place done next of.0 of.1
+  at_flaw (BadTlid place) done next of = flawed_after NoTlid place done next of.0 of.1
+  at_flaw (Read place) done next of = absurd of
+  at_flaw (TooManyLines place) done next of = absurd of
+
+  -- a line that couldn't be read
+  pub at_fault : (fault : LineFault) → IsLineRead line new now left so_far failures' (Err fault) → IsFirstFault bytes failures failures' (Line fault)
+  at_fault (WrongLength place) next = (
+    next.0 ∙ read.unfailed,
+    omega (arith, next.2, next.3),
+    record {
+      lines = read.lines;
+      good = read.good;
+      counted = omega (arith, next.3, read.counted);
+      known = known_then bytes now left (λ file rest. AreFirstLines file read.lines rest) BeginsTooLong (λ file. HasFlawAfter file read.lines OtherLength) (λ file mid rest a b. too_long_after file mid rest read.lines a b) read.known next.4;
+    },
+  )
+  at_fault (Read place) next = (
+    λ e. next.0 (e ∙ sym read.unfailed),
+    record {
+      lines = read.lines;
+      good = read.good;
+      counted = omega (arith, next.2, read.counted);
+      known = known_then bytes now left (λ file rest. AreFirstLines file read.lines rest) (FailsWithin (most_bytes line.number)) (λ file. BeginsWith file read.lines) (λ file mid rest a b. (mid, a)) read.known next.3;
+    },
+  )
+  at_fault (TooManyLines place) next = (
+    next.0 ∙ read.unfailed,
+    next.3,
+    record {
+      lines = read.lines;
+      good = read.good;
+      counted = omega (arith, next.2, next.3, read.counted);
+      known = known_then bytes now left (λ file rest. AreFirstLines file read.lines rest) HasOneMore (λ file. HasMoreAfter file read.lines) (λ file mid rest a b. (mid, a, λ none. one_more_not_empty mid rest b none)) read.known next.4;
+    },
+  )
+  at_fault (WrongType place) next = absurd next
+  at_fault (BadTlid place) next = absurd next

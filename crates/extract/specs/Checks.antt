@@ -1,0 +1,146 @@
+-- Checks of straight-line code by kinds: what is known of each register, whatever the segment
+-- (RFC 9669 says what an instruction does; which programs are refused is this project's own choice).
+use Rattle.std.specs.Prelude.{◌≡◌, ◌≢◌, ℕ, ℤ, pos, ◌+ℤ◌, ◌&&◌, ◌⊎◌, List, [], ◌∷◌, ◌++◌, length, slice_set, get_or, int_le, Result, Ok, Err, if◌then◌else◌}
+use Rattle.std.specs.Int.{cast_signed, w64}
+use Rattle.bpf_insn.specs.Arithmetic.{extended}
+use Rattle.bpf_insn.specs.Code.{word_count}
+use Rattle.bpf_insn.specs.declared.instruction.Insn.{Insn}
+use Rattle.bpf_insn.specs.declared.instruction.Insn.TheVariants.{Alu, Load, Exit}
+use Rattle.bpf_insn.specs.declared.instruction.Operation.{Operation}
+use Rattle.bpf_insn.specs.declared.instruction.Operation.TheVariants.{Add, Move}
+use Rattle.bpf_insn.specs.declared.instruction.Width.{Width}
+use Rattle.bpf_insn.specs.declared.instruction.Width.TheVariants.{Bits64}
+use Rattle.bpf_insn.specs.declared.instruction.Source.{Source}
+use Rattle.bpf_insn.specs.declared.instruction.Source.TheVariants.{Immediate}
+use Rattle.bpf_insn.specs.declared.instruction.LoadFormat.{LoadFormat}
+use Rattle.bpf_insn.specs.declared.value.Area.{Area}
+use Rattle.bpf_insn.specs.declared.value.Area.TheVariants.{Record, Frame}
+use Rattle.bpf_insn.specs.declared.value.Pointer.{Pointer as PointerParts}
+use Rattle.bpf_insn.specs.declared.value.Value.{Value}
+use Rattle.bpf_insn.specs.declared.value.Value.TheVariants as value
+use Rattle.bpf_meaning.specs.State.{register_value}
+use Rattle.bpf_meaning.specs.Step.{is_offset, load_length}
+use Rattle.bpf_meaning.specs.declared.cause.Cause.{Cause}
+use Rattle.bpf_meaning.specs.declared.cause.Cause.TheVariants.{ReadsNothing, PointerArithmetic, LeavesArea, NotPointer, OutOfBounds, UnwrittenFrame, ExitNotNumber}
+use Rattle.bpf_meaning.specs.declared.segment.TheConstants.{RECORD_LENGTH}
+use Rattle.bpf_meaning.specs.declared.state.TheConstants.{FRAME_LENGTH}
+use Rattle.bpf_meaning.specs.declared.state.State.{State}
+use Rattle.extract.specs.declared.checks.CheckFault.{CheckFault}
+use Rattle.extract.specs.declared.checks.CheckFault.TheVariants.{LastNotExit, Refused}
+use Rattle.extract.specs.declared.checks.Kind.{Kind}
+use Rattle.extract.specs.declared.checks.Kind.TheVariants.{Nothing, Number, Pointer}
+use Rattle.extract.specs.declared.checks.Kinds.{Kinds}
+use Rattle.extract.specs.declared.checks.Edge.{Edge}
+use Rattle.extract.specs.declared.checks.Edge.TheVariants.{End, Next}
+
+-- the values of a kind
+abbrev pub Admits : Kind → Value → Type 0
+Admits Nothing held = Unit {0}
+Admits Number held = (n : ℕ) × (held ≡ value.Number n)
+Admits (Pointer pointer) held = held ≡ value.Pointer pointer
+
+-- what is known of a register
+abbrev pub kind_of : Kinds → ℕ → Kind
+kind_of kinds number = get_or kinds.registers number Nothing
+
+-- the states of which this is known: as many registers, each with a value of its kind
+pub record AdmitsState (kinds : Kinds) (state : State) : Type 0 where
+  pub count : length state.registers ≡ length kinds.registers
+  pub registers : (number : ℕ) → Admits (kind_of kinds number) (register_value state number)
+
+-- what is known at the start
+abbrev pub entry : Kinds
+entry = record {
+  registers = Nothing ∷ Pointer (record { area = Record; offset = pos 0 }) ∷ Nothing ∷ Nothing ∷ Nothing ∷ Nothing ∷ Nothing ∷ Nothing
+      ∷ Nothing ∷ Nothing ∷ Pointer (record { area = Frame; offset = pos 512 }) ∷ [];
+}
+
+-- a pointer moved by a number of bytes, read as two's complement
+abbrev pub moved_kind : PointerParts → ℕ → Result Kind Cause
+moved_kind pointer distance =
+    if is_offset (cast_signed w64 distance)
+    then (if is_offset (pointer.offset +ℤ cast_signed w64 distance)
+    then Ok (Pointer (record { area = pointer.area; offset = pointer.offset +ℤ cast_signed w64 distance }))
+    else Err LeavesArea)
+    else Err PointerArithmetic
+
+-- a register of a kind with a number added
+abbrev pub added : ℕ → Kind → ℕ → Result Kind Cause
+added register Nothing number = Err (ReadsNothing register)
+added register Number number = Ok Number
+added register (Pointer pointer) number = moved_kind pointer number
+
+-- what an arithmetic instruction gives
+abbrev pub operation_kind : Operation → Width → ℕ → Kind → Source → Result Kind Cause
+operation_kind Add Bits64 register kind (Immediate value) = added register kind (extended value)
+operation_kind Move Bits64 register kind (Immediate value) = Ok Number
+
+-- how many bytes an area has
+abbrev pub area_length : Area → ℕ
+area_length Record = RECORD_LENGTH
+area_length Frame = FRAME_LENGTH
+
+-- bytes within an area: those of the record are written, and nothing writes those of the frame
+abbrev pub within_kind : Area → Result Kind Cause
+within_kind Record = Ok Number
+within_kind Frame = Err UnwrittenFrame
+
+-- a load from an area, from an offset on
+abbrev pub loaded_kind : LoadFormat → Area → ℤ → Result Kind Cause
+loaded_kind format area start =
+    if int_le (pos 0) start && int_le (start +ℤ pos (load_length format)) (pos (area_length area)) then within_kind area else Err OutOfBounds
+
+-- a load through a register of a kind
+abbrev pub load_kind : ℕ → Kind → LoadFormat → ℤ → Result Kind Cause
+load_kind register Nothing format offset = Err (ReadsNothing register)
+load_kind register Number format offset = Err NotPointer
+load_kind register (Pointer pointer) format offset = loaded_kind format pointer.area (pointer.offset +ℤ offset)
+
+-- the same with a register's kind written
+abbrev pub with_kind : Kinds → ℕ → Kind → Kinds
+with_kind kinds register kind = record { registers = slice_set kinds.registers register kind }
+
+-- behind an instruction whose result goes into a register
+abbrev pub next_edge : Kinds → ℕ → Result Kind Cause → Result Edge Cause
+next_edge kinds destination (Ok kind) = Ok (Next (with_kind kinds destination kind))
+next_edge kinds destination (Err cause) = Err cause
+
+-- the end, with a register of this kind as the answer
+abbrev pub exit_edge : Kind → Result Edge Cause
+exit_edge Nothing = Err (ReadsNothing 0)
+exit_edge Number = Ok End
+exit_edge (Pointer pointer) = Err ExitNotNumber
+
+-- the first check of an instruction that fails, or where the instruction leads
+abbrev pub edge : Kinds → Insn → Result Edge Cause
+edge kinds (Alu operation width destination source) =
+    next_edge kinds destination.number (operation_kind operation width destination.number (kind_of kinds destination.number) source)
+edge kinds (Load format destination base offset) =
+    next_edge kinds destination.number (load_kind base.number (kind_of kinds base.number) format offset)
+edge kinds Exit = exit_edge (kind_of kinds 0)
+
+-- instructions that each lead to the next one, and what is known behind them
+abbrev pub Lead : Kinds → List Insn → Kinds → Type 0
+Lead kinds [] after = after ≡ kinds
+Lead kinds (insn ∷ code) after = (next : Kinds) × (edge kinds insn ≡ Ok (Next next)) × Lead next code after
+
+-- instructions of which each one that is reached passes its checks, and one of them is the end
+abbrev pub Passes : Kinds → List Insn → Type 0
+Passes kinds [] = ⊥
+Passes kinds (insn ∷ code) = (edge kinds insn ≡ Ok End) ⊎ ((next : Kinds) × (edge kinds insn ≡ Ok (Next next)) × Passes next code)
+
+-- the last instruction is EXIT
+abbrev pub EndsInExit : List Insn → Type 0
+EndsInExit code = (before : List Insn) × (code ≡ before ++ Exit ∷ [])
+
+-- the instruction at this place is reached, and this check of it is the first that fails
+abbrev pub IsRefusedAt : List Insn → ℕ → Cause → Type 0
+IsRefusedAt code place cause =
+    (before : List Insn) × (insn : Insn) × (rest : List Insn) × (kinds : Kinds) × (code ≡ before ++ insn ∷ rest) × (place ≡ word_count before)
+    × Lead entry before kinds × (edge kinds insn ≡ Err cause)
+
+-- why a code is refused: the last instruction isn't EXIT, or it is and one that is reached fails a check
+abbrev pub IsCheckFault : List Insn → CheckFault → Type 0
+IsCheckFault code (LastNotExit place) =
+    (before : List Insn) × (last : Insn) × (code ≡ before ++ last ∷ []) × (last ≢ Exit) × (place ≡ word_count before)
+IsCheckFault code (Refused place cause) = (before : List Insn) × (code ≡ before ++ Exit ∷ []) × IsRefusedAt code place cause

@@ -1,0 +1,136 @@
+-- Lines of a file (TIGER/Line 2006, record layouts: a record is a line), and the faults of a line of record type 1.
+use Rattle.std.specs.Prelude.{◌≡◌, ◌≢◌, ℕ, ◌+◌, ◌-◌, ◌^◌, ◌<◌, ◌≤◌, ◌⊎◌, ◌==◌, if◌then◌else◌, List, [], ◌∷◌, ◌++◌, length, slice_index, All, Option, Some, None, is_some, Result, Ok, Err}
+use Rattle.std.specs.Io.KnownBytes.{Consumes, IsAtEnd}
+use Rattle.tl_fields.specs.Field.{field_of}
+use Rattle.tl_fields.specs.Number.{number_of}
+use Rattle.extract.specs.declared.lines.LineFault.{LineFault}
+use Rattle.extract.specs.declared.lines.LineFault.TheVariants.{WrongLength, WrongType, BadTlid, Read, TooManyLines}
+use Rattle.extract.specs.declared.lines.Stop.{Stop}
+use Rattle.extract.specs.declared.lines.Stop.TheVariants.{LineFeed, EndOfInput, TooLong, ReadFailed}
+
+-- a line without its end, and its number, counted from 1
+pub record LineParts : Type 0 where
+  pub number : ℕ
+  pub bytes : List ℕ
+
+-- no bytes, and the number as it was
+abbrev pub emptied : LineParts → LineParts
+emptied line = record { number = line.number; bytes = [] }
+
+-- no byte is the line feed, 10
+abbrev pub HasNoLineFeed : List ℕ → Type 0
+HasNoLineFeed bytes = All (λ b. b ≢ 10) bytes
+
+-- the last byte is the carriage return, 13
+abbrev pub EndsInReturn : List ℕ → Type 0
+EndsInReturn bytes = (front : List ℕ) × (bytes ≡ front ++ 13 ∷ [])
+
+-- how a line ends: by LF, where it has no CR before it, by CR LF, or where a last line without an end isn't empty
+pub data IsEnded (file line rest : List ℕ) : Type 0 where
+  by_lf : file ≡ line ++ 10 ∷ rest → ¬ EndsInReturn line → IsEnded file line rest
+  by_cr_lf : file ≡ line ++ 13 ∷ 10 ∷ rest → IsEnded file line rest
+  missing : file ≡ line → rest ≡ [] → line ≢ [] → IsEnded file line rest
+
+-- a file begins with this line, and the rest follows the line's end
+pub record IsFirstLine (file line rest : List ℕ) : Type 0 where
+  pub no_line_feed : HasNoLineFeed line
+  pub ended : IsEnded file line rest
+
+-- a file begins with these lines, one after the other, and then has the rest
+abbrev pub AreFirstLines : List ℕ → List (List ℕ) → List ℕ → Type 0
+AreFirstLines file [] rest = file ≡ rest
+AreFirstLines file (line ∷ lines) rest = (after : List ℕ) × IsFirstLine file line after × AreFirstLines after lines rest
+
+-- the lines of a file: first lines are taken until nothing is left
+abbrev pub AreLines : List ℕ → List (List ℕ) → Type 0
+AreLines file lines = AreFirstLines file lines []
+
+-- why a line is no record of type 1: it hasn't 228 bytes, it begins with another byte than `1`, or its TLID has no number
+pub data LineFlaw : Type 0 where
+  OtherLength : LineFlaw
+  OtherType : LineFlaw
+  NoTlid : LineFlaw
+
+-- the first flaw of a line of record type 1 (places RT 1 and TLID 6 to 15), if it has one
+abbrev pub type1_fault : List ℕ → Option LineFlaw
+type1_fault line =
+    if length line == 228
+    then (if slice_index line 0 == 49
+    then (if is_some (number_of (field_of line 6 15)) then None else Some NoTlid)
+    else Some OtherType)
+    else Some OtherLength
+
+-- a record of type 1: bytes without a flaw
+pub record IsGoodLine (line : List ℕ) : Type 0 where
+  pub no_flaw : type1_fault line ≡ None
+  pub are_bytes : (i : ℕ) → slice_index line i < 2 ^ 8
+
+-- a fault names the line and its first flaw
+abbrev pub IsFaultOf : LineParts → LineFault → Type 0
+IsFaultOf line (WrongLength place) = (place ≡ line.number) × (type1_fault line.bytes ≡ Some OtherLength)
+IsFaultOf line (WrongType place) = (place ≡ line.number) × (type1_fault line.bytes ≡ Some OtherType)
+IsFaultOf line (BadTlid place) = (place ≡ line.number) × (type1_fault line.bytes ≡ Some NoTlid)
+IsFaultOf line (Read place) = ⊥
+IsFaultOf line (TooManyLines place) = ⊥
+
+-- what is said of a reader's bytes before and after a call, where they are known
+abbrev pub WhereKnown : Option (List ℕ) → Option (List ℕ) → (List ℕ → List ℕ → Type 0) → Type 0
+WhereKnown None after P = Unit {0}
+WhereKnown (Some file) None P = ⊥
+WhereKnown (Some file) (Some rest) P = P file rest
+
+-- a file begins with this line, which has at most 230 bytes and ends within 231
+abbrev pub IsNextLine : List ℕ → List ℕ → List ℕ → Type 0
+IsNextLine line file rest = IsFirstLine file line rest × (length line ≤ 230) × (length file ≤ length rest + 231)
+
+-- a file begins with 231 bytes without a line feed
+abbrev pub BeginsTooLong : List ℕ → List ℕ → Type 0
+BeginsTooLong file rest = (taken : List ℕ) × (file ≡ taken ++ rest) × HasNoLineFeed taken × (length taken ≡ 231)
+
+-- how many bytes are read of the line after this number, before it is refused: none where it has no number in 32 bits
+abbrev pub most_bytes : ℕ → ℕ
+most_bytes number = if number == 2 ^ 32 - 1 then 0 else 230
+
+-- a file begins with at most so many bytes without a line feed, after which a read failed
+abbrev pub FailsWithin : ℕ → List ℕ → List ℕ → Type 0
+FailsWithin most file rest = (taken : List ℕ) × (file ≡ taken ++ rest) × HasNoLineFeed taken × (length taken ≤ most)
+
+-- a file has one byte more than the rest
+abbrev pub HasOneMore : List ℕ → List ℕ → Type 0
+HasOneMore file rest = (byte : ℕ) × (file ≡ byte ∷ rest)
+
+-- what reading the next line does to the line, the reader's bytes and its failures
+abbrev pub IsLineRead : LineParts → LineParts → Option (List ℕ) → Option (List ℕ) → ℕ → ℕ → Result (Option (Unit {0})) LineFault → Type 0
+IsLineRead line new bytes left failures failures' (Ok (Some done)) =
+    (failures' ≡ failures) × (line.number < 2 ^ 32 - 1) × (new.number ≡ line.number + 1) × WhereKnown bytes left (IsNextLine new.bytes)
+IsLineRead line new bytes left failures failures' (Ok None) =
+    (failures' ≡ failures) × (new ≡ emptied line) × IsAtEnd left × WhereKnown bytes left (λ file rest. file ≡ [])
+IsLineRead line new bytes left failures failures' (Err (WrongLength place)) =
+    (failures' ≡ failures) × (new ≡ emptied line) × (line.number < 2 ^ 32 - 1) × (place ≡ line.number + 1) × WhereKnown bytes left BeginsTooLong
+IsLineRead line new bytes left failures failures' (Err (Read place)) =
+    (failures' ≢ failures) × (new ≡ emptied line) × (place ≡ line.number + 1) × WhereKnown bytes left (FailsWithin (most_bytes line.number))
+IsLineRead line new bytes left failures failures' (Err (TooManyLines place)) =
+    (failures' ≡ failures) × (new ≡ emptied line) × (line.number ≡ 2 ^ 32 - 1) × (place ≡ 2 ^ 32) × WhereKnown bytes left HasOneMore
+IsLineRead line new bytes left failures failures' (Err (WrongType place)) = ⊥
+IsLineRead line new bytes left failures failures' (Err (BadTlid place)) = ⊥
+
+-- what one read of one byte does to the reader's bytes and its failures
+abbrev pub IsByteRead : {E : Type 0} → Option (List ℕ) → Option (List ℕ) → ℕ → ℕ → Result (Option ℕ) E → Type 0
+IsByteRead bytes left failures failures' (Ok (Some byte)) = (failures' ≡ failures) × Consumes bytes left (byte ∷ [])
+IsByteRead bytes left failures failures' (Ok None) = (failures' ≡ failures) × Consumes bytes left [] × IsAtEnd left
+IsByteRead bytes left failures failures' (Err error) = (failures' ≢ failures) × Consumes bytes left []
+
+-- what reading up to a line feed leaves of the reader's bytes and its failures, and why it stopped
+abbrev pub IsContentRead : List ℕ → Option (List ℕ) → Option (List ℕ) → ℕ → ℕ → Stop → Type 0
+IsContentRead content bytes left failures failures' LineFeed =
+    (failures' ≡ failures) × HasNoLineFeed content × (length content ≤ 230) × Consumes bytes left (content ++ 10 ∷ [])
+IsContentRead content bytes left failures failures' EndOfInput =
+    (failures' ≡ failures) × HasNoLineFeed content × (length content ≤ 230) × Consumes bytes left content × IsAtEnd left
+IsContentRead content bytes left failures failures' TooLong =
+    (failures' ≡ failures) × (taken : List ℕ) × HasNoLineFeed taken × (length taken ≡ 231) × Consumes bytes left taken
+IsContentRead content bytes left failures failures' ReadFailed =
+    (failures' ≢ failures) × HasNoLineFeed content × (length content ≤ 230) × Consumes bytes left content
+
+-- a line's bytes without the carriage return at their end, if they have one
+abbrev pub IsWithoutReturn : List ℕ → List ℕ → Type 0
+IsWithoutReturn content line = (content ≡ line ++ 13 ∷ []) ⊎ ((content ≡ line) × (¬ EndsInReturn content))
