@@ -67,11 +67,11 @@ pub record IsGoodLine (line : List ℕ) : Type 0 where
 
 -- a fault names the line and its first flaw
 abbrev pub IsFaultOf : LineParts → LineFault → Type 0
-IsFaultOf line (WrongLength place) = (place ≡ line.number) × (type1_fault line.bytes ≡ Some OtherLength)
-IsFaultOf line (WrongType place) = (place ≡ line.number) × (type1_fault line.bytes ≡ Some OtherType)
-IsFaultOf line (BadTlid place) = (place ≡ line.number) × (type1_fault line.bytes ≡ Some NoTlid)
-IsFaultOf line (Read place) = ⊥
-IsFaultOf line (TooManyLines place) = ⊥
+IsFaultOf line (WrongLength number) = (number ≡ line.number) × (type1_fault line.bytes ≡ Some OtherLength)
+IsFaultOf line (WrongType number) = (number ≡ line.number) × (type1_fault line.bytes ≡ Some OtherType)
+IsFaultOf line (BadTlid number) = (number ≡ line.number) × (type1_fault line.bytes ≡ Some NoTlid)
+IsFaultOf line (Read number) = ⊥
+IsFaultOf line (TooManyLines number) = ⊥
 
 -- what is said of a reader's bytes before and after a call, where they are known
 abbrev pub WhereKnown : Option (List ℕ) → Option (List ℕ) → (List ℕ → List ℕ → Type 0) → Type 0
@@ -105,14 +105,14 @@ IsLineRead line new bytes left failures failures' (Ok (Some done)) =
     (failures' ≡ failures) × (line.number < 2 ^ 32 - 1) × (new.number ≡ line.number + 1) × WhereKnown bytes left (IsNextLine new.bytes)
 IsLineRead line new bytes left failures failures' (Ok None) =
     (failures' ≡ failures) × (new ≡ emptied line) × IsAtEnd left × WhereKnown bytes left (λ file rest. file ≡ [])
-IsLineRead line new bytes left failures failures' (Err (WrongLength place)) =
-    (failures' ≡ failures) × (new ≡ emptied line) × (line.number < 2 ^ 32 - 1) × (place ≡ line.number + 1) × WhereKnown bytes left BeginsTooLong
-IsLineRead line new bytes left failures failures' (Err (Read place)) =
-    (failures' ≢ failures) × (new ≡ emptied line) × (place ≡ line.number + 1) × WhereKnown bytes left (FailsWithin (most_bytes line.number))
-IsLineRead line new bytes left failures failures' (Err (TooManyLines place)) =
-    (failures' ≡ failures) × (new ≡ emptied line) × (line.number ≡ 2 ^ 32 - 1) × (place ≡ 2 ^ 32) × WhereKnown bytes left HasOneMore
-IsLineRead line new bytes left failures failures' (Err (WrongType place)) = ⊥
-IsLineRead line new bytes left failures failures' (Err (BadTlid place)) = ⊥
+IsLineRead line new bytes left failures failures' (Err (WrongLength number)) =
+    (failures' ≡ failures) × (new ≡ emptied line) × (line.number < 2 ^ 32 - 1) × (number ≡ line.number + 1) × WhereKnown bytes left BeginsTooLong
+IsLineRead line new bytes left failures failures' (Err (Read number)) =
+    (failures' ≢ failures) × (new ≡ emptied line) × (number ≡ line.number + 1) × WhereKnown bytes left (FailsWithin (most_bytes line.number))
+IsLineRead line new bytes left failures failures' (Err (TooManyLines number)) =
+    (failures' ≡ failures) × (new ≡ emptied line) × (line.number ≡ 2 ^ 32 - 1) × (number ≡ 2 ^ 32) × WhereKnown bytes left HasOneMore
+IsLineRead line new bytes left failures failures' (Err (WrongType number)) = ⊥
+IsLineRead line new bytes left failures failures' (Err (BadTlid number)) = ⊥
 
 -- what one read of one byte does to the reader's bytes and its failures
 abbrev pub IsByteRead : {E : Type 0} → Option (List ℕ) → Option (List ℕ) → ℕ → ℕ → Result (Option ℕ) E → Type 0

@@ -36,21 +36,21 @@ abbrev pub BeginsWith : List ℕ → List (List ℕ) → Type 0
 BeginsWith file lines = (after : List ℕ) × AreFirstLines file lines after
 
 -- good lines come before the line of this number, of which P says more where the bytes are known
-pub record ComesAfterGood (bytes : Option (List ℕ)) (place : ℕ) (P : List ℕ → List (List ℕ) → Type 0) : Type 0 where
+pub record ComesAfterGood (bytes : Option (List ℕ)) (number : ℕ) (P : List ℕ → List (List ℕ) → Type 0) : Type 0 where
   pub lines : List (List ℕ)
   pub good : All IsGoodLine lines
-  pub counted : place ≡ length lines + 1
+  pub counted : number ≡ length lines + 1
   pub known : IfSome bytes (λ file. P file lines)
 
 -- the first fault of a reader's bytes and of its reads, whose failures are counted
 abbrev pub IsFirstFault : Option (List ℕ) → ℕ → ℕ → SegmentsFault → Type 0
-IsFirstFault bytes failures failures' (Line (WrongLength place)) =
-    (failures' ≡ failures) × (place < 2 ^ 32) × ComesAfterGood bytes place (λ file lines. HasFlawAfter file lines OtherLength)
-IsFirstFault bytes failures failures' (Line (WrongType place)) =
-    (failures' ≡ failures) × (place < 2 ^ 32) × ComesAfterGood bytes place (λ file lines. HasFlawAfter file lines OtherType)
-IsFirstFault bytes failures failures' (Line (BadTlid place)) =
-    (failures' ≡ failures) × (place < 2 ^ 32) × ComesAfterGood bytes place (λ file lines. HasFlawAfter file lines NoTlid)
-IsFirstFault bytes failures failures' (Line (Read place)) = (failures' ≢ failures) × ComesAfterGood bytes place BeginsWith
-IsFirstFault bytes failures failures' (Line (TooManyLines place)) =
-    (failures' ≡ failures) × (place ≡ 2 ^ 32) × ComesAfterGood bytes place HasMoreAfter
+IsFirstFault bytes failures failures' (Line (WrongLength number)) =
+    (failures' ≡ failures) × (number < 2 ^ 32) × ComesAfterGood bytes number (λ file lines. HasFlawAfter file lines OtherLength)
+IsFirstFault bytes failures failures' (Line (WrongType number)) =
+    (failures' ≡ failures) × (number < 2 ^ 32) × ComesAfterGood bytes number (λ file lines. HasFlawAfter file lines OtherType)
+IsFirstFault bytes failures failures' (Line (BadTlid number)) =
+    (failures' ≡ failures) × (number < 2 ^ 32) × ComesAfterGood bytes number (λ file lines. HasFlawAfter file lines NoTlid)
+IsFirstFault bytes failures failures' (Line (Read number)) = (failures' ≢ failures) × ComesAfterGood bytes number BeginsWith
+IsFirstFault bytes failures failures' (Line (TooManyLines number)) =
+    (failures' ≡ failures) × (number ≡ 2 ^ 32) × ComesAfterGood bytes number HasMoreAfter
 IsFirstFault bytes failures failures' Memory = failures' ≡ failures

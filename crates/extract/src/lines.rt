@@ -204,15 +204,15 @@ pub(crate) fn rt1(line: &Line) -> Result<type1::Rt1<'_>, LineFault>
     ensures err { IfErr result (IsFaultOf line.now) }
 {
     let bytes = line.bytes();
-    let place = u64::from(line.number());
+    let line_number = u64::from(line.number());
     if bytes.len() != TYPE1_LENGTH {
-        return Err(LineFault::WrongLength { line: place });
+        return Err(LineFault::WrongLength { line: line_number });
     }
     if bytes[0] != b'1' {
-        return Err(LineFault::WrongType { line: place });
+        return Err(LineFault::WrongType { line: line_number });
     }
     if number(field(bytes, 6, 15)).is_none() {
-        return Err(LineFault::BadTlid { line: place });
+        return Err(LineFault::BadTlid { line: line_number });
     }
     Ok(type1::Rt1::of(bytes))
 }
