@@ -13,10 +13,11 @@ use Rattle.extract.specs.Lines.{type1_fault, IsGoodLine, AreLines, AreFirstLines
 use Rattle.extract.specs.Segments.{AreSegmentsOf, ComesAfterGood, BeginsWith, IsFirstFault, segments_of}
 use Rattle.extract.specs.Rows.{AppendsBeginning, WritesExtract}
 use Rattle.extract.specs.Faults.{of_segments, of_write}
-use Rattle.extract.specs.Extracting.{IsSafeProgram, HasBegun, StopsWithin, IsLineRefusal, IsWriteRefusal, IsFaultAfter, line_of}
+use Rattle.extract.specs.Extracting.{IsSafeProgram, HasBegun, StopsWithin, IsLineRefusal, IsWriteRefusal, IsFaultAfter, HasLineNumber, line_of}
 use Rattle.extract.specs.declared.lines.LineFault.{LineFault}
 use Rattle.extract.specs.declared.lines.LineFault.TheVariants as line_fault
 use Rattle.extract.specs.declared.fault.ExtractFault.{ExtractFault}
+use Rattle.extract.specs.declared.fault.ExtractFault.TheVariants.{Rt1}
 use Rattle.extract.specs.declared.segments.SegmentsFault.{SegmentsFault}
 use Rattle.extract.specs.declared.segments.SegmentsFault.TheVariants as segments_fault
 use Rattle.extract.specs.declared.rows.WriteFault.{WriteFault}
@@ -69,25 +70,20 @@ begins_with_nothing program code lines held is good =
     }
 
 -- a refusal of a line, before anything was written
-refused_before : (program : List ℕ) (code : List Insn) (file held : Option (List ℕ)) (fault : LineFault) → IsSafeProgram program code → ComesAfterGood file (line_of fault) (IsFaultAfter fault) → (before : ComesAfterGood file (line_of fault) (IsFaultAfter fault)) × HasBegun program before.lines held held
-refused_before program code file held fault is before = (before, begins_with_nothing program code before.lines held is before.good)
+refused_before : (program : List ℕ) (code : List Insn) (file held : Option (List ℕ)) (fault : LineFault) → IsSafeProgram program code → HasLineNumber fault → ComesAfterGood file (line_of fault) (IsFaultAfter fault) → IsLineRefusal program file held held (Rt1 fault)
+refused_before program code file held fault is number before = (number, before, begins_with_nothing program code before.lines held is before.good)
 
-too_many : (file : Option (List ℕ)) (line : ℕ) (failed new_failed : ℕ) → IsFirstFault file failed new_failed (segments_fault.Line (line_fault.TooManyLines line)) → ComesAfterGood file line (IsFaultAfter (line_fault.TooManyLines line))
-too_many None line failed new_failed fault = record { lines = fault.2.lines; good = fault.2.good; counted = fault.2.counted; known = tt }
-too_many (Some file) line failed new_failed fault =
-    record { lines = fault.2.lines; good = fault.2.good; counted = fault.2.counted; known = (fault.2.known, fault.1) }
-
-first_fault : (file : Option (List ℕ)) (failed new_failed : ℕ) (fault : LineFault) → IsFirstFault file failed new_failed (segments_fault.Line fault) → ComesAfterGood file (line_of fault) (IsFaultAfter fault)
-first_fault file failed new_failed (line_fault.WrongLength line) fault = fault.2
-first_fault file failed new_failed (line_fault.WrongType line) fault = fault.2
-first_fault file failed new_failed (line_fault.BadTlid line) fault = fault.2
-first_fault file failed new_failed (line_fault.Read line) fault = fault.1
-first_fault file failed new_failed (line_fault.TooManyLines line) fault = too_many file line failed new_failed fault
+first_refused : (program : List ℕ) (code : List Insn) (file held : Option (List ℕ)) (failed new_failed : ℕ) (fault : LineFault) → IsSafeProgram program code → IsFirstFault file failed new_failed (segments_fault.Line fault) → IsLineRefusal program file held held (Rt1 fault)
+first_refused program code file held failed new_failed (line_fault.WrongLength line) is first = refused_before program code file held (line_fault.WrongLength line) is first.1 first.2
+first_refused program code file held failed new_failed (line_fault.WrongType line) is first = refused_before program code file held (line_fault.WrongType line) is first.1 first.2
+first_refused program code file held failed new_failed (line_fault.BadTlid line) is first = refused_before program code file held (line_fault.BadTlid line) is first.1 first.2
+first_refused program code file held failed new_failed (line_fault.Read line) is first = refused_before program code file held (line_fault.Read line) is tt first.1
+first_refused program code file held failed new_failed (line_fault.TooManyLines line) is first = refused_before program code file held (line_fault.TooManyLines line) is first.1 first.2
 
 pub line_refusal : (program : List ℕ) (code : List Insn) (file held : Option (List ℕ)) (failed new_failed : ℕ) (fault : SegmentsFault) (given : ExtractFault) → given ≡ of_segments fault → IsSafeProgram program code → IsFirstFault file failed new_failed fault → IsLineRefusal program file held held given
 line_refusal program code file held failed new_failed (segments_fault.Line fault) given e is first =
     subst (λ (given : ExtractFault). IsLineRefusal program file held held given) (sym e)
-    (refused_before program code file held fault is (first_fault file failed new_failed fault first))
+    (first_refused program code file held failed new_failed fault is first)
 line_refusal program code file held failed new_failed segments_fault.Memory given e is first =
     subst (λ (given : ExtractFault). IsLineRefusal program file held held given) (sym e) tt
 

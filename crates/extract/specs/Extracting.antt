@@ -1,5 +1,5 @@
 -- What an extract promises, case by case.
-use Rattle.std.specs.Prelude.{◌≡◌, ◌≢◌, ◌⊎◌, ℕ, ◌^◌, List, [], All, IfSome, Option, Result, Err}
+use Rattle.std.specs.Prelude.{◌≡◌, ◌≢◌, ◌⊎◌, ℕ, ◌^◌, ◌<◌, List, [], All, IfSome, Option, Result, Err}
 use Rattle.std.specs.Io.KnownBytes.{Appends}
 use Rattle.bpf_insn.specs.Code.{IsCodeOf, IsFirstFault}
 use Rattle.bpf_insn.specs.declared.fault.CodeFault.TheVariants as code_fault
@@ -7,7 +7,7 @@ use Rattle.bpf_insn.specs.declared.instruction.Insn.{Insn}
 use Rattle.bpf_meaning.specs.Segment.{Contents}
 use Rattle.bpf_meaning.specs.Run.{IsSafe}
 use Rattle.bpf_meaning.specs.Extract.{IsExtract}
-use Rattle.extract.specs.Checks.{IsCheckFault}
+use Rattle.extract.specs.Checks.{EndsInExit, IsCheckFault}
 use Rattle.extract.specs.Lines.{IsGoodLine, OtherLength, OtherType, NoTlid}
 use Rattle.extract.specs.Segments.{AreSegmentsOf, ComesAfterGood, HasFlawAfter, HasMoreAfter, BeginsWith, segments_of}
 use Rattle.extract.specs.Rows.{AppendsBeginning}
@@ -18,10 +18,11 @@ use Rattle.extract.specs.declared.lines.LineFault.{LineFault}
 use Rattle.extract.specs.declared.lines.LineFault.TheVariants as line_fault
 
 -- the bytes have this code, and it is safe: on every segment whatever no run ends stuck, and some run exits in at most as many steps as
--- the code has instructions
+-- the code has instructions. Its last instruction is EXIT, which is this project's own rule.
 pub record IsSafeProgram (program : List ℕ) (code : List Insn) : Type 0 where
   pub is_code : IsCodeOf program code
   pub safe : IsSafe code
+  pub last : EndsInExit code
 
 -- The program is safe, and for a list of good lines exactly the rows that its meaning chooses were written, in file order with their
 -- scores, behind what the writer held, so many. Where the reader's bytes are known, the lines are that file's.
@@ -77,12 +78,20 @@ IsFaultAfter (line_fault.WrongLength line) file lines = HasFlawAfter file lines 
 IsFaultAfter (line_fault.WrongType line) file lines = HasFlawAfter file lines OtherType
 IsFaultAfter (line_fault.BadTlid line) file lines = HasFlawAfter file lines NoTlid
 IsFaultAfter (line_fault.Read line) file lines = BeginsWith file lines
-IsFaultAfter (line_fault.TooManyLines line) file lines = HasMoreAfter file lines × (line ≡ 2 ^ 32)
+IsFaultAfter (line_fault.TooManyLines line) file lines = HasMoreAfter file lines
+
+-- a line of another length or type, or without a TLID, has a number in 32 bits, and the line that is too many has the first that needs 33
+abbrev pub HasLineNumber : LineFault → Type 0
+HasLineNumber (line_fault.WrongLength line) = line < 2 ^ 32
+HasLineNumber (line_fault.WrongType line) = line < 2 ^ 32
+HasLineNumber (line_fault.BadTlid line) = line < 2 ^ 32
+HasLineNumber (line_fault.Read line) = Unit {0}
+HasLineNumber (line_fault.TooManyLines line) = line ≡ 2 ^ 32
 
 -- 1, 2, 3, 5 and 8 are the first fault of the file: they come behind good lines, of whose extract a beginning was written
 abbrev pub IsLineRefusal : List ℕ → Option (List ℕ) → Option (List ℕ) → Option (List ℕ) → ExtractFault → Type 0
 IsLineRefusal program file held new_held (Rt1 fault) =
-    (before : ComesAfterGood file (line_of fault) (IsFaultAfter fault)) × HasBegun program before.lines held new_held
+    HasLineNumber fault × (before : ComesAfterGood file (line_of fault) (IsFaultAfter fault)) × HasBegun program before.lines held new_held
 IsLineRefusal program file held new_held (Code fault) = Unit {0}
 IsLineRefusal program file held new_held (LastNotExit place) = Unit {0}
 IsLineRefusal program file held new_held (Refused place cause) = Unit {0}

@@ -51,6 +51,7 @@ pub(crate) enum Edge {
 /// aren't looked at, but the last one must be EXIT.
 pub(crate) fn check<A: Allocator>(code: &Code<A>) -> Result<(), CheckFault>
     ensures safe { OnOk result (IsSafe code.now) }
+    ensures last { OnOk result (EndsInExit code.now) }
     ensures fault { IfErr result (IsCheckFault code.now) }
 {
     check_last(code)?;

@@ -1,4 +1,5 @@
-ghost use Rattle.std.specs.Prelude.{◌≡◌, IfOk, IfErr};
+ghost use Rattle.std.specs.Prelude.{◌≡◌, IfOk, OnOk, IfErr};
+ghost use Rattle.std.specs.Io.KnownBytes.{IsAtEnd};
 ghost use Rattle.extract.specs.Extracting.{IsSafeProgram, IsAcceptFault, IsExtracted, IsProgramRefusal, WhereRefused, IsLineRefusal, IsWriteRefusal, IsMemoryRefusal, CountsReads, CountsFailedWrites, CountsEmptyWrites};
 
 use crate::checks::check;
@@ -22,8 +23,9 @@ pub fn extract<A: Allocator + Copy, R: CountedRead, W: CountedWrite>(
     rt6: &mut R,
     out: &mut W,
 ) -> Result<u64, ExtractFault>
-    // The program is safe on every segment whatever, and its extract of the file was written.
+    // The program is safe on every segment whatever, its extract of the file was written, and the file was read to its end.
     ensures extracted { IfOk result (λ rows. IsExtracted program.now rows (R.remaining rt1.old) (W.contents out.old) (W.contents out.new)) }
+    ensures whole { OnOk result (IsAtEnd (R.remaining rt1.new)) }
 
     // When each refusal comes.
     ensures program { IfErr result (IsProgramRefusal program.now) }

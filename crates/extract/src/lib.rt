@@ -10,6 +10,8 @@ mod lines;
 mod machine;
 mod rows;
 mod segments;
+#[cfg(test)]
+mod tests;
 
 pub use extractor::extract;
 pub use fault::ExtractFault;

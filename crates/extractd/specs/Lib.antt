@@ -1,0 +1,5 @@
+pub mod Files
+pub mod Words
+pub mod Reports
+pub mod Run
+pub mod Command

@@ -1,0 +1,129 @@
+//! The words of a command line.
+ghost use Rattle.std.specs.Prelude.{◌≡◌, IfOk, IsTrue, ◌↔◌};
+ghost use Rattle.extractd.specs.declared.arguments.WordsFault.TheVariants.{Memory};
+ghost use Rattle.extractd.specs.Words.{IsCountyCode};
+ghost use Rattle.extractd.specs.Command.{IsFaultOf};
+
+use clap::error::ErrorKind;
+use clap::{Arg, ArgAction, Command};
+use std::alloc::{AllocError, Global};
+
+const ABOUT: &str = "Extracts the TIGER/Line street segments that a BPF program chooses";
+
+const EXIT_STATUSES: &str =
+    "Exit status: 0 done, also where no row was chosen; 1 refused; 2 usage; \
+    3 a file or output that can't be used; 4 out of memory";
+
+/// What `run` is asked for.
+#[derive(Clone, Copy, Debug)]
+pub struct RunWords<'a> {
+    /// The program's file.
+    pub program: &'a str,
+    /// The folder of the county files.
+    pub data: &'a str,
+    /// The county: five digits, of the state and of the county in it.
+    pub code: &'a str,
+}
+
+/// Why words are no command.
+#[derive(Drop)]
+pub enum WordsFault {
+    /// Their form, or a call for help. The error prints the text for the user.
+    Usage(clap::Error),
+    /// The county isn't five digits.
+    Code,
+    Memory,
+}
+
+impl From<clap::Error> for WordsFault {
+    ghost from_gives = { IsFaultOf };
+
+    fn from(error: clap::Error) -> WordsFault {
+        match error.kind() {
+            ErrorKind::OutOfMemory => WordsFault::Memory,
+            _ => WordsFault::Usage(error),
+        }
+    }
+}
+
+impl From<AllocError> for WordsFault {
+    ghost from_gives = { λ _ given. given ≡ Memory };
+
+    fn from(_error: AllocError) -> WordsFault {
+        WordsFault::Memory
+    }
+}
+
+/// Reads the words after the program's name.
+pub fn read_words<'a>(alloc: Global, words: &'a [&'a str]) -> Result<RunWords<'a>, WordsFault>
+    ensures { IfOk result (λ run. IsCountyCode run.code.now) }
+{
+    let matches = program_command(alloc)?.try_get_matches_from(words)?;
+    let Some((_, matches)) = matches.subcommand() else {
+        return Err(WordsFault::Code);
+    };
+    match (
+        matches.get_str("program"),
+        matches.get_str("data"),
+        matches.get_str("code"),
+    ) {
+        (Some(program), Some(data), Some(code)) if is_county_code(code) => {
+            Ok(RunWords {
+                program,
+                data,
+                code,
+            })
+        }
+        _ => Err(WordsFault::Code),
+    }
+}
+
+fn program_command<'a>(alloc: Global) -> Result<Command<'a>, AllocError> {
+    Command::new(alloc, "extractd")
+        .about(ABOUT)
+        .after_help(EXIT_STATUSES)
+        .no_binary_name(true)
+        .disable_help_subcommand(true)
+        .subcommand_required(true)
+        .subcommand(run_command(alloc)?)
+}
+
+fn run_command<'a>(alloc: Global) -> Result<Command<'a>, AllocError> {
+    Command::new(alloc, "run")
+        .about("Writes the rows of the segments that a program chooses")
+        .after_help(EXIT_STATUSES)
+        .arg(option(
+            alloc,
+            "program",
+            "FILE",
+            "The program, as BPF instruction words",
+        ))?
+        .arg(option(
+            alloc,
+            "data",
+            "DIR",
+            "The folder of the TIGER/Line 2006 files",
+        ))?
+        .arg(
+            Arg::new(alloc, "code")
+                .value_name("CODE")
+                .help("The county, five digits")
+                .required(true)
+                .action(ArgAction::Set),
+        )
+}
+
+fn option<'a>(alloc: Global, name: &'a str, value: &'a str, help: &'a str) -> Arg<'a> {
+    Arg::new(alloc, name)
+        .long(name)
+        .value_name(value)
+        .help(help)
+        .required(true)
+        .action(ArgAction::Set)
+}
+
+fn is_county_code(text: &str) -> bool
+    ensures { IsTrue result ↔ IsCountyCode text.now }
+{
+    text.len() == 5 && text.bytes().all(|byte| byte.is_ascii_digit())
+}

@@ -1,0 +1,200 @@
+//! The command `run`.
+ghost use Rattle.std.specs.Prelude.{◌≡◌, ◌≢◌, ℕ, List, IfOk, IfErr, Some, string_bytes};
+ghost use Rattle.std.specs.Io.KnownBytes.{Keeps};
+ghost use Rattle.extractd.specs.declared.run.RunFault.TheVariants.{Refused, Unusable};
+ghost use Rattle.extractd.specs.declared.run.InputFile.TheVariants.{Program};
+ghost use Rattle.std.specs.IoError.{error_kind};
+ghost use Rattle.extract.specs.declared.fault.ExtractFault.TheVariants.{Memory};
+ghost use Rattle.extractd.specs.Run.{status_of_run_fault, rt1_name_of, OpensInput, Extracts, RunsTo, SaysFault, EndsWith, IsReadFault};
+
+use crate::arguments::RunWords;
+use crate::files::{Files, Input, Opened};
+use crate::reports::{DONE, UNUSABLE, refusal_status, write_refusal};
+use extract::{ExtractFault, extract};
+use std::alloc::{AllocError, Global};
+use std::io;
+use std::io::{ErrorKind, Read, Write};
+use tl_fields::{CountedWrite, Counting};
+
+/// A file that a run reads.
+#[derive(Clone, Copy, Debug, PartialEq, Eq)]
+pub enum InputFile {
+    Program,
+    Rt1,
+}
+
+/// Why a run has no extract, or no whole one.
+#[derive(Clone, Copy, Debug, PartialEq, Eq)]
+pub enum RunFault {
+    Missing(InputFile),
+    /// The file is there, and can't be opened or, for the program, read.
+    Unusable(InputFile),
+    Refused(ExtractFault),
+}
+
+impl From<ExtractFault> for RunFault {
+    ghost from_gives = { λ fault given. given ≡ Refused fault };
+
+    fn from(fault: ExtractFault) -> RunFault {
+        RunFault::Refused(fault)
+    }
+}
+
+impl From<AllocError> for RunFault {
+    ghost from_gives = { λ _ given. given ≡ Refused Memory };
+
+    fn from(_error: AllocError) -> RunFault {
+        RunFault::Refused(ExtractFault::Memory)
+    }
+}
+
+/// Writes the extract of one county, says on `errors` what refused it, and answers the exit status.
+pub fn run<F: Files, W: CountedWrite, E: CountedWrite>(
+    alloc: Global,
+    words: RunWords<'_>,
+    files: &mut F,
+    out: &mut W,
+    errors: &mut E,
+) -> u8
+    ensures { EndsWith result (F.bytes files.old words.entry.program.now)
+        (F.bytes files.old (rt1_name_of words.entry.data.now words.entry.code.now))
+        (W.contents out.old) (W.contents out.new) (E.contents errors.old) (E.contents errors.new)
+        (E.failed_writes errors.old) (E.failed_writes errors.new) (E.empty_writes errors.old) (E.empty_writes errors.new) }
+{
+    match extract_files(alloc, words, files, out) {
+        Ok(_) => DONE,
+        Err(fault) => {
+            report(errors, words, fault);
+            run_status(fault)
+        }
+    }
+}
+
+/// The exit status of a run that has no whole extract.
+fn run_status(fault: RunFault) -> u8
+    ensures { result ≡ status_of_run_fault fault }
+{
+    match fault {
+        RunFault::Missing(_) | RunFault::Unusable(_) => UNUSABLE,
+        RunFault::Refused(fault) => refusal_status(fault),
+    }
+}
+
+fn report<E: CountedWrite>(errors: &mut E, words: RunWords<'_>, fault: RunFault)
+    ensures { SaysFault fault (E.contents errors.old) (E.contents errors.new)
+        (E.failed_writes errors.old) (E.failed_writes errors.new) (E.empty_writes errors.old) (E.empty_writes errors.new) }
+{
+    match fault {
+        RunFault::Missing(file) => write_name(errors, words, file, "not found"),
+        RunFault::Unusable(file) => write_name(errors, words, file, "can't be used"),
+        RunFault::Refused(fault) => write_refusal(errors, fault),
+    }
+}
+
+/// Names the file, and what is wrong with it.
+fn write_name<E: Write>(errors: &mut E, words: RunWords<'_>, file: InputFile, wrong: &str) {
+    let RunWords {
+        program,
+        data,
+        code,
+    } = words;
+    let _ = match file {
+        InputFile::Program => write!(errors, "error: {program}: {wrong}\n"),
+        InputFile::Rt1 => write!(errors, "error: {data}/TGR{code}.RT1: {wrong}\n"),
+    };
+}
+
+/// Opens the program and then the type 1 file, reads the program to its end, and writes the extract.
+fn extract_files<F: Files, W: CountedWrite>(
+    alloc: Global,
+    words: RunWords<'_>,
+    files: &mut F,
+    out: &mut W,
+) -> Result<u64, RunFault>
+    ensures { RunsTo (F.bytes files.old words.entry.program.now)
+        (F.bytes files.old (rt1_name_of words.entry.data.now words.entry.code.now))
+        result (W.contents out.old) (W.contents out.new) }
+{
+    let program = match open(files, InputFile::Program, words.program) {
+        Ok(program) => program,
+        Err(fault) => return Err(fault),
+    };
+    let name = match rt1_name(alloc, words.data, words.code) {
+        Ok(name) => name,
+        Err(error) => return Err(RunFault::from(error)),
+    };
+    let rt1 = match open(files, InputFile::Rt1, name.as_str()) {
+        Ok(rt1) => rt1,
+        Err(fault) => return Err(fault),
+    };
+    let program = match read_program(alloc, program) {
+        Ok(program) => program,
+        Err(fault) => return Err(fault),
+    };
+    match extract_one(alloc, program.as_slice(), rt1, out) {
+        Ok(rows) => Ok(rows),
+        Err(fault) => Err(RunFault::Refused(fault)),
+    }
+}
+
+/// The type 1 file of a county.
+fn rt1_name(alloc: Global, data: &str, code: &str) -> Result<String, AllocError>
+    ensures { IfOk result (λ name. string_bytes name ≡ rt1_name_of data.now code.now) }
+{
+    let mut name = String::from_str(alloc, data)?;
+    name.push_str("/TGR")?;
+    name.push_str(code)?;
+    name.push_str(".RT1")?;
+    Ok(name)
+}
+
+fn open<F: Files>(files: &mut F, file: InputFile, name: &str) -> Result<F::Reader, RunFault>
+    ensures opens { OpensInput F.Reader.remaining (F.bytes files.old name.now) file result }
+    ensures stay { (other : List ℕ) → F.bytes files.new other ≡ F.bytes files.old other }
+{
+    match files.open(name) {
+        Opened::Reader(reader) => Ok(reader),
+        Opened::Missing => Err(RunFault::Missing(file)),
+        Opened::Unusable => Err(RunFault::Unusable(file)),
+        Opened::OutOfMemory => Err(RunFault::Refused(ExtractFault::Memory)),
+    }
+}
+
+/// The program's bytes, from where the reader stands to its end.
+fn read_program<R: Read + Drop>(alloc: Global, mut reader: R) -> Result<Vec<u8>, RunFault>
+    ensures ok { IfOk result (λ program. Keeps (R.remaining reader) (Some program.items)) }
+    ensures err { IfErr result IsReadFault }
+{
+    let mut program = Vec::new(alloc);
+    match reader.read_to_end(&mut program) {
+        Ok(_) => Ok(program),
+        Err(error) => Err(read_fault(&error)),
+    }
+}
+
+fn read_fault(error: &io::Error) -> RunFault
+    ensures memory { error_kind error.now ≡ ErrorKind.OutOfMemory → result ≡ Refused Memory }
+    ensures other { error_kind error.now ≢ ErrorKind.OutOfMemory → result ≡ Unusable Program }
+    ensures fault { IsReadFault result }
+{
+    match error.kind() {
+        ErrorKind::OutOfMemory => RunFault::Refused(ExtractFault::Memory),
+        _ => RunFault::Unusable(InputFile::Program),
+    }
+}
+
+/// The extract of a program that was read and a type 1 file, with no other file.
+fn extract_one<R: Read + Drop, W: CountedWrite>(
+    alloc: Global,
+    program: &[u8],
+    rt1: R,
+    out: &mut W,
+) -> Result<u64, ExtractFault>
+    ensures { Extracts program.now result (R.remaining rt1) (W.contents out.old) (W.contents out.new) }
+{
+    let mut rt1 = Counting::new(Input::Opened(rt1));
+    let mut rt4 = Counting::new(Input::Nothing);
+    let mut rt5 = Counting::new(Input::Nothing);
+    let mut rt6 = Counting::new(Input::Nothing);
+    extract(alloc, program, &mut rt1, &mut rt4, &mut rt5, &mut rt6, out)
+}

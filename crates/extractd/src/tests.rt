@@ -1,0 +1,6 @@
+//! Commands over files in memory. Expected rows, lines and statuses were worked by hand.
+mod devices;
+mod fixtures;
+mod programs;
+mod records;
+mod usage;
