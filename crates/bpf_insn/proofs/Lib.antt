@@ -1,3 +1,10 @@
 pub mod WordLemmas
+pub mod RowLemmas
+pub mod FaultLemmas
+pub mod SpellingLemmas
 pub mod CodeLemmas
-mod Examples
+pub mod PlaceLemmas
+pub mod DecoderLemmas
+pub mod EncoderLemmas
+pub mod ArithmeticLemmas
+mod ArithmeticExamples

@@ -1,5 +1,5 @@
 -- Instruction words (RFC 9669, section 3.1, little-endian).
-use Rattle.std.specs.Prelude.{ℕ, zero, suc, ◌/◌, ◌%◌, List, [], ◌∷◌, length, slice_index, drop}
+use Rattle.std.specs.Prelude.{◌≡◌, ◌<◌, ℕ, zero, suc, ◌*◌, ◌/◌, ◌%◌, List, [], ◌∷◌, ◌++◌, All, length, slice_index, drop}
 use Rattle.std.specs.Int.{cast_signed, w16, w32}
 use Rattle.byteorder.specs.Endian.{little_number}
 use Rattle.bpf_insn.specs.declared.word.Word.{Word}
@@ -23,3 +23,19 @@ first_words (suc count) bytes = word_of bytes ∷ first_words count (drop 8 byte
 -- the words of the bytes, where these are a whole number of words
 abbrev pub words_of : List ℕ → List Word
 words_of bytes = first_words (length bytes / 8) bytes
+
+-- eight bytes that are this word
+pub record IsWritten (word : Word) (bytes : List ℕ) : Type 0 where
+  pub long : length bytes ≡ 8
+  pub is_word : word_of bytes ≡ word
+  pub small : All (λ byte. byte < 256) bytes
+
+-- bytes that are these words, one after the other
+pub record AreWords (words : List Word) (bytes : List ℕ) : Type 0 where
+  pub long : length bytes ≡ length words * 8
+  pub same : first_words (length words) bytes ≡ words
+  pub small : All (λ byte. byte < 256) bytes
+
+-- bytes with these words behind them
+abbrev pub AppendsWords : List Word → List ℕ → List ℕ → Type 0
+AppendsWords words old new = (more : List ℕ) × AreWords words more × (new ≡ old ++ more)

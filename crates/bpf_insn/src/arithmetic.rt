@@ -1,17 +1,187 @@
-ghost use Rattle.std.specs.Prelude.{◌≡◌};
-ghost use Rattle.bpf_insn.specs.Arithmetic.{result_of, extended};
+ghost use Rattle.std.specs.Prelude.{◌≡◌, ◌<◌, ◌%◌, ◌^◌};
+ghost use Rattle.std.specs.Int.{w8, w16, w32, w64, cast_signed, cast_unsigned, swap_bytes};
+ghost use mir.Val.{bits};
+ghost use Rattle.bpf_insn.specs.Arithmetic.{operand_bits, low_bits, result_of, negation_of, extension_of, swap_bits, ordered_bytes, is_met, extended, wide_number_of, loaded_number};
 
-use crate::instruction::{Operation, Width};
+use crate::instruction::{
+    ByteOrder, Condition, LoadFormat, Operation, SignExtension, SwapWidth, Width,
+};
 
 impl Operation {
     /// What the operation gives, with the destination's value as the first operand and the source's
     /// as the second (RFC 9669, section 4.1). Signed numbers are in two's complement.
     pub fn apply(self, width: Width, x: u64, y: u64) -> u64
-        ensures { result ≡ result_of self width x y }
+        ensures value { result ≡ result_of self width x y }
+
+        // With 32 bits the upper half is zero.
+        ensures fits { result < 2 ^ bits (operand_bits width) }
     {
-        match (self, width) {
-            (Operation::Add, Width::Bits64) => x.wrapping_add(y),
-            (Operation::Move, Width::Bits64) => y,
+        let x = width.low_bits(x);
+        let y = width.low_bits(y);
+        match self {
+            Operation::Divide | Operation::SignedDivide if y == 0 => 0,
+            Operation::Modulo | Operation::SignedModulo if y == 0 => x,
+            Operation::Add => width.low_bits(x.wrapping_add(y)),
+            Operation::Subtract => width.low_bits(x.wrapping_sub(y)),
+            Operation::Multiply => width.low_bits(x.wrapping_mul(y)),
+            Operation::Divide => x / y,
+            Operation::SignedDivide => {
+                width.bits_of(width.signed(x).wrapping_div(width.signed(y)))
+            }
+            Operation::Or => x | y,
+            Operation::And => x & y,
+            Operation::ShiftLeft => width.low_bits(x << width.shift_amount(y)),
+            Operation::ShiftRight => x >> width.shift_amount(y),
+            Operation::Modulo => x % y,
+            Operation::SignedModulo => {
+                width.bits_of(width.signed(x).wrapping_rem(width.signed(y)))
+            }
+            Operation::ExclusiveOr => x ^ y,
+            Operation::Move => y,
+            Operation::ArithmeticShiftRight => {
+                width.bits_of(width.signed(x) >> width.shift_amount(y))
+            }
+        }
+    }
+}
+
+impl Condition {
+    /// Whether the jump is taken, with the destination's value as the first operand and the
+    /// source's as the second (RFC 9669, section 4.3).
+    pub fn holds(self, width: Width, x: u64, y: u64) -> bool
+        ensures { result ≡ is_met self width x y }
+    {
+        let (x, y) = (width.low_bits(x), width.low_bits(y));
+        match self {
+            Condition::Equal => x == y,
+            Condition::Greater => x > y,
+            Condition::GreaterOrEqual => x >= y,
+            Condition::SharesBit => x & y != 0,
+            Condition::NotEqual => x != y,
+            Condition::SignedGreater => width.signed(x) > width.signed(y),
+            Condition::SignedGreaterOrEqual => width.signed(x) >= width.signed(y),
+            Condition::Less => x < y,
+            Condition::LessOrEqual => x <= y,
+            Condition::SignedLess => width.signed(x) < width.signed(y),
+            Condition::SignedLessOrEqual => width.signed(x) <= width.signed(y),
+        }
+    }
+}
+
+impl Width {
+    /// The low bits, as many as operands have.
+    fn low_bits(self, x: u64) -> u64
+        ensures value { result ≡ low_bits (operand_bits self) x }
+        ensures fits { result < 2 ^ bits (operand_bits self) }
+    {
+        match self {
+            Width::Bits32 => u64::from(low_word(x)),
+            Width::Bits64 => x,
+        }
+    }
+
+    /// The low bits as a signed number.
+    fn signed(self, x: u64) -> i64
+        ensures { result ≡ cast_signed (operand_bits self) (low_bits (operand_bits self) x) }
+    {
+        match self {
+            Width::Bits32 => i64::from(signed_word(x)),
+            Width::Bits64 => x.cast_signed(),
+        }
+    }
+
+    /// The low bits of a signed number in two's complement.
+    fn bits_of(self, number: i64) -> u64
+        ensures { result ≡ low_bits (operand_bits self) (cast_unsigned w64 number) }
+    {
+        self.low_bits(number.cast_unsigned())
+    }
+
+    /// By how many bits a shift goes.
+    fn shift_amount(self, y: u64) -> u32
+        ensures value { result ≡ y % bits (operand_bits self) }
+        ensures below { result < bits (operand_bits self) }
+    {
+        match self {
+            Width::Bits32 => (y % 32) as u32,
+            Width::Bits64 => (y % 64) as u32,
+        }
+    }
+}
+
+/// The number that gives 0 when it's added to `x` (RFC 9669, section 4.1).
+pub fn negate(width: Width, x: u64) -> u64
+    ensures value { result ≡ negation_of width x }
+    ensures fits { result < 2 ^ bits (operand_bits width) }
+{
+    width.low_bits(0u64.wrapping_sub(x))
+}
+
+impl SignExtension {
+    /// The low 8, 16 or 32 bits with their sign extended (RFC 9669, section 4.1).
+    pub fn apply(self, x: u64) -> u64
+        ensures { result ≡ extension_of self x }
+    {
+        match self {
+            SignExtension::Bits8To32 => u64::from(i32::from(signed_byte(x)).cast_unsigned()),
+            SignExtension::Bits16To32 => u64::from(i32::from(signed_half_word(x)).cast_unsigned()),
+            SignExtension::Bits8To64 => i64::from(signed_byte(x)).cast_unsigned(),
+            SignExtension::Bits16To64 => i64::from(signed_half_word(x)).cast_unsigned(),
+            SignExtension::Bits32To64 => i64::from(signed_word(x)).cast_unsigned(),
+        }
+    }
+}
+
+impl LoadFormat {
+    /// What a register gets from the number that the bytes read are (RFC 9669, sections 5.1 and
+    /// 5.2).
+    pub fn extend(self, number: u64) -> u64
+        ensures { result ≡ loaded_number self number }
+    {
+        match self {
+            LoadFormat::Byte | LoadFormat::HalfWord | LoadFormat::Word | LoadFormat::DoubleWord =>
+                number,
+            LoadFormat::SignedByte => SignExtension::Bits8To64.apply(number),
+            LoadFormat::SignedHalfWord => SignExtension::Bits16To64.apply(number),
+            LoadFormat::SignedWord => SignExtension::Bits32To64.apply(number),
+        }
+    }
+}
+
+impl ByteOrder {
+    /// The low bytes in this order, and zeros above them (RFC 9669, section 4.2).
+    pub fn apply(self, width: SwapWidth, x: u64) -> u64
+        ensures value { result ≡ ordered_bytes self width x }
+        ensures fits { result < 2 ^ bits (swap_bits width) }
+    {
+        match self {
+            ByteOrder::LittleEndian => width.low_bits(x),
+            ByteOrder::BigEndian | ByteOrder::Swapped => width.swap_bytes(x),
+        }
+    }
+}
+
+impl SwapWidth {
+    /// The low bits, as many as a swap takes.
+    fn low_bits(self, x: u64) -> u64
+        ensures { result ≡ low_bits (swap_bits self) x }
+    {
+        match self {
+            SwapWidth::Bits16 => u64::from(low_half_word(x)),
+            SwapWidth::Bits32 => u64::from(low_word(x)),
+            SwapWidth::Bits64 => x,
+        }
+    }
+
+    /// The low bytes in the opposite order.
+    fn swap_bytes(self, x: u64) -> u64
+        ensures value { result ≡ swap_bytes (swap_bits self) (low_bits (swap_bits self) x) }
+        ensures fits { result < 2 ^ bits (swap_bits self) }
+    {
+        match self {
+            SwapWidth::Bits16 => u64::from(low_half_word(x).swap_bytes()),
+            SwapWidth::Bits32 => u64::from(low_word(x).swap_bytes()),
+            SwapWidth::Bits64 => x.swap_bytes(),
         }
     }
 }
@@ -21,4 +191,42 @@ pub fn sign_extended(immediate: i32) -> u64
     ensures { result ≡ extended immediate }
 {
     i64::from(immediate).cast_unsigned()
+}
+
+/// The number of a wide load: the next word's immediate above the word's own, both unsigned
+/// (RFC 9669, section 5.4).
+pub fn wide_number(immediate: i32, next_immediate: i32) -> u64
+    ensures { result ≡ wide_number_of immediate next_immediate }
+{
+    u64::from(next_immediate.cast_unsigned()) * (1 << 32) + u64::from(immediate.cast_unsigned())
+}
+
+fn low_half_word(x: u64) -> u16
+    ensures { result ≡ low_bits w16 x }
+{
+    (x % (1 << 16)) as u16
+}
+
+fn low_word(x: u64) -> u32
+    ensures { result ≡ low_bits w32 x }
+{
+    (x % (1 << 32)) as u32
+}
+
+fn signed_byte(x: u64) -> i8
+    ensures { result ≡ cast_signed w8 (low_bits w8 x) }
+{
+    ((x % (1 << 8)) as u8).cast_signed()
+}
+
+fn signed_half_word(x: u64) -> i16
+    ensures { result ≡ cast_signed w16 (low_bits w16 x) }
+{
+    low_half_word(x).cast_signed()
+}
+
+fn signed_word(x: u64) -> i32
+    ensures { result ≡ cast_signed w32 (low_bits w32 x) }
+{
+    low_word(x).cast_signed()
 }

@@ -1,18 +1,169 @@
-ghost use Rattle.std.specs.Prelude.{◌≡◌, ◌≤◌, ◌<◌, length, IsSome};
-ghost use Rattle.bpf_insn.specs.Code.{HasProgramSize, word_count, instruction_at};
+ghost use Rattle.std.specs.Prelude.{◌≡◌, ◌≤◌, ◌<◌, ◌+◌, ◌++◌, ◌∷◌, [], length, IfOk, IfErr, OnErr, IfSome, IsSome, MatchResult, Err, vec_len, vec_capacity};
+ghost use Rattle.bpf_insn.specs.Form.{spelling};
+ghost use Rattle.bpf_insn.specs.Code.{HasProgramSize, word_count, instruction_at, index_at, place_of, IsPushFault};
+ghost use Rattle.bpf_insn.specs.Table.{indexes_in};
+ghost use Rattle.bpf_insn.specs.declared.fault.CodeFault.{CodeFault};
 
+use crate::fault::{CodeFault, WordFault};
 use crate::instruction::Insn;
-use std::alloc::Allocator;
+use crate::register::{Register, WritableRegister};
+use std::alloc::{AllocError, Allocator};
 use std::marker::Model;
 
 /// How many words of eight bytes a program has at most.
 pub const WORD_LIMIT: usize = 4096;
 
+/// A code that is built instruction by instruction: up to `WORD_LIMIT` words of them. Contracts see
+/// the instructions as a list. It keeps the allocator that it was made with.
+#[derive(Debug, Drop)]
+pub struct CodeBuilder<A: Allocator> {
+    instructions: Vec<Insn, A>,
+    // The place of each instruction.
+    places: Vec<usize, A>,
+    // For each word the index of the instruction that begins there.
+    indexes: Vec<Option<usize>, A>,
+}
+
+impl<A: Allocator> Model for CodeBuilder<A> {
+    ghost use Rattle.std.specs.Prelude.{◌≡◌, ◌≤◌, List};
+    ghost use Rattle.bpf_insn.specs.Code.{word_count};
+    ghost use Rattle.bpf_insn.specs.Table.{places_from, indexes_from};
+    ghost use Rattle.bpf_insn.specs.declared.instruction.Insn.{Insn};
+    ghost use Rattle.bpf_insn.specs.declared.code.TheConstants.{WORD_LIMIT};
+
+    ghost Value = { List Insn };
+
+    ghost view = { λ b. b.instructions.items };
+
+    ghost invariant = { λ b. (b.places.items ≡ places_from 0 b.instructions.items)
+        × (b.indexes.items ≡ indexes_from 0 b.instructions.items)
+        × (word_count b.instructions.items ≤ WORD_LIMIT) };
+}
+
+impl<A: Allocator + Copy> CodeBuilder<A> {
+    /// No instruction yet. It asks for no memory.
+    pub fn new(alloc: A) -> Self
+        ensures { result ≡ [] }
+    {
+        CodeBuilder {
+            instructions: Vec::new(alloc),
+            places: Vec::new(alloc),
+            indexes: Vec::new(alloc),
+        }
+    }
+
+    /// No instruction yet, with room for so many words.
+    pub(crate) fn with_capacity(alloc: A, words: usize) -> Result<Self, AllocError>
+        ensures { IfOk result (λ builder. builder ≡ []) }
+    {
+        Ok(CodeBuilder {
+            instructions: Vec::with_capacity(alloc, words)?,
+            places: Vec::with_capacity(alloc, words)?,
+            indexes: Vec::with_capacity(alloc, words)?,
+        })
+    }
+}
+
+impl<A: Allocator> CodeBuilder<A> {
+    /// How many words the instructions take: the place of the next one.
+    pub fn words(&self) -> usize
+        ensures { result ≡ word_count self.now }
+    {
+        self.indexes.len()
+    }
+
+    fn instructions(&self) -> &[Insn]
+        ensures { result.now ≡ self.now }
+    {
+        self.instructions.as_slice()
+    }
+
+    fn place(&self, index: usize) -> usize
+        requires { index < length self.now }
+        ensures { result ≡ place_of self.now index }
+    {
+        self.places[index]
+    }
+
+    fn index_at(&self, place: usize) -> Option<usize>
+        ensures value { result ≡ index_at self.now place }
+        ensures within { IfSome result (λ index. index < length self.now) }
+    {
+        self.indexes.get(place).copied().flatten()
+    }
+
+    fn at(&self, place: usize) -> Option<Insn>
+        ensures { result ≡ instruction_at self.now place }
+    {
+        let index = self.index_at(place)?;
+        Some(self.instructions[index])
+    }
+
+    /// A register as the destination of the next instruction, if it may be written.
+    pub fn destination(&self, register: Register) -> Result<WritableRegister, CodeFault>
+        ensures ok { IfOk result (λ destination. destination.number ≡ register.number) }
+        ensures err { IfErr result (λ fault. (register.number ≡ 10)
+            × (fault ≡ CodeFault.InWord (word_count self.now) WordFault.WritesFramePointer)) }
+    {
+        let number = register.number;
+        if number > 9 {
+            return Err(CodeFault::InWord {
+                place: self.words(),
+                fault: WordFault::WritesFramePointer,
+            });
+        }
+        Ok(WritableRegister { number })
+    }
+
+    /// Adds an instruction behind the others, in constant time.
+    pub fn push(&mut self, insn: Insn) -> Result<(), CodeFault>
+        ensures result { MatchResult result (λ _. self.new ≡ self.old ++ insn ∷ []) (IsPushFault self.old insn) }
+        ensures refused { OnErr result (self.new ≡ self.old) }
+        ensures too_long { WORD_LIMIT < word_count self.old + length (spelling insn) → result ≡ Err CodeFault.TooLong }
+    {
+        let place = self.words();
+        if WORD_LIMIT - place < insn.words() {
+            return Err(CodeFault::TooLong);
+        }
+        self.instructions.reserve(1)?;
+        self.places.reserve(1)?;
+        self.indexes.reserve(2)?;
+        push_indexes(&mut self.indexes, self.instructions.len(), insn);
+        self.places.push_reserved(place);
+        self.instructions.push_reserved(insn);
+        Ok(())
+    }
+
+    /// The code, unless there is no instruction.
+    pub fn finish(self) -> Result<Code<A>, CodeFault>
+        ensures ok { IfOk result (λ code. (code ≡ self) × HasProgramSize (word_count code)) }
+        ensures err { IfErr result (λ fault. (fault ≡ CodeFault.Empty) × (self ≡ [])) }
+        ensures empty { self ≡ [] → result ≡ Err CodeFault.Empty }
+    {
+        if self.instructions.is_empty() {
+            return Err(CodeFault::Empty);
+        }
+        Ok(Code { built: self })
+    }
+}
+
+/// Notes the index of an instruction at its words. There is room for two.
+fn push_indexes<A: Allocator>(indexes: &mut Vec<Option<usize>, A>, index: usize, insn: Insn)
+    requires { vec_len indexes.old + 2 ≤ vec_capacity indexes.old }
+    ensures { indexes.new.items ≡ indexes.old.items ++ indexes_in index (spelling insn) }
+{
+    indexes.push_reserved(Some(index));
+    if insn.words() < 2 {
+        return;
+    }
+    indexes.push_reserved(None);
+}
+
 /// The instructions of a program, in order: 1 to `WORD_LIMIT` words of them. Contracts see them as
-/// a list. It keeps the allocator that it was made with.
+/// a list. A place counts words from 0, an index counts instructions from 0.
 #[derive(Debug, Drop)]
 pub struct Code<A: Allocator> {
-    instructions: Vec<Insn, A>,
+    built: CodeBuilder<A>,
 }
 
 impl<A: Allocator> Model for Code<A> {
@@ -22,34 +173,49 @@ impl<A: Allocator> Model for Code<A> {
 
     ghost Value = { List Insn };
 
-    ghost view = { λ code. code.instructions.items };
+    ghost view = { λ code. code.built };
 
-    ghost invariant = { λ code. HasProgramSize (word_count code.instructions.items) };
+    ghost invariant = { λ code. HasProgramSize (word_count code.built) };
 }
 
 impl<A: Allocator> Code<A> {
-    pub(crate) fn of(instructions: Vec<Insn, A>) -> Self
-        requires { HasProgramSize (word_count instructions.items) }
-        ensures { result ≡ instructions.items }
-    {
-        Code { instructions }
-    }
-
-    /// The instructions in order. Their index isn't meant as a place: a place counts words, and
-    /// `at` takes one.
+    /// The instructions in order. Their index isn't meant as a place.
     pub fn instructions(&self) -> &[Insn]
         ensures value { result.now ≡ self.now }
         ensures sized { HasProgramSize (word_count self.now) }
     {
-        self.instructions.as_slice()
+        self.built.instructions()
     }
 
-    /// The instruction that begins at a place, which counts words from 0. None where none begins
-    /// there.
+    /// How many words the instructions take.
+    pub fn words(&self) -> usize
+        ensures value { result ≡ word_count self.now }
+        ensures sized { HasProgramSize (word_count self.now) }
+    {
+        self.built.words()
+    }
+
+    /// The place of the instruction with an index.
+    pub fn place(&self, index: usize) -> usize
+        requires { index < length self.now }
+        ensures { result ≡ place_of self.now index }
+    {
+        self.built.place(index)
+    }
+
+    /// The index of the instruction that begins at a place. None where none begins there.
+    pub fn index_at(&self, place: usize) -> Option<usize>
+        ensures value { result ≡ index_at self.now place }
+        ensures within { IfSome result (λ index. index < length self.now) }
+    {
+        self.built.index_at(place)
+    }
+
+    /// The instruction that begins at a place. None where none begins there.
     pub fn at(&self, place: usize) -> Option<Insn>
         ensures value { result ≡ instruction_at self.now place }
         ensures within { IsSome result → place < WORD_LIMIT }
     {
-        self.instructions.get(place).copied()
+        self.built.at(place)
     }
 }

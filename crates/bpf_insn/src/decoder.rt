@@ -1,11 +1,12 @@
-ghost use Rattle.std.specs.Prelude.{◌≡◌, ◌≢◌, ◌*◌, ◌≤◌, ◌<◌, ◌%◌, List, length, IfOk, IfErr, ◌⊎◌, OnOk, MatchResult, IsErrAnd};
+ghost use Rattle.std.specs.Prelude.{◌≡◌, ◌≢◌, ◌*◌, ◌/◌, ◌≤◌, ◌<◌, ◌%◌, List, length, IfOk, IfErr, ◌⊎◌, OnOk, MatchResult, IsErrAnd};
 ghost use Rattle.bpf_insn.specs.Word.{words_of};
 ghost use Rattle.bpf_insn.specs.Code.{IsCodeOf, IsFirstFault, spelled};
+ghost use Rattle.bpf_insn.specs.Reading.{BeginsAt, IsFaultAt};
 ghost use Rattle.bpf_insn.specs.declared.fault.CodeFault.{CodeFault};
 ghost use Rattle.bpf_insn.specs.declared.instruction.Insn.{Insn};
 
-use crate::code::{Code, WORD_LIMIT};
-use crate::fault::CodeFault;
+use crate::code::{Code, CodeBuilder, WORD_LIMIT};
+use crate::fault::{CodeFault, WordFault};
 use crate::instruction::Insn;
 use crate::word::Word;
 use std::alloc::Allocator;
@@ -36,8 +37,7 @@ fn read_code<A: Allocator + Copy>(alloc: A, bytes: &[u8]) -> Result<Code<A>, Cod
     ensures err { IfErr result (IsFirstFault bytes.now) }
 {
     check_length(bytes)?;
-    let instructions = read_instructions(alloc, bytes)?;
-    Ok(Code::of(instructions))
+    read_instructions(alloc, bytes)?.finish()
 }
 
 /// Whether so many bytes can be a program.
@@ -58,19 +58,43 @@ fn check_length(bytes: &[u8]) -> Result<(), CodeFault>
     Ok(())
 }
 
-fn read_instructions<A: Allocator + Copy>(alloc: A, bytes: &[u8]) -> Result<Vec<Insn, A>, CodeFault>
+fn read_instructions<A: Allocator + Copy>(
+    alloc: A,
+    bytes: &[u8],
+) -> Result<CodeBuilder<A>, CodeFault>
     requires whole { length bytes.now % 8 ≡ 0 }
     requires within { length bytes.now ≤ 8 * WORD_LIMIT }
-    ensures ok { IfOk result (λ instructions. words_of bytes.now ≡ spelled instructions.items) }
+    ensures ok { IfOk result (λ code. words_of bytes.now ≡ spelled code) }
     ensures err { IfErr result (IsFirstFault bytes.now) }
 {
     let count = bytes.len() / WORD_BYTES;
-    let mut instructions = Vec::with_capacity(alloc, count)?;
-    for place in 0..count {
-        match Word::read(&bytes[place * WORD_BYTES..]).instruction() {
-            Ok(instruction) => instructions.push(instruction)?,
+    let mut code = CodeBuilder::with_capacity(alloc, count)?;
+    let mut place = 0;
+    while place < count {
+        let instruction = match read_instruction(bytes, place) {
+            Ok(instruction) => instruction,
             Err(fault) => return Err(CodeFault::InWord { place, fault }),
+        };
+        match code.push(instruction) {
+            Ok(()) => place += instruction.words(),
+            Err(fault) => return Err(fault),
         }
     }
-    Ok(instructions)
+    Ok(code)
+}
+
+/// The instruction at a place.
+fn read_instruction(bytes: &[u8], place: usize) -> Result<Insn, WordFault>
+    requires { place < length bytes.now / 8 }
+    ensures ok { IfOk result (BeginsAt bytes.now place) }
+    ensures err { IfErr result (λ fault. IsFaultAt bytes.now place fault) }
+{
+    let first = Word::read(&bytes[place * WORD_BYTES..]);
+    let after = (place + 1) * WORD_BYTES;
+    let next = if bytes.len() - after < WORD_BYTES {
+        None
+    } else {
+        Some(Word::read(&bytes[after..]))
+    };
+    first.instruction(next)
 }

@@ -7,8 +7,8 @@ use itoa::Buffer;
 use std::alloc::{AllocError, AllocFailed};
 use thiserror::Error;
 
-/// Why a word is no instruction. Where several apply it's the first of opcode, registers, frame
-/// pointer and unused fields. The derived text is for people; the refusal's text is
+/// Why words are no instruction. Where several apply it's the first of opcode, second word, registers,
+/// frame pointer, widths and unused fields. The derived text is for people; the refusal's text is
 /// `CodeFault::line`.
 #[derive(Clone, Copy, Debug, PartialEq, Eq, Error)]
 pub enum WordFault {
@@ -18,6 +18,10 @@ pub enum WordFault {
     BadRegister,
     #[error("a field that the instruction doesn't use isn't zero")]
     UnusedNotZero,
+    #[error("the instruction has no such width")]
+    BadWidth,
+    #[error("the second word of a wide load is missing")]
+    CutWide,
     #[error("register 10 can't be written")]
     WritesFramePointer,
 }
@@ -33,7 +37,7 @@ pub enum CodeFault {
     TooLong,
     #[error("the word at place {place}: {fault}")]
     InWord {
-        /// The first word that is no instruction, counted from 0.
+        /// The word where no instruction begins, counted from 0.
         place: usize,
         fault: WordFault,
     },
@@ -80,6 +84,8 @@ fn word_line(place: usize, fault: WordFault) -> ArrayString<64>
         WordFault::UnknownOpcode => at_place("refused 13 place ", place, " UnknownOpcode"),
         WordFault::BadRegister => at_place("refused 14 place ", place, " BadRegister"),
         WordFault::UnusedNotZero => at_place("refused 15 place ", place, " UnusedNotZero"),
+        WordFault::BadWidth => at_place("refused 16 place ", place, " BadWidth"),
+        WordFault::CutWide => at_place("refused 17 place ", place, " CutWide"),
         WordFault::WritesFramePointer => {
             at_place("refused 18 place ", place, " WritesFramePointer")
         }

@@ -2,21 +2,39 @@ ghost use Rattle.std.specs.Prelude.{◌≡◌, length};
 
 use crate::register::{Register, WritableRegister};
 
-/// What an arithmetic instruction does (RFC 9669, section 4.1: the code in the opcode's high four
-/// bits).
+/// What an arithmetic instruction does with its two operands: its number is the code of RFC 9669,
+/// section 4.1, with 16 more where the offset is 1.
 #[derive(Clone, Copy, Debug, PartialEq, Eq)]
 pub enum Operation {
     /// The sum, without what passes the width.
-    Add,
+    Add = 0x0,
+    Subtract = 0x1,
+    Multiply = 0x2,
+    /// The quotient of unsigned numbers.
+    Divide = 0x3,
+    /// The quotient of signed numbers, cut towards zero.
+    SignedDivide = 0x13,
+    Or = 0x4,
+    And = 0x5,
+    ShiftLeft = 0x6,
+    /// A shift to the right that fills up with zeros.
+    ShiftRight = 0x7,
+    /// The remainder of unsigned numbers.
+    Modulo = 0x9,
+    /// The remainder of signed numbers, with the sign of the first operand.
+    SignedModulo = 0x19,
+    ExclusiveOr = 0xa,
     /// The second operand alone.
-    Move,
+    Move = 0xb,
+    /// A shift to the right that fills up with the sign.
+    ArithmeticShiftRight = 0xc,
 }
 
-/// How wide an arithmetic instruction's operands are (RFC 9669, section 4.1: the classes ALU and
-/// ALU64).
+/// How wide an instruction's operands are (RFC 9669, section 3.3: the classes ALU and JMP32 with 32
+/// bits, ALU64 and JMP with 64).
 #[derive(Clone, Copy, Debug, PartialEq, Eq)]
 pub enum Width {
-    /// The class ALU64.
+    Bits32,
     Bits64,
 }
 
@@ -25,16 +43,98 @@ pub enum Width {
 pub enum Source {
     /// The word's immediate, which `sign_extended` makes an operand of.
     Immediate(i32),
+    Register(Register),
 }
 
-/// How many bytes a load reads, and how it extends them (RFC 9669, sections 5.1 and 5.2).
+/// How many bits a move takes of its source, and to how many it extends their sign (RFC 9669,
+/// section 4.1: MOVSX, the offset and the class).
+#[derive(Clone, Copy, Debug, PartialEq, Eq)]
+pub enum SignExtension {
+    Bits8To32,
+    Bits16To32,
+    Bits8To64,
+    Bits16To64,
+    Bits32To64,
+}
+
+/// Which order of bytes a byte swap is for, with its opcode (RFC 9669, section 4.2).
+#[derive(Clone, Copy, Debug, PartialEq, Eq)]
+pub enum ByteOrder {
+    /// From the host's order to little-endian.
+    LittleEndian = 0xd4,
+    /// From the host's order to big-endian.
+    BigEndian = 0xdc,
+    /// The other order, whatever the host's.
+    Swapped = 0xd7,
+}
+
+/// How many bits a byte swap keeps (RFC 9669, section 4.2: the immediate).
+#[derive(Clone, Copy, Debug, PartialEq, Eq)]
+pub enum SwapWidth {
+    Bits16 = 16,
+    Bits32 = 32,
+    Bits64 = 64,
+}
+
+/// What a conditional jump asks of its two operands, with the codes of RFC 9669, section 4.3.
+#[derive(Clone, Copy, Debug, PartialEq, Eq)]
+pub enum Condition {
+    Equal = 0x1,
+    Greater = 0x2,
+    GreaterOrEqual = 0x3,
+    /// They have a bit in common that is one.
+    SharesBit = 0x4,
+    NotEqual = 0x5,
+    SignedGreater = 0x6,
+    SignedGreaterOrEqual = 0x7,
+    Less = 0xa,
+    LessOrEqual = 0xb,
+    SignedLess = 0xc,
+    SignedLessOrEqual = 0xd,
+}
+
+/// How many words a jump goes, counted from the word after it, and in which field it says so (RFC
+/// 9669, section 4.3: JA in the classes JMP and JMP32).
+#[derive(Clone, Copy, Debug, PartialEq, Eq)]
+pub enum JumpDistance {
+    /// In the offset.
+    Short(i16),
+    /// In the immediate.
+    Long(i32),
+}
+
+/// How many bytes a load reads, and how it extends them, with its opcode (RFC 9669, sections 5.1 and
+/// 5.2).
 #[derive(Clone, Copy, Debug, PartialEq, Eq)]
 pub enum LoadFormat {
     /// One byte, the upper bits zero (mode MEM, size B).
-    Byte,
+    Byte = 0x71,
+    /// Two bytes.
+    HalfWord = 0x69,
+    /// Four bytes.
+    Word = 0x61,
+    /// Eight bytes.
+    DoubleWord = 0x79,
+    /// One byte, the upper bits its sign (mode MEMSX, size B).
+    SignedByte = 0x91,
+    SignedHalfWord = 0x89,
+    SignedWord = 0x81,
 }
 
-/// An instruction, one variant for each form.
+/// How many bytes a store writes, with the size's bits of the opcode (RFC 9669, section 5.1).
+#[derive(Clone, Copy, Debug, PartialEq, Eq)]
+pub enum StoreSize {
+    /// One byte.
+    Byte = 0x10,
+    /// Two bytes.
+    HalfWord = 0x08,
+    /// Four bytes.
+    Word = 0x00,
+    /// Eight bytes.
+    DoubleWord = 0x18,
+}
+
+/// An instruction, one variant for each row of the instruction table.
 #[derive(Clone, Copy, Debug, PartialEq, Eq)]
 pub enum Insn {
     /// An operation on a register, which gets the result, and an operand (section 4.1).
@@ -44,16 +144,71 @@ pub enum Insn {
         destination: WritableRegister,
         source: Source,
     },
+    /// A move of some bits with their sign (section 4.1: MOVSX).
+    MoveSignExtended {
+        extension: SignExtension,
+        destination: WritableRegister,
+        source: Register,
+    },
+    /// A register's negative (section 4.1: NEG).
+    Negate {
+        width: Width,
+        destination: WritableRegister,
+    },
+    /// A register's bytes in another order (section 4.2: END).
+    ByteSwap {
+        order: ByteOrder,
+        width: SwapWidth,
+        destination: WritableRegister,
+    },
+    /// A jump, if the condition holds (section 4.3).
+    JumpIf {
+        condition: Condition,
+        width: Width,
+        left: Register,
+        right: Source,
+        /// The distance in words, counted from the word after the jump.
+        offset: i16,
+    },
+    /// A jump (section 4.3: JA).
+    Jump(JumpDistance),
+    /// A call of a helper function, by its number (section 4.3.1).
+    Call {
+        /// The number's 32 bits.
+        immediate: i32,
+    },
+    /// The end of the program, with register 0 as its answer (section 4.3).
+    Exit,
     /// A read from memory at a base register plus an offset in bytes, which may be negative
-    /// (section 5.1).
+    /// (sections 5.1 and 5.2).
     Load {
         format: LoadFormat,
         destination: WritableRegister,
         base: Register,
         offset: i16,
     },
-    /// The end of the program, with register 0 as its answer (section 4.3).
-    Exit,
+    /// A write of an immediate to memory (section 5.1: ST).
+    StoreImmediate {
+        size: StoreSize,
+        base: Register,
+        offset: i16,
+        immediate: i32,
+    },
+    /// A write of a register to memory (section 5.1: STX).
+    Store {
+        size: StoreSize,
+        base: Register,
+        offset: i16,
+        source: Register,
+    },
+    /// A number of 64 bits for a register, in two words (section 5.4).
+    WideLoad {
+        destination: WritableRegister,
+        /// The low 32 bits.
+        immediate: i32,
+        /// The high 32 bits, which stand in the second word.
+        next_immediate: i32,
+    },
 }
 
 impl Insn {
@@ -64,7 +219,8 @@ impl Insn {
         ensures { result ≡ length (spelling self.now) }
     {
         match self {
-            Insn::Alu { .. } | Insn::Load { .. } | Insn::Exit => 1,
+            Insn::WideLoad { .. } => 2,
+            _ => 1,
         }
     }
 }

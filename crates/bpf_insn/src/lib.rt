@@ -4,20 +4,27 @@
 mod arithmetic;
 mod code;
 mod decoder;
+mod encoder;
 mod fault;
+mod form;
 mod instruction;
 pub mod laws;
 mod register;
+mod row;
 #[cfg(test)]
 mod tests;
 mod value;
 mod word;
 
-pub use arithmetic::sign_extended;
-pub use code::{Code, WORD_LIMIT};
+pub use arithmetic::{negate, sign_extended, wide_number};
+pub use code::{Code, CodeBuilder, WORD_LIMIT};
 pub use decoder::decode;
+pub use encoder::encode;
 pub use fault::{CodeFault, WordFault};
-pub use instruction::{Insn, LoadFormat, Operation, Source, Width};
+pub use instruction::{
+    ByteOrder, Condition, Insn, JumpDistance, LoadFormat, Operation, SignExtension, Source,
+    StoreSize, SwapWidth, Width,
+};
 pub use register::{Register, WritableRegister};
 pub use value::{Area, Pointer, Value};
 pub use word::Word;

@@ -1,3 +1,4 @@
 pub mod RunLemmas
 pub mod StepLemmas
+pub mod MeaningLemmas
 pub mod Examples

@@ -3,7 +3,7 @@ use Rattle.std.proofs.Common.{◌≡◌, ℕ, ◌≤◌, List, [], ◌∷◌, �
 use Rattle.bpf_insn.specs.declared.instruction.Insn.{Insn}
 use Rattle.bpf_meaning.specs.Segment.{Contents}
 use Rattle.bpf_meaning.specs.State.{start}
-use Rattle.bpf_meaning.specs.Step.{Configuration, Running, Exited, Stuck, after}
+use Rattle.bpf_meaning.specs.Step.{Configuration, Running, Exited, Stuck, Unsaid, after}
 use Rattle.bpf_meaning.specs.Run.{Step, HasOneNext, HasNoNext, FollowSteps, IsRun, last_of, Answers}
 use Rattle.bpf_meaning.specs.declared.cause.Cause.{Cause}
 use Rattle.bpf_meaning.specs.declared.state.State.{State}
@@ -13,6 +13,7 @@ pub one_next : (code : List Insn) (segment : Contents) (from next other : Config
 one_next code segment (Running state) next other a b = a ∙ sym b
 one_next code segment (Exited answer score) next other a b = absurd a
 one_next code segment (Stuck place cause) next other a b = absurd a
+one_next code segment Unsaid next other a b = absurd a
 
 pub running_goes_on : (code : List Insn) (segment : Contents) (state : State) → HasOneNext code segment (Running state)
 running_goes_on code segment state = record { next = after code segment state; is_next = refl; only = λ other step. step }
@@ -22,6 +23,9 @@ exited_ends code segment answer score next step = step
 
 pub stuck_ends : (code : List Insn) (segment : Contents) (place : ℕ) (cause : Cause) → HasNoNext code segment (Stuck place cause)
 stuck_ends code segment place cause next step = step
+
+pub unsaid_ends : (code : List Insn) (segment : Contents) → HasNoNext code segment Unsaid
+unsaid_ends code segment next step = step
 
 -- two ways from one configuration agree as far as both go
 pub agree_from : (code : List Insn) (segment : Contents) (from : Configuration) (run longer : List Configuration) → FollowSteps code segment from run → FollowSteps code segment from longer → length run ≤ length longer → (rest : List Configuration) × (longer ≡ run ++ rest)

@@ -1,5 +1,5 @@
 -- Loads, from what the code reads to what they mean.
-use Rattle.std.proofs.Common.{◌≡◌, ℕ, ◌+◌, ◌<◌, ℤ, pos, negsuc, ◌+ℤ◌, List, ◌∷◌, length, map, take, drop, get_or, Some, Result, Ok, sym, ap, ◌∙◌, arith, unsigned_abs}
+use Rattle.std.proofs.Common.{◌≡◌, ℕ, ◌+◌, ◌<◌, ℤ, pos, negsuc, ◌+ℤ◌, List, ◌∷◌, length, map, take, drop, get_or, Some, Result, Ok, sym, ap, ◌∙◌, subst, arith, unsigned_abs}
 use Rattle.std.proofs.lemmas.List.{drop_more, get_or-map, length-map}
 use Rattle.std.proofs.lemmas.Bool.Decides.{nat_tests}
 use Rattle.std.specs.Int.{FitsUnsignedBits}
@@ -31,8 +31,12 @@ one_byte memory n b within here =
     rw number (grind (arith, nat_tests))
 
 -- one byte of the record
-pub record_byte : (format : LoadFormat) (bytes : List ℕ) (start : ℤ) (at : ℕ) → FitsUnsignedBits 64 start → at ≡ unsigned_abs start → at < length bytes → loaded format (map Byte bytes) start ≡ Ok (Number (get_or bytes at 0))
-record_byte format.Byte bytes (pos n) at fits same within =
-    let inside : n < length (map Byte bytes) = rw length-map (omega arith) in
-    rw same (one_byte (map Byte bytes) n (get_or bytes n 0) inside (get_or-map Byte bytes n 0 (Byte 0) (omega arith)))
-record_byte format.Byte bytes (negsuc n) at fits same within = absurd fits
+pub record_byte : (load : LoadFormat) (bytes : List ℕ) (start : ℤ) (at : ℕ) → load ≡ format.Byte → FitsUnsignedBits 64 start → at ≡ unsigned_abs start → at < length bytes → loaded load (map Byte bytes) start ≡ Ok (Number (get_or bytes at 0))
+record_byte load bytes start at is fits same within =
+    subst (λ (f : LoadFormat). loaded f (map Byte bytes) start ≡ Ok (Number (get_or bytes at 0))) (sym is) (byte_at bytes start at fits same within)
+  where
+    byte_at : (bytes : List ℕ) (start : ℤ) (at : ℕ) → FitsUnsignedBits 64 start → at ≡ unsigned_abs start → at < length bytes → loaded format.Byte (map Byte bytes) start ≡ Ok (Number (get_or bytes at 0))
+    byte_at bytes (pos n) at fits same within =
+        let inside : n < length (map Byte bytes) = rw length-map (omega arith) in
+        rw same (one_byte (map Byte bytes) n (get_or bytes n 0) inside (get_or-map Byte bytes n 0 (Byte 0) (omega arith)))
+    byte_at bytes (negsuc n) at fits same within = absurd fits

@@ -3,7 +3,7 @@ use Rattle.std.specs.Prelude.{◌≡◌, ◌≢◌, ℕ, ◌≤◌, List, [], �
 use Rattle.bpf_insn.specs.declared.instruction.Insn.{Insn}
 use Rattle.bpf_meaning.specs.Segment.{Contents, IsSegment}
 use Rattle.bpf_meaning.specs.State.{start}
-use Rattle.bpf_meaning.specs.Step.{Configuration, Running, Exited, Stuck, after}
+use Rattle.bpf_meaning.specs.Step.{Configuration, Running, Exited, Stuck, Unsaid, after}
 use Rattle.bpf_meaning.specs.declared.cause.Cause.{Cause}
 
 -- one step: a running configuration has one next, and an ended one none
@@ -11,6 +11,7 @@ abbrev pub Step : List Insn → Contents → Configuration → Configuration →
 Step code segment (Running state) next = next ≡ after code segment state
 Step code segment (Exited answer score) next = ⊥
 Step code segment (Stuck place cause) next = ⊥
+Step code segment Unsaid next = ⊥
 
 -- exactly one configuration comes next
 pub record HasOneNext (code : List Insn) (segment : Contents) (from : Configuration) : Type 0 where

@@ -1,7 +1,7 @@
--- What each instruction does: arithmetic (RFC 9669, section 4.1), EXIT (section 4.3) and regular loads (section 5.1). What is
--- checked before it is carried out, in which order, is this project's own.
-use Rattle.std.specs.Prelude.{◌≡◌, ℕ, ◌+◌, ℤ, pos, negsuc, ◌+ℤ◌, ◌&&◌, Bool, List, map, take, drop, length, slice_set, unsigned_abs, int_le, Option, Some, None, Result, Ok, Err, is_some, if◌then◌else◌}
-use Rattle.std.specs.Int.{cast_signed, w64}
+-- What instructions do: arithmetic with immediates (RFC 9669, section 4.1), EXIT (section 4.3) and loads of one byte (section 5.1).
+-- What is checked before one is carried out, in which order, is this project's own. The other forms have no meaning yet.
+use Rattle.std.specs.Prelude.{◌≡◌, ℕ, ◌+◌, ℤ, pos, negsuc, ◌+ℤ◌, ◌&&◌, Bool, true, false, IsTrue, All, IfSome, List, map, take, drop, length, slice_set, unsigned_abs, int_le, Option, Some, None, Result, Ok, Err, is_some, if◌then◌else◌}
+use Rattle.std.specs.Int.{cast_signed, cast_unsigned, w8, w16, w32, w64}
 use Rattle.bpf_insn.specs.Arithmetic.{result_of, extended}
 use Rattle.bpf_insn.specs.Code.{instruction_at, spelling}
 use Rattle.bpf_insn.specs.declared.instruction.Insn.{Insn}
@@ -11,9 +11,9 @@ use Rattle.bpf_insn.specs.declared.instruction.Operation.TheVariants.{Add, Move}
 use Rattle.bpf_insn.specs.declared.instruction.Width.{Width}
 use Rattle.bpf_insn.specs.declared.instruction.Width.TheVariants.{Bits64}
 use Rattle.bpf_insn.specs.declared.instruction.Source.{Source}
-use Rattle.bpf_insn.specs.declared.instruction.Source.TheVariants.{Immediate}
+use Rattle.bpf_insn.specs.declared.instruction.Source.TheVariants.{Immediate, Register}
 use Rattle.bpf_insn.specs.declared.instruction.LoadFormat.{LoadFormat}
-use Rattle.bpf_insn.specs.declared.instruction.LoadFormat.TheVariants.{Byte}
+use Rattle.bpf_insn.specs.declared.instruction.LoadFormat.TheVariants.{Byte, HalfWord, Word, DoubleWord, SignedByte, SignedHalfWord, SignedWord}
 use Rattle.bpf_insn.specs.declared.value.Area.{Area}
 use Rattle.bpf_insn.specs.declared.value.Area.TheVariants.{Record, Frame}
 use Rattle.bpf_insn.specs.declared.value.Pointer.{Pointer as PointerParts}
@@ -30,11 +30,28 @@ use Rattle.bpf_meaning.specs.declared.state.FrameByte.{FrameByte}
 use Rattle.bpf_meaning.specs.declared.state.FrameByte.TheVariants as frame_byte
 use Rattle.bpf_meaning.specs.declared.state.State.{State}
 
--- a program on its way, at its end, or stuck at a place
+-- a program on its way, at its end, stuck at a place, or at an instruction that has no meaning yet
 pub data Configuration : Type 0 where
   Running : (state : State) → Configuration
   Exited : (answer score : ℕ) → Configuration
   Stuck : (place : ℕ) (cause : Cause) → Configuration
+  Unsaid : Configuration
+
+-- the forms that have a meaning: MOV and ADD of an immediate with 64 bits, LDX of one byte, EXIT
+unfoldable pub has_meaning : Insn → Bool
+has_meaning (Alu Add Bits64 destination (Immediate value)) = true
+has_meaning (Alu Move Bits64 destination (Immediate value)) = true
+has_meaning (Load Byte destination base offset) = true
+has_meaning Exit = true
+has_meaning insn = false
+
+-- each instruction of a code has one
+abbrev pub HaveMeaning : List Insn → Type 0
+HaveMeaning code = All (λ insn. IsTrue (has_meaning insn)) code
+
+-- so has the instruction at a place, if one begins there
+abbrev pub HasMeaningAt : List Insn → ℕ → Type 0
+HasMeaningAt code place = IfSome (instruction_at code place) (λ insn. IsTrue (has_meaning insn))
 
 -- one check after the other: the first that fails gives the cause
 infixl 10 ◌>>=◌
@@ -77,12 +94,13 @@ operate operation width x y = Err PointerArithmetic
 
 -- the first operand, which a move doesn't read
 abbrev pub first_operand : State → Operation → ℕ → Result Value Cause
-first_operand state Add destination = read state destination
 first_operand state Move destination = Ok (register_value state destination)
+first_operand state operation destination = read state destination
 
 -- the second operand
 abbrev pub second_operand : State → Source → Result Value Cause
 second_operand state (Immediate value) = Ok (Number (extended value))
+second_operand state (Register register) = read state register.number
 
 -- what an arithmetic instruction gives
 abbrev pub operation_value : State → Operation → Width → ℕ → Source → Result Value Cause
@@ -97,10 +115,19 @@ area_bytes segment state Frame = state.frame.bytes
 -- how many bytes a load reads
 abbrev pub load_length : LoadFormat → ℕ
 load_length Byte = 1
+load_length HalfWord = 2
+load_length Word = 4
+load_length DoubleWord = 8
+load_length SignedByte = 1
+load_length SignedHalfWord = 2
+load_length SignedWord = 4
 
--- the number that a load makes of the bytes' number
+-- the number that a load makes of the bytes' number: with 64 bits, extended by zeros or by the sign
 abbrev pub load_number : LoadFormat → ℕ → ℕ
-load_number Byte n = n
+load_number SignedByte n = cast_unsigned w64 (cast_signed w8 n)
+load_number SignedHalfWord n = cast_unsigned w64 (cast_signed w16 n)
+load_number SignedWord n = cast_unsigned w64 (cast_signed w32 n)
+load_number format n = n
 
 -- what a load gives for the bytes' number, if they are all written
 abbrev pub written_number : LoadFormat → Option ℕ → Result Value Cause
@@ -142,15 +169,20 @@ exit_with state (Ok (Number answer)) = Exited answer state.score
 exit_with state (Ok value) = Stuck state.place ExitNotNumber
 exit_with state (Err cause) = Stuck state.place cause
 
--- what an instruction does
-abbrev pub perform : List Insn → Contents → State → Insn → Configuration
-perform code segment state (Alu operation width destination source) =
+-- what an instruction that has a meaning does
+abbrev pub carry_out : List Insn → Contents → State → Insn → Configuration
+carry_out code segment state (Alu operation width destination source) =
     write_result code state (state.place + length (spelling (Alu operation width destination source))) destination.number
     (operation_value state operation width destination.number source)
-perform code segment state (Load format destination base offset) =
+carry_out code segment state (Load format destination base offset) =
     write_result code state (state.place + length (spelling (Load format destination base offset))) destination.number
     (load_value segment state format base.number offset)
-perform code segment state Exit = exit_with state (read state 0)
+carry_out code segment state Exit = exit_with state (read state 0)
+carry_out code segment state insn = Unsaid
+
+-- what an instruction does
+abbrev pub perform : List Insn → Contents → State → Insn → Configuration
+perform code segment state insn = if has_meaning insn then carry_out code segment state insn else Unsaid
 
 -- the next configuration, by what stands at the place
 abbrev pub after_instruction : List Insn → Contents → State → Option Insn → Configuration

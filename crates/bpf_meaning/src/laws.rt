@@ -2,7 +2,7 @@
 ghost use Rattle.std.specs.Prelude.{◌≡◌, ◌≤◌, ◌++◌, ℕ, List, length};
 ghost use Rattle.bpf_insn.specs.declared.instruction.Insn.{Insn};
 ghost use Rattle.bpf_meaning.specs.Segment.{Contents};
-ghost use Rattle.bpf_meaning.specs.Step.{Configuration, Running, Exited, Stuck};
+ghost use Rattle.bpf_meaning.specs.Step.{Configuration, Running, Exited, Stuck, Unsaid};
 ghost use Rattle.bpf_meaning.specs.Run.{Answers, HasNoNext, HasOneNext, IsRun};
 ghost use Rattle.bpf_meaning.specs.declared.cause.Cause.{Cause};
 ghost use Rattle.bpf_meaning.specs.declared.segment.TheConstants.{RECORD_LENGTH};
@@ -21,6 +21,7 @@ pub fn one_step()
     ensures running { (code : List Insn) (segment : Contents) (state : State) → HasOneNext code segment (Running state) }
     ensures exited { (code : List Insn) (segment : Contents) (answer score : ℕ) → HasNoNext code segment (Exited answer score) }
     ensures stuck { (code : List Insn) (segment : Contents) (place : ℕ) (cause : Cause) → HasNoNext code segment (Stuck place cause) }
+    ensures unsaid { (code : List Insn) (segment : Contents) → HasNoNext code segment Unsaid }
 {}
 
 /// Two runs of a code on a segment agree as far as both go: the longer one begins with the other.

@@ -3,6 +3,7 @@
 
 mod cause;
 pub mod laws;
+mod meaning;
 mod memory;
 mod operands;
 mod outcome;
@@ -13,6 +14,7 @@ mod stepper;
 mod tests;
 
 pub use cause::Cause;
+pub use meaning::has_meaning;
 pub use outcome::Outcome;
 pub use segment::{RECORD_LENGTH, Segment};
 pub use state::{FRAME_LENGTH, Frame, FrameByte, REGISTERS, State};

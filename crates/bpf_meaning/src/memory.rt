@@ -8,9 +8,12 @@ use bpf_insn::{LoadFormat, Value};
 
 /// A load from the record, from an offset on.
 pub(crate) fn load_record(bytes: &[u8], format: LoadFormat, start: i32) -> Result<Value, Cause>
+    requires { format ≡ LoadFormat.Byte }
     ensures { result ≡ loaded format (map Byte bytes.now) start }
 {
-    let LoadFormat::Byte = format;
+    let LoadFormat::Byte = format else {
+        unreachable!()
+    };
     let Ok(start) = usize::try_from(start) else {
         return Err(Cause::OutOfBounds);
     };
@@ -26,9 +29,12 @@ pub(crate) fn load_frame(
     format: LoadFormat,
     start: i32,
 ) -> Result<Value, Cause>
+    requires { format ≡ LoadFormat.Byte }
     ensures { result ≡ loaded format frame.now start }
 {
-    let LoadFormat::Byte = format;
+    let LoadFormat::Byte = format else {
+        unreachable!()
+    };
     let Ok(start) = usize::try_from(start) else {
         return Err(Cause::OutOfBounds);
     };

@@ -11,6 +11,7 @@ pub(crate) fn operate(
     x: Value,
     y: Value,
 ) -> Result<Value, Cause>
+    requires { width ≡ Width.Bits64 }
     ensures { result ≡ operate operation width x y }
 {
     match (operation, x, y) {

@@ -1,4 +1,4 @@
-ghost use Rattle.std.specs.Prelude.{◌≡◌, ◌≤◌};
+ghost use Rattle.std.specs.Prelude.{◌≡◌, ◌≤◌, IsTrue};
 
 use crate::cause::Cause;
 use crate::memory::{load_frame, load_record};
@@ -6,8 +6,8 @@ use crate::operands::operate;
 use crate::outcome::Outcome;
 use crate::segment::Segment;
 use bpf_insn::{
-    Area, Code, LoadFormat, Operation, Pointer, Register, Source, Value, Width, WritableRegister,
-    sign_extended,
+    Area, Code, Insn, LoadFormat, Operation, Pointer, Register, Source, Value, Width,
+    WritableRegister, sign_extended,
 };
 use std::alloc::Allocator;
 
@@ -44,7 +44,7 @@ pub struct State {
 
 impl State {
     ghost use Rattle.bpf_meaning.specs.State.{start};
-    ghost use Rattle.bpf_meaning.specs.Step.{read, operation_value, load_value, write_result, exit_with, configuration_of, KeepsAtEnd};
+    ghost use Rattle.bpf_meaning.specs.Step.{has_meaning, read, operation_value, load_value, write_result, exit_with, configuration_of, KeepsAtEnd};
 
     /// The state in which a program starts, the same on every segment: register 1 points to the record's first byte, register 10
     /// behind the frame's last, and nothing else was written. A state is copied by value and holds no memory of its own.
@@ -88,14 +88,18 @@ impl State {
         destination: WritableRegister,
         source: Source,
     ) -> Result<Value, Cause>
+        requires { IsTrue (has_meaning (Insn.Alu operation width destination source)) }
         ensures { result ≡ operation_value self.now operation width destination.number source }
     {
         let number = destination.number;
         let x = match operation {
             Operation::Add => self.read(number)?,
             Operation::Move => self.registers[usize::from(number)],
+            _ => unreachable!(),
         };
-        let Source::Immediate(immediate) = source;
+        let Source::Immediate(immediate) = source else {
+            unreachable!()
+        };
         operate(operation, width, x, Value::Number(sign_extended(immediate)))
     }
 
@@ -107,6 +111,7 @@ impl State {
         base: Register,
         offset: i16,
     ) -> Result<Value, Cause>
+        requires { format ≡ LoadFormat.Byte }
         ensures { result ≡ load_value segment.now self.now format base.number offset }
     {
         let Value::Pointer(pointer) = self.read(base.number)? else {

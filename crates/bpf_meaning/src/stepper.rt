@@ -1,5 +1,5 @@
 ghost use Rattle.std.specs.Prelude.{◌≡◌};
-ghost use Rattle.bpf_meaning.specs.Step.{after, configuration_of, KeepsAtEnd};
+ghost use Rattle.bpf_meaning.specs.Step.{after, configuration_of, HasMeaningAt, KeepsAtEnd};
 
 use crate::cause::Cause;
 use crate::outcome::Outcome;
@@ -9,10 +9,11 @@ use bpf_insn::{Code, Insn};
 use std::alloc::Allocator;
 
 /// Carries out the instruction at the state's place, after the checks of what it reads. The state is then where the program goes on, or
-/// as it was where the program has ended, so that a further step ends alike. Nothing of the state is asked for: a state that no run
-/// comes to takes its step, too.
+/// as it was where the program has ended, so that a further step ends alike. Of the state only the instruction is asked for: a state that
+/// no run comes to takes its step, too.
 #[tactic(auto, unfolding(crate::specs::Step::after))]
 pub fn step<A: Allocator>(code: &Code<A>, segment: &Segment, state: &mut State) -> Outcome
+    requires { HasMeaningAt code.now state.old.place }
     ensures next { configuration_of result state.new ≡ after code.now segment.now state.old }
     ensures ended { KeepsAtEnd result state.old state.new }
 {
@@ -44,5 +45,6 @@ pub fn step<A: Allocator>(code: &Code<A>, segment: &Segment, state: &mut State) 
             state.write_result(code, next, destination, value)
         }
         Insn::Exit => state.exit(),
+        _ => unreachable!(),
     }
 }

@@ -1,5 +1,5 @@
 //! Programs worked by hand on a record whose bytes are known.
-use crate::{Cause, Outcome, Segment, State, step};
+use crate::{Cause, Outcome, Segment, State, has_meaning, step};
 use bpf_insn::{Value, decode};
 use std::alloc::Allocator;
 use std::test::Fail;
@@ -22,6 +22,12 @@ fn run<A: Allocator + Copy>(alloc: A, program: &[u8]) -> Result<(Outcome, State)
     let segment = Segment::of(RECORD);
     let mut state = State::start();
     for _ in 0..10 {
+        // No case has an instruction of another form.
+        if let Some(insn) = code.at(state.place)
+            && !has_meaning(insn)
+        {
+            break;
+        }
         let outcome = step(&code, &segment, &mut state);
         if outcome != Outcome::Running {
             return Ok((outcome, state));

@@ -1,7 +1,10 @@
 -- The checks are sound: a check that passes on kinds passes on every value that they admit, and what it leaves admits what the step
 -- leaves. So a code that passes is safe.
-use Rattle.std.proofs.Common.{◌≡◌, ℕ, zero, suc, ◌+◌, ◌<◌, ◌≤◌, ℤ, pos, negsuc, ◌+ℤ◌, ◌&&◌, Bool, true, false, int_le, List, [], ◌∷◌, ◌++◌, length, map, set, get_or, is_some, Option, Some, Result, Ok, Err, if◌then◌else◌, refl, sym, ap, ◌∙◌, subst, inl, inr, arith, append_assoc, length-append, length-set, OnOk}
+use Rattle.std.proofs.Common.{◌≡◌, ℕ, zero, suc, ◌+◌, ◌<◌, ◌≤◌, ℤ, pos, negsuc, ◌+ℤ◌, ◌&&◌, Bool, true, false, int_le, List, [], ◌∷◌, ◌++◌, length, map, set, get_or, is_some, Option, Some, Result, Ok, Err, if◌then◌else◌, refl, sym, ap, ◌∙◌, subst, inl, inr, arith, append_assoc, length-set, IsTrue, OnOk}
+use Rattle.std.proofs.lemmas.Bool.{false≢true}
 use Rattle.std.proofs.lemmas.Bool.Decides.{nat_tests}
+use Rattle.std.proofs.lemmas.List.Elements.{recursion_from_All}
+use Rattle.std.specs.List.{AllByRecursion}
 use Rattle.std.specs.Int.{cast_signed, w64}
 use Rattle.bpf_insn.specs.Arithmetic.{result_of, extended}
 use Rattle.bpf_insn.specs.Code.{spelling, word_count, instruction_at}
@@ -13,7 +16,6 @@ use Rattle.bpf_insn.specs.declared.instruction.Width.{Width}
 use Rattle.bpf_insn.specs.declared.instruction.Width.TheVariants.{Bits64}
 use Rattle.bpf_insn.specs.declared.instruction.Source.{Source}
 use Rattle.bpf_insn.specs.declared.instruction.Source.TheVariants.{Immediate}
-use Rattle.bpf_insn.specs.declared.instruction.LoadFormat.{LoadFormat}
 use Rattle.bpf_insn.specs.declared.instruction.LoadFormat.TheVariants as format
 use Rattle.bpf_insn.specs.declared.value.Area.{Area}
 use Rattle.bpf_insn.specs.declared.value.Area.TheVariants.{Record, Frame}
@@ -22,7 +24,7 @@ use Rattle.bpf_insn.specs.declared.value.Value.{Value}
 use Rattle.bpf_insn.specs.declared.value.Value.TheVariants as value
 use Rattle.bpf_meaning.specs.Segment.{Contents, IsSegment}
 use Rattle.bpf_meaning.specs.State.{start, register_value}
-use Rattle.bpf_meaning.specs.Step.{Configuration, Running, Exited, Stuck, after, after_instruction, perform, arrive, with_register, write_result, exit_with, read_value, is_offset, moved, operate, operation_value, area_bytes, loaded, load_at, load_value, ◌>>=◌}
+use Rattle.bpf_meaning.specs.Step.{Configuration, Running, Exited, Stuck, Unsaid, has_meaning, HaveMeaning, after, after_instruction, carry_out, perform, arrive, with_register, write_result, exit_with, read_value, is_offset, moved, operate, operation_value, area_bytes, loaded, load_at, load_value, ◌>>=◌}
 use Rattle.bpf_meaning.specs.Run.{Step, FollowSteps, last_of, Exits, IsSafe}
 use Rattle.bpf_meaning.specs.declared.cause.Cause.{Cause}
 use Rattle.bpf_meaning.specs.declared.cause.Cause.TheVariants.{OutOfProgram, PointerArithmetic, LeavesArea, OutOfBounds, UnwrittenFrame}
@@ -36,7 +38,7 @@ use Rattle.extract.specs.declared.checks.Kind.{Kind}
 use Rattle.extract.specs.declared.checks.Kind.TheVariants.{Nothing, Number, Pointer}
 use Rattle.extract.specs.declared.checks.Kinds.{Kinds}
 use Rattle.extract.specs.declared.checks.Edge.TheVariants.{End, Next}
-use Rattle.extract.proofs.PlaceLemmas.{instruction_at-middle, word_count-append}
+use Rattle.bpf_insn.proofs.PlaceLemmas.{instruction_at-middle, word_count-append, word_count-one}
 
 -- a value comes of it, of this kind
 abbrev Gives : Result Value Cause → Kind → Type 0
@@ -76,6 +78,7 @@ operation_sound state kind Add Bits64 register (Immediate number) next a e = add
 operation_sound state kind Move Bits64 register (Immediate number) next a e =
     let same : Number ≡ next = cc in
     (value.Number (extended number), refl, subst (λ (k : Kind). Admits k (value.Number (extended number))) same (extended number, refl))
+operation_sound state kind operation width register source next a e = absurd (let f : ⊥ = cc in f)
 
 -- loads
 
@@ -93,24 +96,24 @@ record_sound bytes (pos n) kind long e =
     let inside = w.0 in
     let at : n < 228 = grind (arith, nat_tests) in (
       value.Number (get_or bytes n 0),
-      record_byte format.Byte bytes (pos n) n (omega arith) refl (omega arith),
+      record_byte format.Byte bytes (pos n) n refl (omega arith) refl (omega arith),
       subst (λ (k : Kind). Admits k (value.Number (get_or bytes n 0))) w.1 (get_or bytes n 0, refl),
     )
 record_sound bytes (negsuc n) kind long e = absurd (let f : ⊥ = cc in f)
 
-loaded_sound : (segment : Contents) (state : State) → IsSegment segment → (format : LoadFormat) (area : Area) (from : ℤ) (kind : Kind) → loaded_kind format area from ≡ Ok kind → Gives (loaded format (area_bytes segment state area) from) kind
-loaded_sound segment state is format.Byte Record from kind e = record_sound segment.bytes from kind is.length e
-loaded_sound segment state is format.Byte Frame from kind e = absurd (within_frame _ kind e)
+loaded_sound : (segment : Contents) (state : State) → IsSegment segment → (area : Area) (from : ℤ) (kind : Kind) → loaded_kind format.Byte area from ≡ Ok kind → Gives (loaded format.Byte (area_bytes segment state area) from) kind
+loaded_sound segment state is Record from kind e = record_sound segment.bytes from kind is.length e
+loaded_sound segment state is Frame from kind e = absurd (within_frame _ kind e)
 
-abbrev load_through : Contents → State → ℕ → LoadFormat → ℤ → Value → Result Value Cause
-load_through segment state register format offset held = read_value register held >>= λ base. load_at segment state format base offset
+abbrev load_through : Contents → State → ℕ → ℤ → Value → Result Value Cause
+load_through segment state register offset held = read_value register held >>= λ base. load_at segment state format.Byte base offset
 
-load_sound : (segment : Contents) (state : State) → IsSegment segment → (register : ℕ) (kind : Kind) (held : Value) (format : LoadFormat) (offset : ℤ) (next : Kind) → Admits kind held → load_kind register kind format offset ≡ Ok next → Gives (load_through segment state register format offset held) next
-load_sound segment state is register Nothing held format offset next a e = absurd (let f : ⊥ = cc in f)
-load_sound segment state is register Number held format offset next a e = absurd (let f : ⊥ = cc in f)
-load_sound segment state is register (Pointer pointer) held format offset next a e =
-    let l = loaded_sound segment state is format pointer.area (pointer.offset +ℤ offset) next e in
-    (l.0, ap (load_through segment state register format offset) a ∙ l.1, l.2)
+load_sound : (segment : Contents) (state : State) → IsSegment segment → (register : ℕ) (kind : Kind) (held : Value) (offset : ℤ) (next : Kind) → Admits kind held → load_kind register kind format.Byte offset ≡ Ok next → Gives (load_through segment state register offset held) next
+load_sound segment state is register Nothing held offset next a e = absurd (let f : ⊥ = cc in f)
+load_sound segment state is register Number held offset next a e = absurd (let f : ⊥ = cc in f)
+load_sound segment state is register (Pointer pointer) held offset next a e =
+    let l = loaded_sound segment state is pointer.area (pointer.offset +ℤ offset) next e in
+    (l.0, ap (load_through segment state register offset) a ∙ l.1, l.2)
 
 -- writing a register
 
@@ -140,6 +143,10 @@ next_is_no_end : (kinds : Kinds) (destination : ℕ) (result : Result Kind Cause
 next_is_no_end kinds destination (Ok kind) e = cc
 next_is_no_end kinds destination (Err cause) e = cc
 
+-- an instruction that has a meaning is carried out
+performs_it : (code : List Insn) (segment : Contents) (state : State) (insn : Insn) → IsTrue (has_meaning insn) → perform code segment state insn ≡ carry_out code segment state insn
+performs_it code segment state insn meaning = ap (λ (b : Bool). if b then carry_out code segment state insn else Unsaid) meaning
+
 -- an instruction that leads on takes each state that is admitted to one that is
 pub record LeadsOn (code : List Insn) (segment : Contents) (state : State) (insn : Insn) (next : Kinds) : Type 0 where
   pub there : State
@@ -157,23 +164,27 @@ leads_on_with code segment kinds state insn destination kind next result known i
       (writes kinds state (state.place + length (spelling insn)) destination kind gives.0 known gives.2);
 }
 
-pub leads_on : (code : List Insn) (segment : Contents) → IsSegment segment → (kinds : Kinds) (state : State) (insn : Insn) (next : Kinds) → AdmitsState kinds state → edge kinds insn ≡ Ok (Next next) → LeadsOn code segment state insn next
-leads_on code segment is kinds state (Alu operation width destination source) next known e =
+exits_nowhere : (kind : Kind) (next : Kinds) → exit_edge kind ≡ Ok (Next next) → ⊥
+exits_nowhere Nothing next e = cc
+exits_nowhere Number next e = cc
+exits_nowhere (Pointer pointer) next e = cc
+
+pub leads_on : (code : List Insn) (segment : Contents) → IsSegment segment → (kinds : Kinds) (state : State) (insn : Insn) (next : Kinds) → AdmitsState kinds state → IsTrue (has_meaning insn) → edge kinds insn ≡ Ok (Next next) → LeadsOn code segment state insn next
+unfolding has_meaning
+leads_on code segment is kinds state (Alu operation width destination source) next known meaning e =
     let n = next_has_kind kinds destination.number (operation_kind operation width destination.number (kind_of kinds destination.number) source) next e in
     leads_on_with code segment kinds state (Alu operation width destination source) destination.number n.0 next
-    (operation_value state operation width destination.number source) known refl n.2
+    (operation_value state operation width destination.number source) known
+    (performs_it code segment state (Alu operation width destination source) meaning) n.2
     (operation_sound state (kind_of kinds destination.number) operation width destination.number source n.0 (known.registers destination.number) n.1)
-leads_on code segment is kinds state (Load format destination base offset) next known e =
-    let n = next_has_kind kinds destination.number (load_kind base.number (kind_of kinds base.number) format offset) next e in
-    leads_on_with code segment kinds state (Load format destination base offset) destination.number n.0 next
-    (load_value segment state format base.number offset) known refl n.2
-    (load_sound segment state is base.number (kind_of kinds base.number) (register_value state base.number) format offset n.0 (known.registers base.number) n.1)
-leads_on code segment is kinds state Exit next known e = absurd (exits_nowhere (kind_of kinds 0) next e)
-  where
-    exits_nowhere : (kind : Kind) (next : Kinds) → exit_edge kind ≡ Ok (Next next) → ⊥
-    exits_nowhere Nothing next e = cc
-    exits_nowhere Number next e = cc
-    exits_nowhere (Pointer pointer) next e = cc
+leads_on code segment is kinds state (Load format.Byte destination base offset) next known meaning e =
+    let n = next_has_kind kinds destination.number (load_kind base.number (kind_of kinds base.number) format.Byte offset) next e in
+    leads_on_with code segment kinds state (Load format.Byte destination base offset) destination.number n.0 next
+    (load_value segment state format.Byte base.number offset) known
+    (performs_it code segment state (Load format.Byte destination base offset) meaning) n.2
+    (load_sound segment state is base.number (kind_of kinds base.number) (register_value state base.number) offset n.0 (known.registers base.number) n.1)
+leads_on code segment is kinds state Exit next known meaning e = absurd (exits_nowhere (kind_of kinds 0) next e)
+leads_on code segment is kinds state insn next known meaning e = absurd (false≢true meaning)
 
 exit_sound : (state : State) (kind : Kind) (held : Value) → Admits kind held → exit_edge kind ≡ Ok End → (answer : ℕ) × (exit_with state (read_value 0 held) ≡ Exited answer state.score)
 exit_sound state Nothing held a e = absurd (let f : ⊥ = cc in f)
@@ -181,10 +192,13 @@ exit_sound state Number held a e = (a.0, ap (λ (v : Value). exit_with state (re
 exit_sound state (Pointer pointer) held a e = absurd (let f : ⊥ = cc in f)
 
 -- an instruction that is the end exits in each state that is admitted
-pub comes_to_end : (code : List Insn) (segment : Contents) (kinds : Kinds) (state : State) (insn : Insn) → AdmitsState kinds state → edge kinds insn ≡ Ok End → (answer : ℕ) × (perform code segment state insn ≡ Exited answer state.score)
-comes_to_end code segment kinds state (Alu operation width destination source) known e = absurd (next_is_no_end kinds destination.number _ e)
-comes_to_end code segment kinds state (Load format destination base offset) known e = absurd (next_is_no_end kinds destination.number _ e)
-comes_to_end code segment kinds state Exit known e = exit_sound state (kind_of kinds 0) (register_value state 0) (known.registers 0) e
+pub comes_to_end : (code : List Insn) (segment : Contents) (kinds : Kinds) (state : State) (insn : Insn) → AdmitsState kinds state → IsTrue (has_meaning insn) → edge kinds insn ≡ Ok End → (answer : ℕ) × (perform code segment state insn ≡ Exited answer state.score)
+comes_to_end code segment kinds state (Alu operation width destination source) known meaning e = absurd (next_is_no_end kinds destination.number _ e)
+comes_to_end code segment kinds state (Load format destination base offset) known meaning e = absurd (next_is_no_end kinds destination.number _ e)
+comes_to_end code segment kinds state Exit known meaning e =
+    let exits = exit_sound state (kind_of kinds 0) (register_value state 0) (known.registers 0) e in
+    (exits.0, performs_it code segment state Exit meaning ∙ exits.1)
+comes_to_end code segment kinds state insn known meaning e = absurd (let f : ⊥ = cc in f)
 
 -- runs
 
@@ -219,10 +233,10 @@ arrives code place state before kinds rest same at passes =
     ap (λ (o : Option Insn). if is_some o then Running state else Stuck place OutOfProgram) there
 
 -- what passes exits, by induction over what is left of the code
-pub exits_from : (code : List Insn) (segment : Contents) → IsSegment segment → (before rest : List Insn) (kinds : Kinds) (state : State) → code ≡ before ++ rest → state.place ≡ word_count before → AdmitsState kinds state → Passes kinds rest → ExitsFrom code segment state (length rest)
-exits_from code segment is before [] kinds state same at known passes = absurd passes
-exits_from code segment is before (insn ∷ rest) kinds state same at known (inl e) =
-    let done = comes_to_end code segment kinds state insn known e in
+pub exits_from : (code : List Insn) (segment : Contents) → IsSegment segment → (before rest : List Insn) (kinds : Kinds) (state : State) → AllByRecursion (λ insn. IsTrue (has_meaning insn)) rest → code ≡ before ++ rest → state.place ≡ word_count before → AdmitsState kinds state → Passes kinds rest → ExitsFrom code segment state (length rest)
+exits_from code segment is before [] kinds state meaning same at known passes = absurd passes
+exits_from code segment is before (insn ∷ rest) kinds state meaning same at known (inl e) =
+    let done = comes_to_end code segment kinds state insn known meaning.0 e in
     record {
       run = Exited done.0 state.score ∷ [];
       follow = (sym (after_middle code segment state before insn rest same at ∙ done.1), tt);
@@ -231,12 +245,12 @@ exits_from code segment is before (insn ∷ rest) kinds state same at known (inl
       exits = refl;
       short = omega arith;
     }
-exits_from code segment is before (insn ∷ rest) kinds state same at known (inr on) =
-    let step = leads_on code segment is kinds state insn on.0 known on.1 in
+exits_from code segment is before (insn ∷ rest) kinds state meaning same at known (inr on) =
+    let step = leads_on code segment is kinds state insn on.0 known meaning.0 on.1 in
     let split : code ≡ (before ++ insn ∷ []) ++ rest = same ∙ sym (append_assoc before (insn ∷ []) rest) in
     let place : step.there.place ≡ word_count (before ++ insn ∷ []) =
     step.place ∙ ap (λ (n : ℕ). n + length (spelling insn)) at ∙ sym (word_count_one before insn) in
-    let others = exits_from code segment is (before ++ insn ∷ []) rest on.0 step.there split place step.known on.2 in
+    let others = exits_from code segment is (before ++ insn ∷ []) rest on.0 step.there meaning.1 split place step.known on.2 in
     record {
       run = Running step.there ∷ others.run;
       follow = (sym (after_middle code segment state before insn rest same at ∙ step.performs ∙ arrives code state.place step.there (before ++ insn ∷ []) on.0 rest split place on.2), others.follow);
@@ -247,7 +261,7 @@ exits_from code segment is before (insn ∷ rest) kinds state same at known (inr
     }
   where
     word_count_one : (before : List Insn) (insn : Insn) → word_count (before ++ insn ∷ []) ≡ word_count before + length (spelling insn)
-    word_count_one before insn = word_count-append before (insn ∷ []) ∙ (let one = length-append (spelling insn) [] in omega arith)
+    word_count_one before insn = word_count-append before (insn ∷ []) ∙ ap (λ (n : ℕ). word_count before + n) (word_count-one insn)
 
 -- at the start the entry's kinds admit each register's value
 
@@ -282,21 +296,21 @@ exits_or_stuck code segment from (next ∷ run) (there ∷ others) answer score 
     exits_or_stuck code segment next run others answer score place cause f.1
     (subst (λ (c : Configuration). FollowSteps code segment c others) same g.1) e (subst (λ (c : Configuration). last_of c others ≡ Stuck place cause) same h)
 
-exits_at_start : (code : List Insn) (segment : Contents) → IsSegment segment → Passes entry code → Exits code segment
-exits_at_start code segment is passes =
-    let x = exits_from code segment is [] code entry start refl refl entry_admits_start passes in
+exits_at_start : (code : List Insn) (segment : Contents) → IsSegment segment → HaveMeaning code → Passes entry code → Exits code segment
+exits_at_start code segment is meaning passes =
+    let x = exits_from code segment is [] code entry start (recursion_from_All (λ insn. IsTrue (has_meaning insn)) code meaning) refl refl entry_admits_start passes in
     record { run = x.run; is_run = x.follow; answer = x.answer; score = x.score; exits = x.exits; short = x.short }
 
--- a code that passes is safe
-pub passes_is_safe : (code : List Insn) → Passes entry code → IsSafe code
-passes_is_safe code passes = record {
+-- a code that passes is safe, if its instructions have a meaning
+pub passes_is_safe : (code : List Insn) → HaveMeaning code → Passes entry code → IsSafe code
+passes_is_safe code meaning passes = record {
   never_stuck = λ segment is run is_run place cause e.
-      (let x = exits_at_start code segment is passes in
+      (let x = exits_at_start code segment is meaning passes in
       exits_or_stuck code segment (Running start) x.run run x.answer x.score place cause x.is_run is_run x.exits e);
-  exits = λ segment is. exits_at_start code segment is passes;
+  exits = λ segment is. exits_at_start code segment is meaning passes;
 }
 
 -- so a check of the whole code that passes says that the code is safe
-pub safe_if_ok : {T E : Type 0} (result : Result T E) (code : List Insn) → OnOk result (Passes entry code) → OnOk result (IsSafe code)
-safe_if_ok (Ok x) code passes = passes_is_safe code passes
-safe_if_ok (Err e) code passes = passes
+pub safe_if_ok : {T E : Type 0} (result : Result T E) (code : List Insn) → HaveMeaning code → OnOk result (Passes entry code) → OnOk result (IsSafe code)
+safe_if_ok (Ok x) code meaning passes = passes_is_safe code meaning passes
+safe_if_ok (Err e) code meaning passes = passes

@@ -1,9 +1,10 @@
 -- Runs that grow at their end, and what a run that exits excludes.
-use Rattle.std.proofs.Common.{◌≡◌, ℕ, ◌+◌, ◌≤◌, List, [], ◌∷◌, ◌++◌, length, refl, sym, ap, ◌∙◌, subst, arith, length-append}
+use Rattle.std.proofs.Common.{◌≡◌, ℕ, ◌+◌, ◌≤◌, List, [], ◌∷◌, ◌++◌, length, Bool, true, false, IsTrue, IfSome, Option, Some, None, if◌then◌else◌, refl, sym, ap, ◌∙◌, subst, arith, length-append}
+use Rattle.bpf_insn.specs.Code.{instruction_at}
 use Rattle.bpf_insn.specs.declared.instruction.Insn.{Insn}
 use Rattle.bpf_meaning.specs.Segment.{Contents}
 use Rattle.bpf_meaning.specs.State.{start}
-use Rattle.bpf_meaning.specs.Step.{Configuration, Running, Exited, Stuck, after}
+use Rattle.bpf_meaning.specs.Step.{Configuration, Running, Exited, Stuck, Unsaid, has_meaning, HasMeaningAt, after, after_instruction, carry_out}
 use Rattle.bpf_meaning.specs.Run.{Step, FollowSteps, IsRun, last_of, end_of, Answers, IsNeverStuck, Exits}
 use Rattle.bpf_meaning.specs.declared.cause.Cause.{Cause}
 use Rattle.bpf_meaning.specs.declared.state.State.{State}
@@ -29,6 +30,18 @@ exits_first code segment from (next ∷ run) (there ∷ others) answer score sta
     let same = one_next code segment from there next g.0 f.0 in
     exits_first code segment next run others answer score state f.1
     (subst (λ (c : Configuration). FollowSteps code segment c others) same g.1) e (subst (λ (c : Configuration). last_of c others ≡ Running state) same h) (omega arith)
+
+-- no way that exits comes to an instruction without a meaning
+never_unsaid : (code : List Insn) (segment : Contents) (from : Configuration) (run others : List Configuration) (answer score : ℕ) → FollowSteps code segment from run → FollowSteps code segment from others → last_of from run ≡ Exited answer score → last_of from others ≡ Unsaid → ⊥
+never_unsaid code segment from [] others answer score f g e h =
+    let same = ends_there code segment answer score others (subst (λ (c : Configuration). FollowSteps code segment c others) e g) in
+    let there = subst (λ (c : Configuration). last_of c others ≡ Unsaid) e h in
+    cc
+never_unsaid code segment from (next ∷ run) [] answer score f g e h = subst (λ (c : Configuration). Step code segment c next) h f.0
+never_unsaid code segment from (next ∷ run) (there ∷ others) answer score f g e h =
+    let same = one_next code segment from there next g.0 f.0 in
+    never_unsaid code segment next run others answer score f.1
+    (subst (λ (c : Configuration). FollowSteps code segment c others) same g.1) e (subst (λ (c : Configuration). last_of c others ≡ Unsaid) same h)
 
 -- some run of so many steps is on its way in this state
 pub record IsOnItsWay (code : List Insn) (segment : Contents) (steps : ℕ) (state : State) : Type 0 where
@@ -64,3 +77,22 @@ pub has_exited : (code : List Insn) (segment : Contents) (steps : ℕ) (state : 
 has_exited code segment steps state exits way late =
     let short = exits.short in let long = way.long in
     exits_first code segment (Running start) exits.run way.run exits.answer exits.score state exits.is_run way.is_run exits.exits way.ends (omega arith)
+
+-- so what stands where a run is on its way has a meaning, if some run exits
+
+told : (code : List Insn) (segment : Contents) (state : State) (insn : Insn) (meaning : Bool) → has_meaning insn ≡ meaning → (after_instruction code segment state (Some insn) ≡ Unsaid → ⊥) → IsTrue (has_meaning insn)
+told code segment state insn true is never = is
+told code segment state insn false is never = absurd (never (ap (λ (b : Bool). if b then carry_out code segment state insn else Unsaid) is))
+
+told_there : (code : List Insn) (segment : Contents) (state : State) (found : Option Insn) → (after_instruction code segment state found ≡ Unsaid → ⊥) → IfSome found (λ insn. IsTrue (has_meaning insn))
+told_there code segment state None never = tt
+told_there code segment state (Some insn) never = told code segment state insn (has_meaning insn) refl never
+
+pub has_meaning_there : (code : List Insn) (segment : Contents) (steps : ℕ) (state : State) → Exits code segment → IsOnItsWay code segment steps state → HasMeaningAt code state.place
+unfolding after
+has_meaning_there code segment steps state exits way =
+    told_there code segment state (instruction_at code state.place)
+    (λ unsaid.
+    never_unsaid code segment (Running start) exits.run (way.run ++ Unsaid ∷ []) exits.answer exits.score exits.is_run
+    (follow_more code segment (Running start) way.run state Unsaid way.is_run way.ends (sym unsaid)) exits.exits
+    (last_of-more (Running start) way.run Unsaid))

@@ -1,28 +1,26 @@
 -- Places of instructions, and the front of a code that is checked.
-use Rattle.std.proofs.Common.{◌≡◌, ℕ, ◌+◌, ◌<◌, ◌≤◌, List, [], ◌∷◌, ◌++◌, length, take, drop, get_or, Some, slice_get, Ok, Err, refl, sym, ap, ◌∙◌, subst, inl, inr, arith, length-append}
+use Rattle.std.proofs.Common.{◌≡◌, ℕ, ◌+◌, ◌<◌, ◌≤◌, List, [], ◌∷◌, ◌++◌, length, take, drop, get_or, false, IsTrue, Ok, Err, refl, sym, ap, ◌∙◌, subst, inl, inr, arith}
 use Rattle.std.proofs.lemmas.List.{take_more, take_all, take-append-drop, drop_more}
-use Rattle.std.proofs.lemmas.List.Concat.{flat_map-append}
-use Rattle.bpf_insn.specs.Code.{spelling, spelled, word_count, instruction_at}
+use Rattle.std.proofs.lemmas.List.Elements.{All-more}
+use Rattle.bpf_insn.specs.Code.{spelling, word_count, place_of}
 use Rattle.bpf_insn.specs.declared.instruction.Insn.{Insn}
 use Rattle.bpf_insn.specs.declared.instruction.Insn.TheVariants.{Exit}
-use Rattle.bpf_insn.proofs.CodeLemmas.{word_count-length, instruction_at-index}
+use Rattle.bpf_insn.proofs.PlaceLemmas.{word_count-append, word_count-one}
 use Rattle.bpf_meaning.specs.declared.cause.Cause.{Cause}
-use Rattle.extract.specs.Checks.{Lead, Passes, EndsInExit, IsCheckFault, kind_of, exit_edge, edge, entry}
+use Rattle.bpf_meaning.specs.Step.{has_meaning, HaveMeaning}
+use Rattle.extract.specs.Checks.{Lead, Passes, EndsInExit, IsCheckFault, kind_of, exit_edge, edge, entry, IsNotYetAt}
 use Rattle.extract.specs.declared.checks.CheckFault.TheVariants.{Refused}
 use Rattle.extract.specs.declared.checks.Kind.{Kind}
 use Rattle.extract.specs.declared.checks.Kind.TheVariants.{Nothing, Number, Pointer}
 use Rattle.extract.specs.declared.checks.Kinds.{Kinds}
 use Rattle.extract.specs.declared.checks.Edge.TheVariants.{End, Next}
 
-pub word_count-append : (before after : List Insn) → word_count (before ++ after) ≡ word_count before + word_count after
-word_count-append before after = ap length (flat_map-append spelling before after) ∙ length-append (spelled before) (spelled after)
-
 -- one instruction more takes its words more
 pub word_count_more : (code : List Insn) (i : ℕ) (insn : Insn) → i < length code → insn ≡ get_or code i insn → word_count (take (i + 1) code) ≡ word_count (take i code) + length (spelling insn)
 word_count_more code i insn within is =
     ap word_count (take_more code i insn within) ∙ word_count-append (take i code) (get_or code i insn ∷ [])
     ∙ ap (λ (x : Insn). word_count (take i code) + word_count (x ∷ [])) (sym is)
-    ∙ (let one = length-append (spelling insn) [] in omega arith)
+    ∙ ap (λ (n : ℕ). word_count (take i code) + n) (word_count-one insn)
 
 -- a front has no more words than the whole
 pub word_count_front : (code : List Insn) (i : ℕ) → word_count (take (i + 1) code) ≤ word_count code
@@ -30,17 +28,6 @@ word_count_front code i =
     let whole : word_count code ≡ word_count (take (i + 1) code) + word_count (drop (i + 1) code) =
     sym (ap word_count (take-append-drop (i + 1) code)) ∙ word_count-append (take (i + 1) code) (drop (i + 1) code) in
     omega arith
-
--- what stands in the middle
-slice_get-middle : (before : List Insn) (insn : Insn) (after : List Insn) → slice_get (before ++ insn ∷ after) (length before) ≡ Some insn
-slice_get-middle [] insn after = refl
-slice_get-middle (first ∷ before) insn after = slice_get-middle before insn after
-
--- an instruction's place is the number of words before it
-pub instruction_at-middle : (before : List Insn) (insn : Insn) (after : List Insn) → instruction_at (before ++ insn ∷ after) (word_count before) ≡ Some insn
-instruction_at-middle before insn after =
-    instruction_at-index (before ++ insn ∷ after) (word_count before) ∙ ap (slice_get (before ++ insn ∷ after)) (word_count-length before)
-    ∙ slice_get-middle before insn after
 
 -- one more instruction that leads on
 pub lead_more : (kinds : Kinds) (code : List Insn) (after : Kinds) (insn : Insn) (next : Kinds) → Lead kinds code after → edge after insn ≡ Ok (Next next) → Lead kinds (code ++ insn ∷ []) next
@@ -75,9 +62,9 @@ reaches_end code items i insn kinds same within is lead e =
     subst (λ (c : List Insn). Passes entry c) (sym (around items i insn within is) ∙ same)
     (leads_to_end entry (take i items) kinds insn (drop (i + 1) items) lead e)
 
-pub reaches_fault : (code items : List Insn) (i : ℕ) (insn : Insn) (kinds : Kinds) (place : ℕ) (cause : Cause) → items ≡ code → i < length items → insn ≡ get_or items i insn → Lead entry (take i items) kinds → EndsInExit code → place ≡ word_count (take i items) → edge kinds insn ≡ Err cause → IsCheckFault code (Refused place cause)
-reaches_fault code items i insn kinds place cause same within is lead ends at e =
-    (ends.0, ends.1, (take i items, insn, drop (i + 1) items, kinds, sym same ∙ around items i insn within is, at, lead, e))
+pub reaches_fault : (code items : List Insn) (i : ℕ) (insn : Insn) (kinds : Kinds) (place : ℕ) (cause : Cause) → items ≡ code → i < length items → insn ≡ get_or items i insn → Lead entry (take i items) kinds → HaveMeaning code → EndsInExit code → place ≡ word_count (take i items) → edge kinds insn ≡ Err cause → IsCheckFault code (Refused place cause)
+reaches_fault code items i insn kinds place cause same within is lead meaning ends at e =
+    (meaning, ends.0, ends.1, (take i items, insn, drop (i + 1) items, kinds, sym same ∙ around items i insn within is, at, lead, e))
 
 pub reaches_next : (items : List Insn) (i : ℕ) (insn : Insn) (kinds next : Kinds) → i < length items → insn ≡ get_or items i insn → Lead entry (take i items) kinds → edge kinds insn ≡ Ok (Next next) → Lead entry (take (i + 1) items) next
 reaches_next items i insn kinds next within is lead e =
@@ -88,3 +75,13 @@ reaches_next items i insn kinds next within is lead e =
 pub never_passes_end : (code items : List Insn) (i : ℕ) (kinds : Kinds) → items ≡ code → length items ≤ i → EndsInExit code → Lead entry (take i items) kinds → ⊥
 never_passes_end code items i kinds same late ends lead =
     exit_is_last entry ends.0 kinds (subst (λ (front : List Insn). Lead entry front kinds) (take_all i items late ∙ same ∙ ends.1) lead)
+
+-- The instructions before an index have a meaning, and the one at the index has one, or it hasn't.
+
+pub reaches_form : (code items : List Insn) (i : ℕ) (insn : Insn) (place : ℕ) → items ≡ code → i < length items → insn ≡ get_or items i insn → HaveMeaning (take i items) → place ≡ place_of code i → has_meaning insn ≡ false → IsNotYetAt code place
+reaches_form code items i insn place same within is meaning at none =
+    (take i items, insn, drop (i + 1) items, sym same ∙ around items i insn within is, at ∙ ap (λ (c : List Insn). place_of c i) (sym same), meaning, none)
+
+pub have_meaning_more : (items : List Insn) (i : ℕ) (insn : Insn) → i < length items → insn ≡ get_or items i insn → HaveMeaning (take i items) → IsTrue (has_meaning insn) → HaveMeaning (take (i + 1) items)
+have_meaning_more items i insn within is meaning one =
+    All-more (λ insn. IsTrue (has_meaning insn)) items i insn within meaning (subst (λ (x : Insn). IsTrue (has_meaning x)) is one)

@@ -1,6 +1,6 @@
 -- Checks of straight-line code by kinds: what is known of each register, whatever the segment
 -- (RFC 9669 says what an instruction does; which programs are refused is this project's own choice).
-use Rattle.std.specs.Prelude.{◌≡◌, ◌≢◌, ℕ, ℤ, pos, ◌+ℤ◌, ◌&&◌, ◌⊎◌, List, [], ◌∷◌, ◌++◌, length, slice_set, get_or, int_le, Result, Ok, Err, if◌then◌else◌}
+use Rattle.std.specs.Prelude.{◌≡◌, ◌≢◌, ℕ, ℤ, pos, ◌+ℤ◌, ◌&&◌, ◌⊎◌, List, [], ◌∷◌, ◌++◌, length, slice_set, get_or, int_le, false, Result, Ok, Err, if◌then◌else◌}
 use Rattle.std.specs.Int.{cast_signed, w64}
 use Rattle.bpf_insn.specs.Arithmetic.{extended}
 use Rattle.bpf_insn.specs.Code.{word_count}
@@ -19,14 +19,14 @@ use Rattle.bpf_insn.specs.declared.value.Pointer.{Pointer as PointerParts}
 use Rattle.bpf_insn.specs.declared.value.Value.{Value}
 use Rattle.bpf_insn.specs.declared.value.Value.TheVariants as value
 use Rattle.bpf_meaning.specs.State.{register_value}
-use Rattle.bpf_meaning.specs.Step.{is_offset, load_length}
+use Rattle.bpf_meaning.specs.Step.{is_offset, load_length, has_meaning, HaveMeaning}
 use Rattle.bpf_meaning.specs.declared.cause.Cause.{Cause}
-use Rattle.bpf_meaning.specs.declared.cause.Cause.TheVariants.{ReadsNothing, PointerArithmetic, LeavesArea, NotPointer, OutOfBounds, UnwrittenFrame, ExitNotNumber}
+use Rattle.bpf_meaning.specs.declared.cause.Cause.TheVariants.{OutOfProgram, ReadsNothing, PointerArithmetic, LeavesArea, NotPointer, OutOfBounds, UnwrittenFrame, ExitNotNumber}
 use Rattle.bpf_meaning.specs.declared.segment.TheConstants.{RECORD_LENGTH}
 use Rattle.bpf_meaning.specs.declared.state.TheConstants.{FRAME_LENGTH}
 use Rattle.bpf_meaning.specs.declared.state.State.{State}
 use Rattle.extract.specs.declared.checks.CheckFault.{CheckFault}
-use Rattle.extract.specs.declared.checks.CheckFault.TheVariants.{LastNotExit, Refused}
+use Rattle.extract.specs.declared.checks.CheckFault.TheVariants.{NotYet, LastNotExit, Refused}
 use Rattle.extract.specs.declared.checks.Kind.{Kind}
 use Rattle.extract.specs.declared.checks.Kind.TheVariants.{Nothing, Number, Pointer}
 use Rattle.extract.specs.declared.checks.Kinds.{Kinds}
@@ -70,10 +70,11 @@ added register Nothing number = Err (ReadsNothing register)
 added register Number number = Ok Number
 added register (Pointer pointer) number = moved_kind pointer number
 
--- what an arithmetic instruction gives
+-- what an arithmetic instruction gives, of those that have a meaning
 abbrev pub operation_kind : Operation → Width → ℕ → Kind → Source → Result Kind Cause
 operation_kind Add Bits64 register kind (Immediate value) = added register kind (extended value)
 operation_kind Move Bits64 register kind (Immediate value) = Ok Number
+operation_kind operation width register kind source = Err PointerArithmetic
 
 -- how many bytes an area has
 abbrev pub area_length : Area → ℕ
@@ -111,13 +112,14 @@ exit_edge Nothing = Err (ReadsNothing 0)
 exit_edge Number = Ok End
 exit_edge (Pointer pointer) = Err ExitNotNumber
 
--- the first check of an instruction that fails, or where the instruction leads
+-- the first check of an instruction that fails, or where the instruction leads; one without a meaning leads nowhere
 abbrev pub edge : Kinds → Insn → Result Edge Cause
 edge kinds (Alu operation width destination source) =
     next_edge kinds destination.number (operation_kind operation width destination.number (kind_of kinds destination.number) source)
 edge kinds (Load format destination base offset) =
     next_edge kinds destination.number (load_kind base.number (kind_of kinds base.number) format offset)
 edge kinds Exit = exit_edge (kind_of kinds 0)
+edge kinds insn = Err OutOfProgram
 
 -- instructions that each lead to the next one, and what is known behind them
 abbrev pub Lead : Kinds → List Insn → Kinds → Type 0
@@ -139,8 +141,16 @@ IsRefusedAt code place cause =
     (before : List Insn) × (insn : Insn) × (rest : List Insn) × (kinds : Kinds) × (code ≡ before ++ insn ∷ rest) × (place ≡ word_count before)
     × Lead entry before kinds × (edge kinds insn ≡ Err cause)
 
--- why a code is refused: the last instruction isn't EXIT, or it is and one that is reached fails a check
+-- the instruction at this place is the first that has no meaning
+abbrev pub IsNotYetAt : List Insn → ℕ → Type 0
+IsNotYetAt code place =
+    (before : List Insn) × (insn : Insn) × (rest : List Insn) × (code ≡ before ++ insn ∷ rest) × (place ≡ word_count before)
+    × HaveMeaning before × (has_meaning insn ≡ false)
+
+-- why a code is refused: an instruction has no meaning, whatever else; or all have one, and the last isn't EXIT, or it is and one that is
+-- reached fails a check
 abbrev pub IsCheckFault : List Insn → CheckFault → Type 0
+IsCheckFault code (NotYet place) = IsNotYetAt code place
 IsCheckFault code (LastNotExit place) =
-    (before : List Insn) × (last : Insn) × (code ≡ before ++ last ∷ []) × (last ≢ Exit) × (place ≡ word_count before)
-IsCheckFault code (Refused place cause) = (before : List Insn) × (code ≡ before ++ Exit ∷ []) × IsRefusedAt code place cause
+    HaveMeaning code × (before : List Insn) × (last : Insn) × (code ≡ before ++ last ∷ []) × (last ≢ Exit) × (place ≡ word_count before)
+IsCheckFault code (Refused place cause) = HaveMeaning code × (before : List Insn) × (code ≡ before ++ Exit ∷ []) × IsRefusedAt code place cause

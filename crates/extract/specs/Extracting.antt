@@ -6,6 +6,7 @@ use Rattle.bpf_insn.specs.declared.fault.CodeFault.TheVariants as code_fault
 use Rattle.bpf_insn.specs.declared.instruction.Insn.{Insn}
 use Rattle.bpf_meaning.specs.Segment.{Contents}
 use Rattle.bpf_meaning.specs.Run.{IsSafe}
+use Rattle.bpf_meaning.specs.Step.{HaveMeaning}
 use Rattle.bpf_meaning.specs.Extract.{IsExtract}
 use Rattle.extract.specs.Checks.{EndsInExit, IsCheckFault}
 use Rattle.extract.specs.Lines.{IsGoodLine, OtherLength, OtherType, NoTlid}
@@ -13,16 +14,17 @@ use Rattle.extract.specs.Segments.{AreSegmentsOf, ComesAfterGood, HasFlawAfter, 
 use Rattle.extract.specs.Rows.{AppendsBeginning}
 use Rattle.extract.specs.declared.checks.CheckFault.TheVariants as check_fault
 use Rattle.extract.specs.declared.fault.ExtractFault.{ExtractFault}
-use Rattle.extract.specs.declared.fault.ExtractFault.TheVariants.{Code, LastNotExit, Refused, Rt1, Write, WriteZero, Memory}
+use Rattle.extract.specs.declared.fault.ExtractFault.TheVariants.{Code, NotYet, LastNotExit, Refused, Rt1, Write, WriteZero, Memory}
 use Rattle.extract.specs.declared.lines.LineFault.{LineFault}
 use Rattle.extract.specs.declared.lines.LineFault.TheVariants as line_fault
 
 -- the bytes have this code, and it is safe: on every segment whatever no run ends stuck, and some run exits in at most as many steps as
--- the code has instructions. Its last instruction is EXIT, which is this project's own rule.
+-- the code has instructions. Its last instruction is EXIT, which is this project's own rule, and each one has a meaning.
 pub record IsSafeProgram (program : List ℕ) (code : List Insn) : Type 0 where
   pub is_code : IsCodeOf program code
   pub safe : IsSafe code
   pub last : EndsInExit code
+  pub meaning : HaveMeaning code
 
 -- The program is safe, and for a list of good lines exactly the rows that its meaning chooses were written, in file order with their
 -- scores, behind what the writer held, so many. Where the reader's bytes are known, the lines are that file's.
@@ -44,9 +46,11 @@ pub record HasBegun (program : List ℕ) (lines : List (List ℕ)) (held new_hel
   pub is_extract : IsExtract code (segments_of lines) text rows
   pub written : AppendsBeginning held new_held text
 
--- 10 to 15 and 18 are the first fault of the bytes; 33 and 40 to 45 come of a code, the latter of one with an exit at its end
+-- 10 to 18 are the first fault of the bytes; 34 comes of a code with an instruction that has no meaning, 33 and 40 to 45 of one where each
+-- has, the latter with an exit at its end
 abbrev pub IsProgramRefusal : List ℕ → ExtractFault → Type 0
 IsProgramRefusal program (Code fault) = IsFirstFault program fault × (fault ≢ code_fault.Memory)
+IsProgramRefusal program (NotYet place) = (code : List Insn) × IsCodeOf program code × IsCheckFault code (check_fault.NotYet place)
 IsProgramRefusal program (LastNotExit place) = (code : List Insn) × IsCodeOf program code × IsCheckFault code (check_fault.LastNotExit place)
 IsProgramRefusal program (Refused place cause) = (code : List Insn) × IsCodeOf program code × IsCheckFault code (check_fault.Refused place cause)
 IsProgramRefusal program (Rt1 fault) = Unit {0}
@@ -57,6 +61,7 @@ IsProgramRefusal program Memory = Unit {0}
 -- what holds where the program is refused
 abbrev pub WhereRefused : ExtractFault → Type 0 → Type 0
 WhereRefused (Code fault) P = P
+WhereRefused (NotYet place) P = P
 WhereRefused (LastNotExit place) P = P
 WhereRefused (Refused place cause) P = P
 WhereRefused (Rt1 fault) P = Unit {0}
@@ -93,6 +98,7 @@ abbrev pub IsLineRefusal : List ℕ → Option (List ℕ) → Option (List ℕ) 
 IsLineRefusal program file held new_held (Rt1 fault) =
     HasLineNumber fault × (before : ComesAfterGood file (line_of fault) (IsFaultAfter fault)) × HasBegun program before.lines held new_held
 IsLineRefusal program file held new_held (Code fault) = Unit {0}
+IsLineRefusal program file held new_held (NotYet place) = Unit {0}
 IsLineRefusal program file held new_held (LastNotExit place) = Unit {0}
 IsLineRefusal program file held new_held (Refused place cause) = Unit {0}
 IsLineRefusal program file held new_held Write = Unit {0}
@@ -115,6 +121,7 @@ IsWriteRefusal program file held new_held Write = StopsWithin program file held 
 IsWriteRefusal program file held new_held WriteZero = StopsWithin program file held new_held
 IsWriteRefusal program file held new_held (Rt1 fault) = Unit {0}
 IsWriteRefusal program file held new_held (Code fault) = Unit {0}
+IsWriteRefusal program file held new_held (NotYet place) = Unit {0}
 IsWriteRefusal program file held new_held (LastNotExit place) = Unit {0}
 IsWriteRefusal program file held new_held (Refused place cause) = Unit {0}
 IsWriteRefusal program file held new_held Memory = Unit {0}
@@ -126,6 +133,7 @@ IsMemoryRefusal program file held new_held Write = Unit {0}
 IsMemoryRefusal program file held new_held WriteZero = Unit {0}
 IsMemoryRefusal program file held new_held (Rt1 fault) = Unit {0}
 IsMemoryRefusal program file held new_held (Code fault) = Unit {0}
+IsMemoryRefusal program file held new_held (NotYet place) = Unit {0}
 IsMemoryRefusal program file held new_held (LastNotExit place) = Unit {0}
 IsMemoryRefusal program file held new_held (Refused place cause) = Unit {0}
 
@@ -151,5 +159,6 @@ IsAcceptFault program Write = ⊥
 IsAcceptFault program WriteZero = ⊥
 IsAcceptFault program Memory = Unit {0}
 IsAcceptFault program (Code fault) = IsProgramRefusal program (Code fault)
+IsAcceptFault program (NotYet place) = IsProgramRefusal program (NotYet place)
 IsAcceptFault program (LastNotExit place) = IsProgramRefusal program (LastNotExit place)
 IsAcceptFault program (Refused place cause) = IsProgramRefusal program (Refused place cause)

@@ -4,7 +4,7 @@ use Rattle.bpf_insn.specs.FaultLine.{fault_line, place_line}
 use Rattle.bpf_meaning.specs.declared.cause.Cause.{Cause}
 use Rattle.bpf_meaning.specs.declared.cause.Cause.TheVariants.{OutOfProgram, ReadsNothing, PointerArithmetic, LeavesArea, NotPointer, OutOfBounds, UnwrittenFrame, ExitNotNumber}
 use Rattle.extract.specs.declared.fault.ExtractFault.{ExtractFault}
-use Rattle.extract.specs.declared.fault.ExtractFault.TheVariants.{Code, LastNotExit, Refused, Rt1, Write, WriteZero, Memory}
+use Rattle.extract.specs.declared.fault.ExtractFault.TheVariants.{Code, NotYet, LastNotExit, Refused, Rt1, Write, WriteZero, Memory}
 use Rattle.extract.specs.declared.lines.LineFault.{LineFault}
 use Rattle.extract.specs.declared.lines.LineFault.TheVariants as line_fault
 
@@ -29,6 +29,7 @@ rt1_line (line_fault.TooManyLines line) = place_line (codes "refused 8 rt1 line 
 
 abbrev pub extract_line : ExtractFault → List ℕ
 extract_line (Code fault) = fault_line fault
+extract_line (NotYet place) = place_line (codes "refused 34 place ") place (codes " NotYet")
 extract_line (LastNotExit place) = place_line (codes "refused 33 place ") place (codes " LastNotExit")
 extract_line (Refused place cause) = cause_line place cause
 extract_line (Rt1 fault) = rt1_line fault

@@ -8,13 +8,14 @@ use Rattle.extract.specs.declared.segments.SegmentsFault.TheVariants as segments
 use Rattle.extract.specs.declared.rows.WriteFault.{WriteFault}
 use Rattle.extract.specs.declared.rows.WriteFault.TheVariants as write_fault
 use Rattle.extract.specs.declared.fault.ExtractFault.{ExtractFault}
-use Rattle.extract.specs.declared.fault.ExtractFault.TheVariants.{Code, LastNotExit, Refused, Rt1, Write, WriteZero, Memory}
+use Rattle.extract.specs.declared.fault.ExtractFault.TheVariants.{Code, NotYet, LastNotExit, Refused, Rt1, Write, WriteZero, Memory}
 
 abbrev pub of_code : CodeFault → ExtractFault
 of_code code_fault.Memory = Memory
 of_code fault = Code fault
 
 abbrev pub of_check : CheckFault → ExtractFault
+of_check (check_fault.NotYet place) = NotYet place
 of_check (check_fault.LastNotExit place) = LastNotExit place
 of_check (check_fault.Refused place cause) = Refused place cause
 

@@ -1,19 +1,22 @@
-ghost use Rattle.std.specs.Prelude.{◌≡◌, ◌≤◌, ◌+ℤ◌, OnOk, IfErr};
+ghost use Rattle.std.specs.Prelude.{◌≡◌, ◌≤◌, ◌+ℤ◌, IsTrue, OnOk, IfErr};
 ghost use Rattle.bpf_insn.specs.Code.{word_count};
 ghost use Rattle.bpf_meaning.specs.Run.{IsSafe};
+ghost use Rattle.bpf_meaning.specs.Step.{has_meaning, HaveMeaning};
 ghost use Rattle.extract.specs.Checks.{entry, kind_of, moved_kind, added, operation_kind, loaded_kind, load_kind, next_edge, exit_edge, edge, EndsInExit, Passes, IsCheckFault};
 
 use bpf_insn::{
     Area, Code, Insn, LoadFormat, Operation, Pointer, Register, Source, WORD_LIMIT, Width,
     WritableRegister, sign_extended,
 };
-use bpf_meaning::{Cause, FRAME_LENGTH, RECORD_LENGTH, REGISTERS};
+use bpf_meaning::{Cause, FRAME_LENGTH, RECORD_LENGTH, REGISTERS, has_meaning};
 use std::alloc::Allocator;
 use thiserror::Error;
 
 /// Why a code is refused. Places count words from 0.
 #[derive(Clone, Copy, Debug, PartialEq, Eq, Error)]
 pub(crate) enum CheckFault {
+    #[error("the instruction at place {place} has no meaning yet")]
+    NotYet { place: usize },
     #[error("the last instruction, at place {place}, is no exit")]
     LastNotExit { place: usize },
     #[error("the instruction at place {place} may be stuck: {cause:?}")]
@@ -47,19 +50,37 @@ pub(crate) enum Edge {
     Next(Kinds),
 }
 
-/// Checks that the code never gets stuck, whatever the segment. Instructions behind the first EXIT that is reached
-/// aren't looked at, but the last one must be EXIT.
+/// Checks that the code never gets stuck, whatever the segment. Of instructions behind the first EXIT that is reached only
+/// the form is looked at: each must have a meaning, and the last one must be EXIT.
 pub(crate) fn check<A: Allocator>(code: &Code<A>) -> Result<(), CheckFault>
     ensures safe { OnOk result (IsSafe code.now) }
     ensures last { OnOk result (EndsInExit code.now) }
+    ensures meaning { OnOk result (HaveMeaning code.now) }
     ensures fault { IfErr result (IsCheckFault code.now) }
 {
+    check_forms(code)?;
     check_last(code)?;
     check_reached(code)
 }
 
+/// Checks that each instruction has a meaning.
+fn check_forms<A: Allocator>(code: &Code<A>) -> Result<(), CheckFault>
+    ensures ok { OnOk result (HaveMeaning code.now) }
+    ensures err { IfErr result (IsCheckFault code.now) }
+{
+    let instructions = code.instructions();
+    for (index, insn) in instructions.iter().enumerate() {
+        if !has_meaning(*insn) {
+            let place = code.place(index);
+            return Err(CheckFault::NotYet { place });
+        }
+    }
+    Ok(())
+}
+
 /// Checks that the last instruction is EXIT.
 fn check_last<A: Allocator>(code: &Code<A>) -> Result<(), CheckFault>
+    requires { HaveMeaning code.now }
     ensures ok { OnOk result (EndsInExit code.now) }
     ensures err { IfErr result (IsCheckFault code.now) }
 {
@@ -88,7 +109,8 @@ fn words(instructions: &[Insn]) -> usize
 
 /// Checks instruction by instruction up to the first EXIT that is reached.
 fn check_reached<A: Allocator>(code: &Code<A>) -> Result<(), CheckFault>
-    requires { EndsInExit code.now }
+    requires meaning { HaveMeaning code.now }
+    requires last { EndsInExit code.now }
     ensures ok { OnOk result (Passes entry code.now) }
     ensures err { IfErr result (IsCheckFault code.now) }
 {
@@ -108,6 +130,7 @@ fn check_reached<A: Allocator>(code: &Code<A>) -> Result<(), CheckFault>
 
 /// The first check of an instruction that fails, or what is known behind it.
 fn visit(kinds: &Kinds, insn: Insn) -> Result<Edge, Cause>
+    requires { IsTrue (has_meaning insn) }
     ensures { result ≡ edge kinds.now insn }
 {
     match insn {
@@ -130,6 +153,7 @@ fn visit(kinds: &Kinds, insn: Insn) -> Result<Edge, Cause>
             kinds.next(destination, kind)
         }
         Insn::Exit => kinds.exit(),
+        _ => unreachable!(),
     }
 }
 
@@ -158,19 +182,24 @@ impl Kinds {
         destination: WritableRegister,
         source: Source,
     ) -> Result<Kind, Cause>
+        requires { IsTrue (has_meaning (Insn.Alu operation width destination source)) }
         ensures { result ≡ operation_kind operation width destination.number (kind_of self.now destination.number) source }
     {
         let number = destination.number;
         let kind = self.registers[usize::from(number)];
-        let Source::Immediate(immediate) = source;
+        let Source::Immediate(immediate) = source else {
+            unreachable!()
+        };
         match (operation, width) {
             (Operation::Add, Width::Bits64) => add(number, kind, sign_extended(immediate)),
             (Operation::Move, Width::Bits64) => Ok(Kind::Number),
+            _ => unreachable!(),
         }
     }
 
     /// What a load gives.
     fn load(&self, format: LoadFormat, base: Register, offset: i16) -> Result<Kind, Cause>
+        requires { format ≡ LoadFormat.Byte }
         ensures { result ≡ load_kind base.number (kind_of self.now base.number) format offset }
     {
         match self.registers[usize::from(base.number)] {
@@ -231,9 +260,12 @@ fn moved(pointer: Pointer, distance: u64) -> Result<Kind, Cause>
 
 /// A load from an area, from an offset on.
 fn load_from(area: Area, format: LoadFormat, start: i32) -> Result<Kind, Cause>
+    requires { format ≡ LoadFormat.Byte }
     ensures { result ≡ loaded_kind format area start }
 {
-    let LoadFormat::Byte = format;
+    let LoadFormat::Byte = format else {
+        unreachable!()
+    };
     let Ok(start) = usize::try_from(start) else {
         return Err(Cause::OutOfBounds);
     };

@@ -38,6 +38,7 @@ pub fn extract<A: Allocator + Copy, R: CountedRead, W: CountedWrite>(
     ensures failed_reads { CountsReads result (R.failed_reads rt1.old) (R.failed_reads rt1.new) }
     ensures failed_writes { CountsFailedWrites result (W.failed_writes out.old) (W.failed_writes out.new) }
     ensures empty_writes { CountsEmptyWrites result (W.empty_writes out.old) (W.empty_writes out.new) }
+    ensures unflushed { W.flushes out.new ≡ W.flushes out.old }
     ensures others { (rt4.new ≡ rt4.old) × (rt5.new ≡ rt5.old) × (rt6.new ≡ rt6.old) }
 {
     let code = match accept(alloc, program) {

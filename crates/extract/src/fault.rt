@@ -15,6 +15,9 @@ pub enum ExtractFault {
     /// The bytes are no program.
     #[error("{0}")]
     Code(CodeFault),
+    /// What this instruction does isn't defined here yet. It's the first such one.
+    #[error("the instruction at place {place} has no meaning here yet")]
+    NotYet { place: usize },
     /// The last instruction isn't an exit.
     #[error("the last instruction, at place {place}, isn't an exit")]
     LastNotExit { place: usize },
@@ -50,6 +53,7 @@ impl From<CheckFault> for ExtractFault {
 
     fn from(fault: CheckFault) -> ExtractFault {
         match fault {
+            CheckFault::NotYet { place } => ExtractFault::NotYet { place },
             CheckFault::LastNotExit { place } => ExtractFault::LastNotExit { place },
             CheckFault::Refused { place, cause } => ExtractFault::Refused { place, cause },
         }

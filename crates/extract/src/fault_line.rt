@@ -15,6 +15,9 @@ impl ExtractFault {
     {
         match *self {
             ExtractFault::Code(fault) => fault.line(),
+            ExtractFault::NotYet { place } => {
+                numbered("refused 34 place ", place as u64, " NotYet")
+            }
             ExtractFault::LastNotExit { place } => {
                 numbered("refused 33 place ", place as u64, " LastNotExit")
             }

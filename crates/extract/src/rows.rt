@@ -41,8 +41,9 @@ fn row_text(score: u64, record_bytes: &[u8]) -> ArrayVec<u8, LONGEST_ROW>
 
 /// Writes the text, and tries nothing again.
 fn write_text<W: CountedWrite>(out: &mut W, text: &[u8]) -> Result<(), WriteFault>
-    ensures { WritesText text.now result (W.contents out.old) (W.contents out.new)
+    ensures writes { WritesText text.now result (W.contents out.old) (W.contents out.new)
         (W.failed_writes out.old) (W.failed_writes out.new) (W.empty_writes out.old) (W.empty_writes out.new) }
+    ensures unflushed { W.flushes out.new ≡ W.flushes out.old }
 {
     let mut rest = text;
     while !rest.is_empty() {
@@ -62,8 +63,9 @@ fn write_row_if_chosen<A: Allocator, W: CountedWrite>(
     out: &mut W,
 ) -> Result<u64, WriteFault>
     requires { IsSafe code.now }
-    ensures { WritesRow code.now segment.now result (W.contents out.old) (W.contents out.new)
+    ensures writes { WritesRow code.now segment.now result (W.contents out.old) (W.contents out.new)
         (W.failed_writes out.old) (W.failed_writes out.new) (W.empty_writes out.old) (W.empty_writes out.new) }
+    ensures unflushed { W.flushes out.new ≡ W.flushes out.old }
 {
     let record_bytes = segment.bytes();
     let answer = run(code, segment);
@@ -83,8 +85,9 @@ pub(crate) fn write_rows<A: Allocator, W: CountedWrite>(
     out: &mut W,
 ) -> Result<u64, WriteFault>
     requires { IsSafe code.now }
-    ensures { WritesExtract code.now segments.now result (W.contents out.old) (W.contents out.new)
+    ensures writes { WritesExtract code.now segments.now result (W.contents out.old) (W.contents out.new)
         (W.failed_writes out.old) (W.failed_writes out.new) (W.empty_writes out.old) (W.empty_writes out.new) }
+    ensures unflushed { W.flushes out.new ≡ W.flushes out.old }
 {
     let mut rows = 0;
     for segment in segments {

@@ -157,7 +157,7 @@ fn programs(rt: HostRuntime) -> Result<(), Fail> {
     let file = pieces.concat(rt.alloc())?;
     let pieces: [&[u8]; 3] = [b"0\t", RECORD, b"\n"];
     let row = pieces.concat(rt.alloc())?;
-    let cases: [(&str, &[u8], Result<u64, &str>); 21] = [
+    let cases: [(&str, &[u8], Result<u64, &str>); 29] = [
         ("mov r0, 1 | exit", EVERY, Ok(1)),
         (
             "ldxb r0, [r1+227] | exit",
@@ -197,8 +197,48 @@ fn programs(rt: HostRuntime) -> Result<(), Fail> {
         ),
         (
             "an opcode that no instruction has",
-            b"\x95\0\0\0\0\0\0\0\x18\0\0\0\0\0\0\0",
+            b"\x95\0\0\0\0\0\0\0\xff\0\0\0\0\0\0\0",
             Err("refused 13 place 1 UnknownOpcode"),
+        ),
+        (
+            "exit | half of lddw r0, 0",
+            b"\x95\0\0\0\0\0\0\0\x18\0\0\0\0\0\0\0",
+            Err("refused 17 place 1 CutWide"),
+        ),
+        (
+            "mov r0, 7 | div r0, 0 | exit",
+            b"\xb7\0\0\0\x07\0\0\0\x37\0\0\0\0\0\0\0\x95\0\0\0\0\0\0\0",
+            Err("refused 34 place 1 NotYet"),
+        ),
+        (
+            "mov r0, 1 | lddw r1, 0 | ja 0 | exit",
+            b"\xb7\0\0\0\x01\0\0\0\x18\x01\0\0\0\0\0\0\0\0\0\0\0\0\0\0\x05\0\0\0\0\0\0\0\x95\0\0\0\0\0\0\0",
+            Err("refused 34 place 1 NotYet"),
+        ),
+        (
+            "mov r0, 1 | ja -1",
+            b"\xb7\0\0\0\x01\0\0\0\x05\0\xff\xff\0\0\0\0",
+            Err("refused 34 place 1 NotYet"),
+        ),
+        (
+            "mov r0, 1 | exit | mov r0, r1 | exit",
+            b"\xb7\0\0\0\x01\0\0\0\x95\0\0\0\0\0\0\0\xbf\x10\0\0\0\0\0\0\x95\0\0\0\0\0\0\0",
+            Err("refused 34 place 2 NotYet"),
+        ),
+        (
+            "ldxb r0, [r9+0] | neg r0 | exit",
+            b"\x71\x90\0\0\0\0\0\0\x87\0\0\0\0\0\0\0\x95\0\0\0\0\0\0\0",
+            Err("refused 34 place 1 NotYet"),
+        ),
+        (
+            "mov32 r0, 1 | ldxh r0, [r1+0] | exit",
+            b"\xb4\0\0\0\x01\0\0\0\x69\x10\0\0\0\0\0\0\x95\0\0\0\0\0\0\0",
+            Err("refused 34 place 0 NotYet"),
+        ),
+        (
+            "call 1",
+            b"\x85\0\0\0\x01\0\0\0",
+            Err("refused 34 place 0 NotYet"),
         ),
         (
             "mov r11, 1 | exit",

@@ -1,1 +1,5 @@
+mod CommandLemmas
+mod ReadLemmas
 mod RunLemmas
+mod FailureLemmas
+mod WordLemmas

@@ -6,7 +6,7 @@ use Rattle.std.specs.Io.KnownBytes.{Keeps}
 use Rattle.tl_fields.proofs.KnownBytesLemmas.{Appends-from_keeps}
 use Rattle.extract.specs.Extracting.{IsExtracted, HasBegun, StopsWithin, StopsBeforeEnd, IsProgramRefusal, IsLineRefusal, IsWriteRefusal, IsMemoryRefusal}
 use Rattle.extract.specs.declared.fault.ExtractFault.{ExtractFault}
-use Rattle.extract.specs.declared.fault.ExtractFault.TheVariants.{Code, LastNotExit, Refused, Rt1, Write, WriteZero, Memory}
+use Rattle.extract.specs.declared.fault.ExtractFault.TheVariants.{Code, NotYet, LastNotExit, Refused, Rt1, Write, WriteZero, Memory}
 use Rattle.extract.specs.declared.lines.LineFault.{LineFault}
 use Rattle.extract.specs.declared.lines.LineFault.TheVariants as line_fault
 use Rattle.extractd.specs.Command.{flushed_status_of, IsAfterFlush}
@@ -48,6 +48,7 @@ extracts_kept program (Ok rows) file held new final is kept = record {
   written = Appends-kept held new final is.text is.written kept;
 }
 extracts_kept program (Err (Code fault)) file held new final is kept = is
+extracts_kept program (Err (NotYet place)) file held new final is kept = is
 extracts_kept program (Err (LastNotExit place)) file held new final is kept = is
 extracts_kept program (Err (Refused place cause)) file held new final is kept = is
 extracts_kept program (Err (Rt1 fault)) file held new final is kept =
@@ -160,6 +161,7 @@ status_of_fault-positive (Rt1 fault) = rt1_status-positive fault
 status_of_fault-positive Write = lit≤ tt
 status_of_fault-positive WriteZero = lit≤ tt
 status_of_fault-positive (Code fault) = lit≤ tt
+status_of_fault-positive (NotYet place) = lit≤ tt
 status_of_fault-positive (LastNotExit place) = lit≤ tt
 status_of_fault-positive (Refused place cause) = lit≤ tt
 
@@ -169,6 +171,7 @@ status_of_fault-le (Rt1 fault) = rt1_status-le fault
 status_of_fault-le Write = lit≤ tt
 status_of_fault-le WriteZero = lit≤ tt
 status_of_fault-le (Code fault) = lit≤ tt
+status_of_fault-le (NotYet place) = lit≤ tt
 status_of_fault-le (LastNotExit place) = lit≤ tt
 status_of_fault-le (Refused place cause) = lit≤ tt
 
@@ -186,8 +189,8 @@ pub flushed_status_of-small : (status : ℕ) (flushed : Bool) → flushed_status
 flushed_status_of-small status flushed small = grind (arith, nat_tests)
 
 -- the statuses of a run that was flushed
-pub flushed_run-le : (status after : ℕ) (known_program known_rt1 held new said new_said : Option (List ℕ)) (failed new_failed empty new_empty : ℕ) → EndsWith status known_program known_rt1 held new said new_said failed new_failed empty new_empty → IsAfterFlush status after → after ≤ 4
-flushed_run-le status after known_program known_rt1 held new said new_said failed new_failed empty new_empty ends flushed =
+pub flushed_run-le : (status after : ℕ) (known_program known_rt1 held new said new_said : Option (List ℕ)) (failed new_failed empty new_empty out_failed new_out_failed flushes new_flushes : ℕ) → EndsWith status known_program known_rt1 held new said new_said failed new_failed empty new_empty → IsAfterFlush status after out_failed new_out_failed flushes new_flushes → after ≤ 4
+flushed_run-le status after known_program known_rt1 held new said new_said failed new_failed empty new_empty out_failed new_out_failed flushes new_flushes ends flushed =
     let small = status_of_run-le ends.outcome in
     let is = ends.is_status in
     let below : flushed_status_of status flushed.0 ≤ 4 = flushed_status_of-le status flushed.0 (omega arith) in

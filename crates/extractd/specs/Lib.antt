@@ -2,4 +2,5 @@ pub mod Files
 pub mod Words
 pub mod Reports
 pub mod Run
+pub mod Failures
 pub mod Command

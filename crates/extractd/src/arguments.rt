@@ -1,11 +1,12 @@
 //! The words of a command line.
-ghost use Rattle.std.specs.Prelude.{◌≡◌, IfOk, IsTrue, ◌↔◌};
+ghost use Rattle.std.specs.Prelude.{◌≡◌, IfOk, IsTrue, ◌↔◌, List, ℕ, false};
+ghost use Rattle.clap.specs.Words.{app_of, first_value, found_of, rule_of};
 ghost use Rattle.extractd.specs.declared.arguments.WordsFault.TheVariants.{Memory};
-ghost use Rattle.extractd.specs.Words.{IsCountyCode};
+ghost use Rattle.extractd.specs.Words.{needed_option, program_app, run_app, texts_of, run_words, AnswersRun, IsCountyCode, IsReadFrom, IsValueWord, ReadsRun};
 ghost use Rattle.extractd.specs.Command.{IsFaultOf};
 
 use clap::error::ErrorKind;
-use clap::{Arg, ArgAction, Command};
+use clap::{Arg, ArgAction, ArgMatches, Command};
 use std::alloc::{AllocError, Global};
 
 const ABOUT: &str = "Extracts the TIGER/Line street segments that a BPF program chooses";
@@ -56,29 +57,33 @@ impl From<AllocError> for WordsFault {
 
 /// Reads the words after the program's name.
 pub fn read_words<'a>(alloc: Global, words: &'a [&'a str]) -> Result<RunWords<'a>, WordsFault>
-    ensures { IfOk result (λ run. IsCountyCode run.code.now) }
+    ensures read { IsReadFrom (texts_of words.now) result }
+    ensures run { (program folder code : List ℕ) → texts_of words.now ≡ run_words program folder code
+        → IsValueWord program → IsValueWord folder → IsValueWord code → AnswersRun program folder code result }
 {
     let matches = program_command(alloc)?.try_get_matches_from(words)?;
     let Some((_, matches)) = matches.subcommand() else {
         return Err(WordsFault::Code);
     };
-    match (
-        matches.get_str("program"),
-        matches.get_str("data"),
-        matches.get_str("code"),
-    ) {
-        (Some(program), Some(data), Some(code)) if is_county_code(code) => {
-            Ok(RunWords {
-                program,
-                data,
-                code,
-            })
-        }
+    match run_values(matches) {
+        Some(run) if is_county_code(run.code) => Ok(run),
         _ => Err(WordsFault::Code),
     }
 }
 
-fn program_command<'a>(alloc: Global) -> Result<Command<'a>, AllocError> {
+fn run_values<'a>(matches: &ArgMatches<'a>) -> Option<RunWords<'a>>
+    ensures { ReadsRun (first_value (found_of matches.now)) result }
+{
+    Some(RunWords {
+        program: matches.get_str("program")?,
+        data: matches.get_str("data")?,
+        code: matches.get_str("code")?,
+    })
+}
+
+fn program_command<'a>(alloc: Global) -> Result<Command<'a>, AllocError>
+    ensures { IfOk result (λ command. app_of command ≡ program_app) }
+{
     Command::new(alloc, "extractd")
         .about(ABOUT)
         .after_help(EXIT_STATUSES)
@@ -88,7 +93,9 @@ fn program_command<'a>(alloc: Global) -> Result<Command<'a>, AllocError> {
         .subcommand(run_command(alloc)?)
 }
 
-fn run_command<'a>(alloc: Global) -> Result<Command<'a>, AllocError> {
+fn run_command<'a>(alloc: Global) -> Result<Command<'a>, AllocError>
+    ensures { IfOk result (λ command. app_of command ≡ run_app) }
+{
     Command::new(alloc, "run")
         .about("Writes the rows of the segments that a program chooses")
         .after_help(EXIT_STATUSES)
@@ -113,7 +120,10 @@ fn run_command<'a>(alloc: Global) -> Result<Command<'a>, AllocError> {
         )
 }
 
-fn option<'a>(alloc: Global, name: &'a str, value: &'a str, help: &'a str) -> Arg<'a> {
+fn option<'a>(alloc: Global, name: &'a str, value: &'a str, help: &'a str) -> Arg<'a>
+    ensures rule { rule_of result ≡ needed_option name.now }
+    ensures local { result.global ≡ false }
+{
     Arg::new(alloc, name)
         .long(name)
         .value_name(value)

@@ -1,8 +1,10 @@
 //! A command, from its words to its exit status.
-ghost use Rattle.std.specs.Prelude.{◌≡◌, ◌≢◌, ◌≤◌, is_ok};
+ghost use Rattle.std.specs.Prelude.{◌≡◌, ◌≢◌, ◌≤◌, ◌⊎◌, ℕ, List, is_ok};
 ghost use Rattle.std.specs.Io.KnownBytes.{Keeps};
 ghost use Rattle.extractd.specs.Run.{IsDone, IsRefused};
-ghost use Rattle.extractd.specs.Command.{flushed_status_of, IsAfterFlush, status_of_words};
+ghost use Rattle.extractd.specs.Failures.{IsUnusable};
+ghost use Rattle.extractd.specs.Words.{run_words, texts_of, IsCountyCode, IsValueWord};
+ghost use Rattle.extractd.specs.Command.{flushed_status_of, HasExtract, IsAfterFlush, IsExtractOf, IsMisused, status_of_words};
 
 use crate::arguments::{WordsFault, read_words};
 use crate::files::Files;
@@ -30,6 +32,20 @@ pub fn command<F: Files, W: CountedWrite, E: CountedWrite>(
     ensures refused { result ≡ 1 → IsRefused (F.bytes files.old) (W.contents out.old) (W.contents out.new)
         (E.contents errors.old) (E.contents errors.new) (E.failed_writes errors.old) (E.failed_writes errors.new)
         (E.empty_writes errors.old) (E.empty_writes errors.new) }
+    ensures run { (program folder county : List ℕ) → texts_of words.now ≡ run_words program folder county
+        → IsValueWord program → IsValueWord folder → IsCountyCode county
+        → (result ≢ 2) × (result ≤ 1 → IsExtractOf program folder county result (F.bytes files.old) (W.contents out.old) (W.contents out.new)) }
+    ensures asked { result ≤ 1 → HasExtract (texts_of words.now) result (F.bytes files.old) (W.contents out.old) (W.contents out.new) }
+    ensures usage { result ≡ 2 → IsMisused (texts_of words.now) × (out.new ≡ out.old) }
+    ensures misused { IsMisused (texts_of words.now) → (result ≡ 2) ⊎ (result ≡ 4) }
+
+    // No failure is answered that didn't happen, and none is passed over.
+    ensures flushed { result ≡ 0 → W.flushes out.new ≢ W.flushes out.old }
+    ensures whole { result ≡ 0 → (W.failed_writes out.new ≡ W.failed_writes out.old)
+        × (W.empty_writes out.new ≡ W.empty_writes out.old) }
+    ensures opened { result ≢ 3 → F.failed_opens files.new ≡ F.failed_opens files.old }
+    ensures unusable { result ≡ 3 → IsUnusable F.Reader.remaining F.Reader.failed_reads (F.bytes files.old)
+        (F.failed_opens files.old) (F.failed_opens files.new) W.failed_writes W.empty_writes W.flushes out.old out.new }
 {
     match read_words(alloc, words) {
         Ok(run_words) => {
@@ -45,12 +61,14 @@ pub fn command<F: Files, W: CountedWrite, E: CountedWrite>(
 }
 
 /// Flushes the output, and answers the status that the command then has.
-fn flush<W: Write, E: Write>(status: u8, out: &mut W, errors: &mut E) -> u8
-    ensures value { IsAfterFlush status result }
+fn flush<W: CountedWrite, E: Write>(status: u8, out: &mut W, errors: &mut E) -> u8
+    ensures value { IsAfterFlush status result (W.failed_writes out.old) (W.failed_writes out.new)
+        (W.flushes out.old) (W.flushes out.new) }
     ensures contents { Keeps (W.contents out.old) (W.contents out.new) }
+    ensures empty { W.empty_writes out.new ≡ W.empty_writes out.old }
     ensures silent { status ≢ 0 → errors.new ≡ errors.old }
 {
-    let flushed = out.flush();
+    let flushed = out.flush_counted();
     if status == DONE && flushed.is_err() {
         let _ = write!(errors, "error: the output can't be written\n");
     }

@@ -1,20 +1,20 @@
 //! The command `run`.
-ghost use Rattle.std.specs.Prelude.{◌≡◌, ◌≢◌, ℕ, List, IfOk, IfErr, Some, string_bytes};
+ghost use Rattle.std.specs.Prelude.{◌≡◌, ◌≢◌, ◌⊎◌, ℕ, List, IfOk, IfErr, Some, string_bytes};
 ghost use Rattle.std.specs.Io.KnownBytes.{Keeps};
-ghost use Rattle.extractd.specs.declared.run.RunFault.TheVariants.{Refused, Unusable};
-ghost use Rattle.extractd.specs.declared.run.InputFile.TheVariants.{Program};
-ghost use Rattle.std.specs.IoError.{error_kind};
+ghost use Rattle.extractd.specs.declared.run.RunFault.TheVariants.{Refused};
 ghost use Rattle.extract.specs.declared.fault.ExtractFault.TheVariants.{Memory};
 ghost use Rattle.extractd.specs.Run.{status_of_run_fault, rt1_name_of, OpensInput, Extracts, RunsTo, SaysFault, EndsWith, IsReadFault};
+ghost use Rattle.extract.specs.Extracting.{CountsFailedWrites, CountsEmptyWrites};
+ghost use Rattle.extractd.specs.Files.{input_remaining, input_failed_reads};
+ghost use Rattle.extractd.specs.Failures.{CountsOpens, CountsProgramReads, HasFailedRead, WhereReadFailed, HasFileCause, CountsRunWrites, CountsRunEmptyWrites, HasInputFailed, HasOutputFailed};
 
 use crate::arguments::RunWords;
 use crate::files::{Files, Input, Opened};
 use crate::reports::{DONE, UNUSABLE, refusal_status, write_refusal};
 use extract::{ExtractFault, extract};
 use std::alloc::{AllocError, Global};
-use std::io;
-use std::io::{ErrorKind, Read, Write};
-use tl_fields::{CountedWrite, Counting};
+use std::io::Write;
+use tl_fields::{CountedRead, CountedWrite};
 
 /// A file that a run reads.
 #[derive(Clone, Copy, Debug, PartialEq, Eq)]
@@ -56,10 +56,20 @@ pub fn run<F: Files, W: CountedWrite, E: CountedWrite>(
     out: &mut W,
     errors: &mut E,
 ) -> u8
-    ensures { EndsWith result (F.bytes files.old words.entry.program.now)
+    ensures ends { EndsWith result (F.bytes files.old words.entry.program.now)
         (F.bytes files.old (rt1_name_of words.entry.data.now words.entry.code.now))
         (W.contents out.old) (W.contents out.new) (E.contents errors.old) (E.contents errors.new)
         (E.failed_writes errors.old) (E.failed_writes errors.new) (E.empty_writes errors.old) (E.empty_writes errors.new) }
+
+    // No failure is answered that didn't happen, and none is passed over.
+    ensures unusable { result ≡ 3 → HasInputFailed F.Reader.remaining F.Reader.failed_reads
+        (F.bytes files.old words.entry.program.now) (F.bytes files.old (rt1_name_of words.entry.data.now words.entry.code.now))
+        (F.failed_opens files.old) (F.failed_opens files.new)
+        ⊎ HasOutputFailed (W.failed_writes out.old) (W.failed_writes out.new) (W.empty_writes out.old) (W.empty_writes out.new) }
+    ensures opened { result ≢ 3 → F.failed_opens files.new ≡ F.failed_opens files.old }
+    ensures whole { result ≢ 3 → (W.failed_writes out.new ≡ W.failed_writes out.old)
+        × (W.empty_writes out.new ≡ W.empty_writes out.old) }
+    ensures unflushed { W.flushes out.new ≡ W.flushes out.old }
 {
     match extract_files(alloc, words, files, out) {
         Ok(_) => DONE,
@@ -111,11 +121,17 @@ fn extract_files<F: Files, W: CountedWrite>(
     files: &mut F,
     out: &mut W,
 ) -> Result<u64, RunFault>
-    ensures { RunsTo (F.bytes files.old words.entry.program.now)
+    ensures runs { RunsTo (F.bytes files.old words.entry.program.now)
         (F.bytes files.old (rt1_name_of words.entry.data.now words.entry.code.now))
         result (W.contents out.old) (W.contents out.new) }
+    ensures files { HasFileCause F.Reader.remaining F.Reader.failed_reads (F.bytes files.old words.entry.program.now)
+        (F.bytes files.old (rt1_name_of words.entry.data.now words.entry.code.now))
+        result (F.failed_opens files.old) (F.failed_opens files.new) }
+    ensures failed_writes { CountsRunWrites result (W.failed_writes out.old) (W.failed_writes out.new) }
+    ensures empty_writes { CountsRunEmptyWrites result (W.empty_writes out.old) (W.empty_writes out.new) }
+    ensures unflushed { W.flushes out.new ≡ W.flushes out.old }
 {
-    let program = match open(files, InputFile::Program, words.program) {
+    let mut program = match open(files, InputFile::Program, words.program) {
         Ok(program) => program,
         Err(fault) => return Err(fault),
     };
@@ -127,7 +143,7 @@ fn extract_files<F: Files, W: CountedWrite>(
         Ok(rt1) => rt1,
         Err(fault) => return Err(fault),
     };
-    let program = match read_program(alloc, program) {
+    let program = match read_program(alloc, &mut program) {
         Ok(program) => program,
         Err(fault) => return Err(fault),
     };
@@ -151,6 +167,7 @@ fn rt1_name(alloc: Global, data: &str, code: &str) -> Result<String, AllocError>
 fn open<F: Files>(files: &mut F, file: InputFile, name: &str) -> Result<F::Reader, RunFault>
     ensures opens { OpensInput F.Reader.remaining (F.bytes files.old name.now) file result }
     ensures stay { (other : List ℕ) → F.bytes files.new other ≡ F.bytes files.old other }
+    ensures failures { CountsOpens result (F.failed_opens files.old) (F.failed_opens files.new) }
 {
     match files.open(name) {
         Opened::Reader(reader) => Ok(reader),
@@ -160,41 +177,49 @@ fn open<F: Files>(files: &mut F, file: InputFile, name: &str) -> Result<F::Reade
     }
 }
 
-/// The program's bytes, from where the reader stands to its end.
-fn read_program<R: Read + Drop>(alloc: Global, mut reader: R) -> Result<Vec<u8>, RunFault>
-    ensures ok { IfOk result (λ program. Keeps (R.remaining reader) (Some program.items)) }
+// The program is read in pieces of this size.
+const PIECE: usize = 4096;
+
+/// The program's bytes, from where the reader stands to its end. No read is tried again.
+fn read_program<R: CountedRead>(alloc: Global, reader: &mut R) -> Result<Vec<u8>, RunFault>
+    ensures ok { IfOk result (λ program. Keeps (R.remaining reader.old) (Some program.items)) }
     ensures err { IfErr result IsReadFault }
+    ensures failures { CountsProgramReads result (R.failed_reads reader.old) (R.failed_reads reader.new) }
 {
     let mut program = Vec::new(alloc);
-    match reader.read_to_end(&mut program) {
-        Ok(_) => Ok(program),
-        Err(error) => Err(read_fault(&error)),
+    for _ in 0..u64::MAX {
+        let mut piece = [0; PIECE];
+        match reader.read_counted(&mut piece) {
+            Ok(0) => return Ok(program),
+            Ok(count) => {
+                if program.extend_from_slice(&piece[..count]).is_err() {
+                    return Err(RunFault::Refused(ExtractFault::Memory));
+                }
+            }
+            Err(_) => return Err(RunFault::Unusable(InputFile::Program)),
+        }
     }
-}
-
-fn read_fault(error: &io::Error) -> RunFault
-    ensures memory { error_kind error.now ≡ ErrorKind.OutOfMemory → result ≡ Refused Memory }
-    ensures other { error_kind error.now ≢ ErrorKind.OutOfMemory → result ≡ Unusable Program }
-    ensures fault { IsReadFault result }
-{
-    match error.kind() {
-        ErrorKind::OutOfMemory => RunFault::Refused(ExtractFault::Memory),
-        _ => RunFault::Unusable(InputFile::Program),
-    }
+    // More bytes than there is memory.
+    Err(RunFault::Refused(ExtractFault::Memory))
 }
 
 /// The extract of a program that was read and a type 1 file, with no other file.
-fn extract_one<R: Read + Drop, W: CountedWrite>(
+fn extract_one<R: CountedRead + Drop, W: CountedWrite>(
     alloc: Global,
     program: &[u8],
     rt1: R,
     out: &mut W,
 ) -> Result<u64, ExtractFault>
-    ensures { Extracts program.now result (R.remaining rt1) (W.contents out.old) (W.contents out.new) }
+    ensures extracts { Extracts program.now result (R.remaining rt1) (W.contents out.old) (W.contents out.new) }
+    ensures reads { IfErr result (λ fault. WhereReadFailed fault
+        (HasFailedRead (input_remaining R.remaining) (input_failed_reads R.failed_reads) (R.remaining rt1))) }
+    ensures failed_writes { CountsFailedWrites result (W.failed_writes out.old) (W.failed_writes out.new) }
+    ensures empty_writes { CountsEmptyWrites result (W.empty_writes out.old) (W.empty_writes out.new) }
+    ensures unflushed { W.flushes out.new ≡ W.flushes out.old }
 {
-    let mut rt1 = Counting::new(Input::Opened(rt1));
-    let mut rt4 = Counting::new(Input::Nothing);
-    let mut rt5 = Counting::new(Input::Nothing);
-    let mut rt6 = Counting::new(Input::Nothing);
+    let mut rt1 = Input::Opened(rt1);
+    let mut rt4 = Input::Nothing;
+    let mut rt5 = Input::Nothing;
+    let mut rt6 = Input::Nothing;
     extract(alloc, program, &mut rt1, &mut rt4, &mut rt5, &mut rt6, out)
 }

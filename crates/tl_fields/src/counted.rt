@@ -2,7 +2,7 @@
 ghost use Rattle.std.specs.Prelude.{◌≡◌, ℕ};
 ghost use Rattle.std.specs.Io.{ReadsAtMost, WritesAtMost};
 ghost use Rattle.std.specs.Io.KnownBytes.{Keeps, ReadConsumes, WriteAppends};
-ghost use Rattle.tl_fields.specs.Counted.{CountsFailure, CountsEmptyWrite, CountsOneFailure, CountsOneEmptyWrite, KeepsCounts, next_count};
+ghost use Rattle.tl_fields.specs.Counted.{CountsFailure, CountsEmptyWrite, CountsSuccess, CountsOneFailure, CountsOneEmptyWrite, CountsOneSuccess, next_count};
 
 use std::io;
 use std::io::{Read, Write};
@@ -23,34 +23,47 @@ pub trait CountedRead: Read {
         ensures failures { CountsFailure result (failed_reads self.old) (failed_reads self.new) };
 }
 
-/// A writer that counts its failures, and the writes that were handed bytes and took none.
+/// A writer that counts its failures, the writes that were handed bytes and took none, and its
+/// flushes.
 ///
 /// It serves the writing side as [`CountedRead`] does the reading side.
 pub trait CountedWrite: Write {
-    // How many writes failed, modulo 2^64.
+    // How many writes and flushes failed, modulo 2^64.
     ghost failed_writes: { Self → ℕ };
 
     // How many writes were handed bytes and took none, modulo 2^64.
     ghost empty_writes: { Self → ℕ };
+
+    // How many flushes succeeded, modulo 2^64.
+    ghost flushes: { Self → ℕ };
 
     /// One write, with what `write` of [`Write`] says of its bytes.
     fn write_counted(&mut self, buf: &[u8]) -> io::Result<usize>
         ensures bound { WritesAtMost result buf.now }
         ensures bytes { WriteAppends (Self.contents self.old) (Self.contents self.new) result buf.now }
         ensures failures { CountsFailure result (failed_writes self.old) (failed_writes self.new) }
-        ensures empty { CountsEmptyWrite result buf.now (empty_writes self.old) (empty_writes self.new) };
+        ensures empty { CountsEmptyWrite result buf.now (empty_writes self.old) (empty_writes self.new) }
+        ensures flushes { flushes self.new ≡ flushes self.old };
+
+    /// One flush, with what `flush` of [`Write`] says of the bytes.
+    fn flush_counted(&mut self) -> io::Result<()>
+        ensures bytes { Keeps (Self.contents self.old) (Self.contents self.new) }
+        ensures failures { CountsFailure result (failed_writes self.old) (failed_writes self.new) }
+        ensures empty { empty_writes self.new ≡ empty_writes self.old }
+        ensures flushes { CountsSuccess result (flushes self.old) (flushes self.new) };
 }
 
 /// Any reader or writer, with its counts.
 ///
 /// It adds no buffer: each call is one call of the inner reader or writer, and a failed one is not
-/// tried again. The counts begin at 0 and wrap at 2^64. A call of `flush` is never counted.
+/// tried again. The counts begin at 0 and wrap at 2^64.
 #[derive(Drop)]
 pub struct Counting<T> {
     inner: T,
     failed_reads: u64,
     failed_writes: u64,
     empty_writes: u64,
+    flushes: u64,
 }
 
 impl<T> Model for Counting<T> {
@@ -65,19 +78,21 @@ impl<T> Model for Counting<T> {
       failed_reads = c.failed_reads;
       failed_writes = c.failed_writes;
       empty_writes = c.empty_writes;
+      flushes = c.flushes;
     } };
 }
 
 impl<T> Counting<T> {
     /// Takes the reader or writer as it stands, with every count at 0.
     pub fn new(inner: T) -> Self
-        ensures { result ≡ record { inner = inner; failed_reads = 0; failed_writes = 0; empty_writes = 0 } }
+        ensures { result ≡ record { inner = inner; failed_reads = 0; failed_writes = 0; empty_writes = 0; flushes = 0 } }
     {
         Counting {
             inner,
             failed_reads: 0,
             failed_writes: 0,
             empty_writes: 0,
+            flushes: 0,
         }
     }
 
@@ -102,7 +117,7 @@ impl<T> Counting<T> {
         self.failed_reads
     }
 
-    /// How many writes failed, modulo 2^64.
+    /// How many writes and flushes failed, modulo 2^64.
     pub fn failed_writes(&self) -> u64
         ensures { result ≡ self.now.failed_writes }
     {
@@ -115,10 +130,18 @@ impl<T> Counting<T> {
     {
         self.empty_writes
     }
+
+    /// How many flushes succeeded, modulo 2^64.
+    pub fn flushes(&self) -> u64
+        ensures { result ≡ self.now.flushes }
+    {
+        self.flushes
+    }
 }
 
+/// Counts one more. A count that is full goes back to 0.
 #[cold]
-fn count_one(count: &mut u64)
+pub fn count_one(count: &mut u64)
     ensures { count.new ≡ next_count count.old }
 {
     *count = count.wrapping_add(1);
@@ -134,6 +157,7 @@ impl<T: Read> Read for Counting<T> {
         ensures failed_reads { CountsOneFailure result self.old.failed_reads self.new.failed_reads }
         ensures failed_writes { self.new.failed_writes ≡ self.old.failed_writes }
         ensures empty_writes { self.new.empty_writes ≡ self.old.empty_writes }
+        ensures flushes { self.new.flushes ≡ self.old.flushes }
     {
         let result = self.inner.read(buf);
         if result.is_err() {
@@ -153,6 +177,7 @@ impl<T: Write> Write for Counting<T> {
         ensures failed_reads { self.new.failed_reads ≡ self.old.failed_reads }
         ensures failed_writes { CountsOneFailure result self.old.failed_writes self.new.failed_writes }
         ensures empty_writes { CountsOneEmptyWrite result buf.now self.old.empty_writes self.new.empty_writes }
+        ensures flushes { self.new.flushes ≡ self.old.flushes }
     {
         let result = self.inner.write(buf);
         match result {
@@ -165,9 +190,21 @@ impl<T: Write> Write for Counting<T> {
 
     fn flush(&mut self) -> io::Result<()>
         ensures bytes { Keeps (T.contents self.old.inner) (T.contents self.new.inner) }
-        ensures counts { KeepsCounts self.old self.new }
+        ensures failed_reads { self.new.failed_reads ≡ self.old.failed_reads }
+        ensures failed_writes { CountsOneFailure result self.old.failed_writes self.new.failed_writes }
+        ensures empty_writes { self.new.empty_writes ≡ self.old.empty_writes }
+        ensures flushes { CountsOneSuccess result self.old.flushes self.new.flushes }
     {
-        self.inner.flush()
+        match self.inner.flush() {
+            Ok(()) => {
+                count_one(&mut self.flushes);
+                Ok(())
+            }
+            Err(error) => {
+                count_one(&mut self.failed_writes);
+                Err(error)
+            }
+        }
     }
 }
 
@@ -182,6 +219,7 @@ impl<T: Read> CountedRead for Counting<T> {
         ensures failed_reads { CountsOneFailure result self.old.failed_reads self.new.failed_reads }
         ensures failed_writes { self.new.failed_writes ≡ self.old.failed_writes }
         ensures empty_writes { self.new.empty_writes ≡ self.old.empty_writes }
+        ensures flushes { self.new.flushes ≡ self.old.flushes }
     {
         self.read(buf)
     }
@@ -192,6 +230,8 @@ impl<T: Write> CountedWrite for Counting<T> {
 
     ghost empty_writes = { λ c. c.empty_writes };
 
+    ghost flushes = { λ c. c.flushes };
+
     #[inline]
     fn write_counted(&mut self, buf: &[u8]) -> io::Result<usize>
         ensures bound { WritesAtMost result buf.now }
@@ -201,7 +241,20 @@ impl<T: Write> CountedWrite for Counting<T> {
         ensures failed_reads { self.new.failed_reads ≡ self.old.failed_reads }
         ensures failed_writes { CountsOneFailure result self.old.failed_writes self.new.failed_writes }
         ensures empty_writes { CountsOneEmptyWrite result buf.now self.old.empty_writes self.new.empty_writes }
+        ensures flushes { self.new.flushes ≡ self.old.flushes }
     {
         self.write(buf)
+    }
+
+    fn flush_counted(&mut self) -> io::Result<()>
+        ensures bytes { Keeps (T.contents self.old.inner) (T.contents self.new.inner) }
+        ensures failures { CountsFailure result self.old.failed_writes self.new.failed_writes }
+        ensures empty { self.new.empty_writes ≡ self.old.empty_writes }
+        ensures flushed { CountsSuccess result self.old.flushes self.new.flushes }
+        ensures failed_reads { self.new.failed_reads ≡ self.old.failed_reads }
+        ensures failed_writes { CountsOneFailure result self.old.failed_writes self.new.failed_writes }
+        ensures flushes { CountsOneSuccess result self.old.flushes self.new.flushes }
+    {
+        self.flush()
     }
 }

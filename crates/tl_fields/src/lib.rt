@@ -7,6 +7,6 @@ mod numbers;
 #[cfg(test)]
 mod tests;
 
-pub use counted::{CountedRead, CountedWrite, Counting};
+pub use counted::{CountedRead, CountedWrite, Counting, count_one};
 pub use fields::field;
 pub use numbers::number;

@@ -83,6 +83,7 @@ impl<T: Write> Write for FailsOnce<T> {
     }
 
     fn flush(&mut self) -> io::Result<()> {
+        self.turn()?;
         self.flushes = self.flushes.wrapping_add(1);
         self.inner.flush()
     }
@@ -94,6 +95,10 @@ fn read_through<R: CountedRead>(reader: &mut R, buf: &mut [u8]) -> Option<usize>
 
 fn write_through<W: CountedWrite>(writer: &mut W, buf: &[u8]) -> Option<usize> {
     writer.write_counted(buf).ok()
+}
+
+fn flush_through<W: CountedWrite>(writer: &mut W) -> bool {
+    writer.flush_counted().is_ok()
 }
 
 #[test]
@@ -152,7 +157,30 @@ fn counts_of_a_writer(rt: HostRuntime) -> Result<(), Fail> {
         );
     }
     writer.flush()?;
-    assert_eq!(rt; (writer.get_ref().flushes, writer.failed_reads()), (1, 0));
+    assert_eq!(rt; (writer.get_ref().flushes, writer.flushes()), (1, 1));
+    assert_eq!(rt; writer.failed_reads(), 0);
     assert_eq!(rt; room.as_slice(), b"abcd".as_slice());
     Ok(())
+}
+
+#[test]
+fn counts_of_flushes(rt: HostRuntime) {
+    let mut room = [0u8; 4];
+    let inner: &mut [u8] = &mut room;
+    let mut writer = Counting::new(FailsOnce {
+        inner,
+        calls: 0,
+        failing: 2,
+        flushes: 0,
+    });
+    let flushes: [(bool, u64, u64); 4] = [(true, 1, 0), (false, 1, 1), (true, 2, 1), (true, 3, 1)];
+    for (done, flushed, failed) in flushes {
+        assert_eq!(rt; flush_through(&mut writer), done, "{flushed}");
+        assert_eq!(rt;
+            (writer.flushes(), writer.failed_writes()),
+            (flushed, failed)
+        );
+        assert_eq!(rt; u64::from(writer.get_ref().flushes), flushed);
+    }
+    assert_eq!(rt; (writer.failed_reads(), writer.empty_writes()), (0, 0));
 }

@@ -119,7 +119,7 @@ fn run_with(
     out: &mut Output,
     errors: &mut Output,
 ) -> u8 {
-    let mut files = MemoryFiles { program, rt1 };
+    let mut files = MemoryFiles::new(program, rt1);
     command(
         alloc,
         RUN,

@@ -3,6 +3,7 @@ use crate::files::{Files, Opened};
 use std::alloc::{AllocError, Global};
 use std::io;
 use std::io::{Read, Write};
+use tl_fields::{Counting, count_one};
 
 pub const RUN: &[&str] = &["run", "--program", "p.bpf", "--data", "d", "01001"];
 
@@ -19,8 +20,19 @@ pub enum Content<'a> {
 
 #[derive(Drop)]
 pub struct MemoryFiles<'a> {
-    pub program: Content<'a>,
-    pub rt1: Content<'a>,
+    program: Content<'a>,
+    rt1: Content<'a>,
+    failed_opens: u64,
+}
+
+impl<'a> MemoryFiles<'a> {
+    pub fn new(program: Content<'a>, rt1: Content<'a>) -> Self {
+        MemoryFiles {
+            program,
+            rt1,
+            failed_opens: 0,
+        }
+    }
 }
 
 #[derive(Drop)]
@@ -38,10 +50,16 @@ impl Read for MemoryReader<'_> {
     }
 }
 
-impl<'a> Files for MemoryFiles<'a> {
-    type Reader = MemoryReader<'a>;
+fn reader(bytes: &[u8], fails: bool) -> Counting<MemoryReader<'_>> {
+    Counting::new(MemoryReader { bytes, fails })
+}
 
-    fn open(&mut self, name: &str) -> Opened<MemoryReader<'a>> {
+impl<'a> Files for MemoryFiles<'a> {
+    type Reader = Counting<MemoryReader<'a>>;
+
+    ghost failed_opens = { λ files. files.failed_opens };
+
+    fn open(&mut self, name: &str) -> Opened<Counting<MemoryReader<'a>>> {
         let content = if name == "p.bpf" {
             self.program
         } else if name == "d/TGR01001.RT1" {
@@ -50,13 +68,16 @@ impl<'a> Files for MemoryFiles<'a> {
             Content::Missing
         };
         match content {
-            Content::Bytes(bytes) => Opened::Reader(MemoryReader {
-                bytes,
-                fails: false,
-            }),
-            Content::FailsAfter(bytes) => Opened::Reader(MemoryReader { bytes, fails: true }),
-            Content::Missing => Opened::Missing,
-            Content::Unusable => Opened::Unusable,
+            Content::Bytes(bytes) => Opened::Reader(reader(bytes, false)),
+            Content::FailsAfter(bytes) => Opened::Reader(reader(bytes, true)),
+            Content::Missing => {
+                count_one(&mut self.failed_opens);
+                Opened::Missing
+            }
+            Content::Unusable => {
+                count_one(&mut self.failed_opens);
+                Opened::Unusable
+            }
             Content::OutOfMemory => Opened::OutOfMemory,
         }
     }

@@ -107,6 +107,18 @@ const REFUSED: &[(&[u8], &str)] = &[
         b"\x95\0\0\0\0\0\0\0\xb7\0\0\0\x01\0\0\0",
         "refused 40 place 0 ReadsNothing(0)\n",
     ),
+    (
+        b"\xb7\0\0\0\x07\0\0\0\x37\0\0\0\0\0\0\0",
+        "refused 34 place 1 NotYet\n",
+    ),
+    (
+        b"\xb7\0\0\0\x01\0\0\0\x18\x01\0\0\0\0\0\0\0\0\0\0\0\0\0\0\x05\0\0\0\0\0\0\0",
+        "refused 34 place 1 NotYet\n",
+    ),
+    (
+        b"\x71\x90\0\0\0\0\0\0\x87\0\0\0\0\0\0\0",
+        "refused 34 place 1 NotYet\n",
+    ),
 ];
 
 #[test]
@@ -123,10 +135,10 @@ fn refused_programs(rt: HostRuntime) -> Result<(), Fail> {
     for (front, line) in REFUSED {
         let mut program = front.to_vec(rt.alloc())?;
         program.extend_from_slice(EXIT)?;
-        let mut files = MemoryFiles {
-            program: Content::Bytes(program.as_slice()),
-            rt1: Content::Bytes(file.as_slice()),
-        };
+        let mut files = MemoryFiles::new(
+            Content::Bytes(program.as_slice()),
+            Content::Bytes(file.as_slice()),
+        );
         let mut out = Counting::new(Vec::new(rt.alloc()));
         let mut errors = Counting::new(Vec::new(rt.alloc()));
         let status = command(rt.alloc(), RUN, &mut files, &mut out, &mut errors);
@@ -153,6 +165,16 @@ const REFUSED_WHOLE: &[(&[u8], usize, &str)] = &[
         0,
         "refused 33 place 2 LastNotExit\n",
     ),
+    (
+        b"\xb7\0\0\0\x01\0\0\0\x05\0\xff\xff\0\0\0\0",
+        0,
+        "refused 34 place 1 NotYet\n",
+    ),
+    (
+        b"\xbf\x10\0\0\0\0\0\0\xb4\0\0\0\x01\0\0\0",
+        2,
+        "refused 34 place 2 NotYet\n",
+    ),
 ];
 
 // Each stands behind a number of exits.
@@ -165,10 +187,10 @@ fn refused_whole_programs(rt: HostRuntime) -> Result<(), Fail> {
             program.extend_from_slice(EXIT)?;
         }
         program.extend_from_slice(end)?;
-        let mut files = MemoryFiles {
-            program: Content::Bytes(program.as_slice()),
-            rt1: Content::Bytes(file.as_slice()),
-        };
+        let mut files = MemoryFiles::new(
+            Content::Bytes(program.as_slice()),
+            Content::Bytes(file.as_slice()),
+        );
         let mut out = Counting::new(Vec::new(rt.alloc()));
         let mut errors = Counting::new(Vec::new(rt.alloc()));
         let status = command(rt.alloc(), RUN, &mut files, &mut out, &mut errors);

@@ -161,10 +161,7 @@ fn type_1_files(rt: HostRuntime) -> Result<(), Fail> {
     for (index, (program, file, rows, status, line)) in CASES.iter().enumerate() {
         let file = bytes_of(rt.alloc(), file)?;
         let rows = bytes_of(rt.alloc(), rows)?;
-        let mut files = MemoryFiles {
-            program: Content::Bytes(program),
-            rt1: Content::Bytes(file.as_slice()),
-        };
+        let mut files = MemoryFiles::new(Content::Bytes(program), Content::Bytes(file.as_slice()));
         let mut out = Counting::new(Vec::new(rt.alloc()));
         let mut errors = Counting::new(Vec::new(rt.alloc()));
         let answered = command(rt.alloc(), RUN, &mut files, &mut out, &mut errors);

@@ -110,10 +110,7 @@ const CASES: &[(&[&str], &str)] = &[
 fn usage_faults(rt: HostRuntime) -> Result<(), Fail> {
     for (words, front) in CASES {
         // Nothing is opened: the words come first.
-        let mut files = MemoryFiles {
-            program: Content::OutOfMemory,
-            rt1: Content::OutOfMemory,
-        };
+        let mut files = MemoryFiles::new(Content::OutOfMemory, Content::OutOfMemory);
         let mut out = Counting::new(Vec::new(rt.alloc()));
         let mut errors = Counting::new(Vec::new(rt.alloc()));
         let status = command(rt.alloc(), words, &mut files, &mut out, &mut errors);

@@ -11,4 +11,4 @@ returns c =
     let fits = c.ranges.start in
     let at = simp to_z-of_z at c.in-Ok.ensures in
     ap (λ (byte : ℕ). let r : Result Value Cause = Ok (Number byte) in r) c.from.ensures
-    ∙ sym (record_byte c.args.format c.args.bytes.now c.args.start c.in-Ok.start at.0 at.1 c.if-start-bytes.false)
+    ∙ sym (record_byte c.args.format c.args.bytes.now c.args.start c.in-Ok.start c.requires at.0 at.1 c.if-start-bytes.false)

@@ -11,4 +11,4 @@ returns-clause-write g c =
     write_refusal c.args.program.now c.in-Ok.code _ _ _
     (g.W.CountedWrite.failed_writes c.args.out.now) (g.W.CountedWrite.failed_writes c.write_rows.new.out) (g.W.CountedWrite.empty_writes c.args.out.now) (g.W.CountedWrite.empty_writes c.write_rows.new.out)
     c.in-Ok-read_segments.segments.items c.as_slice.result.now c.in-Err-write_rows.fault c.from-in-Err-write_rows.result
-    c.from-in-Err-write_rows.ensures c.in-Ok.ensures.ok c.in-Ok-read_segments.ensures.ok c.as_slice.ensures.value c.in-Err-write_rows.ensures
+    c.from-in-Err-write_rows.ensures c.in-Ok.ensures.ok c.in-Ok-read_segments.ensures.ok c.as_slice.ensures.value c.in-Err-write_rows.ensures.writes

@@ -4,10 +4,10 @@ use Rattle.tl_fields.proofs.KnownBytesLemmas.{Appends-append}
 use Rattle.extract.proofs.RowLemmas.{extract_next, appends_beginning_further, counts_since, chosen_count-le}
 use Rattle.extract.proofs.rows.write_rows.Goals as goal
 
-pub returns-in-Err : goal.returns-in-Err
-returns-in-Err g c =
+pub returns-in-Err-clause-writes : goal.returns-in-Err-clause-writes
+returns-in-Err-clause-writes g c =
     let i = c.loop-segment.invariant in
-    let w = c.in-Err.ensures in
+    let w = c.in-Err.ensures.writes in
     let segment = c.segment-item.result in (
       c.loop-segment.segment-index + 1,
       i.0 ++ row_if_chosen w.0 w.1 segment,
@@ -20,7 +20,7 @@ returns-in-Err g c =
 pub loop-segment-preserved : goal.loop-segment-preserved
 loop-segment-preserved g c =
     let i = c.loop-segment.invariant in
-    let w = c.in-Ok.ensures in
+    let w = c.in-Ok.ensures.writes in
     let segment = c.segment-item.result in
     let few = chosen_count-le w.0 in (
       i.0 ++ row_if_chosen w.0 w.1 segment,
@@ -29,4 +29,5 @@ loop-segment-preserved g c =
       w.5 ∙ i.3,
       w.6 ∙ i.4,
       (let n = w.4 in let r = i.5 in omega arith),
+      c.in-Ok.ensures.unflushed ∙ i.6,
     )

@@ -11,3 +11,4 @@ invariant-loop-segment g l =
     × (g.W.CountedWrite.failed_writes l.out ≡ g.W.CountedWrite.failed_writes l.initial.out)
     × (g.W.CountedWrite.empty_writes l.out ≡ g.W.CountedWrite.empty_writes l.initial.out)
     × (l.rows ≤ l.segment-index)
+    × (g.W.CountedWrite.flushes l.out ≡ g.W.CountedWrite.flushes l.initial.out)

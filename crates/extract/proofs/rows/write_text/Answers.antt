@@ -16,4 +16,5 @@ loop-rest-preserved g c =
       appends_further _ _ _ c.args.text.now c.loop-rest.rest.now i.0 n i.2 i.3 w.bytes,
       w.failures ∙ i.4,
       w.empty.1 some ∙ i.5,
+      w.flushes ∙ i.6,
     )

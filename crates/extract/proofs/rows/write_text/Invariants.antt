@@ -9,6 +9,7 @@ invariant-loop-rest g l =
     × Appends (g.W.Write.contents l.initial.out) (g.W.Write.contents l.out) (take count l.text)
     × (g.W.CountedWrite.failed_writes l.out ≡ g.W.CountedWrite.failed_writes l.initial.out)
     × (g.W.CountedWrite.empty_writes l.out ≡ g.W.CountedWrite.empty_writes l.initial.out)
+    × (g.W.CountedWrite.flushes l.out ≡ g.W.CountedWrite.flushes l.initial.out)
 
 abbrev pub decreases-loop-rest : goal.decreases-loop-rest
 decreases-loop-rest g l = length l.rest

@@ -2,29 +2,29 @@ use Rattle.std.proofs.Common.{ap, ◌∙◌}
 use Rattle.extractd.proofs.RunLemmas.{program_not_opened, run_out_of_memory, rt1_not_opened, program_not_read, extracts_files_from}
 use Rattle.extractd.proofs.run.extract_files.Goals as goal
 
-pub returns-in-Err : goal.returns-in-Err
-returns-in-Err g c = program_not_opened _ _ _ _ c.in-Err.ensures.opens
+pub returns-in-Err-clause-runs : goal.returns-in-Err-clause-runs
+returns-in-Err-clause-runs g c = program_not_opened _ _ _ _ c.in-Err.ensures.opens
 
-pub returns-in-Err-rt1_name : goal.returns-in-Err-rt1_name
-returns-in-Err-rt1_name g c = run_out_of_memory _ _ _ _ c.from.ensures
+pub returns-in-Err-rt1_name-clause-runs : goal.returns-in-Err-rt1_name-clause-runs
+returns-in-Err-rt1_name-clause-runs g c = run_out_of_memory _ _ _ _ c.from.ensures
 
-pub returns-in-Err-open : goal.returns-in-Err-open
-returns-in-Err-open g c =
+pub returns-in-Err-open-clause-runs : goal.returns-in-Err-open-clause-runs
+returns-in-Err-open-clause-runs g c =
     rt1_not_opened _ _ _ _ _
     (c.open.ensures.stay c.as_str.result.now ∙ ap (g.F.Files.bytes c.args.files.now) (c.as_str.ensures.value ∙ c.in-Ok-rt1_name.ensures))
     c.in-Err-open.ensures.opens
 
-pub returns-in-Err-read_program : goal.returns-in-Err-read_program
-returns-in-Err-read_program g c = program_not_read _ _ _ _ c.in-Err-read_program.ensures.err
+pub returns-in-Err-read_program-clause-runs : goal.returns-in-Err-read_program-clause-runs
+returns-in-Err-read_program-clause-runs g c = program_not_read _ _ _ _ c.in-Err-read_program.ensures.err
 
-pub returns-in-Ok-extract_one : goal.returns-in-Ok-extract_one
-returns-in-Ok-extract_one g c =
+pub returns-in-Ok-extract_one-clause-runs : goal.returns-in-Ok-extract_one-clause-runs
+returns-in-Ok-extract_one-clause-runs g c =
     extracts_files_from _ _ _ _ _ _ _ _ _ _ c.in-Ok.ensures.opens c.in-Ok-read_program.ensures.ok
     (c.open.ensures.stay c.as_str.result.now ∙ ap (g.F.Files.bytes c.args.files.now) (c.as_str.ensures.value ∙ c.in-Ok-rt1_name.ensures))
-    c.in-Ok-open.ensures.opens c.as_slice.ensures.value c.in-Ok-extract_one.ensures
+    c.in-Ok-open.ensures.opens c.as_slice.ensures.value c.in-Ok-extract_one.ensures.extracts
 
-pub returns : goal.returns
-returns g c =
+pub returns-clause-runs : goal.returns-clause-runs
+returns-clause-runs g c =
     extracts_files_from _ _ _ _ _ _ _ _ _ _ c.in-Ok.ensures.opens c.in-Ok-read_program.ensures.ok
     (c.open.ensures.stay c.as_str.result.now ∙ ap (g.F.Files.bytes c.args.files.now) (c.as_str.ensures.value ∙ c.in-Ok-rt1_name.ensures))
-    c.in-Ok-open.ensures.opens c.as_slice.ensures.value c.in-Err-extract_one.ensures
+    c.in-Ok-open.ensures.opens c.as_slice.ensures.value c.in-Err-extract_one.ensures.extracts

@@ -18,5 +18,5 @@ no_first (x ∷ xs) none = absurd (none-some x (sym none))
 
 pub returns-in_default-clause-bytes : goal.returns-in_default-clause-bytes
 returns-in_default-clause-bytes g c =
-    let shown = c.in_ok-fill_buf.field-0.now in
-    none_left _ _ shown c.fill_buf.follows.holds-at-none.0 c.in_ok-fill_buf.ensures.end (no_first shown (sym c.first.ensures.value ∙ sym c.copied.ensures ∙ c.in_default.is))
+    let shown = c.in-Ok.front.now in
+    none_left _ _ shown c.fill_buf.follows.holds-at-none.0 c.in-Ok.ensures.end (no_first shown (sym c.first.ensures.value ∙ sym c.copied.ensures ∙ c.in_default.is))

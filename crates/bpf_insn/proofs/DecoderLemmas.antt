@@ -1,0 +1,166 @@
+-- From the words at a place to the code of all of them.
+use Rattle.std.proofs.Common.{◌≡◌, ℕ, zero, suc, ◌+◌, ◌-◌, ◌*◌, ◌/◌, ◌%◌, ◌<◌, ◌≤◌, ◌==◌, if◌then◌else◌, List, [], ◌∷◌, ◌++◌, length, take, drop, Option, Some, None, ◌⊎◌, inl, inr, refl, sym, ap, ◌∙◌, subst, arith, option_to_list, Result, Ok, Err, IfOk, IfErr}
+use Rattle.std.proofs.lemmas.List.{drop-drop, length-append, flat_map_more, take_rest}
+use Rattle.std.proofs.lemmas.Option.{none-some}
+use Rattle.bpf_insn.specs.Word.{word_of, words_of, first_words}
+use Rattle.bpf_insn.specs.Form.{spelling}
+use Rattle.bpf_insn.specs.Fault.{first_fault, wide_fault, row_fault, wide_row, row_of, fault_by_row}
+use Rattle.bpf_insn.specs.Reading.{Begins, BeginsAt, IsFaultAt}
+use Rattle.bpf_insn.specs.Code.{spelled, HasFaultAt, IsFirstFault, IsPushFault}
+use Rattle.bpf_insn.specs.declared.code.TheConstants.{WORD_LIMIT}
+use Rattle.bpf_insn.specs.declared.fault.CodeFault.{CodeFault}
+use Rattle.bpf_insn.specs.declared.fault.CodeFault.TheVariants as code_fault
+use Rattle.bpf_insn.proofs.WordLemmas.{length-first_words}
+use Rattle.bpf_insn.specs.declared.word.Word.{Word}
+use Rattle.bpf_insn.specs.declared.fault.WordFault.{WordFault}
+use Rattle.bpf_insn.specs.declared.instruction.Insn.{Insn}
+
+-- the word behind a place, if there is one
+abbrev pub IsNext : List ℕ → ℕ → Option Word → Type 0
+IsNext bytes place next =
+    ((next ≡ None) × (length bytes / 8 ≡ suc place)) ⊎ ((next ≡ Some (word_of (drop (suc place * 8) bytes))) × (suc place < length bytes / 8))
+
+-- it's the first of the words that follow
+abbrev IsHead : Option Word → List Word → Type 0
+IsHead next rest = ((next ≡ None) × (rest ≡ [])) ⊎ ((word : Word) × (more : List Word) × (next ≡ Some word) × (rest ≡ word ∷ more))
+
+-- the words from a place on
+from_place : (bytes : List ℕ) (place : ℕ) → place < length bytes / 8 → first_words (length bytes / 8 - place) (drop (place * 8) bytes) ≡ word_of (drop (place * 8) bytes) ∷ first_words (length bytes / 8 - suc place) (drop (suc place * 8) bytes)
+unfolding first_words
+from_place bytes place below =
+    let count : length bytes / 8 - place ≡ suc (length bytes / 8 - suc place) = omega arith in
+    let behind : drop 8 (drop (place * 8) bytes) ≡ drop (suc place * 8) bytes = drop-drop 8 (place * 8) bytes ∙ ap (λ n. drop n bytes) (let p : place * 8 + 8 ≡ suc place * 8 = omega arith in p) in
+    ap (λ n. first_words n (drop (place * 8) bytes)) count ∙ ap (λ (bs : List ℕ). word_of (drop (place * 8) bytes) ∷ first_words (length bytes / 8 - suc place) bs) behind
+
+next_is_head : (bytes : List ℕ) (place : ℕ) (next : Option Word) → IsNext bytes place next → IsHead next (first_words (length bytes / 8 - suc place) (drop (suc place * 8) bytes))
+unfolding first_words
+next_is_head bytes place next (inl none) =
+    let last : length bytes / 8 - suc place ≡ 0 = omega arith in
+    inl (none.0, ap (λ n. first_words n (drop (suc place * 8) bytes)) last)
+next_is_head bytes place next (inr more) =
+    inr (word_of (drop (suc place * 8) bytes), first_words (length bytes / 8 - suc (suc place)) (drop (suc (suc place) * 8) bytes), more.0, from_place bytes (suc place) more.1)
+
+-- a fault looks at the next word alone
+second_alone : (fault : Option WordFault) (word : Word) (more : List Word) → wide_fault fault (word ∷ []) ≡ wide_fault fault (word ∷ more)
+second_alone None word more = refl
+second_alone (Some fault) word more = refl
+
+fault_of_head : (first : Word) (next : Option Word) (rest : List Word) → IsHead next rest → first_fault first (option_to_list next) ≡ first_fault first rest
+fault_of_head first next rest (inl none) = ap (λ (n : Option Word). first_fault first (option_to_list n)) none.0 ∙ ap (first_fault first) (sym none.1)
+fault_of_head first next rest (inr (word, more, is, are)) =
+    ap (λ (n : Option Word). first_fault first (option_to_list n)) is
+    ∙ ap (λ (x : Option WordFault). if first.opcode == 0x18 then x else fault_by_row (row_of first.opcode) first) (second_alone (row_fault wide_row first) word more)
+    ∙ ap (first_fault first) (sym are)
+
+-- what was read at a place
+pub begins : (bytes : List ℕ) (place : ℕ) (first : Word) (next : Option Word) (insn : Insn) → place < length bytes / 8 → first ≡ word_of (drop (place * 8) bytes) → IsNext bytes place next → Begins insn first next → BeginsAt bytes place insn
+begins bytes place first next insn below is follows (inl one) = (
+  first_words (length bytes / 8 - suc place) (drop (suc place * 8) bytes),
+  from_place bytes place below ∙ ap (λ (w : Word). w ∷ first_words (length bytes / 8 - suc place) (drop (suc place * 8) bytes)) (sym is)
+      ∙ ap (λ (ws : List Word). ws ++ first_words (length bytes / 8 - suc place) (drop (suc place * 8) bytes)) (sym one),
+)
+begins bytes place first next insn below is (inl none) (inr (second, has, two)) = absurd (none-some second (sym none.0 ∙ has))
+begins bytes place first next insn below is (inr more) (inr (second, has, two)) =
+    let rest = first_words (length bytes / 8 - suc (suc place)) (drop (suc (suc place) * 8) bytes) in
+    let same : word_of (drop (suc place * 8) bytes) ≡ second = (let both : Some (word_of (drop (suc place * 8) bytes)) ≡ Some second = sym more.0 ∙ has in cc) in (
+      rest,
+      from_place bytes place below ∙ ap (λ (ws : List Word). word_of (drop (place * 8) bytes) ∷ ws) (from_place bytes (suc place) more.1)
+          ∙ ap (λ (w : Word). w ∷ word_of (drop (suc place * 8) bytes) ∷ rest) (sym is) ∙ ap (λ (w : Word). first ∷ w ∷ rest) same
+          ∙ ap (λ (ws : List Word). ws ++ rest) (sym two),
+    )
+
+pub faulty : (bytes : List ℕ) (place : ℕ) (first : Word) (next : Option Word) (fault : WordFault) → place < length bytes / 8 → first ≡ word_of (drop (place * 8) bytes) → IsNext bytes place next → first_fault first (option_to_list next) ≡ Some fault → IsFaultAt bytes place fault
+faulty bytes place first next fault below is follows wrong =
+    let rest = first_words (length bytes / 8 - suc place) (drop (suc place * 8) bytes) in (
+      first,
+      rest,
+      from_place bytes place below ∙ ap (λ (w : Word). w ∷ rest) (sym is),
+      sym (fault_of_head first next rest (next_is_head bytes place next follows)) ∙ wrong,
+    )
+
+-- the words up to a place, and from there on
+pub words_split : (before after : ℕ) (bytes : List ℕ) → first_words (before + after) bytes ≡ first_words before bytes ++ first_words after (drop (before * 8) bytes)
+unfolding first_words
+words_split zero after bytes = ap (λ n. first_words n bytes) (let e : 0 + after ≡ after = omega arith in e)
+words_split (suc before) after bytes =
+    let rest = words_split before after (drop 8 bytes) in
+    let here : drop (before * 8) (drop 8 bytes) ≡ drop (suc before * 8) bytes = drop-drop (before * 8) 8 bytes ∙ ap (λ n. drop n bytes) (let p : 8 + before * 8 ≡ suc before * 8 = omega arith in p) in
+    ap (λ n. first_words n bytes) (let e : suc before + after ≡ suc (before + after) = omega arith in e)
+    ∙ ap (λ (ws : List Word). word_of bytes ∷ ws) (rest ∙ ap (λ (bs : List ℕ). first_words before (drop 8 bytes) ++ first_words after bs) here)
+
+-- the front of words is as long as it is
+same_front : (xs ys front rest : List Word) → xs ++ ys ≡ front ++ rest → length xs ≡ length front → xs ≡ front
+same_front [] ys [] rest e h = refl
+same_front [] ys (f ∷ front) rest e h = absurd (omega arith)
+same_front (x ∷ xs) ys [] rest e h = absurd (omega arith)
+same_front (x ∷ xs) ys (f ∷ front) rest e h =
+    let first : x ≡ f = cc in
+    let others = same_front xs ys front rest (let o : xs ++ ys ≡ front ++ rest = cc in o) (omega arith) in
+    cc
+
+-- an instruction's words lie within the bytes
+pub within : (bytes : List ℕ) (place : ℕ) (insn : Insn) → place < length bytes / 8 → BeginsAt bytes place insn → place + length (spelling insn) ≤ length bytes / 8
+within bytes place insn below begins =
+    let counted = sym (length-first_words (length bytes / 8 - place) (drop (place * 8) bytes)) ∙ ap length begins.1 ∙ length-append (spelling insn) begins.0 in
+    omega arith
+
+-- the words so far, with an instruction more
+pub reads_one : (bytes : List ℕ) (place : ℕ) (code : List Insn) (insn : Insn) → place < length bytes / 8 → first_words place bytes ≡ spelled code → BeginsAt bytes place insn → first_words (place + length (spelling insn)) bytes ≡ spelled (code ++ insn ∷ [])
+reads_one bytes place code insn below so_far begins =
+    let words = length (spelling insn) in
+    let fits = within bytes place insn below begins in
+    let rest = length bytes / 8 - place - words in
+    let count : length bytes / 8 - place ≡ words + rest = omega arith in
+    let here = drop (place * 8) bytes in
+    let both : first_words words here ++ first_words rest (drop (words * 8) here) ≡ spelling insn ++ begins.0 = sym (words_split words rest here) ∙ ap (λ n. first_words n here) (sym count) ∙ begins.1 in
+    let long = length-first_words words here in
+    words_split place words bytes ∙ ap (λ (ws : List Word). ws ++ first_words words here) so_far
+    ∙ ap (λ (ws : List Word). spelled code ++ ws) (same_front (first_words words here) (first_words rest (drop (words * 8) here)) (spelling insn) begins.0 both long)
+    ∙ flat_map_more spelling [] code insn
+
+-- a fault behind the instructions so far
+pub finds_fault : (bytes : List ℕ) (place : ℕ) (code : List Insn) (fault : WordFault) → place < length bytes / 8 → first_words place bytes ≡ spelled code → IsFaultAt bytes place fault → HasFaultAt bytes place fault
+finds_fault bytes place code fault below so_far (first, rest, words, wrong) =
+    let count : length bytes / 8 ≡ place + (length bytes / 8 - place) = omega arith in (
+      code,
+      first,
+      rest,
+      ap (λ n. first_words n bytes) count ∙ words_split place (length bytes / 8 - place) bytes
+          ∙ ap (λ (ws : List Word). ws ++ first_words (length bytes / 8 - place) (drop (place * 8) bytes)) so_far
+          ∙ ap (λ (ws : List Word). spelled code ++ ws) words,
+      sym (length-first_words place bytes) ∙ ap length so_far,
+      wrong,
+    )
+
+-- the same for a result
+pub reads : (bytes : List ℕ) (place : ℕ) (first : Word) (next : Option Word) (result : Result Insn WordFault) → place < length bytes / 8 → first ≡ word_of (drop (place * 8) bytes) → IsNext bytes place next → IfOk result (λ insn. Begins insn first next) → IfOk result (BeginsAt bytes place)
+reads bytes place first next (Ok insn) below is follows begin = begins bytes place first next insn below is follows begin
+reads bytes place first next (Err fault) below is follows begin = tt
+
+pub refuses : (bytes : List ℕ) (place : ℕ) (first : Word) (next : Option Word) (result : Result Insn WordFault) → place < length bytes / 8 → first ≡ word_of (drop (place * 8) bytes) → IsNext bytes place next → IfErr result (λ fault. first_fault first (option_to_list next) ≡ Some fault) → IfErr result (IsFaultAt bytes place)
+refuses bytes place first next (Ok insn) below is follows wrong = tt
+refuses bytes place first next (Err fault) below is follows wrong = faulty bytes place first next fault below is follows wrong
+
+-- the next word, where it was read
+pub no_next : (bytes : List ℕ) (place : ℕ) (next : Option Word) → place < length bytes / 8 → next ≡ None → length bytes - (place + 1) * 8 < 8 → IsNext bytes place next
+no_next bytes place next below none short = inl (none, omega arith)
+
+pub some_next : (bytes : List ℕ) (place : ℕ) (next : Option Word) (word : Word) → next ≡ Some word → word ≡ word_of (take (length bytes - (place + 1) * 8) (drop ((place + 1) * 8) bytes)) → 8 ≤ length bytes - (place + 1) * 8 → IsNext bytes place next
+some_next bytes place next word some is long =
+    let same : (place + 1) * 8 ≡ suc place * 8 = omega arith in
+    inr (some ∙ ap Some (is ∙ ap word_of (take_rest bytes ((place + 1) * 8)) ∙ ap (λ n. word_of (drop n bytes)) same), omega arith)
+
+-- instructions of so few bytes fit, so only memory can be wanting
+pub push_fault : (bytes : List ℕ) (place : ℕ) (code : List Insn) (insn : Insn) (fault : CodeFault) → length bytes ≤ 8 * WORD_LIMIT → place < length bytes / 8 → first_words place bytes ≡ spelled code → BeginsAt bytes place insn → IsPushFault code insn fault → IsFirstFault bytes fault
+push_fault bytes place code insn fault small below so_far begins (inl (late, long)) =
+    let fits = within bytes place insn below begins in
+    let counted = sym (length-first_words place bytes) ∙ ap length so_far in
+    absurd (omega arith)
+push_fault bytes place code insn fault small below so_far begins (inr memory) = subst (IsFirstFault bytes) (sym memory) tt
+
+-- bytes that aren't empty have an instruction
+pub never_empty : (bytes : List ℕ) (code : List Insn) (result : Result (List Insn) CodeFault) → length bytes % 8 ≡ 0 → 0 < length bytes → words_of bytes ≡ spelled code → IfErr result (λ fault. (fault ≡ code_fault.Empty) × (code ≡ [])) → IfErr result (IsFirstFault bytes)
+never_empty bytes code (Ok given) whole some words none = tt
+never_empty bytes code (Err fault) whole some words none =
+    let counted = sym (length-first_words (length bytes / 8) bytes) ∙ ap length words ∙ ap (λ (c : List Insn). length (spelled c)) none.1 in
+    absurd (omega arith)

@@ -1,0 +1,207 @@
+-- Which words are no instruction's, and why (RFC 9669, sections 3 to 5). The order of the tests is this project's own.
+use Rattle.std.specs.Prelude.{◌≡◌, ◌≤◌, MatchBool, ℕ, ⊤, ◌⊎◌, ◌/◌, ◌%◌, ◌==◌, ◌&&◌, ◌||◌, not, nat_lt, Bool, true, false, ℤ, pos, List, [], ◌∷◌, Option, Some, None, if◌then◌else◌}
+use Rattle.std.specs.Ordering.{int_eq}
+use Rattle.bpf_insn.specs.declared.word.Word.{Word}
+use Rattle.bpf_insn.specs.declared.row.Row.{Row}
+use Rattle.bpf_insn.specs.declared.row.Destination.{Destination}
+use Rattle.bpf_insn.specs.declared.row.Destination.TheVariants.{Nothing, Read, Written}
+use Rattle.bpf_insn.specs.declared.row.Use.{Use}
+use Rattle.bpf_insn.specs.declared.row.Use.TheVariants.{Unused, Any, ZeroOrOne, MoveWidth, SwapWidth}
+use Rattle.bpf_insn.specs.declared.fault.WordFault.{WordFault}
+use Rattle.bpf_insn.specs.declared.fault.WordFault.TheVariants.{UnknownOpcode, BadRegister, UnusedNotZero, BadWidth, CutWide, WritesFramePointer}
+use Rattle.bpf_insn.specs.declared.instruction.Width.{Width}
+use Rattle.bpf_insn.specs.declared.instruction.Width.TheVariants.{Bits32, Bits64}
+
+-- a row by its uses
+abbrev pub row : Destination → Bool → Use → Use → Row
+row Nothing uses_source offset immediate =
+    record { uses_destination = false; writes_destination = false; uses_source = uses_source; offset = offset; immediate = immediate }
+row Read uses_source offset immediate =
+    record { uses_destination = true; writes_destination = false; uses_source = uses_source; offset = offset; immediate = immediate }
+row Written uses_source offset immediate =
+    record { uses_destination = true; writes_destination = true; uses_source = uses_source; offset = offset; immediate = immediate }
+
+-- a register is changed by an immediate, or by another register
+abbrev pub immediate_operation_row : Use → Row
+immediate_operation_row offset = row Written false offset Any
+
+abbrev pub register_operation_row : Use → Row
+register_operation_row offset = row Written true offset Unused
+
+-- the source bit chooses the second operand: 0 (K) the immediate, 1 (X) the source register (section 4)
+abbrev pub operation_row : Use → ℕ → Row
+operation_row offset source_bit = if source_bit == 0 then immediate_operation_row offset else register_operation_row offset
+
+-- a move of a register may take some of its bits
+abbrev pub move_row : Width → ℕ → Row
+move_row width source_bit = if source_bit == 0 then immediate_operation_row Unused else register_operation_row (MoveWidth width)
+
+-- a register is changed, with no second operand
+abbrev pub change_row : Use → Row
+change_row immediate = row Written false Unused immediate
+
+-- two operands are read, and a store or a jump says where to by the offset
+abbrev pub read_immediate_row : Row
+read_immediate_row = row Read false Any Any
+
+abbrev pub read_register_row : Row
+read_register_row = row Read true Any Unused
+
+-- no register is used
+abbrev pub bare_row : Use → Use → Row
+bare_row offset immediate = row Nothing false offset immediate
+
+abbrev pub load_row : Row
+load_row = row Written true Any Unused
+
+abbrev pub wide_row : Row
+wide_row = row Written false Unused Any
+
+-- a number among others
+abbrev pub is_among : ℕ → List ℕ → Bool
+is_among n [] = false
+is_among n (x ∷ xs) = n == x || is_among n xs
+
+-- the rows of the classes ALU and ALU64, by code and source bit (sections 4.1 and 4.2)
+abbrev pub arithmetic_row : Width → ℕ → ℕ → Option Row
+arithmetic_row width code source_bit =
+    if is_among code (0x0 ∷ 0x1 ∷ 0x2 ∷ 0x4 ∷ 0x5 ∷ 0x6 ∷ 0x7 ∷ 0xa ∷ 0xc ∷ []) then Some (operation_row Unused source_bit)
+    else (if is_among code (0x3 ∷ 0x9 ∷ []) then Some (operation_row ZeroOrOne source_bit)
+    else (if code == 0xb then Some (move_row width source_bit)
+    else (if code == 0x8 then (if source_bit == 0 then Some (change_row Unused) else None)
+    else (if code == 0xd then swap_row width source_bit else None))))
+  where
+    swap_row : Width → ℕ → Option Row
+    swap_row Bits32 source_bit = Some (change_row SwapWidth)
+    swap_row Bits64 source_bit = if source_bit == 0 then Some (change_row SwapWidth) else None
+
+-- a jump on a condition reads both operands
+abbrev pub comparison_row : ℕ → Row
+comparison_row source_bit = if source_bit == 0 then read_immediate_row else read_register_row
+
+-- the jumps on a condition, by code and source bit (section 4.3)
+abbrev pub condition_row : ℕ → ℕ → Option Row
+condition_row code source_bit =
+    if is_among code (0x1 ∷ 0x2 ∷ 0x3 ∷ 0x4 ∷ 0x5 ∷ 0x6 ∷ 0x7 ∷ 0xa ∷ 0xb ∷ 0xc ∷ 0xd ∷ [])
+    then Some (comparison_row source_bit)
+    else None
+
+-- the rows of the class JMP: JA, CALL, EXIT and the jumps on a condition
+abbrev pub jump_rows : ℕ → Option Row
+jump_rows opcode =
+    if opcode == 0x05 then Some (bare_row Any Unused)
+    else (if opcode == 0x85 then Some (bare_row Unused Any)
+    else (if opcode == 0x95 then Some (bare_row Unused Unused)
+    else condition_row (opcode / 16) (opcode / 8 % 2)))
+
+-- the rows of the class JMP32: JA and the jumps on a condition
+abbrev pub jump32_rows : ℕ → Option Row
+jump32_rows opcode =
+    if opcode == 0x06 then Some (bare_row Unused Any) else condition_row (opcode / 16) (opcode / 8 % 2)
+
+-- one row for these opcodes
+abbrev pub row_among : List ℕ → Row → ℕ → Option Row
+row_among opcodes row opcode = if is_among opcode opcodes then Some row else None
+
+-- loads, in the class LDX (sections 5.1 and 5.2)
+abbrev pub load_rows : ℕ → Option Row
+load_rows opcode = row_among (0x61 ∷ 0x69 ∷ 0x71 ∷ 0x79 ∷ 0x81 ∷ 0x89 ∷ 0x91 ∷ []) load_row opcode
+
+-- stores of an immediate, in the class ST, and of a register, in the class STX (section 5.1)
+abbrev pub store_immediate_rows : ℕ → Option Row
+store_immediate_rows opcode = row_among (0x62 ∷ 0x6a ∷ 0x72 ∷ 0x7a ∷ []) read_immediate_row opcode
+
+abbrev pub store_rows : ℕ → Option Row
+store_rows opcode = row_among (0x63 ∷ 0x6b ∷ 0x73 ∷ 0x7b ∷ []) read_register_row opcode
+
+-- the row of an opcode in its class (section 3.3); the class LD, 0, has the wide load alone, which isn't among these
+abbrev pub row_in : ℕ → ℕ → Option Row
+row_in class opcode =
+    if class == 1 then load_rows opcode
+    else (if class == 2 then store_immediate_rows opcode
+    else (if class == 3 then store_rows opcode
+    else (if class == 4 then arithmetic_row Bits32 (opcode / 16) (opcode / 8 % 2)
+    else (if class == 5 then jump_rows opcode
+    else (if class == 6 then jump32_rows opcode
+    else (if class == 7 then arithmetic_row Bits64 (opcode / 16) (opcode / 8 % 2)
+    else None))))))
+
+-- the row of an opcode that takes one word
+abbrev pub row_of : ℕ → Option Row
+row_of opcode = row_in (opcode % 8) opcode
+
+-- a register field that is used names no register (section 3.1: registers are 0 to 10)
+abbrev pub names_bad_register : Row → Word → Bool
+names_bad_register row word =
+    (row.uses_destination && nat_lt 10 word.destination) || (row.uses_source && nat_lt 10 word.source)
+
+-- register 10 would be written
+abbrev pub writes_frame_pointer : Row → Word → Bool
+writes_frame_pointer row word = row.writes_destination && word.destination == 10
+
+-- a number of bits that the row doesn't have: a move takes 8, 16 or, to 64 bits, 32 bits of a register, or all of them for 0; a byte
+-- swap keeps 16, 32 or 64 (sections 4.1 and 4.2)
+abbrev pub is_bad_width : Use → ℤ → Bool
+is_bad_width (MoveWidth Bits32) z = not (int_eq z (pos 0) || int_eq z (pos 8) || int_eq z (pos 16))
+is_bad_width (MoveWidth Bits64) z = not (int_eq z (pos 0) || int_eq z (pos 8) || int_eq z (pos 16) || int_eq z (pos 32))
+is_bad_width SwapWidth z = not (int_eq z (pos 16) || int_eq z (pos 32) || int_eq z (pos 64))
+is_bad_width role z = false
+
+-- a number where zero belongs, or anything but 0 and 1 where these two belong
+abbrev pub is_out_of_use : Use → ℤ → Bool
+is_out_of_use Unused z = not (int_eq z (pos 0))
+is_out_of_use ZeroOrOne z = not (int_eq z (pos 0) || int_eq z (pos 1))
+is_out_of_use role z = false
+
+abbrev pub has_bad_width : Row → Word → Bool
+has_bad_width row word = is_bad_width row.offset word.offset || is_bad_width row.immediate word.immediate
+
+-- a field that isn't used isn't zero (section 3.1)
+abbrev pub has_unused_field : Row → Word → Bool
+has_unused_field row word =
+    (not row.uses_destination && not (word.destination == 0)) || (not row.uses_source && not (word.source == 0))
+    || is_out_of_use row.offset word.offset || is_out_of_use row.immediate word.immediate
+
+-- the first fault of a word whose opcode has this row
+abbrev pub row_fault : Row → Word → Option WordFault
+row_fault row word =
+    if names_bad_register row word then Some BadRegister
+    else (if writes_frame_pointer row word then Some WritesFramePointer
+    else (if has_bad_width row word then Some BadWidth
+    else (if has_unused_field row word then Some UnusedNotZero else None)))
+
+-- the second word of a wide load holds an immediate alone (section 5.4)
+abbrev pub second_fault : Word → Option WordFault
+second_fault word =
+    if word.opcode == 0 && word.destination == 0 && word.source == 0 && int_eq word.offset (pos 0) then None else Some UnusedNotZero
+
+-- a wide load's first fault, by the words that follow its first one
+abbrev pub wide_fault : Option WordFault → List Word → Option WordFault
+wide_fault first [] = Some CutWide
+wide_fault None (next ∷ rest) = second_fault next
+wide_fault (Some fault) (next ∷ rest) = Some fault
+
+abbrev pub fault_by_row : Option Row → Word → Option WordFault
+fault_by_row None word = Some UnknownOpcode
+fault_by_row (Some row) word = row_fault row word
+
+-- the first fault of the instruction that would begin with this word and go on with the next ones, if it has one
+abbrev pub first_fault : Word → List Word → Option WordFault
+first_fault word rest = if word.opcode == 0x18 then wide_fault (row_fault wide_row word) rest else fault_by_row (row_of word.opcode) word
+
+-- a number that a row's use lets stand
+abbrev pub IsInUse : Use → ℤ → Type 0
+IsInUse Unused z = z ≡ pos 0
+IsInUse Any z = ⊤
+IsInUse ZeroOrOne z = (z ≡ pos 0) ⊎ (z ≡ pos 1)
+IsInUse (MoveWidth Bits32) z = ((z ≡ pos 0) ⊎ (z ≡ pos 8)) ⊎ (z ≡ pos 16)
+IsInUse (MoveWidth Bits64) z = (((z ≡ pos 0) ⊎ (z ≡ pos 8)) ⊎ (z ≡ pos 16)) ⊎ (z ≡ pos 32)
+IsInUse SwapWidth z = ((z ≡ pos 16) ⊎ (z ≡ pos 32)) ⊎ (z ≡ pos 64)
+
+-- a word that a row lets stand: what it says of a word without a fault, field by field
+pub record Fits (row : Row) (word : Word) : Type 0 where
+  pub destination : MatchBool row.uses_destination (word.destination ≤ 10) (word.destination ≡ 0)
+  pub written : MatchBool row.writes_destination (word.destination ≤ 9) ⊤
+  pub source : MatchBool row.uses_source (word.source ≤ 10) (word.source ≡ 0)
+  pub offset : IsInUse row.offset word.offset
+  pub immediate : IsInUse row.immediate word.immediate

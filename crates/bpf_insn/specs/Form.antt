@@ -1,0 +1,174 @@
+-- The instruction table (RFC 9669, sections 3 to 5): how each instruction is written, one line a row.
+use Rattle.std.specs.Prelude.{ℕ, ◌+◌, ◌*◌, ℤ, pos, List, [], ◌∷◌}
+use Rattle.bpf_insn.specs.declared.word.Word.{Word}
+use Rattle.bpf_insn.specs.declared.instruction.Insn.{Insn}
+use Rattle.bpf_insn.specs.declared.instruction.Insn.TheVariants.{Alu, MoveSignExtended, Negate, ByteSwap, JumpIf, Jump, Call, Exit, Load, StoreImmediate, Store, WideLoad}
+use Rattle.bpf_insn.specs.declared.instruction.Operation.{Operation}
+use Rattle.bpf_insn.specs.declared.instruction.Operation.TheVariants.{Add, Subtract, Multiply, Divide, SignedDivide, Or, And, ShiftLeft, ShiftRight, Modulo, SignedModulo, ExclusiveOr, Move, ArithmeticShiftRight}
+use Rattle.bpf_insn.specs.declared.instruction.Width.{Width}
+use Rattle.bpf_insn.specs.declared.instruction.Width.TheVariants.{Bits32, Bits64}
+use Rattle.bpf_insn.specs.declared.instruction.Source.{Source}
+use Rattle.bpf_insn.specs.declared.instruction.Source.TheVariants.{Immediate, Register}
+use Rattle.bpf_insn.specs.declared.instruction.SignExtension.{SignExtension}
+use Rattle.bpf_insn.specs.declared.instruction.SignExtension.TheVariants.{Bits8To32, Bits16To32, Bits8To64, Bits16To64, Bits32To64}
+use Rattle.bpf_insn.specs.declared.instruction.ByteOrder.{ByteOrder}
+use Rattle.bpf_insn.specs.declared.instruction.ByteOrder.TheVariants.{LittleEndian, BigEndian, Swapped}
+use Rattle.bpf_insn.specs.declared.instruction.SwapWidth.{SwapWidth}
+use Rattle.bpf_insn.specs.declared.instruction.SwapWidth.TheVariants as swap
+use Rattle.bpf_insn.specs.declared.instruction.Condition.{Condition}
+use Rattle.bpf_insn.specs.declared.instruction.Condition.TheVariants.{Equal, Greater, GreaterOrEqual, SharesBit, NotEqual, SignedGreater, SignedGreaterOrEqual, Less, LessOrEqual, SignedLess, SignedLessOrEqual}
+use Rattle.bpf_insn.specs.declared.instruction.JumpDistance.TheVariants.{Short, Long}
+use Rattle.bpf_insn.specs.declared.instruction.LoadFormat.{LoadFormat}
+use Rattle.bpf_insn.specs.declared.instruction.LoadFormat.TheVariants as load
+use Rattle.bpf_insn.specs.declared.instruction.StoreSize.{StoreSize}
+use Rattle.bpf_insn.specs.declared.instruction.StoreSize.TheVariants as store
+
+-- a word by its fields
+abbrev pub word : ℕ → ℕ → ℕ → ℤ → ℤ → Word
+word opcode destination source offset immediate =
+    record { opcode = opcode; destination = destination; source = source; offset = offset; immediate = immediate }
+
+-- The opcode of arithmetic and of jumps: the class in the three low bits, the source in the next, the code in the four high ones
+-- (section 4). The source bit is 0 (K) for an immediate, 1 (X) for a register.
+abbrev pub opcode_of : ℕ → ℕ → ℕ → ℕ
+opcode_of code source class = code * 16 + source * 8 + class
+
+-- the classes ALU and ALU64 (section 3.3)
+abbrev pub arithmetic_class : Width → ℕ
+arithmetic_class Bits32 = 4
+arithmetic_class Bits64 = 7
+
+-- the classes JMP32 and JMP (section 3.3)
+abbrev pub jump_class : Width → ℕ
+jump_class Bits32 = 6
+jump_class Bits64 = 5
+
+-- the codes of arithmetic (section 4.1)
+abbrev pub operation_code : Operation → ℕ
+operation_code Add = 0x0
+operation_code Subtract = 0x1
+operation_code Multiply = 0x2
+operation_code Divide = 0x3
+operation_code SignedDivide = 0x3
+operation_code Or = 0x4
+operation_code And = 0x5
+operation_code ShiftLeft = 0x6
+operation_code ShiftRight = 0x7
+operation_code Modulo = 0x9
+operation_code SignedModulo = 0x9
+operation_code ExclusiveOr = 0xa
+operation_code Move = 0xb
+operation_code ArithmeticShiftRight = 0xc
+
+-- the offset tells signed division and remainder from unsigned ones (section 4.1)
+abbrev pub operation_offset : Operation → ℤ
+operation_offset SignedDivide = pos 1
+operation_offset SignedModulo = pos 1
+operation_offset operation = pos 0
+
+-- a move with sign extension: the class of the bits that it writes, and as the offset the bits that it takes (section 4.1)
+abbrev pub extension_class : SignExtension → ℕ
+extension_class Bits8To32 = 4
+extension_class Bits16To32 = 4
+extension_class Bits8To64 = 7
+extension_class Bits16To64 = 7
+extension_class Bits32To64 = 7
+
+abbrev pub extension_bits : SignExtension → ℤ
+extension_bits Bits8To32 = pos 8
+extension_bits Bits16To32 = pos 16
+extension_bits Bits8To64 = pos 8
+extension_bits Bits16To64 = pos 16
+extension_bits Bits32To64 = pos 32
+
+-- byte swaps: in the class ALU the source bit tells little from big endian, in ALU64 it's zero (section 4.2)
+abbrev pub swap_opcode : ByteOrder → ℕ
+swap_opcode LittleEndian = 0xd4
+swap_opcode BigEndian = 0xdc
+swap_opcode Swapped = 0xd7
+
+-- the bits that a byte swap keeps
+abbrev pub swap_bits : SwapWidth → ℤ
+swap_bits swap.Bits16 = pos 16
+swap_bits swap.Bits32 = pos 32
+swap_bits swap.Bits64 = pos 64
+
+-- the codes of conditional jumps (section 4.3)
+abbrev pub condition_code : Condition → ℕ
+condition_code Equal = 0x1
+condition_code Greater = 0x2
+condition_code GreaterOrEqual = 0x3
+condition_code SharesBit = 0x4
+condition_code NotEqual = 0x5
+condition_code SignedGreater = 0x6
+condition_code SignedGreaterOrEqual = 0x7
+condition_code Less = 0xa
+condition_code LessOrEqual = 0xb
+condition_code SignedLess = 0xc
+condition_code SignedLessOrEqual = 0xd
+
+-- loads, in the class LDX: the modes MEM (section 5.1) and MEMSX (section 5.2) and the sizes W, H, B and DW
+abbrev pub load_opcode : LoadFormat → ℕ
+load_opcode load.Word = 0x61
+load_opcode load.HalfWord = 0x69
+load_opcode load.Byte = 0x71
+load_opcode load.DoubleWord = 0x79
+load_opcode load.SignedWord = 0x81
+load_opcode load.SignedHalfWord = 0x89
+load_opcode load.SignedByte = 0x91
+
+-- stores of an immediate, in the class ST (section 5.1)
+abbrev pub store_immediate_opcode : StoreSize → ℕ
+store_immediate_opcode store.Word = 0x62
+store_immediate_opcode store.HalfWord = 0x6a
+store_immediate_opcode store.Byte = 0x72
+store_immediate_opcode store.DoubleWord = 0x7a
+
+-- stores of a register, in the class STX (section 5.1)
+abbrev pub store_opcode : StoreSize → ℕ
+store_opcode store.Word = 0x63
+store_opcode store.HalfWord = 0x6b
+store_opcode store.Byte = 0x73
+store_opcode store.DoubleWord = 0x7b
+
+-- the second operand: its source bit (section 4), and what stands in the fields of the source register and of the immediate
+abbrev pub source_bit : Source → ℕ
+source_bit (Immediate value) = 0
+source_bit (Register register) = 1
+
+abbrev pub source_field : Source → ℕ
+source_field (Immediate value) = 0
+source_field (Register register) = register.number
+
+abbrev pub source_immediate : Source → ℤ
+source_immediate (Immediate value) = value
+source_immediate (Register register) = pos 0
+
+-- The first word that an instruction is written in: its opcode, the fields that it uses, and zero in all others (section 3.1: fields
+-- that aren't used are zero). One line for each row of the instruction table.
+abbrev pub first_word : Insn → Word
+first_word (Alu operation width destination source) =
+    word (opcode_of (operation_code operation) (source_bit source) (arithmetic_class width)) destination.number (source_field source) (operation_offset operation) (source_immediate source)
+first_word (MoveSignExtended extension destination source) =
+    word (opcode_of 0xb 1 (extension_class extension)) destination.number source.number (extension_bits extension) (pos 0)
+first_word (Negate width destination) = word (opcode_of 0x8 0 (arithmetic_class width)) destination.number 0 (pos 0) (pos 0)
+first_word (ByteSwap order width destination) = word (swap_opcode order) destination.number 0 (pos 0) (swap_bits width)
+first_word (JumpIf condition width left right offset) =
+    word (opcode_of (condition_code condition) (source_bit right) (jump_class width)) left.number (source_field right) offset (source_immediate right)
+first_word (Jump (Short distance)) = word 0x05 0 0 distance (pos 0)
+first_word (Jump (Long distance)) = word 0x06 0 0 (pos 0) distance
+first_word (Call immediate) = word 0x85 0 0 (pos 0) immediate
+first_word Exit = word 0x95 0 0 (pos 0) (pos 0)
+first_word (Load format destination base offset) = word (load_opcode format) destination.number base.number offset (pos 0)
+first_word (StoreImmediate size base offset immediate) = word (store_immediate_opcode size) base.number 0 offset immediate
+first_word (Store size base offset source) = word (store_opcode size) base.number source.number offset (pos 0)
+first_word (WideLoad destination immediate next_immediate) = word 0x18 destination.number 0 (pos 0) immediate
+
+-- the words behind it: a wide load's second one, with its immediate alone (section 5.4)
+abbrev pub further_words : Insn → List Word
+further_words (WideLoad destination immediate next_immediate) = word 0 0 0 (pos 0) next_immediate ∷ []
+further_words insn = []
+
+-- the words that an instruction is written in
+abbrev pub spelling : Insn → List Word
+spelling insn = first_word insn ∷ further_words insn
