@@ -1,8 +1,8 @@
 -- What an instruction is written in has no fault.
-use Rattle.std.proofs.Common.{◌≡◌, ◌/◌, ◌%◌, ◌==◌, nat_lt, false, ℤ, pos, List, ◌++◌, None, refl, arith}
+use Rattle.std.proofs.Common.{◌≡◌, ◌==◌, nat_lt, true, false, ℤ, pos, List, ◌++◌, None, refl, arith}
 use Rattle.std.proofs.lemmas.Bool.Decides.{nat_tests}
 use Rattle.bpf_insn.specs.Form.{word, swap_bits, first_word, further_words}
-use Rattle.bpf_insn.specs.Fault.{row_fault, first_fault, fault_by_row, is_bad_width, is_out_of_use, immediate_operation_row, register_operation_row, change_row, read_immediate_row, read_register_row, load_row, arithmetic_row}
+use Rattle.bpf_insn.specs.Fault.{row_fault, first_fault, is_bad_width, is_out_of_use, operation_row, comparison_row, change_row, load_row}
 use Rattle.bpf_insn.specs.declared.word.Word.{Word}
 use Rattle.bpf_insn.specs.declared.row.Use.{Use}
 use Rattle.bpf_insn.specs.declared.row.Use.TheVariants.{Unused, ZeroOrOne, MoveWidth, SwapWidth}
@@ -40,10 +40,10 @@ no_bad_operand : (r : RegisterNumber) → nat_lt 10 r.number ≡ false
 no_bad_operand r = let h = r.in_range in grind (arith, nat_tests)
 
 -- the rows, one by one; what is said of a word doesn't depend on its opcode
-by_immediate : (role : Use) (d : WritableRegister) (z v : ℤ) → is_bad_width role z ≡ false → is_out_of_use role z ≡ false → row_fault (immediate_operation_row role) (word 0 d.number 0 z v) ≡ None
+by_immediate : (role : Use) (d : WritableRegister) (z v : ℤ) → is_bad_width role z ≡ false → is_out_of_use role z ≡ false → row_fault (operation_row role false) (word 0 d.number 0 z v) ≡ None
 by_immediate role d z v wide out = rw (no_bad_register d, not_frame_pointer d, wide, out) refl
 
-by_register : (role : Use) (d : WritableRegister) (s : RegisterNumber) (z : ℤ) → is_bad_width role z ≡ false → is_out_of_use role z ≡ false → row_fault (register_operation_row role) (word 0 d.number s.number z (pos 0)) ≡ None
+by_register : (role : Use) (d : WritableRegister) (s : RegisterNumber) (z : ℤ) → is_bad_width role z ≡ false → is_out_of_use role z ≡ false → row_fault (operation_row role true) (word 0 d.number s.number z (pos 0)) ≡ None
 by_register role d s z wide out = rw (no_bad_register d, no_bad_operand s, not_frame_pointer d, wide, out) refl
 
 by_change : (role : Use) (d : WritableRegister) (v : ℤ) → is_bad_width role v ≡ false → is_out_of_use role v ≡ false → row_fault (change_row role) (word 0 d.number 0 (pos 0) v) ≡ None
@@ -52,10 +52,10 @@ by_change role d v wide out = rw (no_bad_register d, not_frame_pointer d, wide, 
 by_load : (d : WritableRegister) (s : RegisterNumber) (z : ℤ) → row_fault load_row (word 0 d.number s.number z (pos 0)) ≡ None
 by_load d s z = rw (no_bad_register d, no_bad_operand s, not_frame_pointer d) refl
 
-by_read_immediate : (r : RegisterNumber) (z v : ℤ) → row_fault read_immediate_row (word 0 r.number 0 z v) ≡ None
+by_read_immediate : (r : RegisterNumber) (z v : ℤ) → row_fault (comparison_row false) (word 0 r.number 0 z v) ≡ None
 by_read_immediate r z v = rw (no_bad_operand r) refl
 
-by_read_register : (r s : RegisterNumber) (z : ℤ) → row_fault read_register_row (word 0 r.number s.number z (pos 0)) ≡ None
+by_read_register : (r s : RegisterNumber) (z : ℤ) → row_fault (comparison_row true) (word 0 r.number s.number z (pos 0)) ≡ None
 by_read_register r s z = rw (no_bad_operand r, no_bad_operand s) refl
 
 -- arithmetic
@@ -154,9 +154,3 @@ no_fault (Load format d b z) rest = loads format d b z rest
 no_fault (StoreImmediate size b z v) rest = stores_immediate size b z v rest
 no_fault (Store size b z s) rest = stores size b s z rest
 no_fault (WideLoad d v next) rest = wide d v next rest
-
--- the class ALU64 is the last one
-pub last_class : (word : Word) (rest : List Word) → word.opcode % 8 ≡ 7 → first_fault word rest ≡ fault_by_row (arithmetic_row Bits64 (word.opcode / 16) (word.opcode / 8 % 2)) word
-last_class word rest e =
-    let not_wide : (word.opcode == 0x18) ≡ false = grind (arith, nat_tests) in
-    rw (not_wide, e) refl

@@ -212,6 +212,16 @@ indexes_find indexes code place e =
     ap (λ (xs : List (Option ℕ)). option_flatten (slice_get xs place)) e ∙ indexes_from-at 0 code place ∙ none_further (index_at code place)
 
 -- an index leads to the instruction
+-- the places that are kept, read by index
+pub place_kept : (places : List ℕ) (kept code : List Insn) (index default : ℕ) → places ≡ places_from 0 kept → kept ≡ code → index < length code → get_or places index default ≡ place_of code index
+place_kept places kept code index default are same within =
+    ap (λ (ps : List ℕ). get_or ps index default) (are ∙ ap (places_from 0) same) ∙ places_from-at 0 code index default within
+    ∙ (let e : 0 + place_of code index ≡ place_of code index = omega arith in e)
+
+pub places_enough : (places : List ℕ) (kept code : List Insn) (index : ℕ) → places ≡ places_from 0 kept → kept ≡ code → index < length code → index < length places
+places_enough places kept code index are same within =
+    let counted = ap length (are ∙ ap (places_from 0) same) ∙ length-places_from 0 code in omega arith
+
 pub found_at : (code : List Insn) (place index : ℕ) (insn : Insn) → Some index ≡ index_at code place → index < length code → insn ≡ get_or code index insn → Some insn ≡ instruction_at code place
 found_at code place index insn e within is =
     sym (slice_get_read code (length code) index insn refl within is) ∙ ap (option_and_then (slice_get code)) e ∙ sym (instruction_at-index code place)

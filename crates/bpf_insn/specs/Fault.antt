@@ -21,31 +21,17 @@ row Read uses_source offset immediate =
 row Written uses_source offset immediate =
     record { uses_destination = true; writes_destination = true; uses_source = uses_source; offset = offset; immediate = immediate }
 
--- a register is changed by an immediate, or by another register
-abbrev pub immediate_operation_row : Use → Row
-immediate_operation_row offset = row Written false offset Any
-
-abbrev pub register_operation_row : Use → Row
-register_operation_row offset = row Written true offset Unused
-
--- the source bit chooses the second operand: 0 (K) the immediate, 1 (X) the source register (section 4)
-abbrev pub operation_row : Use → ℕ → Row
-operation_row offset source_bit = if source_bit == 0 then immediate_operation_row offset else register_operation_row offset
-
--- a move of a register may take some of its bits
-abbrev pub move_row : Width → ℕ → Row
-move_row width source_bit = if source_bit == 0 then immediate_operation_row Unused else register_operation_row (MoveWidth width)
+-- a register is changed, by the immediate or by another register
+abbrev pub operation_row : Use → Bool → Row
+operation_row offset from_register = row Written from_register offset (if from_register then Unused else Any)
 
 -- a register is changed, with no second operand
 abbrev pub change_row : Use → Row
 change_row immediate = row Written false Unused immediate
 
--- two operands are read, and a store or a jump says where to by the offset
-abbrev pub read_immediate_row : Row
-read_immediate_row = row Read false Any Any
-
-abbrev pub read_register_row : Row
-read_register_row = row Read true Any Unused
+-- a register is read, and the immediate or another register; the offset says where to store or to jump
+abbrev pub comparison_row : Bool → Row
+comparison_row from_register = row Read from_register Any (if from_register then Unused else Any)
 
 -- no register is used
 abbrev pub bare_row : Use → Use → Row
@@ -62,73 +48,45 @@ abbrev pub is_among : ℕ → List ℕ → Bool
 is_among n [] = false
 is_among n (x ∷ xs) = n == x || is_among n xs
 
--- the rows of the classes ALU and ALU64, by code and source bit (sections 4.1 and 4.2)
-abbrev pub arithmetic_row : Width → ℕ → ℕ → Option Row
-arithmetic_row width code source_bit =
-    if is_among code (0x0 ∷ 0x1 ∷ 0x2 ∷ 0x4 ∷ 0x5 ∷ 0x6 ∷ 0x7 ∷ 0xa ∷ 0xc ∷ []) then Some (operation_row Unused source_bit)
-    else (if is_among code (0x3 ∷ 0x9 ∷ []) then Some (operation_row ZeroOrOne source_bit)
-    else (if code == 0xb then Some (move_row width source_bit)
-    else (if code == 0x8 then (if source_bit == 0 then Some (change_row Unused) else None)
-    else (if code == 0xd then swap_row width source_bit else None))))
-  where
-    swap_row : Width → ℕ → Option Row
-    swap_row Bits32 source_bit = Some (change_row SwapWidth)
-    swap_row Bits64 source_bit = if source_bit == 0 then Some (change_row SwapWidth) else None
+-- the source bit chooses the second operand: 0 (K) the immediate, 1 (X) the source register (section 4)
+abbrev pub names_register : ℕ → Bool
+names_register opcode = opcode / 8 % 2 == 1
 
--- a jump on a condition reads both operands
-abbrev pub comparison_row : ℕ → Row
-comparison_row source_bit = if source_bit == 0 then read_immediate_row else read_register_row
+-- arithmetic with two operands, by its code; a move of a register may take some of its bits (section 4.1)
+abbrev pub arithmetic_row : Width → ℕ → Bool → Option Row
+arithmetic_row width code from_register =
+    if is_among code (0x0 ∷ 0x1 ∷ 0x2 ∷ 0x4 ∷ 0x5 ∷ 0x6 ∷ 0x7 ∷ 0xa ∷ 0xc ∷ []) then Some (operation_row Unused from_register)
+    else (if is_among code (0x3 ∷ 0x9 ∷ []) then Some (operation_row ZeroOrOne from_register)
+    else (if code == 0xb then Some (operation_row (if from_register then MoveWidth width else Unused) from_register) else None))
 
--- the jumps on a condition, by code and source bit (section 4.3)
-abbrev pub condition_row : ℕ → ℕ → Option Row
-condition_row code source_bit =
-    if is_among code (0x1 ∷ 0x2 ∷ 0x3 ∷ 0x4 ∷ 0x5 ∷ 0x6 ∷ 0x7 ∷ 0xa ∷ 0xb ∷ 0xc ∷ 0xd ∷ [])
-    then Some (comparison_row source_bit)
+-- jumps on a condition, by their code (section 4.3)
+abbrev pub condition_row : ℕ → Bool → Option Row
+condition_row code from_register =
+    if is_among code (0x1 ∷ 0x2 ∷ 0x3 ∷ 0x4 ∷ 0x5 ∷ 0x6 ∷ 0x7 ∷ 0xa ∷ 0xb ∷ 0xc ∷ 0xd ∷ []) then Some (comparison_row from_register)
     else None
 
--- the rows of the class JMP: JA, CALL, EXIT and the jumps on a condition
-abbrev pub jump_rows : ℕ → Option Row
-jump_rows opcode =
-    if opcode == 0x05 then Some (bare_row Any Unused)
-    else (if opcode == 0x85 then Some (bare_row Unused Any)
-    else (if opcode == 0x95 then Some (bare_row Unused Unused)
-    else condition_row (opcode / 16) (opcode / 8 % 2)))
+-- instructions with two operands, by their class: ALU, ALU64, JMP and JMP32 (section 3.3)
+abbrev pub operand_row : ℕ → ℕ → Bool → Option Row
+operand_row class code from_register =
+    if class == 4 then arithmetic_row Bits32 code from_register
+    else (if class == 7 then arithmetic_row Bits64 code from_register
+    else (if class == 5 || class == 6 then condition_row code from_register else None))
 
--- the rows of the class JMP32: JA and the jumps on a condition
-abbrev pub jump32_rows : ℕ → Option Row
-jump32_rows opcode =
-    if opcode == 0x06 then Some (bare_row Unused Any) else condition_row (opcode / 16) (opcode / 8 % 2)
-
--- one row for these opcodes
-abbrev pub row_among : List ℕ → Row → ℕ → Option Row
-row_among opcodes row opcode = if is_among opcode opcodes then Some row else None
-
--- loads, in the class LDX (sections 5.1 and 5.2)
-abbrev pub load_rows : ℕ → Option Row
-load_rows opcode = row_among (0x61 ∷ 0x69 ∷ 0x71 ∷ 0x79 ∷ 0x81 ∷ 0x89 ∷ 0x91 ∷ []) load_row opcode
-
--- stores of an immediate, in the class ST, and of a register, in the class STX (section 5.1)
-abbrev pub store_immediate_rows : ℕ → Option Row
-store_immediate_rows opcode = row_among (0x62 ∷ 0x6a ∷ 0x72 ∷ 0x7a ∷ []) read_immediate_row opcode
-
-abbrev pub store_rows : ℕ → Option Row
-store_rows opcode = row_among (0x63 ∷ 0x6b ∷ 0x73 ∷ 0x7b ∷ []) read_register_row opcode
-
--- the row of an opcode in its class (section 3.3); the class LD, 0, has the wide load alone, which isn't among these
-abbrev pub row_in : ℕ → ℕ → Option Row
-row_in class opcode =
-    if class == 1 then load_rows opcode
-    else (if class == 2 then store_immediate_rows opcode
-    else (if class == 3 then store_rows opcode
-    else (if class == 4 then arithmetic_row Bits32 (opcode / 16) (opcode / 8 % 2)
-    else (if class == 5 then jump_rows opcode
-    else (if class == 6 then jump32_rows opcode
-    else (if class == 7 then arithmetic_row Bits64 (opcode / 16) (opcode / 8 % 2)
-    else None))))))
-
--- the row of an opcode that takes one word
+-- The row of an opcode: loads in the class LDX, stores of an immediate in ST and of a register in STX (sections 5.1 and 5.2), the wide
+-- load (section 5.4), negation (section 4.1), byte swaps (section 4.2), the jumps JA, the calls and EXIT (section 4.3), and the
+-- instructions with two operands.
 abbrev pub row_of : ℕ → Option Row
-row_of opcode = row_in (opcode % 8) opcode
+row_of opcode =
+    if is_among opcode (0x61 ∷ 0x69 ∷ 0x71 ∷ 0x79 ∷ 0x81 ∷ 0x89 ∷ 0x91 ∷ []) then Some load_row
+    else (if is_among opcode (0x62 ∷ 0x6a ∷ 0x72 ∷ 0x7a ∷ []) then Some (comparison_row false)
+    else (if is_among opcode (0x63 ∷ 0x6b ∷ 0x73 ∷ 0x7b ∷ []) then Some (comparison_row true)
+    else (if opcode == 0x18 then Some wide_row
+    else (if is_among opcode (0x84 ∷ 0x87 ∷ []) then Some (change_row Unused)
+    else (if is_among opcode (0xd4 ∷ 0xdc ∷ 0xd7 ∷ []) then Some (change_row SwapWidth)
+    else (if opcode == 0x05 then Some (bare_row Any Unused)
+    else (if is_among opcode (0x06 ∷ 0x85 ∷ []) then Some (bare_row Unused Any)
+    else (if opcode == 0x95 then Some (bare_row Unused Unused)
+    else operand_row (opcode % 8) (opcode / 16) (names_register opcode)))))))))
 
 -- a register field that is used names no register (section 3.1: registers are 0 to 10)
 abbrev pub names_bad_register : Row → Word → Bool

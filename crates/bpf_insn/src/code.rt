@@ -72,33 +72,6 @@ impl<A: Allocator> CodeBuilder<A> {
         self.indexes.len()
     }
 
-    fn instructions(&self) -> &[Insn]
-        ensures { result.now ≡ self.now }
-    {
-        self.instructions.as_slice()
-    }
-
-    fn place(&self, index: usize) -> usize
-        requires { index < length self.now }
-        ensures { result ≡ place_of self.now index }
-    {
-        self.places[index]
-    }
-
-    fn index_at(&self, place: usize) -> Option<usize>
-        ensures value { result ≡ index_at self.now place }
-        ensures within { IfSome result (λ index. index < length self.now) }
-    {
-        self.indexes.get(place).copied().flatten()
-    }
-
-    fn at(&self, place: usize) -> Option<Insn>
-        ensures { result ≡ instruction_at self.now place }
-    {
-        let index = self.index_at(place)?;
-        Some(self.instructions[index])
-    }
-
     /// A register as the destination of the next instruction, if it may be written.
     pub fn destination(&self, register: Register) -> Result<WritableRegister, CodeFault>
         ensures ok { IfOk result (λ destination. destination.number ≡ register.number) }
@@ -184,7 +157,7 @@ impl<A: Allocator> Code<A> {
         ensures value { result.now ≡ self.now }
         ensures sized { HasProgramSize (word_count self.now) }
     {
-        self.built.instructions()
+        self.built.instructions.as_slice()
     }
 
     /// How many words the instructions take.
@@ -200,7 +173,7 @@ impl<A: Allocator> Code<A> {
         requires { index < length self.now }
         ensures { result ≡ place_of self.now index }
     {
-        self.built.place(index)
+        self.built.places[index]
     }
 
     /// The index of the instruction that begins at a place. None where none begins there.
@@ -208,7 +181,7 @@ impl<A: Allocator> Code<A> {
         ensures value { result ≡ index_at self.now place }
         ensures within { IfSome result (λ index. index < length self.now) }
     {
-        self.built.index_at(place)
+        self.built.indexes.get(place).copied().flatten()
     }
 
     /// The instruction that begins at a place. None where none begins there.
@@ -216,6 +189,7 @@ impl<A: Allocator> Code<A> {
         ensures value { result ≡ instruction_at self.now place }
         ensures within { IsSome result → place < WORD_LIMIT }
     {
-        self.built.at(place)
+        let index = self.index_at(place)?;
+        Some(self.built.instructions[index])
     }
 }
