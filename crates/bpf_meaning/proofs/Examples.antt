@@ -8,7 +8,7 @@ use Rattle.bpf_insn.specs.declared.instruction.Source.TheVariants.{Immediate}
 use Rattle.bpf_insn.specs.declared.value.Value.TheVariants.{Number}
 use Rattle.bpf_meaning.specs.Segment.{Contents}
 use Rattle.bpf_meaning.specs.State.{start}
-use Rattle.bpf_meaning.specs.Step.{Running, Exited, Stuck, with_register, has_meaning, after}
+use Rattle.bpf_meaning.specs.Step.{Running, Exited, Stuck, with_register, after}
 use Rattle.bpf_meaning.specs.Run.{Answers, IsRun}
 use Rattle.bpf_meaning.specs.Extract.{IsExtract, row_of}
 use Rattle.bpf_meaning.specs.declared.cause.Cause.TheVariants.{OutOfProgram, ReadsNothing}
@@ -18,9 +18,9 @@ move n = Alu Move Bits64 (record { number = 0; in_range = lit≤ tt }) (Immediat
 
 -- it answers 1 with score 0 on every segment
 one_answers : (segment : Contents) → Answers (move 1 ∷ Exit ∷ []) segment 1 0
-unfolding after has_meaning
+unfolding after
 one_answers segment = record {
-  run = Running (with_register start 1 0 (Number 1)) ∷ Exited 1 0 ∷ [];
+  run = Running (record (with_register start 0 (Number 1)) { place = 1 }) ∷ Exited 1 0 ∷ [];
   is_run = (refl, (refl, tt));
   exits = refl;
 }
@@ -40,9 +40,9 @@ two_rows first second = (
 
 -- with 0 in place of 1 no segment is chosen
 zero_answers : (segment : Contents) → Answers (move 0 ∷ Exit ∷ []) segment 0 0
-unfolding after has_meaning
+unfolding after
 zero_answers segment = record {
-  run = Running (with_register start 1 0 (Number 0)) ∷ Exited 0 0 ∷ [];
+  run = Running (record (with_register start 0 (Number 0)) { place = 1 }) ∷ Exited 0 0 ∷ [];
   is_run = (refl, (refl, tt));
   exits = refl;
 }
@@ -52,10 +52,10 @@ no_row segment = (0, 0, [], 0, zero_answers segment, refl, refl, (refl, refl))
 
 -- without its end it is stuck where it leaves the code
 leaves_code : (segment : Contents) → IsRun (move 1 ∷ []) segment (Stuck 0 OutOfProgram ∷ [])
-unfolding after has_meaning
+unfolding after
 leaves_code segment = (refl, tt)
 
 -- an end alone answers with a register that holds nothing
 exit_alone : (segment : Contents) → IsRun (Exit ∷ []) segment (Stuck 0 (ReadsNothing 0) ∷ [])
-unfolding after has_meaning
+unfolding after
 exit_alone segment = (refl, tt)

@@ -1,4 +1,5 @@
+pub mod MemoryLemmas
 pub mod RunLemmas
 pub mod StepLemmas
-pub mod MeaningLemmas
 pub mod Examples
+pub mod WholeLemmas

@@ -1,11 +1,13 @@
 -- Runs are determined: two runs of one code on one segment agree as far as both go.
-use Rattle.std.proofs.Common.{◌≡◌, ℕ, ◌≤◌, List, [], ◌∷◌, ◌++◌, length, refl, sym, ap, ◌∙◌, subst, arith}
+use Rattle.std.proofs.Common.{◌≡◌, ℕ, ◌≤◌, ◌<◌, List, [], ◌∷◌, ◌++◌, length, refl, sym, ap, ◌∙◌, subst, arith, ◌+◌, length-append}
 use Rattle.bpf_insn.specs.declared.instruction.Insn.{Insn}
 use Rattle.bpf_meaning.specs.Segment.{Contents}
 use Rattle.bpf_meaning.specs.State.{start}
-use Rattle.bpf_meaning.specs.Step.{Configuration, Running, Exited, Stuck, Unsaid, after}
-use Rattle.bpf_meaning.specs.Run.{Step, HasOneNext, HasNoNext, FollowSteps, IsRun, last_of, Answers}
+use Rattle.bpf_meaning.specs.Step.{Configuration, Running, Exited, Stuck, after, configuration_of}
+use Rattle.bpf_meaning.specs.Run.{Step, HasOneNext, HasNoNext, FollowSteps, IsRun, last_of, end_of, Answers, IsTraced}
 use Rattle.bpf_meaning.specs.declared.cause.Cause.{Cause}
+use Rattle.bpf_meaning.specs.declared.outcome.Outcome.{Outcome}
+use Rattle.bpf_meaning.specs.declared.outcome.Outcome.TheVariants as outcome
 use Rattle.bpf_meaning.specs.declared.state.State.{State}
 
 -- a configuration that has a next isn't ended, and has one next
@@ -13,7 +15,6 @@ pub one_next : (code : List Insn) (segment : Contents) (from next other : Config
 one_next code segment (Running state) next other a b = a ∙ sym b
 one_next code segment (Exited answer score) next other a b = absurd a
 one_next code segment (Stuck place cause) next other a b = absurd a
-one_next code segment Unsaid next other a b = absurd a
 
 pub running_goes_on : (code : List Insn) (segment : Contents) (state : State) → HasOneNext code segment (Running state)
 running_goes_on code segment state = record { next = after code segment state; is_next = refl; only = λ other step. step }
@@ -23,9 +24,6 @@ exited_ends code segment answer score next step = step
 
 pub stuck_ends : (code : List Insn) (segment : Contents) (place : ℕ) (cause : Cause) → HasNoNext code segment (Stuck place cause)
 stuck_ends code segment place cause next step = step
-
-pub unsaid_ends : (code : List Insn) (segment : Contents) → HasNoNext code segment Unsaid
-unsaid_ends code segment next step = step
 
 -- two ways from one configuration agree as far as both go
 pub agree_from : (code : List Insn) (segment : Contents) (from : Configuration) (run longer : List Configuration) → FollowSteps code segment from run → FollowSteps code segment from longer → length run ≤ length longer → (rest : List Configuration) × (longer ≡ run ++ rest)
@@ -60,3 +58,56 @@ pub one_answer_lem : (code : List Insn) (segment : Contents) (answer score other
 one_answer_lem code segment answer score other other_score a b =
     let same = same_exit code segment (Running start) a.run b.run answer score other other_score a.is_run b.is_run a.exits b.exits in
     (cc, cc)
+
+-- runs that grow at their end
+
+-- one step more
+pub follow_more : (code : List Insn) (segment : Contents) (from : Configuration) (run : List Configuration) (state : State) (next : Configuration) → FollowSteps code segment from run → last_of from run ≡ Running state → next ≡ after code segment state → FollowSteps code segment from (run ++ next ∷ [])
+follow_more code segment from [] state next follow ends is = (subst (λ (c : Configuration). Step code segment c next) (sym ends) is, tt)
+follow_more code segment from (there ∷ run) state next follow ends is = (follow.0, follow_more code segment there run state next follow.1 ends is)
+
+pub last_of-more : (from : Configuration) (run : List Configuration) (next : Configuration) → last_of from (run ++ next ∷ []) ≡ next
+last_of-more from [] next = refl
+last_of-more from (there ∷ run) next = last_of-more there run next
+
+-- some run of so many steps is on its way in this state
+pub record IsOnItsWay (code : List Insn) (segment : Contents) (steps : ℕ) (state : State) : Type 0 where
+  pub run : List Configuration
+  pub is_run : IsRun code segment run
+  pub ends : end_of run ≡ Running state
+  pub long : length run ≡ steps
+
+pub starts_out : (code : List Insn) (segment : Contents) → IsOnItsWay code segment 0 start
+starts_out code segment = record { run = []; is_run = tt; ends = refl; long = refl }
+
+-- a run that is on its way, and the configuration that it comes to next
+pub record ComesTo (code : List Insn) (segment : Contents) (steps : ℕ) (next : Configuration) : Type 0 where
+  pub run : List Configuration
+  pub is_run : IsRun code segment run
+  pub ends : end_of run ≡ next
+  pub long : length run ≡ steps + 1
+
+pub comes_to : (code : List Insn) (segment : Contents) (steps : ℕ) (state : State) (next : Configuration) → IsOnItsWay code segment steps state → next ≡ after code segment state → ComesTo code segment steps next
+comes_to code segment steps state next way is = record {
+  run = way.run ++ next ∷ [];
+  is_run = follow_more code segment (Running start) way.run state next way.is_run way.ends is;
+  ends = last_of-more (Running start) way.run next;
+  long = length-append way.run (next ∷ []) ∙ ap (λ (n : ℕ). n + 1) way.long;
+}
+
+pub goes_on : (code : List Insn) (segment : Contents) (steps : ℕ) (state next : State) → IsOnItsWay code segment steps state → Running next ≡ after code segment state → IsOnItsWay code segment (steps + 1) next
+goes_on code segment steps state next way is =
+    let way = comes_to code segment steps state (Running next) way is in record { run = way.run; is_run = way.is_run; ends = way.ends; long = way.long }
+
+-- what a trace tells of a run that has ended, and of one that hasn't
+pub traces_end : (code : List Insn) (segment : Contents) (steps limit : ℕ) (state next : State) (ended : Outcome) → IsOnItsWay code segment steps state → steps < limit → configuration_of ended next ≡ after code segment state → (ended ≡ outcome.Running → ⊥) → IsTraced code segment limit ended
+traces_end code segment steps limit state next outcome.Running way less is ends = absurd (ends refl)
+traces_end code segment steps limit state next (outcome.Exit answer score) way less is ends =
+    let way = comes_to code segment steps state (Exited answer score) way is in
+    record { run = way.run; is_run = way.is_run; ends = (way.ends, let long = way.long in omega arith) }
+traces_end code segment steps limit state next (outcome.Stuck place cause) way less is ends =
+    let way = comes_to code segment steps state (Stuck place cause) way is in
+    record { run = way.run; is_run = way.is_run; ends = (way.ends, let long = way.long in omega arith) }
+
+pub traces_on : (code : List Insn) (segment : Contents) (steps limit : ℕ) (state : State) → IsOnItsWay code segment steps state → steps ≡ limit → IsTraced code segment limit outcome.Running
+traces_on code segment steps limit state way all = record { run = way.run; is_run = way.is_run; ends = (state, way.ends, way.long ∙ all) }

@@ -1,6 +1,6 @@
 pub mod Segment
-pub mod State
 pub mod Memory
+pub mod State
 pub mod Step
 pub mod Run
 pub mod Extract

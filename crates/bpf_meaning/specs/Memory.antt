@@ -1,15 +1,30 @@
--- Memory as lists of bytes that may be unwritten. Loads and stores (RFC 9669, section 5.1) are little-endian here.
-use Rattle.std.specs.Prelude.{ℕ, ◌+◌, ◌*◌, List, [], ◌∷◌, ◌++◌, map, take, drop, length, Option, Some, None}
+-- Memory as a list of bytes, some of them unwritten. Loads and stores (RFC 9669, section 5.1) are little-endian here.
+use Rattle.std.specs.Prelude.{ℕ, ◌+◌, ◌*◌, Bool, true, false, List, [], ◌∷◌, ◌++◌, map, take, drop, Option, Some, None}
 use Rattle.std.specs.Option.{option_map}
-use Rattle.bpf_meaning.specs.declared.state.FrameByte.{FrameByte}
-use Rattle.bpf_meaning.specs.declared.state.FrameByte.TheVariants.{Unwritten, Byte}
+use Rattle.std.specs.Int.{bytes_low_first}
+
+-- a byte of memory
+pub data FrameByte : Type 0 where
+  Unwritten : FrameByte
+  Byte : (byte : ℕ) → FrameByte
+
+-- what a frame consists of
+pub record FrameContents : Type 0 where
+  pub bytes : List FrameByte
+
+-- bytes of which those with a mark are written
+abbrev pub marked : List Bool → List ℕ → List FrameByte
+marked [] bytes = []
+marked (mark ∷ marks) [] = []
+marked (true ∷ marks) (byte ∷ bytes) = Byte byte ∷ marked marks bytes
+marked (false ∷ marks) (byte ∷ bytes) = Unwritten ∷ marked marks bytes
 
 -- the little-endian number of bytes; none where one of them is unwritten
 abbrev pub number_of : List FrameByte → Option ℕ
 number_of [] = Some 0
 number_of (Unwritten ∷ bytes) = None
-number_of (Byte b ∷ bytes) = option_map (λ rest. b + 256 * rest) (number_of bytes)
+number_of (Byte byte ∷ bytes) = option_map (λ rest. byte + 256 * rest) (number_of bytes)
 
--- the memory with these bytes written from a place on. No instruction that is carried out today writes memory.
-abbrev pub written : List FrameByte → ℕ → List ℕ → List FrameByte
-written memory at bytes = take at memory ++ map Byte bytes ++ drop (at + length bytes) memory
+-- the memory with the low bytes of a number, so many, written from a place on, the lowest first
+abbrev pub written : List FrameByte → ℕ → ℕ → ℕ → List FrameByte
+written memory at count number = take at memory ++ map Byte (bytes_low_first 0 count number) ++ drop (at + count) memory

@@ -3,15 +3,17 @@ use Rattle.std.specs.Prelude.{◌≡◌, ◌≢◌, ℕ, ◌≤◌, List, [], �
 use Rattle.bpf_insn.specs.declared.instruction.Insn.{Insn}
 use Rattle.bpf_meaning.specs.Segment.{Contents, IsSegment}
 use Rattle.bpf_meaning.specs.State.{start}
-use Rattle.bpf_meaning.specs.Step.{Configuration, Running, Exited, Stuck, Unsaid, after}
+use Rattle.bpf_meaning.specs.Step.{Configuration, Running, Exited, Stuck, after}
 use Rattle.bpf_meaning.specs.declared.cause.Cause.{Cause}
+use Rattle.bpf_meaning.specs.declared.outcome.Outcome.{Outcome}
+use Rattle.bpf_meaning.specs.declared.outcome.Outcome.TheVariants as outcome
+use Rattle.bpf_meaning.specs.declared.state.State.{State}
 
 -- one step: a running configuration has one next, and an ended one none
 abbrev pub Step : List Insn → Contents → Configuration → Configuration → Type 0
 Step code segment (Running state) next = next ≡ after code segment state
 Step code segment (Exited answer score) next = ⊥
 Step code segment (Stuck place cause) next = ⊥
-Step code segment Unsaid next = ⊥
 
 -- exactly one configuration comes next
 pub record HasOneNext (code : List Insn) (segment : Contents) (from : Configuration) : Type 0 where
@@ -40,6 +42,18 @@ last_of from (next ∷ rest) = last_of next rest
 -- where a run has come to
 abbrev pub end_of : List Configuration → Configuration
 end_of run = last_of (Running start) run
+
+-- a run of at most so many steps ends as an outcome says, and one that goes on has taken them all
+abbrev pub EndsAs : List Configuration → ℕ → Outcome → Type 0
+EndsAs run limit outcome.Running = (state : State) × (end_of run ≡ Running state) × (length run ≡ limit)
+EndsAs run limit (outcome.Exit answer score) = (end_of run ≡ Exited answer score) × (length run ≤ limit)
+EndsAs run limit (outcome.Stuck place cause) = (end_of run ≡ Stuck place cause) × (length run ≤ limit)
+
+-- what a trace tells: some run of at most so many steps ends as it says
+pub record IsTraced (code : List Insn) (segment : Contents) (limit : ℕ) (outcome : Outcome) : Type 0 where
+  pub run : List Configuration
+  pub is_run : IsRun code segment run
+  pub ends : EndsAs run limit outcome
 
 -- some run ends with this answer and score
 pub record Answers (code : List Insn) (segment : Contents) (answer score : ℕ) : Type 0 where

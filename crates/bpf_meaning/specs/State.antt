@@ -4,9 +4,10 @@ use Rattle.std.specs.Prelude.{◌≡◌, ℕ, pos, [], ◌∷◌, length, replic
 use Rattle.bpf_insn.specs.declared.value.Area.TheVariants as area
 use Rattle.bpf_insn.specs.declared.value.Value.{Value}
 use Rattle.bpf_insn.specs.declared.value.Value.TheVariants as value
-use Rattle.bpf_meaning.specs.declared.state.FrameByte.TheVariants.{Unwritten}
+use Rattle.bpf_meaning.specs.Memory.{Unwritten}
+use Rattle.bpf_meaning.specs.declared.frame.TheConstants.{FRAME_LENGTH}
 use Rattle.bpf_meaning.specs.declared.state.State.{State}
-use Rattle.bpf_meaning.specs.declared.state.TheConstants.{FRAME_LENGTH, REGISTERS}
+use Rattle.bpf_meaning.specs.declared.state.TheConstants.{REGISTERS}
 
 -- at the start: register 1 points to the record's first byte, register 10 behind the frame's last, nothing else is written
 abbrev pub start : State

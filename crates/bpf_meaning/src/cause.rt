@@ -1,20 +1,32 @@
 /// Why a program is stuck. A register is given by its number.
 #[derive(Clone, Copy, Debug, PartialEq, Eq)]
 pub enum Cause {
-    /// The program goes on where it has no instruction.
+    /// 31: the program goes on where it has no instruction.
     OutOfProgram,
-    /// A register is read that holds nothing.
+    /// 32: the program goes on at the second word of a wide load.
+    IntoWide,
+    /// 40: a register is read that holds nothing.
     ReadsNothing(u8),
-    /// A pointer is used in arithmetic other than adding a near number to it.
+    /// 41: a pointer is used in arithmetic other than moving it by a near number.
     PointerArithmetic,
-    /// A pointer's offset leaves the range from -32768 to 32767.
+    /// 42: a pointer's offset leaves the range from -32768 to 32767.
     LeavesArea,
-    /// A load's base is a number.
+    /// 43: the base of a load or a store is a number.
     NotPointer,
-    /// A load reads outside the record or the frame.
+    /// 44: a load or a store goes outside the record or the frame.
     OutOfBounds,
-    /// A load reads a byte of the frame that wasn't written.
+    /// 45: a load reads a byte of the frame that wasn't written.
     UnwrittenFrame,
-    /// The answer is a pointer.
+    /// 46: a store goes to the record.
+    WritesRecord,
+    /// 47: a pointer is stored.
+    StoresPointer,
+    /// 48: a pointer is compared.
+    ComparesPointer,
+    /// 49: a helper function is called that isn't known.
+    UnknownHelper,
+    /// 50: the argument with this number, counted from 1, isn't what the helper function wants.
+    BadArgument(u8),
+    /// 51: the answer is a pointer.
     ExitNotNumber,
 }

@@ -1,13 +1,16 @@
 //! Laws, each the contract of a function that does nothing.
-ghost use Rattle.std.specs.Prelude.{◌≡◌, ◌≤◌, ◌++◌, ℕ, List, length};
+ghost use Rattle.std.specs.Prelude.{◌≡◌, ◌≤◌, ◌+◌, ◌%◌, ◌^◌, ◌++◌, ℕ, List, length, take, drop, Some};
 ghost use Rattle.bpf_insn.specs.declared.instruction.Insn.{Insn};
 ghost use Rattle.bpf_meaning.specs.Segment.{Contents};
-ghost use Rattle.bpf_meaning.specs.Step.{Configuration, Running, Exited, Stuck, Unsaid};
-ghost use Rattle.bpf_meaning.specs.Run.{Answers, HasNoNext, HasOneNext, IsRun};
+ghost use Rattle.bpf_meaning.specs.Memory.{FrameByte, number_of, written};
+ghost use Rattle.bpf_meaning.specs.State.{IsWhole};
+ghost use Rattle.bpf_meaning.specs.Step.{Configuration, Running, Exited, Stuck};
+ghost use Rattle.bpf_meaning.specs.Run.{Answers, HasNoNext, HasOneNext, IsRun, Step, end_of};
 ghost use Rattle.bpf_meaning.specs.declared.cause.Cause.{Cause};
+ghost use Rattle.bpf_meaning.specs.declared.frame.TheConstants.{FRAME_LENGTH};
 ghost use Rattle.bpf_meaning.specs.declared.segment.TheConstants.{RECORD_LENGTH};
 ghost use Rattle.bpf_meaning.specs.declared.state.State.{State};
-ghost use Rattle.bpf_meaning.specs.declared.state.TheConstants.{FRAME_LENGTH, REGISTERS};
+ghost use Rattle.bpf_meaning.specs.declared.state.TheConstants.{REGISTERS};
 
 /// How long the record, the frame and the list of registers are, in figures.
 pub fn lengths()
@@ -21,7 +24,24 @@ pub fn one_step()
     ensures running { (code : List Insn) (segment : Contents) (state : State) → HasOneNext code segment (Running state) }
     ensures exited { (code : List Insn) (segment : Contents) (answer score : ℕ) → HasNoNext code segment (Exited answer score) }
     ensures stuck { (code : List Insn) (segment : Contents) (place : ℕ) (cause : Cause) → HasNoNext code segment (Stuck place cause) }
-    ensures unsaid { (code : List Insn) (segment : Contents) → HasNoNext code segment Unsaid }
+{}
+
+/// Bytes that were stored are loaded as the number's low bytes; what lies before them and behind them stays.
+pub fn stores_are_loaded()
+    ensures loaded { (memory : List FrameByte) (at count number : ℕ) → at + count ≤ length memory
+        → number_of (take count (drop at (written memory at count number))) ≡ Some (number % 256 ^ count) }
+    ensures before { (memory : List FrameByte) (at count number : ℕ) → at + count ≤ length memory
+        → take at (written memory at count number) ≡ take at memory }
+    ensures behind { (memory : List FrameByte) (at count number : ℕ) → at + count ≤ length memory
+        → drop (at + count) (written memory at count number) ≡ drop (at + count) memory }
+{}
+
+/// Each state that a run comes to has eleven registers and a whole frame, and a step keeps them.
+pub fn states_stay_whole()
+    ensures step { (code : List Insn) (segment : Contents) (state there : State)
+        → IsWhole state → Step code segment (Running state) (Running there) → IsWhole there }
+    ensures run { (code : List Insn) (segment : Contents) (run : List Configuration) (state : State)
+        → IsRun code segment run → end_of run ≡ Running state → IsWhole state }
 {}
 
 /// Two runs of a code on a segment agree as far as both go: the longer one begins with the other.

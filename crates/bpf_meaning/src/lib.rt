@@ -2,11 +2,12 @@
 #![tactic(auto)]
 
 mod cause;
+mod frame;
 pub mod laws;
-mod meaning;
 mod memory;
 mod operands;
 mod outcome;
+mod progress;
 mod segment;
 mod state;
 mod stepper;
@@ -14,8 +15,8 @@ mod stepper;
 mod tests;
 
 pub use cause::Cause;
-pub use meaning::has_meaning;
+pub use frame::{FRAME_LENGTH, Frame};
 pub use outcome::Outcome;
 pub use segment::{RECORD_LENGTH, Segment};
-pub use state::{FRAME_LENGTH, Frame, FrameByte, REGISTERS, State};
-pub use stepper::step;
+pub use state::{REGISTERS, State};
+pub use stepper::{step, trace};

@@ -1,37 +1,20 @@
-ghost use Rattle.std.specs.Prelude.{◌≡◌, ◌≤◌, IsTrue};
+ghost use Rattle.std.specs.Prelude.{◌≡◌, ◌+◌, ◌+ℤ◌, ◌≤◌, Ok, Err, MatchResult};
 
 use crate::cause::Cause;
-use crate::memory::{load_frame, load_record};
-use crate::operands::operate;
-use crate::outcome::Outcome;
+use crate::frame::{FRAME_LENGTH, Frame};
+use crate::memory::{load_frame, load_record, offset_within, store_length};
+use crate::operands::{compare, operate};
 use crate::segment::Segment;
 use bpf_insn::{
-    Area, Code, Insn, LoadFormat, Operation, Pointer, Register, Source, Value, Width,
-    WritableRegister, sign_extended,
+    Area, ByteOrder, Condition, LoadFormat, Operation, Pointer, Register, SignExtension, Source,
+    StoreSize, SwapWidth, Value, Width, WritableRegister, negate, sign_extended,
 };
-use std::alloc::Allocator;
-
-/// How many bytes the frame has. Register 10 starts behind its last.
-pub const FRAME_LENGTH: usize = 512;
 
 /// How many registers there are.
 pub const REGISTERS: usize = 11;
 
-/// A byte of the frame.
-#[derive(Clone, Copy, Debug, PartialEq, Eq)]
-pub enum FrameByte {
-    Unwritten,
-    Byte(u8),
-}
-
-/// The program's own memory, by offset from 0.
-#[derive(Clone, Copy, Debug)]
-pub struct Frame {
-    pub bytes: [FrameByte; FRAME_LENGTH],
-}
-
 /// A program on its way.
-#[derive(Clone, Copy, Debug)]
+#[derive(Debug, Drop)]
 pub struct State {
     /// The next instruction's place, which counts words from 0.
     pub place: usize,
@@ -43,11 +26,13 @@ pub struct State {
 }
 
 impl State {
+    ghost use Rattle.bpf_meaning.specs.Memory.{written};
     ghost use Rattle.bpf_meaning.specs.State.{start};
-    ghost use Rattle.bpf_meaning.specs.Step.{has_meaning, read, operation_value, load_value, write_result, exit_with, configuration_of, KeepsAtEnd};
+    ghost use Rattle.bpf_insn.specs.Arithmetic.{extension_of, negation_of, ordered_bytes};
+    ghost use Rattle.bpf_meaning.specs.Step.{read, number_in, pointer_in, made_of, second_operand, operation_value, comparison, load_value, store_length, number_from, store_frame};
 
     /// The state in which a program starts, the same on every segment: register 1 points to the record's first byte, register 10
-    /// behind the frame's last, and nothing else was written. A state is copied by value and holds no memory of its own.
+    /// behind the frame's last, and nothing else was written. It holds no memory of its own.
     pub fn start() -> Self
         ensures { result ≡ start }
     {
@@ -63,14 +48,12 @@ impl State {
         State {
             place: 0,
             registers,
-            frame: Frame {
-                bytes: [FrameByte::Unwritten; FRAME_LENGTH],
-            },
+            frame: Frame::unwritten(),
             score: 0,
         }
     }
 
-    fn read(&self, register: u8) -> Result<Value, Cause>
+    pub(crate) fn read(&self, register: u8) -> Result<Value, Cause>
         requires { register ≤ 10 }
         ensures { result ≡ read self.now register }
     {
@@ -80,7 +63,28 @@ impl State {
         }
     }
 
-    /// What an arithmetic instruction gives.
+    /// The number in a register, of which an instruction makes another.
+    fn number(&self, register: u8) -> Result<u64, Cause>
+        requires { register ≤ 10 }
+        ensures { result ≡ number_in self.now register }
+    {
+        match self.read(register)? {
+            Value::Number(number) => Ok(number),
+            _ => Err(Cause::PointerArithmetic),
+        }
+    }
+
+    /// The second operand.
+    fn operand(&self, source: Source) -> Result<Value, Cause>
+        ensures { result ≡ second_operand self.now source }
+    {
+        match source {
+            Source::Immediate(immediate) => Ok(Value::Number(sign_extended(immediate))),
+            Source::Register(register) => self.read(register.number),
+        }
+    }
+
+    /// What an operation gives.
     pub(crate) fn operation(
         &self,
         operation: Operation,
@@ -88,19 +92,77 @@ impl State {
         destination: WritableRegister,
         source: Source,
     ) -> Result<Value, Cause>
-        requires { IsTrue (has_meaning (Insn.Alu operation width destination source)) }
         ensures { result ≡ operation_value self.now operation width destination.number source }
     {
-        let number = destination.number;
         let x = match operation {
-            Operation::Add => self.read(number)?,
-            Operation::Move => self.registers[usize::from(number)],
-            _ => unreachable!(),
+            Operation::Move => Value::Number(0),
+            _ => self.read(destination.number)?,
         };
-        let Source::Immediate(immediate) = source else {
-            unreachable!()
-        };
-        operate(operation, width, x, Value::Number(sign_extended(immediate)))
+        let y = self.operand(source)?;
+        operate(operation, width, x, y)
+    }
+
+    /// What a move with sign extension gives.
+    pub(crate) fn extension(
+        &self,
+        extension: SignExtension,
+        source: Register,
+    ) -> Result<Value, Cause>
+        ensures { result ≡ made_of self.now source.number (extension_of extension) }
+    {
+        let number = self.number(source.number)?;
+        Ok(Value::Number(extension.apply(number)))
+    }
+
+    /// A register's negative.
+    pub(crate) fn negation(
+        &self,
+        width: Width,
+        destination: WritableRegister,
+    ) -> Result<Value, Cause>
+        ensures { result ≡ made_of self.now destination.number (negation_of width) }
+    {
+        let number = self.number(destination.number)?;
+        Ok(Value::Number(negate(width, number)))
+    }
+
+    /// A register's low bytes in an order.
+    pub(crate) fn ordered(
+        &self,
+        order: ByteOrder,
+        width: SwapWidth,
+        destination: WritableRegister,
+    ) -> Result<Value, Cause>
+        ensures { result ≡ made_of self.now destination.number (ordered_bytes order width) }
+    {
+        let number = self.number(destination.number)?;
+        Ok(Value::Number(order.apply(width, number)))
+    }
+
+    /// Whether a conditional jump is taken.
+    pub(crate) fn comparison(
+        &self,
+        condition: Condition,
+        width: Width,
+        left: Register,
+        right: Source,
+    ) -> Result<bool, Cause>
+        ensures { result ≡ comparison self.now condition width left.number right }
+    {
+        let x = self.read(left.number)?;
+        let y = self.operand(right)?;
+        compare(condition, width, x, y)
+    }
+
+    /// The pointer in a register that is the base of a load or a store.
+    fn pointer(&self, register: u8) -> Result<Pointer, Cause>
+        requires { register ≤ 10 }
+        ensures { result ≡ pointer_in self.now register }
+    {
+        match self.read(register)? {
+            Value::Pointer(pointer) => Ok(pointer),
+            _ => Err(Cause::NotPointer),
+        }
     }
 
     /// What a load gives.
@@ -111,60 +173,56 @@ impl State {
         base: Register,
         offset: i16,
     ) -> Result<Value, Cause>
-        requires { format ≡ LoadFormat.Byte }
         ensures { result ≡ load_value segment.now self.now format base.number offset }
     {
-        let Value::Pointer(pointer) = self.read(base.number)? else {
-            return Err(Cause::NotPointer);
-        };
-        let start = i32::from(pointer.offset) + i32::from(offset);
+        let pointer = self.pointer(base.number)?;
+        let start = offset_from(pointer, offset);
         match pointer.area {
             Area::Record => load_record(segment.bytes(), format, start),
-            Area::Frame => load_frame(&self.frame.bytes, format, start),
+            Area::Frame => load_frame(&self.frame, format, start),
         }
     }
 
-    /// Goes on at the next place with a register written, if an instruction begins there.
-    pub(crate) fn write_result<A: Allocator>(
-        &mut self,
-        code: &Code<A>,
-        next: usize,
-        destination: WritableRegister,
-        value: Result<Value, Cause>,
-    ) -> Outcome
-        ensures next { configuration_of result self.new ≡ write_result code.now self.old next destination.number value }
-        ensures ended { KeepsAtEnd result self.old self.new }
+    /// The number in a register, to be stored.
+    pub(crate) fn stored(&self, source: Register) -> Result<u64, Cause>
+        ensures { result ≡ number_from self.now source.number }
     {
-        let place = self.place;
-        let value = match value {
-            Ok(value) => value,
-            Err(cause) => return Outcome::Stuck { place, cause },
+        match self.read(source.number)? {
+            Value::Number(number) => Ok(number),
+            _ => Err(Cause::StoresPointer),
+        }
+    }
+
+    /// Where in the frame a store begins, and the number that it writes.
+    pub(crate) fn store(
+        &self,
+        size: StoreSize,
+        base: Register,
+        offset: i16,
+        number: Result<u64, Cause>,
+    ) -> Result<(usize, u64), Cause>
+        ensures { MatchResult result
+            (λ write. (write.0 + store_length size ≤ FRAME_LENGTH)
+            × (store_frame self.now size base.number offset number
+            ≡ Ok (record self.now.frame { bytes = written self.now.frame.bytes write.0 (store_length size) write.1 })))
+            (λ cause. store_frame self.now size base.number offset number ≡ Err cause) }
+    {
+        let pointer = self.pointer(base.number)?;
+        let Area::Frame = pointer.area else {
+            return Err(Cause::WritesRecord);
         };
-        if code.at(next).is_none() {
-            let cause = Cause::OutOfProgram;
-            return Outcome::Stuck { place, cause };
+        let number = number?;
+        let start = offset_from(pointer, offset);
+        match offset_within(start, store_length(size), self.frame.len()) {
+            Some(at) => Ok((at, number)),
+            None => Err(Cause::OutOfBounds),
         }
-        self.registers[usize::from(destination.number)] = value;
-        self.place = next;
-        Outcome::Running
     }
+}
 
-    /// Ends with register 0 as the answer.
-    pub(crate) fn exit(&self) -> Outcome
-        ensures next { configuration_of result self.now ≡ exit_with self.now (read self.now 0) }
-        ensures ended { KeepsAtEnd result self.now self.now }
-    {
-        let place = self.place;
-        match self.read(0) {
-            Ok(Value::Number(answer)) => Outcome::Exit {
-                answer,
-                score: self.score,
-            },
-            Ok(_) => Outcome::Stuck {
-                place,
-                cause: Cause::ExitNotNumber,
-            },
-            Err(cause) => Outcome::Stuck { place, cause },
-        }
-    }
+/// Where a load or a store begins: so many bytes from where a pointer points.
+fn offset_from(pointer: Pointer, offset: i16) -> i32
+    ensures { result ≡ pointer.offset +ℤ offset }
+{
+    i32::from(pointer.offset) + i32::from(offset)
 }

@@ -1,6 +1,6 @@
 -- The checks are sound: a check that passes on kinds passes on every value that they admit, and what it leaves admits what the step
 -- leaves. So a code that passes is safe.
-use Rattle.std.proofs.Common.{◌≡◌, ℕ, zero, suc, ◌+◌, ◌<◌, ◌≤◌, ℤ, pos, negsuc, ◌+ℤ◌, ◌&&◌, Bool, true, false, int_le, List, [], ◌∷◌, ◌++◌, length, map, set, get_or, is_some, Option, Some, Result, Ok, Err, if◌then◌else◌, refl, sym, ap, ◌∙◌, subst, inl, inr, arith, append_assoc, length-set, IsTrue, OnOk}
+use Rattle.std.proofs.Common.{◌≡◌, ℕ, zero, suc, ◌+◌, ◌<◌, ◌≤◌, ℤ, pos, negsuc, ◌+ℤ◌, ◌&&◌, Bool, true, false, int_le, nat_lt, List, [], ◌∷◌, ◌++◌, length, map, set, get_or, is_some, Option, Some, None, Result, Ok, Err, if◌then◌else◌, refl, sym, ap, ◌∙◌, subst, inl, inr, arith, append_assoc, length-set, IsTrue, OnOk}
 use Rattle.std.proofs.lemmas.Bool.{false≢true}
 use Rattle.std.proofs.lemmas.Bool.Decides.{nat_tests}
 use Rattle.std.proofs.lemmas.List.Elements.{recursion_from_All}
@@ -24,16 +24,16 @@ use Rattle.bpf_insn.specs.declared.value.Value.{Value}
 use Rattle.bpf_insn.specs.declared.value.Value.TheVariants as value
 use Rattle.bpf_meaning.specs.Segment.{Contents, IsSegment}
 use Rattle.bpf_meaning.specs.State.{start, register_value}
-use Rattle.bpf_meaning.specs.Step.{Configuration, Running, Exited, Stuck, Unsaid, has_meaning, HaveMeaning, after, after_instruction, carry_out, perform, arrive, with_register, write_result, exit_with, read_value, is_offset, moved, operate, operation_value, area_bytes, loaded, load_at, load_value, ◌>>=◌}
+use Rattle.bpf_meaning.specs.Step.{Configuration, Running, Exited, Stuck, after, after_instruction, perform, obstacle, go_on, with_register, write_result, exit_with, read_value, is_offset, pointer_to, moved, operate, operation_value, area_bytes, loaded, only_pointer, load_value, ◌>>=◌}
 use Rattle.bpf_meaning.specs.Run.{Step, FollowSteps, last_of, Exits, IsSafe}
 use Rattle.bpf_meaning.specs.declared.cause.Cause.{Cause}
-use Rattle.bpf_meaning.specs.declared.cause.Cause.TheVariants.{OutOfProgram, PointerArithmetic, LeavesArea, OutOfBounds, UnwrittenFrame}
+use Rattle.bpf_meaning.specs.declared.cause.Cause.TheVariants.{OutOfProgram, IntoWide, PointerArithmetic, LeavesArea, OutOfBounds, UnwrittenFrame}
 use Rattle.bpf_meaning.specs.declared.segment.TheConstants.{RECORD_LENGTH}
-use Rattle.bpf_meaning.specs.declared.state.FrameByte.TheVariants.{Byte}
+use Rattle.bpf_meaning.specs.Memory.{Byte}
 use Rattle.bpf_meaning.specs.declared.state.State.{State}
 use Rattle.bpf_meaning.proofs.RunLemmas.{one_next, ends_there}
 use Rattle.bpf_meaning.proofs.StepLemmas.{record_byte}
-use Rattle.extract.specs.Checks.{Admits, AdmitsState, kind_of, entry, moved_kind, added, operation_kind, loaded_kind, load_kind, with_kind, next_edge, exit_edge, edge, Passes}
+use Rattle.extract.specs.Checks.{is_taken, AreTaken, Admits, AdmitsState, kind_of, entry, moved_kind, added, operation_kind, loaded_kind, load_kind, with_kind, next_edge, exit_edge, edge, Passes}
 use Rattle.extract.specs.declared.checks.Kind.{Kind}
 use Rattle.extract.specs.declared.checks.Kind.TheVariants.{Nothing, Number, Pointer}
 use Rattle.extract.specs.declared.checks.Kinds.{Kinds}
@@ -46,19 +46,20 @@ Gives result kind = (v : Value) × (result ≡ Ok v) × Admits kind v
 
 -- moving a pointer
 
-abbrev moved_if : {A : Type 0} → Bool → Bool → A → Result A Cause
-moved_if near within x = if near then (if within then Ok x else Err LeavesArea) else Err PointerArithmetic
-
-moved_by : (near within : Bool) (pointer : PointerParts) (kind : Kind) → moved_if near within (Pointer pointer) ≡ Ok kind → Gives (moved_if near within (value.Pointer pointer)) kind
-moved_by true true pointer kind e =
+pointer_sound : (within : Bool) (pointer : PointerParts) (kind : Kind) → (let r : Result Kind Cause = if within then Ok (Pointer pointer) else Err LeavesArea in r) ≡ Ok kind → Gives (if within then Ok (value.Pointer pointer) else Err LeavesArea) kind
+pointer_sound true pointer kind e =
     let same : Pointer pointer ≡ kind = cc in (value.Pointer pointer, refl, subst (λ (k : Kind). Admits k (value.Pointer pointer)) same refl)
-moved_by true false pointer kind e = absurd (let f : ⊥ = cc in f)
-moved_by false within pointer kind e = absurd (let f : ⊥ = cc in f)
+pointer_sound false pointer kind e = absurd (let f : ⊥ = cc in f)
+
+abbrev offset_after : PointerParts → ℤ → PointerParts
+offset_after pointer distance = record { area = pointer.area; offset = pointer.offset +ℤ distance }
+
+near_sound : (is_near : Bool) (pointer : PointerParts) (distance : ℤ) (kind : Kind) → (let r : Result Kind Cause = if is_near then (if is_offset (pointer.offset +ℤ distance) then Ok (Pointer (offset_after pointer distance)) else Err LeavesArea) else Err PointerArithmetic in r) ≡ Ok kind → Gives ((if is_near then Ok distance else Err PointerArithmetic) >>= λ z. pointer_to pointer.area (pointer.offset +ℤ z)) kind
+near_sound true pointer distance kind e = pointer_sound (is_offset (pointer.offset +ℤ distance)) (offset_after pointer distance) kind e
+near_sound false pointer distance kind e = absurd (let f : ⊥ = cc in f)
 
 moved_sound : (pointer : PointerParts) (distance : ℕ) (kind : Kind) → moved_kind pointer distance ≡ Ok kind → Gives (moved pointer distance) kind
-moved_sound pointer distance kind e =
-    moved_by (is_offset (cast_signed w64 distance)) (is_offset (pointer.offset +ℤ cast_signed w64 distance))
-    (record { area = pointer.area; offset = pointer.offset +ℤ cast_signed w64 distance }) kind e
+moved_sound pointer distance kind e = near_sound (is_offset (cast_signed w64 distance)) pointer (cast_signed w64 distance) kind e
 
 -- arithmetic
 
@@ -76,8 +77,8 @@ added_sound register (Pointer pointer) held number next a e =
 operation_sound : (state : State) (kind : Kind) (operation : Operation) (width : Width) (register : ℕ) (source : Source) (next : Kind) → Admits kind (register_value state register) → operation_kind operation width register kind source ≡ Ok next → Gives (operation_value state operation width register source) next
 operation_sound state kind Add Bits64 register (Immediate number) next a e = added_sound register kind (register_value state register) (extended number) next a e
 operation_sound state kind Move Bits64 register (Immediate number) next a e =
-    let same : Number ≡ next = cc in
-    (value.Number (extended number), refl, subst (λ (k : Kind). Admits k (value.Number (extended number))) same (extended number, refl))
+    let same : Number ≡ next = cc in let moved = result_of Move Bits64 0 (extended number) in
+    (value.Number moved, refl, subst (λ (k : Kind). Admits k (value.Number moved)) same (moved, refl))
 operation_sound state kind operation width register source next a e = absurd (let f : ⊥ = cc in f)
 
 -- loads
@@ -106,7 +107,8 @@ loaded_sound segment state is Record from kind e = record_sound segment.bytes fr
 loaded_sound segment state is Frame from kind e = absurd (within_frame _ kind e)
 
 abbrev load_through : Contents → State → ℕ → ℤ → Value → Result Value Cause
-load_through segment state register offset held = read_value register held >>= λ base. load_at segment state format.Byte base offset
+load_through segment state register offset held =
+    read_value register held >>= only_pointer >>= λ pointer. loaded format.Byte (area_bytes segment state pointer.area) (pointer.offset +ℤ offset)
 
 load_sound : (segment : Contents) (state : State) → IsSegment segment → (register : ℕ) (kind : Kind) (held : Value) (offset : ℤ) (next : Kind) → Admits kind held → load_kind register kind format.Byte offset ≡ Ok next → Gives (load_through segment state register offset held) next
 load_sound segment state is register Nothing held offset next a e = absurd (let f : ⊥ = cc in f)
@@ -127,7 +129,7 @@ set_admits (k ∷ kinds) (w ∷ values) (suc register) kind v same a all zero = 
 set_admits (k ∷ kinds) (w ∷ values) (suc register) kind v same a all (suc number) =
     set_admits kinds values register kind v (omega arith) a (λ n. all (suc n)) number
 
-pub writes : (kinds : Kinds) (state : State) (place register : ℕ) (kind : Kind) (v : Value) → AdmitsState kinds state → Admits kind v → AdmitsState (with_kind kinds register kind) (with_register state place register v)
+pub writes : (kinds : Kinds) (state : State) (place register : ℕ) (kind : Kind) (v : Value) → AdmitsState kinds state → Admits kind v → AdmitsState (with_kind kinds register kind) (record (with_register state register v) { place = place })
 writes kinds state place register kind v known a = record {
   count = simp length-set known.count;
   registers = set_admits kinds.registers state.registers register kind v known.count a known.registers;
@@ -143,24 +145,20 @@ next_is_no_end : (kinds : Kinds) (destination : ℕ) (result : Result Kind Cause
 next_is_no_end kinds destination (Ok kind) e = cc
 next_is_no_end kinds destination (Err cause) e = cc
 
--- an instruction that has a meaning is carried out
-performs_it : (code : List Insn) (segment : Contents) (state : State) (insn : Insn) → IsTrue (has_meaning insn) → perform code segment state insn ≡ carry_out code segment state insn
-performs_it code segment state insn meaning = ap (λ (b : Bool). if b then carry_out code segment state insn else Unsaid) meaning
-
 -- an instruction that leads on takes each state that is admitted to one that is
 pub record LeadsOn (code : List Insn) (segment : Contents) (state : State) (insn : Insn) (next : Kinds) : Type 0 where
   pub there : State
-  pub performs : perform code segment state insn ≡ arrive code state.place there
+  pub performs : perform code segment state insn ≡ go_on state.place (obstacle code there.place) there
   pub place : there.place ≡ state.place + length (spelling insn)
   pub known : AdmitsState next there
 
 -- a result of a kind is written
 leads_on_with : (code : List Insn) (segment : Contents) (kinds : Kinds) (state : State) (insn : Insn) (destination : ℕ) (kind : Kind) (next : Kinds) (result : Result Value Cause) → AdmitsState kinds state → perform code segment state insn ≡ write_result code state (state.place + length (spelling insn)) destination result → with_kind kinds destination kind ≡ next → Gives result kind → LeadsOn code segment state insn next
 leads_on_with code segment kinds state insn destination kind next result known is same gives = record {
-  there = with_register state (state.place + length (spelling insn)) destination gives.0;
+  there = record (with_register state destination gives.0) { place = state.place + length (spelling insn) };
   performs = is ∙ ap (write_result code state (state.place + length (spelling insn)) destination) gives.1;
   place = refl;
-  known = subst (λ (k : Kinds). AdmitsState k (with_register state (state.place + length (spelling insn)) destination gives.0)) same
+  known = subst (λ (k : Kinds). AdmitsState k (record (with_register state destination gives.0) { place = state.place + length (spelling insn) })) same
       (writes kinds state (state.place + length (spelling insn)) destination kind gives.0 known gives.2);
 }
 
@@ -169,22 +167,22 @@ exits_nowhere Nothing next e = cc
 exits_nowhere Number next e = cc
 exits_nowhere (Pointer pointer) next e = cc
 
-pub leads_on : (code : List Insn) (segment : Contents) → IsSegment segment → (kinds : Kinds) (state : State) (insn : Insn) (next : Kinds) → AdmitsState kinds state → IsTrue (has_meaning insn) → edge kinds insn ≡ Ok (Next next) → LeadsOn code segment state insn next
-unfolding has_meaning
-leads_on code segment is kinds state (Alu operation width destination source) next known meaning e =
+pub leads_on : (code : List Insn) (segment : Contents) → IsSegment segment → (kinds : Kinds) (state : State) (insn : Insn) (next : Kinds) → AdmitsState kinds state → IsTrue (is_taken insn) → edge kinds insn ≡ Ok (Next next) → LeadsOn code segment state insn next
+unfolding is_taken
+leads_on code segment is kinds state (Alu operation width destination source) next known taken e =
     let n = next_has_kind kinds destination.number (operation_kind operation width destination.number (kind_of kinds destination.number) source) next e in
     leads_on_with code segment kinds state (Alu operation width destination source) destination.number n.0 next
     (operation_value state operation width destination.number source) known
-    (performs_it code segment state (Alu operation width destination source) meaning) n.2
+    refl n.2
     (operation_sound state (kind_of kinds destination.number) operation width destination.number source n.0 (known.registers destination.number) n.1)
-leads_on code segment is kinds state (Load format.Byte destination base offset) next known meaning e =
+leads_on code segment is kinds state (Load format.Byte destination base offset) next known taken e =
     let n = next_has_kind kinds destination.number (load_kind base.number (kind_of kinds base.number) format.Byte offset) next e in
     leads_on_with code segment kinds state (Load format.Byte destination base offset) destination.number n.0 next
     (load_value segment state format.Byte base.number offset) known
-    (performs_it code segment state (Load format.Byte destination base offset) meaning) n.2
+    refl n.2
     (load_sound segment state is base.number (kind_of kinds base.number) (register_value state base.number) offset n.0 (known.registers base.number) n.1)
-leads_on code segment is kinds state Exit next known meaning e = absurd (exits_nowhere (kind_of kinds 0) next e)
-leads_on code segment is kinds state insn next known meaning e = absurd (false≢true meaning)
+leads_on code segment is kinds state Exit next known taken e = absurd (exits_nowhere (kind_of kinds 0) next e)
+leads_on code segment is kinds state insn next known taken e = absurd (false≢true taken)
 
 exit_sound : (state : State) (kind : Kind) (held : Value) → Admits kind held → exit_edge kind ≡ Ok End → (answer : ℕ) × (exit_with state (read_value 0 held) ≡ Exited answer state.score)
 exit_sound state Nothing held a e = absurd (let f : ⊥ = cc in f)
@@ -192,13 +190,13 @@ exit_sound state Number held a e = (a.0, ap (λ (v : Value). exit_with state (re
 exit_sound state (Pointer pointer) held a e = absurd (let f : ⊥ = cc in f)
 
 -- an instruction that is the end exits in each state that is admitted
-pub comes_to_end : (code : List Insn) (segment : Contents) (kinds : Kinds) (state : State) (insn : Insn) → AdmitsState kinds state → IsTrue (has_meaning insn) → edge kinds insn ≡ Ok End → (answer : ℕ) × (perform code segment state insn ≡ Exited answer state.score)
-comes_to_end code segment kinds state (Alu operation width destination source) known meaning e = absurd (next_is_no_end kinds destination.number _ e)
-comes_to_end code segment kinds state (Load format destination base offset) known meaning e = absurd (next_is_no_end kinds destination.number _ e)
-comes_to_end code segment kinds state Exit known meaning e =
+pub comes_to_end : (code : List Insn) (segment : Contents) (kinds : Kinds) (state : State) (insn : Insn) → AdmitsState kinds state → IsTrue (is_taken insn) → edge kinds insn ≡ Ok End → (answer : ℕ) × (perform code segment state insn ≡ Exited answer state.score)
+comes_to_end code segment kinds state (Alu operation width destination source) known taken e = absurd (next_is_no_end kinds destination.number _ e)
+comes_to_end code segment kinds state (Load format destination base offset) known taken e = absurd (next_is_no_end kinds destination.number _ e)
+comes_to_end code segment kinds state Exit known taken e =
     let exits = exit_sound state (kind_of kinds 0) (register_value state 0) (known.registers 0) e in
-    (exits.0, performs_it code segment state Exit meaning ∙ exits.1)
-comes_to_end code segment kinds state insn known meaning e = absurd (let f : ⊥ = cc in f)
+    (exits.0, exits.1)
+comes_to_end code segment kinds state insn known taken e = absurd (let f : ⊥ = cc in f)
 
 -- runs
 
@@ -224,19 +222,19 @@ begins kinds [] passes = absurd passes
 begins kinds (first ∷ others) passes = (first, others, refl)
 
 -- so a step that leads on arrives
-arrives : (code : List Insn) (place : ℕ) (state : State) (before : List Insn) (kinds : Kinds) (rest : List Insn) → code ≡ before ++ rest → state.place ≡ word_count before → Passes kinds rest → arrive code place state ≡ Running state
+arrives : (code : List Insn) (place : ℕ) (state : State) (before : List Insn) (kinds : Kinds) (rest : List Insn) → code ≡ before ++ rest → state.place ≡ word_count before → Passes kinds rest → go_on place (obstacle code state.place) state ≡ Running state
 arrives code place state before kinds rest same at passes =
     let b = begins kinds rest passes in
     let there : instruction_at code state.place ≡ Some b.0 =
     ap (instruction_at code) at ∙ ap (λ (c : List Insn). instruction_at c (word_count before)) (same ∙ ap (λ (r : List Insn). before ++ r) b.2)
     ∙ instruction_at-middle before b.0 b.1 in
-    ap (λ (o : Option Insn). if is_some o then Running state else Stuck place OutOfProgram) there
+    ap (λ (o : Option Insn). go_on place (if is_some o then None else (if nat_lt state.place (word_count code) then Some IntoWide else Some OutOfProgram)) state) there
 
 -- what passes exits, by induction over what is left of the code
-pub exits_from : (code : List Insn) (segment : Contents) → IsSegment segment → (before rest : List Insn) (kinds : Kinds) (state : State) → AllByRecursion (λ insn. IsTrue (has_meaning insn)) rest → code ≡ before ++ rest → state.place ≡ word_count before → AdmitsState kinds state → Passes kinds rest → ExitsFrom code segment state (length rest)
-exits_from code segment is before [] kinds state meaning same at known passes = absurd passes
-exits_from code segment is before (insn ∷ rest) kinds state meaning same at known (inl e) =
-    let done = comes_to_end code segment kinds state insn known meaning.0 e in
+pub exits_from : (code : List Insn) (segment : Contents) → IsSegment segment → (before rest : List Insn) (kinds : Kinds) (state : State) → AllByRecursion (λ insn. IsTrue (is_taken insn)) rest → code ≡ before ++ rest → state.place ≡ word_count before → AdmitsState kinds state → Passes kinds rest → ExitsFrom code segment state (length rest)
+exits_from code segment is before [] kinds state taken same at known passes = absurd passes
+exits_from code segment is before (insn ∷ rest) kinds state taken same at known (inl e) =
+    let done = comes_to_end code segment kinds state insn known taken.0 e in
     record {
       run = Exited done.0 state.score ∷ [];
       follow = (sym (after_middle code segment state before insn rest same at ∙ done.1), tt);
@@ -245,12 +243,12 @@ exits_from code segment is before (insn ∷ rest) kinds state meaning same at kn
       exits = refl;
       short = omega arith;
     }
-exits_from code segment is before (insn ∷ rest) kinds state meaning same at known (inr on) =
-    let step = leads_on code segment is kinds state insn on.0 known meaning.0 on.1 in
+exits_from code segment is before (insn ∷ rest) kinds state taken same at known (inr on) =
+    let step = leads_on code segment is kinds state insn on.0 known taken.0 on.1 in
     let split : code ≡ (before ++ insn ∷ []) ++ rest = same ∙ sym (append_assoc before (insn ∷ []) rest) in
     let place : step.there.place ≡ word_count (before ++ insn ∷ []) =
     step.place ∙ ap (λ (n : ℕ). n + length (spelling insn)) at ∙ sym (word_count_one before insn) in
-    let others = exits_from code segment is (before ++ insn ∷ []) rest on.0 step.there meaning.1 split place step.known on.2 in
+    let others = exits_from code segment is (before ++ insn ∷ []) rest on.0 step.there taken.1 split place step.known on.2 in
     record {
       run = Running step.there ∷ others.run;
       follow = (sym (after_middle code segment state before insn rest same at ∙ step.performs ∙ arrives code state.place step.there (before ++ insn ∷ []) on.0 rest split place on.2), others.follow);
@@ -296,21 +294,21 @@ exits_or_stuck code segment from (next ∷ run) (there ∷ others) answer score 
     exits_or_stuck code segment next run others answer score place cause f.1
     (subst (λ (c : Configuration). FollowSteps code segment c others) same g.1) e (subst (λ (c : Configuration). last_of c others ≡ Stuck place cause) same h)
 
-exits_at_start : (code : List Insn) (segment : Contents) → IsSegment segment → HaveMeaning code → Passes entry code → Exits code segment
-exits_at_start code segment is meaning passes =
-    let x = exits_from code segment is [] code entry start (recursion_from_All (λ insn. IsTrue (has_meaning insn)) code meaning) refl refl entry_admits_start passes in
+exits_at_start : (code : List Insn) (segment : Contents) → IsSegment segment → AreTaken code → Passes entry code → Exits code segment
+exits_at_start code segment is taken passes =
+    let x = exits_from code segment is [] code entry start (recursion_from_All (λ insn. IsTrue (is_taken insn)) code taken) refl refl entry_admits_start passes in
     record { run = x.run; is_run = x.follow; answer = x.answer; score = x.score; exits = x.exits; short = x.short }
 
--- a code that passes is safe, if its instructions have a meaning
-pub passes_is_safe : (code : List Insn) → HaveMeaning code → Passes entry code → IsSafe code
-passes_is_safe code meaning passes = record {
+-- a code that passes is safe, if its instructions are taken
+pub passes_is_safe : (code : List Insn) → AreTaken code → Passes entry code → IsSafe code
+passes_is_safe code taken passes = record {
   never_stuck = λ segment is run is_run place cause e.
-      (let x = exits_at_start code segment is meaning passes in
+      (let x = exits_at_start code segment is taken passes in
       exits_or_stuck code segment (Running start) x.run run x.answer x.score place cause x.is_run is_run x.exits e);
-  exits = λ segment is. exits_at_start code segment is meaning passes;
+  exits = λ segment is. exits_at_start code segment is taken passes;
 }
 
 -- so a check of the whole code that passes says that the code is safe
-pub safe_if_ok : {T E : Type 0} (result : Result T E) (code : List Insn) → HaveMeaning code → OnOk result (Passes entry code) → OnOk result (IsSafe code)
-safe_if_ok (Ok x) code meaning passes = passes_is_safe code meaning passes
-safe_if_ok (Err e) code meaning passes = passes
+pub safe_if_ok : {T E : Type 0} (result : Result T E) (code : List Insn) → AreTaken code → OnOk result (Passes entry code) → OnOk result (IsSafe code)
+safe_if_ok (Ok x) code taken passes = passes_is_safe code taken passes
+safe_if_ok (Err e) code taken passes = passes

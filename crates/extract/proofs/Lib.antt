@@ -1,4 +1,5 @@
 pub mod ExtractLemmas
+pub mod FormLemmas
 pub mod KindLemmas
 pub mod LineLemmas
 pub mod MachineLemmas

@@ -7,7 +7,7 @@ use Rattle.bpf_insn.specs.declared.instruction.Insn.{Insn}
 use Rattle.bpf_insn.specs.declared.instruction.Insn.TheVariants.{Exit}
 use Rattle.bpf_insn.proofs.PlaceLemmas.{word_count-append, word_count-one}
 use Rattle.bpf_meaning.specs.declared.cause.Cause.{Cause}
-use Rattle.bpf_meaning.specs.Step.{has_meaning, HaveMeaning}
+use Rattle.extract.specs.Checks.{is_taken, AreTaken}
 use Rattle.extract.specs.Checks.{Lead, Passes, EndsInExit, IsCheckFault, kind_of, exit_edge, edge, entry, IsNotYetAt}
 use Rattle.extract.specs.declared.checks.CheckFault.TheVariants.{Refused}
 use Rattle.extract.specs.declared.checks.Kind.{Kind}
@@ -62,9 +62,9 @@ reaches_end code items i insn kinds same within is lead e =
     subst (λ (c : List Insn). Passes entry c) (sym (around items i insn within is) ∙ same)
     (leads_to_end entry (take i items) kinds insn (drop (i + 1) items) lead e)
 
-pub reaches_fault : (code items : List Insn) (i : ℕ) (insn : Insn) (kinds : Kinds) (place : ℕ) (cause : Cause) → items ≡ code → i < length items → insn ≡ get_or items i insn → Lead entry (take i items) kinds → HaveMeaning code → EndsInExit code → place ≡ word_count (take i items) → edge kinds insn ≡ Err cause → IsCheckFault code (Refused place cause)
-reaches_fault code items i insn kinds place cause same within is lead meaning ends at e =
-    (meaning, ends.0, ends.1, (take i items, insn, drop (i + 1) items, kinds, sym same ∙ around items i insn within is, at, lead, e))
+pub reaches_fault : (code items : List Insn) (i : ℕ) (insn : Insn) (kinds : Kinds) (place : ℕ) (cause : Cause) → items ≡ code → i < length items → insn ≡ get_or items i insn → Lead entry (take i items) kinds → AreTaken code → EndsInExit code → place ≡ word_count (take i items) → edge kinds insn ≡ Err cause → IsCheckFault code (Refused place cause)
+reaches_fault code items i insn kinds place cause same within is lead taken ends at e =
+    (taken, ends.0, ends.1, (take i items, insn, drop (i + 1) items, kinds, sym same ∙ around items i insn within is, at, lead, e))
 
 pub reaches_next : (items : List Insn) (i : ℕ) (insn : Insn) (kinds next : Kinds) → i < length items → insn ≡ get_or items i insn → Lead entry (take i items) kinds → edge kinds insn ≡ Ok (Next next) → Lead entry (take (i + 1) items) next
 reaches_next items i insn kinds next within is lead e =
@@ -76,12 +76,12 @@ pub never_passes_end : (code items : List Insn) (i : ℕ) (kinds : Kinds) → it
 never_passes_end code items i kinds same late ends lead =
     exit_is_last entry ends.0 kinds (subst (λ (front : List Insn). Lead entry front kinds) (take_all i items late ∙ same ∙ ends.1) lead)
 
--- The instructions before an index have a meaning, and the one at the index has one, or it hasn't.
+-- The instructions before an index are taken, and the one at the index is, or it isn't.
 
-pub reaches_form : (code items : List Insn) (i : ℕ) (insn : Insn) (place : ℕ) → items ≡ code → i < length items → insn ≡ get_or items i insn → HaveMeaning (take i items) → place ≡ place_of code i → has_meaning insn ≡ false → IsNotYetAt code place
-reaches_form code items i insn place same within is meaning at none =
-    (take i items, insn, drop (i + 1) items, sym same ∙ around items i insn within is, at ∙ ap (λ (c : List Insn). place_of c i) (sym same), meaning, none)
+pub reaches_form : (code items : List Insn) (i : ℕ) (insn : Insn) (place : ℕ) → items ≡ code → i < length items → insn ≡ get_or items i insn → AreTaken (take i items) → place ≡ place_of code i → is_taken insn ≡ false → IsNotYetAt code place
+reaches_form code items i insn place same within is taken at none =
+    (take i items, insn, drop (i + 1) items, sym same ∙ around items i insn within is, at ∙ ap (λ (c : List Insn). place_of c i) (sym same), taken, none)
 
-pub have_meaning_more : (items : List Insn) (i : ℕ) (insn : Insn) → i < length items → insn ≡ get_or items i insn → HaveMeaning (take i items) → IsTrue (has_meaning insn) → HaveMeaning (take (i + 1) items)
-have_meaning_more items i insn within is meaning one =
-    All-more (λ insn. IsTrue (has_meaning insn)) items i insn within meaning (subst (λ (x : Insn). IsTrue (has_meaning x)) is one)
+pub are_taken_more : (items : List Insn) (i : ℕ) (insn : Insn) → i < length items → insn ≡ get_or items i insn → AreTaken (take i items) → IsTrue (is_taken insn) → AreTaken (take (i + 1) items)
+are_taken_more items i insn within is taken one =
+    All-more (λ insn. IsTrue (is_taken insn)) items i insn within taken (subst (λ (x : Insn). IsTrue (is_taken x)) is one)

@@ -1,6 +1,6 @@
 -- Checks of straight-line code by kinds: what is known of each register, whatever the segment
 -- (RFC 9669 says what an instruction does; which programs are refused is this project's own choice).
-use Rattle.std.specs.Prelude.{◌≡◌, ◌≢◌, ℕ, ℤ, pos, ◌+ℤ◌, ◌&&◌, ◌⊎◌, List, [], ◌∷◌, ◌++◌, length, slice_set, get_or, int_le, false, Result, Ok, Err, if◌then◌else◌}
+use Rattle.std.specs.Prelude.{◌≡◌, ◌≢◌, ℕ, ℤ, pos, ◌+ℤ◌, ◌⊎◌, Bool, true, false, IsTrue, All, List, [], ◌∷◌, ◌++◌, length, slice_set, get_or, Result, Ok, Err, if◌then◌else◌}
 use Rattle.std.specs.Int.{cast_signed, w64}
 use Rattle.bpf_insn.specs.Arithmetic.{extended}
 use Rattle.bpf_insn.specs.Code.{word_count}
@@ -13,17 +13,18 @@ use Rattle.bpf_insn.specs.declared.instruction.Width.TheVariants.{Bits64}
 use Rattle.bpf_insn.specs.declared.instruction.Source.{Source}
 use Rattle.bpf_insn.specs.declared.instruction.Source.TheVariants.{Immediate}
 use Rattle.bpf_insn.specs.declared.instruction.LoadFormat.{LoadFormat}
+use Rattle.bpf_insn.specs.declared.instruction.LoadFormat.TheVariants.{Byte}
 use Rattle.bpf_insn.specs.declared.value.Area.{Area}
 use Rattle.bpf_insn.specs.declared.value.Area.TheVariants.{Record, Frame}
 use Rattle.bpf_insn.specs.declared.value.Pointer.{Pointer as PointerParts}
 use Rattle.bpf_insn.specs.declared.value.Value.{Value}
 use Rattle.bpf_insn.specs.declared.value.Value.TheVariants as value
 use Rattle.bpf_meaning.specs.State.{register_value}
-use Rattle.bpf_meaning.specs.Step.{is_offset, load_length, has_meaning, HaveMeaning}
+use Rattle.bpf_meaning.specs.Step.{is_offset, load_length, lie_within}
 use Rattle.bpf_meaning.specs.declared.cause.Cause.{Cause}
 use Rattle.bpf_meaning.specs.declared.cause.Cause.TheVariants.{OutOfProgram, ReadsNothing, PointerArithmetic, LeavesArea, NotPointer, OutOfBounds, UnwrittenFrame, ExitNotNumber}
 use Rattle.bpf_meaning.specs.declared.segment.TheConstants.{RECORD_LENGTH}
-use Rattle.bpf_meaning.specs.declared.state.TheConstants.{FRAME_LENGTH}
+use Rattle.bpf_meaning.specs.declared.frame.TheConstants.{FRAME_LENGTH}
 use Rattle.bpf_meaning.specs.declared.state.State.{State}
 use Rattle.extract.specs.declared.checks.CheckFault.{CheckFault}
 use Rattle.extract.specs.declared.checks.CheckFault.TheVariants.{NotYet, LastNotExit, Refused}
@@ -32,6 +33,18 @@ use Rattle.extract.specs.declared.checks.Kind.TheVariants.{Nothing, Number, Poin
 use Rattle.extract.specs.declared.checks.Kinds.{Kinds}
 use Rattle.extract.specs.declared.checks.Edge.{Edge}
 use Rattle.extract.specs.declared.checks.Edge.TheVariants.{End, Next}
+
+-- the forms that are taken today: MOV and ADD of an immediate with 64 bits, LDX of one byte, EXIT
+unfoldable pub is_taken : Insn → Bool
+is_taken (Alu Add Bits64 destination (Immediate value)) = true
+is_taken (Alu Move Bits64 destination (Immediate value)) = true
+is_taken (Load Byte destination base offset) = true
+is_taken Exit = true
+is_taken insn = false
+
+-- each instruction of a code has one of them
+abbrev pub AreTaken : List Insn → Type 0
+AreTaken code = All (λ insn. IsTrue (is_taken insn)) code
 
 -- the values of a kind
 abbrev pub Admits : Kind → Value → Type 0
@@ -70,7 +83,7 @@ added register Nothing number = Err (ReadsNothing register)
 added register Number number = Ok Number
 added register (Pointer pointer) number = moved_kind pointer number
 
--- what an arithmetic instruction gives, of those that have a meaning
+-- what an arithmetic instruction gives, of those that are taken
 abbrev pub operation_kind : Operation → Width → ℕ → Kind → Source → Result Kind Cause
 operation_kind Add Bits64 register kind (Immediate value) = added register kind (extended value)
 operation_kind Move Bits64 register kind (Immediate value) = Ok Number
@@ -89,7 +102,7 @@ within_kind Frame = Err UnwrittenFrame
 -- a load from an area, from an offset on
 abbrev pub loaded_kind : LoadFormat → Area → ℤ → Result Kind Cause
 loaded_kind format area start =
-    if int_le (pos 0) start && int_le (start +ℤ pos (load_length format)) (pos (area_length area)) then within_kind area else Err OutOfBounds
+    if lie_within start (load_length format) (area_length area) then within_kind area else Err OutOfBounds
 
 -- a load through a register of a kind
 abbrev pub load_kind : ℕ → Kind → LoadFormat → ℤ → Result Kind Cause
@@ -112,7 +125,7 @@ exit_edge Nothing = Err (ReadsNothing 0)
 exit_edge Number = Ok End
 exit_edge (Pointer pointer) = Err ExitNotNumber
 
--- the first check of an instruction that fails, or where the instruction leads; one without a meaning leads nowhere
+-- the first check of an instruction that fails, or where the instruction leads; one that isn't taken leads nowhere
 abbrev pub edge : Kinds → Insn → Result Edge Cause
 edge kinds (Alu operation width destination source) =
     next_edge kinds destination.number (operation_kind operation width destination.number (kind_of kinds destination.number) source)
@@ -141,16 +154,16 @@ IsRefusedAt code place cause =
     (before : List Insn) × (insn : Insn) × (rest : List Insn) × (kinds : Kinds) × (code ≡ before ++ insn ∷ rest) × (place ≡ word_count before)
     × Lead entry before kinds × (edge kinds insn ≡ Err cause)
 
--- the instruction at this place is the first that has no meaning
+-- the instruction at this place is the first that isn't taken
 abbrev pub IsNotYetAt : List Insn → ℕ → Type 0
 IsNotYetAt code place =
     (before : List Insn) × (insn : Insn) × (rest : List Insn) × (code ≡ before ++ insn ∷ rest) × (place ≡ word_count before)
-    × HaveMeaning before × (has_meaning insn ≡ false)
+    × AreTaken before × (is_taken insn ≡ false)
 
--- why a code is refused: an instruction has no meaning, whatever else; or all have one, and the last isn't EXIT, or it is and one that is
--- reached fails a check
+-- why a code is refused: an instruction isn't taken, whatever else; or all are, and the last isn't EXIT, or it is and one that is reached
+-- fails a check
 abbrev pub IsCheckFault : List Insn → CheckFault → Type 0
 IsCheckFault code (NotYet place) = IsNotYetAt code place
 IsCheckFault code (LastNotExit place) =
-    HaveMeaning code × (before : List Insn) × (last : Insn) × (code ≡ before ++ last ∷ []) × (last ≢ Exit) × (place ≡ word_count before)
-IsCheckFault code (Refused place cause) = HaveMeaning code × (before : List Insn) × (code ≡ before ++ Exit ∷ []) × IsRefusedAt code place cause
+    AreTaken code × (before : List Insn) × (last : Insn) × (code ≡ before ++ last ∷ []) × (last ≢ Exit) × (place ≡ word_count before)
+IsCheckFault code (Refused place cause) = AreTaken code × (before : List Insn) × (code ≡ before ++ Exit ∷ []) × IsRefusedAt code place cause

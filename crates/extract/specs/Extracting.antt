@@ -6,9 +6,8 @@ use Rattle.bpf_insn.specs.declared.fault.CodeFault.TheVariants as code_fault
 use Rattle.bpf_insn.specs.declared.instruction.Insn.{Insn}
 use Rattle.bpf_meaning.specs.Segment.{Contents}
 use Rattle.bpf_meaning.specs.Run.{IsSafe}
-use Rattle.bpf_meaning.specs.Step.{HaveMeaning}
 use Rattle.bpf_meaning.specs.Extract.{IsExtract}
-use Rattle.extract.specs.Checks.{EndsInExit, IsCheckFault}
+use Rattle.extract.specs.Checks.{AreTaken, EndsInExit, IsCheckFault}
 use Rattle.extract.specs.Lines.{IsGoodLine, OtherLength, OtherType, NoTlid}
 use Rattle.extract.specs.Segments.{AreSegmentsOf, ComesAfterGood, HasFlawAfter, HasMoreAfter, BeginsWith, segments_of}
 use Rattle.extract.specs.Rows.{AppendsBeginning}
@@ -19,12 +18,12 @@ use Rattle.extract.specs.declared.lines.LineFault.{LineFault}
 use Rattle.extract.specs.declared.lines.LineFault.TheVariants as line_fault
 
 -- the bytes have this code, and it is safe: on every segment whatever no run ends stuck, and some run exits in at most as many steps as
--- the code has instructions. Its last instruction is EXIT, which is this project's own rule, and each one has a meaning.
+-- the code has instructions. Its last instruction is EXIT, which is this project's own rule, and each one is taken.
 pub record IsSafeProgram (program : List ℕ) (code : List Insn) : Type 0 where
   pub is_code : IsCodeOf program code
   pub safe : IsSafe code
   pub last : EndsInExit code
-  pub meaning : HaveMeaning code
+  pub taken : AreTaken code
 
 -- The program is safe, and for a list of good lines exactly the rows that its meaning chooses were written, in file order with their
 -- scores, behind what the writer held, so many. Where the reader's bytes are known, the lines are that file's.
@@ -46,8 +45,8 @@ pub record HasBegun (program : List ℕ) (lines : List (List ℕ)) (held new_hel
   pub is_extract : IsExtract code (segments_of lines) text rows
   pub written : AppendsBeginning held new_held text
 
--- 10 to 18 are the first fault of the bytes; 34 comes of a code with an instruction that has no meaning, 33 and 40 to 45 of one where each
--- has, the latter with an exit at its end
+-- 10 to 18 are the first fault of the bytes; 34 comes of a code with an instruction that isn't taken, 33 and 40 to 45 of one where each is,
+-- the latter with an exit at its end
 abbrev pub IsProgramRefusal : List ℕ → ExtractFault → Type 0
 IsProgramRefusal program (Code fault) = IsFirstFault program fault × (fault ≢ code_fault.Memory)
 IsProgramRefusal program (NotYet place) = (code : List Insn) × IsCodeOf program code × IsCheckFault code (check_fault.NotYet place)

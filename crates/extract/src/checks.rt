@@ -1,21 +1,20 @@
 ghost use Rattle.std.specs.Prelude.{◌≡◌, ◌≤◌, ◌+ℤ◌, IsTrue, OnOk, IfErr};
 ghost use Rattle.bpf_insn.specs.Code.{word_count};
 ghost use Rattle.bpf_meaning.specs.Run.{IsSafe};
-ghost use Rattle.bpf_meaning.specs.Step.{has_meaning, HaveMeaning};
-ghost use Rattle.extract.specs.Checks.{entry, kind_of, moved_kind, added, operation_kind, loaded_kind, load_kind, next_edge, exit_edge, edge, EndsInExit, Passes, IsCheckFault};
+ghost use Rattle.extract.specs.Checks.{is_taken, AreTaken, entry, kind_of, moved_kind, added, operation_kind, loaded_kind, load_kind, next_edge, exit_edge, edge, EndsInExit, Passes, IsCheckFault};
 
 use bpf_insn::{
     Area, Code, Insn, LoadFormat, Operation, Pointer, Register, Source, WORD_LIMIT, Width,
     WritableRegister, sign_extended,
 };
-use bpf_meaning::{Cause, FRAME_LENGTH, RECORD_LENGTH, REGISTERS, has_meaning};
+use bpf_meaning::{Cause, FRAME_LENGTH, RECORD_LENGTH, REGISTERS};
 use std::alloc::Allocator;
 use thiserror::Error;
 
 /// Why a code is refused. Places count words from 0.
 #[derive(Clone, Copy, Debug, PartialEq, Eq, Error)]
 pub(crate) enum CheckFault {
-    #[error("the instruction at place {place} has no meaning yet")]
+    #[error("the instruction at place {place} isn't taken yet")]
     NotYet { place: usize },
     #[error("the last instruction, at place {place}, is no exit")]
     LastNotExit { place: usize },
@@ -51,11 +50,11 @@ pub(crate) enum Edge {
 }
 
 /// Checks that the code never gets stuck, whatever the segment. Of instructions behind the first EXIT that is reached only
-/// the form is looked at: each must have a meaning, and the last one must be EXIT.
+/// the form is looked at: each must be taken, and the last one must be EXIT.
 pub(crate) fn check<A: Allocator>(code: &Code<A>) -> Result<(), CheckFault>
     ensures safe { OnOk result (IsSafe code.now) }
     ensures last { OnOk result (EndsInExit code.now) }
-    ensures meaning { OnOk result (HaveMeaning code.now) }
+    ensures taken { OnOk result (AreTaken code.now) }
     ensures fault { IfErr result (IsCheckFault code.now) }
 {
     check_forms(code)?;
@@ -63,14 +62,14 @@ pub(crate) fn check<A: Allocator>(code: &Code<A>) -> Result<(), CheckFault>
     check_reached(code)
 }
 
-/// Checks that each instruction has a meaning.
+/// Checks that each instruction is taken.
 fn check_forms<A: Allocator>(code: &Code<A>) -> Result<(), CheckFault>
-    ensures ok { OnOk result (HaveMeaning code.now) }
+    ensures ok { OnOk result (AreTaken code.now) }
     ensures err { IfErr result (IsCheckFault code.now) }
 {
     let instructions = code.instructions();
     for (index, insn) in instructions.iter().enumerate() {
-        if !has_meaning(*insn) {
+        if !is_taken(*insn) {
             let place = code.place(index);
             return Err(CheckFault::NotYet { place });
         }
@@ -78,9 +77,30 @@ fn check_forms<A: Allocator>(code: &Code<A>) -> Result<(), CheckFault>
     Ok(())
 }
 
+/// Whether an instruction's form is taken. The others are refused for now.
+#[tactic(auto, unfolding(crate::specs::Checks::is_taken))]
+fn is_taken(insn: Insn) -> bool
+    ensures { result ≡ is_taken insn }
+{
+    match insn {
+        Insn::Alu {
+            operation: Operation::Add | Operation::Move,
+            width: Width::Bits64,
+            source: Source::Immediate(_),
+            ..
+        } => true,
+        Insn::Load {
+            format: LoadFormat::Byte,
+            ..
+        } => true,
+        Insn::Exit => true,
+        _ => false,
+    }
+}
+
 /// Checks that the last instruction is EXIT.
 fn check_last<A: Allocator>(code: &Code<A>) -> Result<(), CheckFault>
-    requires { HaveMeaning code.now }
+    requires { AreTaken code.now }
     ensures ok { OnOk result (EndsInExit code.now) }
     ensures err { IfErr result (IsCheckFault code.now) }
 {
@@ -109,7 +129,7 @@ fn words(instructions: &[Insn]) -> usize
 
 /// Checks instruction by instruction up to the first EXIT that is reached.
 fn check_reached<A: Allocator>(code: &Code<A>) -> Result<(), CheckFault>
-    requires meaning { HaveMeaning code.now }
+    requires taken { AreTaken code.now }
     requires last { EndsInExit code.now }
     ensures ok { OnOk result (Passes entry code.now) }
     ensures err { IfErr result (IsCheckFault code.now) }
@@ -130,7 +150,7 @@ fn check_reached<A: Allocator>(code: &Code<A>) -> Result<(), CheckFault>
 
 /// The first check of an instruction that fails, or what is known behind it.
 fn visit(kinds: &Kinds, insn: Insn) -> Result<Edge, Cause>
-    requires { IsTrue (has_meaning insn) }
+    requires { IsTrue (is_taken insn) }
     ensures { result ≡ edge kinds.now insn }
 {
     match insn {
@@ -182,7 +202,7 @@ impl Kinds {
         destination: WritableRegister,
         source: Source,
     ) -> Result<Kind, Cause>
-        requires { IsTrue (has_meaning (Insn.Alu operation width destination source)) }
+        requires { IsTrue (is_taken (Insn.Alu operation width destination source)) }
         ensures { result ≡ operation_kind operation width destination.number (kind_of self.now destination.number) source }
     {
         let number = destination.number;

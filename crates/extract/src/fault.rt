@@ -15,8 +15,8 @@ pub enum ExtractFault {
     /// The bytes are no program.
     #[error("{0}")]
     Code(CodeFault),
-    /// What this instruction does isn't defined here yet. It's the first such one.
-    #[error("the instruction at place {place} has no meaning here yet")]
+    /// This instruction's form isn't taken yet. It's the first such one.
+    #[error("the instruction at place {place} isn't taken yet")]
     NotYet { place: usize },
     /// The last instruction isn't an exit.
     #[error("the last instruction, at place {place}, isn't an exit")]

@@ -1,4 +1,4 @@
-ghost use Rattle.std.specs.Prelude.{◌≡◌, ◌+◌, ◌≤◌, length};
+ghost use Rattle.std.specs.Prelude.{◌≡◌, ◌+◌, ◌≤◌, ◌++◌, codes, decimal, length};
 ghost use Rattle.bpf_insn.specs.FaultLine.{place_line};
 ghost use Rattle.extract.specs.FaultLine.{extract_line, cause_line, rt1_line};
 
@@ -35,22 +35,33 @@ fn refused_line(place: u64, cause: Cause) -> ArrayString<64>
 {
     match cause {
         Cause::OutOfProgram => numbered("refused 31 place ", place, " OutOfProgram"),
-        Cause::ReadsNothing(register) => reads_nothing(place, register),
+        Cause::IntoWide => numbered("refused 32 place ", place, " IntoWide"),
+        Cause::ReadsNothing(register) => {
+            parenthesized("refused 40 place ", place, " ReadsNothing(", register)
+        }
         Cause::PointerArithmetic => numbered("refused 41 place ", place, " PointerArithmetic"),
         Cause::LeavesArea => numbered("refused 42 place ", place, " LeavesArea"),
         Cause::NotPointer => numbered("refused 43 place ", place, " NotPointer"),
         Cause::OutOfBounds => numbered("refused 44 place ", place, " OutOfBounds"),
         Cause::UnwrittenFrame => numbered("refused 45 place ", place, " UnwrittenFrame"),
+        Cause::WritesRecord => numbered("refused 46 place ", place, " WritesRecord"),
+        Cause::StoresPointer => numbered("refused 47 place ", place, " StoresPointer"),
+        Cause::ComparesPointer => numbered("refused 48 place ", place, " ComparesPointer"),
+        Cause::UnknownHelper => numbered("refused 49 place ", place, " UnknownHelper"),
+        Cause::BadArgument(argument) => {
+            parenthesized("refused 50 place ", place, " BadArgument(", argument)
+        }
         Cause::ExitNotNumber => numbered("refused 51 place ", place, " ExitNotNumber"),
     }
 }
 
-fn reads_nothing(place: u64, register: u8) -> ArrayString<64>
-    ensures { result.bytes ≡ cause_line place (Cause.ReadsNothing register) }
+fn parenthesized(head: &str, place: u64, name: &str, inner: u8) -> ArrayString<64>
+    requires { length head.now + length name.now ≤ 40 }
+    ensures { result.bytes ≡ place_line head.now place name.now ++ decimal inner ++ codes ")" }
 {
     let mut digits = Buffer::new();
-    let mut line = numbered("refused 40 place ", place, " ReadsNothing(");
-    line.push_str(digits.format(register));
+    let mut line = numbered(head, place, name);
+    line.push_str(digits.format(inner));
     line.push_str(")");
     line
 }

@@ -151,152 +151,153 @@ fn each_write_fails(rt: HostRuntime) -> Result<(), Fail> {
     Ok(())
 }
 
+const PROGRAMS: [(&str, &[u8], Result<u64, &str>); 29] = [
+    ("mov r0, 1 | exit", EVERY, Ok(1)),
+    (
+        "ldxb r0, [r1+227] | exit",
+        b"\x71\x10\xe3\0\0\0\0\0\x95\0\0\0\0\0\0\0",
+        Ok(1),
+    ),
+    (
+        "mov r0, 0 | exit",
+        b"\xb7\0\0\0\0\0\0\0\x95\0\0\0\0\0\0\0",
+        Ok(0),
+    ),
+    (
+        "mov r0, 1 | exit | ldxb r0, [r9+0] | exit",
+        b"\xb7\0\0\0\x01\0\0\0\x95\0\0\0\0\0\0\0\x71\x90\0\0\0\0\0\0\x95\0\0\0\0\0\0\0",
+        Ok(1),
+    ),
+    (
+        "mov r0, 1 | exit | ldxb r0, [r9+0]",
+        b"\xb7\0\0\0\x01\0\0\0\x95\0\0\0\0\0\0\0\x71\x90\0\0\0\0\0\0",
+        Err("refused 33 place 2 LastNotExit"),
+    ),
+    (
+        "exit | mov r0, 1 | exit",
+        b"\x95\0\0\0\0\0\0\0\xb7\0\0\0\x01\0\0\0\x95\0\0\0\0\0\0\0",
+        Err("refused 40 place 0 ReadsNothing(0)"),
+    ),
+    (
+        "exit",
+        b"\x95\0\0\0\0\0\0\0",
+        Err("refused 40 place 0 ReadsNothing(0)"),
+    ),
+    ("no bytes", b"", Err("refused 10 Empty")),
+    (
+        "seven bytes",
+        b"\xb7\0\0\0\x01\0\0",
+        Err("refused 11 NotWhole"),
+    ),
+    (
+        "an opcode that no instruction has",
+        b"\x95\0\0\0\0\0\0\0\xff\0\0\0\0\0\0\0",
+        Err("refused 13 place 1 UnknownOpcode"),
+    ),
+    (
+        "exit | half of lddw r0, 0",
+        b"\x95\0\0\0\0\0\0\0\x18\0\0\0\0\0\0\0",
+        Err("refused 17 place 1 CutWide"),
+    ),
+    (
+        "mov r0, 7 | div r0, 0 | exit",
+        b"\xb7\0\0\0\x07\0\0\0\x37\0\0\0\0\0\0\0\x95\0\0\0\0\0\0\0",
+        Err("refused 34 place 1 NotYet"),
+    ),
+    (
+        "mov r0, 1 | lddw r1, 0 | ja 0 | exit",
+        b"\xb7\0\0\0\x01\0\0\0\x18\x01\0\0\0\0\0\0\0\0\0\0\0\0\0\0\x05\0\0\0\0\0\0\0\x95\0\0\0\0\0\0\0",
+        Err("refused 34 place 1 NotYet"),
+    ),
+    (
+        "mov r0, 1 | ja -1",
+        b"\xb7\0\0\0\x01\0\0\0\x05\0\xff\xff\0\0\0\0",
+        Err("refused 34 place 1 NotYet"),
+    ),
+    (
+        "mov r0, 1 | exit | mov r0, r1 | exit",
+        b"\xb7\0\0\0\x01\0\0\0\x95\0\0\0\0\0\0\0\xbf\x10\0\0\0\0\0\0\x95\0\0\0\0\0\0\0",
+        Err("refused 34 place 2 NotYet"),
+    ),
+    (
+        "ldxb r0, [r9+0] | neg r0 | exit",
+        b"\x71\x90\0\0\0\0\0\0\x87\0\0\0\0\0\0\0\x95\0\0\0\0\0\0\0",
+        Err("refused 34 place 1 NotYet"),
+    ),
+    (
+        "mov32 r0, 1 | ldxh r0, [r1+0] | exit",
+        b"\xb4\0\0\0\x01\0\0\0\x69\x10\0\0\0\0\0\0\x95\0\0\0\0\0\0\0",
+        Err("refused 34 place 0 NotYet"),
+    ),
+    (
+        "call 1",
+        b"\x85\0\0\0\x01\0\0\0",
+        Err("refused 34 place 0 NotYet"),
+    ),
+    (
+        "mov r11, 1 | exit",
+        b"\xb7\x0b\0\0\x01\0\0\0\x95\0\0\0\0\0\0\0",
+        Err("refused 14 place 0 BadRegister"),
+    ),
+    (
+        "a source register in mov r0, 1 | exit",
+        b"\xb7\x10\0\0\x01\0\0\0\x95\0\0\0\0\0\0\0",
+        Err("refused 15 place 0 UnusedNotZero"),
+    ),
+    (
+        "mov r10, 1 | exit",
+        b"\xb7\x0a\0\0\x01\0\0\0\x95\0\0\0\0\0\0\0",
+        Err("refused 18 place 0 WritesFramePointer"),
+    ),
+    (
+        "mov r0, 1",
+        b"\xb7\0\0\0\x01\0\0\0",
+        Err("refused 33 place 0 LastNotExit"),
+    ),
+    (
+        "ldxb r0, [r1+228] | exit",
+        b"\x71\x10\xe4\0\0\0\0\0\x95\0\0\0\0\0\0\0",
+        Err("refused 44 place 0 OutOfBounds"),
+    ),
+    (
+        "add r1, 228 | ldxb r0, [r1+0] | exit",
+        b"\x07\x01\0\0\xe4\0\0\0\x71\x10\0\0\0\0\0\0\x95\0\0\0\0\0\0\0",
+        Err("refused 44 place 1 OutOfBounds"),
+    ),
+    (
+        "mov r2, 5 | ldxb r0, [r2+0] | exit",
+        b"\xb7\x02\0\0\x05\0\0\0\x71\x20\0\0\0\0\0\0\x95\0\0\0\0\0\0\0",
+        Err("refused 43 place 1 NotPointer"),
+    ),
+    (
+        "ldxb r0, [r10-8] | exit",
+        b"\x71\xa0\xf8\xff\0\0\0\0\x95\0\0\0\0\0\0\0",
+        Err("refused 45 place 0 UnwrittenFrame"),
+    ),
+    (
+        "add r1, 32768 | exit",
+        b"\x07\x01\0\0\0\x80\0\0\x95\0\0\0\0\0\0\0",
+        Err("refused 41 place 0 PointerArithmetic"),
+    ),
+    (
+        "add r1, 32767 | add r1, 1 | exit",
+        b"\x07\x01\0\0\xff\x7f\0\0\x07\x01\0\0\x01\0\0\0\x95\0\0\0\0\0\0\0",
+        Err("refused 42 place 1 LeavesArea"),
+    ),
+    (
+        "ldxb r0, [r9+0] | exit",
+        b"\x71\x90\0\0\0\0\0\0\x95\0\0\0\0\0\0\0",
+        Err("refused 40 place 0 ReadsNothing(9)"),
+    ),
+];
+
 #[test]
 fn programs(rt: HostRuntime) -> Result<(), Fail> {
     let pieces: [&[u8]; 2] = [RECORD, b"\n"];
     let file = pieces.concat(rt.alloc())?;
     let pieces: [&[u8]; 3] = [b"0\t", RECORD, b"\n"];
     let row = pieces.concat(rt.alloc())?;
-    let cases: [(&str, &[u8], Result<u64, &str>); 29] = [
-        ("mov r0, 1 | exit", EVERY, Ok(1)),
-        (
-            "ldxb r0, [r1+227] | exit",
-            b"\x71\x10\xe3\0\0\0\0\0\x95\0\0\0\0\0\0\0",
-            Ok(1),
-        ),
-        (
-            "mov r0, 0 | exit",
-            b"\xb7\0\0\0\0\0\0\0\x95\0\0\0\0\0\0\0",
-            Ok(0),
-        ),
-        (
-            "mov r0, 1 | exit | ldxb r0, [r9+0] | exit",
-            b"\xb7\0\0\0\x01\0\0\0\x95\0\0\0\0\0\0\0\x71\x90\0\0\0\0\0\0\x95\0\0\0\0\0\0\0",
-            Ok(1),
-        ),
-        (
-            "mov r0, 1 | exit | ldxb r0, [r9+0]",
-            b"\xb7\0\0\0\x01\0\0\0\x95\0\0\0\0\0\0\0\x71\x90\0\0\0\0\0\0",
-            Err("refused 33 place 2 LastNotExit"),
-        ),
-        (
-            "exit | mov r0, 1 | exit",
-            b"\x95\0\0\0\0\0\0\0\xb7\0\0\0\x01\0\0\0\x95\0\0\0\0\0\0\0",
-            Err("refused 40 place 0 ReadsNothing(0)"),
-        ),
-        (
-            "exit",
-            b"\x95\0\0\0\0\0\0\0",
-            Err("refused 40 place 0 ReadsNothing(0)"),
-        ),
-        ("no bytes", b"", Err("refused 10 Empty")),
-        (
-            "seven bytes",
-            b"\xb7\0\0\0\x01\0\0",
-            Err("refused 11 NotWhole"),
-        ),
-        (
-            "an opcode that no instruction has",
-            b"\x95\0\0\0\0\0\0\0\xff\0\0\0\0\0\0\0",
-            Err("refused 13 place 1 UnknownOpcode"),
-        ),
-        (
-            "exit | half of lddw r0, 0",
-            b"\x95\0\0\0\0\0\0\0\x18\0\0\0\0\0\0\0",
-            Err("refused 17 place 1 CutWide"),
-        ),
-        (
-            "mov r0, 7 | div r0, 0 | exit",
-            b"\xb7\0\0\0\x07\0\0\0\x37\0\0\0\0\0\0\0\x95\0\0\0\0\0\0\0",
-            Err("refused 34 place 1 NotYet"),
-        ),
-        (
-            "mov r0, 1 | lddw r1, 0 | ja 0 | exit",
-            b"\xb7\0\0\0\x01\0\0\0\x18\x01\0\0\0\0\0\0\0\0\0\0\0\0\0\0\x05\0\0\0\0\0\0\0\x95\0\0\0\0\0\0\0",
-            Err("refused 34 place 1 NotYet"),
-        ),
-        (
-            "mov r0, 1 | ja -1",
-            b"\xb7\0\0\0\x01\0\0\0\x05\0\xff\xff\0\0\0\0",
-            Err("refused 34 place 1 NotYet"),
-        ),
-        (
-            "mov r0, 1 | exit | mov r0, r1 | exit",
-            b"\xb7\0\0\0\x01\0\0\0\x95\0\0\0\0\0\0\0\xbf\x10\0\0\0\0\0\0\x95\0\0\0\0\0\0\0",
-            Err("refused 34 place 2 NotYet"),
-        ),
-        (
-            "ldxb r0, [r9+0] | neg r0 | exit",
-            b"\x71\x90\0\0\0\0\0\0\x87\0\0\0\0\0\0\0\x95\0\0\0\0\0\0\0",
-            Err("refused 34 place 1 NotYet"),
-        ),
-        (
-            "mov32 r0, 1 | ldxh r0, [r1+0] | exit",
-            b"\xb4\0\0\0\x01\0\0\0\x69\x10\0\0\0\0\0\0\x95\0\0\0\0\0\0\0",
-            Err("refused 34 place 0 NotYet"),
-        ),
-        (
-            "call 1",
-            b"\x85\0\0\0\x01\0\0\0",
-            Err("refused 34 place 0 NotYet"),
-        ),
-        (
-            "mov r11, 1 | exit",
-            b"\xb7\x0b\0\0\x01\0\0\0\x95\0\0\0\0\0\0\0",
-            Err("refused 14 place 0 BadRegister"),
-        ),
-        (
-            "a source register in mov r0, 1 | exit",
-            b"\xb7\x10\0\0\x01\0\0\0\x95\0\0\0\0\0\0\0",
-            Err("refused 15 place 0 UnusedNotZero"),
-        ),
-        (
-            "mov r10, 1 | exit",
-            b"\xb7\x0a\0\0\x01\0\0\0\x95\0\0\0\0\0\0\0",
-            Err("refused 18 place 0 WritesFramePointer"),
-        ),
-        (
-            "mov r0, 1",
-            b"\xb7\0\0\0\x01\0\0\0",
-            Err("refused 33 place 0 LastNotExit"),
-        ),
-        (
-            "ldxb r0, [r1+228] | exit",
-            b"\x71\x10\xe4\0\0\0\0\0\x95\0\0\0\0\0\0\0",
-            Err("refused 44 place 0 OutOfBounds"),
-        ),
-        (
-            "add r1, 228 | ldxb r0, [r1+0] | exit",
-            b"\x07\x01\0\0\xe4\0\0\0\x71\x10\0\0\0\0\0\0\x95\0\0\0\0\0\0\0",
-            Err("refused 44 place 1 OutOfBounds"),
-        ),
-        (
-            "mov r2, 5 | ldxb r0, [r2+0] | exit",
-            b"\xb7\x02\0\0\x05\0\0\0\x71\x20\0\0\0\0\0\0\x95\0\0\0\0\0\0\0",
-            Err("refused 43 place 1 NotPointer"),
-        ),
-        (
-            "ldxb r0, [r10-8] | exit",
-            b"\x71\xa0\xf8\xff\0\0\0\0\x95\0\0\0\0\0\0\0",
-            Err("refused 45 place 0 UnwrittenFrame"),
-        ),
-        (
-            "add r1, 32768 | exit",
-            b"\x07\x01\0\0\0\x80\0\0\x95\0\0\0\0\0\0\0",
-            Err("refused 41 place 0 PointerArithmetic"),
-        ),
-        (
-            "add r1, 32767 | add r1, 1 | exit",
-            b"\x07\x01\0\0\xff\x7f\0\0\x07\x01\0\0\x01\0\0\0\x95\0\0\0\0\0\0\0",
-            Err("refused 42 place 1 LeavesArea"),
-        ),
-        (
-            "ldxb r0, [r9+0] | exit",
-            b"\x71\x90\0\0\0\0\0\0\x95\0\0\0\0\0\0\0",
-            Err("refused 40 place 0 ReadsNothing(9)"),
-        ),
-    ];
-    for (text, program, expected) in cases {
+    for (text, program, expected) in PROGRAMS {
         let mut rt1 = reader(&file, 0, ErrorKind::BrokenPipe);
         let mut out = Counting::new(Vec::with_capacity(rt.alloc(), 500)?);
         let given = answer(rt.alloc(), program, &mut rt1, &mut out);
@@ -312,145 +313,146 @@ fn programs(rt: HostRuntime) -> Result<(), Fail> {
     Ok(())
 }
 
+// The file has a record, the end of its line, and a record with other bytes from one offset to another.
+const FILES: [(&[u8], usize, &[u8], usize, Result<u64, &str>, &[u8]); 20] = [
+    (b"\n", 228, b"\n", 228, Ok(2), b""),
+    (b"\r\n", 228, b"\r\n", 228, Ok(2), b""),
+    (b"\r\n", 228, b"\n", 0, Ok(3), b"\n0\t"),
+    (
+        b"\n",
+        19,
+        b"\xff\x80\xc3\xa9",
+        23,
+        Ok(2),
+        b"\xff\x80\xc3\xa9",
+    ),
+    (b"\n", 19, b"\r", 20, Ok(2), b"\r"),
+    (
+        b"\r\n",
+        227,
+        b"\n",
+        0,
+        Err("refused 1 rt1 line 2 WrongLength"),
+        b"",
+    ),
+    (
+        b"\n",
+        228,
+        b" \n",
+        0,
+        Err("refused 1 rt1 line 2 WrongLength"),
+        b"",
+    ),
+    (
+        b"\n",
+        228,
+        b"  \n",
+        0,
+        Err("refused 1 rt1 line 2 WrongLength"),
+        b"",
+    ),
+    (
+        b"\n",
+        228,
+        b"   \n",
+        0,
+        Err("refused 1 rt1 line 2 WrongLength"),
+        b"",
+    ),
+    (
+        b"\n",
+        0,
+        b"\n",
+        0,
+        Err("refused 1 rt1 line 2 WrongLength"),
+        b"",
+    ),
+    (
+        b"\n",
+        0,
+        b"\n",
+        228,
+        Err("refused 1 rt1 line 2 WrongLength"),
+        b"",
+    ),
+    (
+        b"\n",
+        0,
+        b"\r\n",
+        0,
+        Err("refused 1 rt1 line 2 WrongLength"),
+        b"",
+    ),
+    (
+        b"\n",
+        228,
+        b"\r",
+        228,
+        Err("refused 1 rt1 line 2 WrongLength"),
+        b"",
+    ),
+    (
+        b"\n",
+        228,
+        b"\r\r\n",
+        0,
+        Err("refused 1 rt1 line 2 WrongLength"),
+        b"",
+    ),
+    (
+        b"\n",
+        228,
+        b"\n0",
+        228,
+        Err("refused 1 rt1 line 3 WrongLength"),
+        b"",
+    ),
+    (
+        b"\r",
+        228,
+        b"\n",
+        0,
+        Err("refused 1 rt1 line 1 WrongLength"),
+        b"",
+    ),
+    (
+        b"\n",
+        0,
+        b"2",
+        1,
+        Err("refused 2 rt1 line 2 WrongType"),
+        b"",
+    ),
+    (
+        b"\n",
+        5,
+        b"          ",
+        15,
+        Err("refused 3 rt1 line 2 BadTlid"),
+        b"",
+    ),
+    (
+        b"\n",
+        5,
+        b" 12345678x",
+        15,
+        Err("refused 3 rt1 line 2 BadTlid"),
+        b"",
+    ),
+    (
+        b"\n",
+        0,
+        b"20006          ",
+        15,
+        Err("refused 2 rt1 line 2 WrongType"),
+        b"",
+    ),
+];
+
 #[test]
 fn files(rt: HostRuntime) -> Result<(), Fail> {
-    // The file has a record, the end of its line, and a record with other bytes from one offset to another.
-    let cases: [(&[u8], usize, &[u8], usize, Result<u64, &str>, &[u8]); 20] = [
-        (b"\n", 228, b"\n", 228, Ok(2), b""),
-        (b"\r\n", 228, b"\r\n", 228, Ok(2), b""),
-        (b"\r\n", 228, b"\n", 0, Ok(3), b"\n0\t"),
-        (
-            b"\n",
-            19,
-            b"\xff\x80\xc3\xa9",
-            23,
-            Ok(2),
-            b"\xff\x80\xc3\xa9",
-        ),
-        (b"\n", 19, b"\r", 20, Ok(2), b"\r"),
-        (
-            b"\r\n",
-            227,
-            b"\n",
-            0,
-            Err("refused 1 rt1 line 2 WrongLength"),
-            b"",
-        ),
-        (
-            b"\n",
-            228,
-            b" \n",
-            0,
-            Err("refused 1 rt1 line 2 WrongLength"),
-            b"",
-        ),
-        (
-            b"\n",
-            228,
-            b"  \n",
-            0,
-            Err("refused 1 rt1 line 2 WrongLength"),
-            b"",
-        ),
-        (
-            b"\n",
-            228,
-            b"   \n",
-            0,
-            Err("refused 1 rt1 line 2 WrongLength"),
-            b"",
-        ),
-        (
-            b"\n",
-            0,
-            b"\n",
-            0,
-            Err("refused 1 rt1 line 2 WrongLength"),
-            b"",
-        ),
-        (
-            b"\n",
-            0,
-            b"\n",
-            228,
-            Err("refused 1 rt1 line 2 WrongLength"),
-            b"",
-        ),
-        (
-            b"\n",
-            0,
-            b"\r\n",
-            0,
-            Err("refused 1 rt1 line 2 WrongLength"),
-            b"",
-        ),
-        (
-            b"\n",
-            228,
-            b"\r",
-            228,
-            Err("refused 1 rt1 line 2 WrongLength"),
-            b"",
-        ),
-        (
-            b"\n",
-            228,
-            b"\r\r\n",
-            0,
-            Err("refused 1 rt1 line 2 WrongLength"),
-            b"",
-        ),
-        (
-            b"\n",
-            228,
-            b"\n0",
-            228,
-            Err("refused 1 rt1 line 3 WrongLength"),
-            b"",
-        ),
-        (
-            b"\r",
-            228,
-            b"\n",
-            0,
-            Err("refused 1 rt1 line 1 WrongLength"),
-            b"",
-        ),
-        (
-            b"\n",
-            0,
-            b"2",
-            1,
-            Err("refused 2 rt1 line 2 WrongType"),
-            b"",
-        ),
-        (
-            b"\n",
-            5,
-            b"          ",
-            15,
-            Err("refused 3 rt1 line 2 BadTlid"),
-            b"",
-        ),
-        (
-            b"\n",
-            5,
-            b" 12345678x",
-            15,
-            Err("refused 3 rt1 line 2 BadTlid"),
-            b"",
-        ),
-        (
-            b"\n",
-            0,
-            b"20006          ",
-            15,
-            Err("refused 2 rt1 line 2 WrongType"),
-            b"",
-        ),
-    ];
     let record: &[u8] = RECORD;
-    for (end, first, bytes, last, expected, carried) in cases {
+    for (end, first, bytes, last, expected, carried) in FILES {
         assert!(rt; first <= record.len() && last <= record.len());
         let (before, after) = (&record[..first], &record[last..]);
         let pieces: [&[u8]; 5] = [record, end, before, bytes, after];

@@ -1,14 +1,20 @@
-use Rattle.std.proofs.Common.{ℕ, Result, Ok, sym, ap, ◌∙◌}
+use Rattle.std.proofs.Common.{◌≡◌, ℕ, ◌+◌, ◌-◌, length, map, Some, Result, Ok, ap, ◌∙◌, arith}
+use Rattle.std.proofs.lemmas.List.{length-map}
 use Rattle.std.proofs.lemmas.Int.{to_z-of_z}
 use Rattle.bpf_insn.specs.declared.value.Value.{Value}
 use Rattle.bpf_insn.specs.declared.value.Value.TheVariants.{Number}
+use Rattle.bpf_meaning.specs.Memory.{Byte, number_of}
 use Rattle.bpf_meaning.specs.declared.cause.Cause.{Cause}
-use Rattle.bpf_meaning.proofs.StepLemmas.{record_byte}
+use Rattle.bpf_meaning.proofs.StepLemmas.{load_inside, part_of_record}
 use Rattle.bpf_meaning.proofs.memory.load_record.Goals as goal
 
 pub returns : goal.returns
 returns c =
-    let fits = c.ranges.start in
-    let at = simp to_z-of_z at c.in-Ok.ensures in
-    ap (λ (byte : ℕ). let r : Result Value Cause = Ok (Number byte) in r) c.from.ensures
-    ∙ sym (record_byte c.args.format c.args.bytes.now c.args.start c.in-Ok.start c.requires at.0 at.1 c.if-start-bytes.false)
+    let fits = c.ranges.offset in
+    let inside = simp to_z-of_z at c.in-Some.ensures in
+    let long : length c.args.bytes.now ≡ length (map Byte c.args.bytes.now) = simp length-map in
+    let part = part_of_record c.args.bytes.now c.in-Some.at c.load_length-count.result (c.in-Some.at + c.load_length-count.result - c.in-Some.at) (omega arith) in
+    ap (λ (n : ℕ). let r : Result Value Cause = Ok (Number n) in r) c.extend.ensures
+    ∙ load_inside c.args.format (map Byte c.args.bytes.now) c.args.offset c.in-Some.at c.load_length-count.result (length c.args.bytes.now) (Some c.little_endian-number.result)
+    c.load_length-count.ensures.value long inside.0 inside.1
+    (c.little_endian-number.ensures.value ∙ ap number_of part)

@@ -15,7 +15,7 @@ pub returns-in-Err-clause-err : goal.returns-in-Err-clause-err
 returns-in-Err-clause-err g c =
     let fails : edge c.loop-insn.kinds c.insn-item.result ≡ Err c.in-Err.cause = cc in
     reaches_fault c.args.code.now c.instructions-instructions.result.now c.loop-insn.insn-index c.insn-item.result c.loop-insn.kinds c.loop-insn.place
-    c.in-Err.cause c.instructions-instructions.ensures.value c.loop-insn-test.true c.insn-item.is c.loop-insn.invariant.lead c.requires.meaning c.requires.last
+    c.in-Err.cause c.instructions-instructions.ensures.value c.loop-insn-test.true c.insn-item.is c.loop-insn.invariant.lead c.requires.taken c.requires.last
     c.loop-insn.invariant.place fails
 
 pub overflow_add-place : goal.overflow_add-place

@@ -1,11 +1,7 @@
 use Rattle.std.proofs.Common.{length, ap, arith}
-use Rattle.extract.proofs.MachineLemmas.{goes_on, comes_to_answer, is_never_stuck, has_exited, has_meaning_there}
+use Rattle.bpf_meaning.proofs.RunLemmas.{goes_on}
+use Rattle.extract.proofs.MachineLemmas.{comes_to_answer, is_never_stuck, has_exited}
 use Rattle.extract.proofs.machine.run.Goals as goal
-
-pub step-requires : goal.step-requires
-step-requires g c =
-    has_meaning_there c.args.code.now c.args.segment.now c.loop-steps._steps c.loop-steps.state
-    (c.requires.safe.exits c.args.segment.now c.requires.segment) c.loop-steps.invariant
 
 pub loop-steps-preserved : goal.loop-steps-preserved
 loop-steps-preserved g c =

@@ -1,4 +1,4 @@
-use Rattle.extract.proofs.MachineLemmas.{IsOnItsWay}
+use Rattle.bpf_meaning.proofs.RunLemmas.{IsOnItsWay}
 use Rattle.extract.proofs.machine.run.Given as goal
 
 -- a run of so many steps is on its way in this state

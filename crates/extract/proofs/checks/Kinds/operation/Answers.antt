@@ -1,6 +1,6 @@
 use Rattle.std.proofs.Common.{◌≡◌, inl, inr, sym, ◌∙◌}
 use Rattle.bpf_insn.specs.declared.instruction.Width.TheVariants.{Bits32, Bits64}
-use Rattle.bpf_meaning.proofs.MeaningLemmas.{width_is, source_is, operation_is}
+use Rattle.extract.proofs.FormLemmas.{width_is, source_is, operation_is}
 use Rattle.extract.proofs.checks.Kinds.operation.Goals as goal
 use Rattle.extract.proofs.checks.Kinds.operation.Goals.{in_default-2-via-in-Add+in_default, in_default-2-via-in-Move+in_default, in_default-2-via-in_default}
 

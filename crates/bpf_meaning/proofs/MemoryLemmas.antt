@@ -1,0 +1,192 @@
+-- Marks beside bytes, and what is read and written of them.
+use Rattle.std.proofs.Common.{◌≡◌, ℕ, zero, suc, ◌+◌, ◌-◌, ◌*◌, ◌/◌, ◌%◌, ◌<◌, ◌≤◌, ◌^◌, Bool, true, false, List, [], ◌∷◌, ◌++◌, length, map, take, drop, replicate, Option, Some, None, refl, sym, ap, ◌∙◌, arith, lit<, min, append_assoc, length-append}
+use Rattle.std.specs.List.{list_any}
+use Rattle.std.proofs.lemmas.Bool.{false≢true}
+use Rattle.std.proofs.lemmas.List.{length-take, length-take-le, length-drop, length-map, length-replicate, drop-drop, take_at, drop_at}
+use borrow.Rule.Slice.PartMut.{put_mid, mid_of}
+use Rattle.std.proofs.Math.Arith.{mod-mul}
+use Rattle.std.proofs.Math.Nat.{pow-le-pow_right, pow-suc, one-le-pow, div-one, mod-one, div-div-eq-div-mul}
+use Rattle.std.proofs.lemmas.Nat.{pow-add}
+use Rattle.std.specs.Option.{option_map}
+use Rattle.std.specs.Int.{byte_at, bytes_low_first}
+use Rattle.bpf_meaning.specs.Memory.{FrameByte, FrameContents, Unwritten, Byte, marked, number_of, written}
+
+-- as many bytes as marks
+
+pub marked-nil : (marks : List Bool) → marked marks [] ≡ []
+marked-nil [] = refl
+marked-nil (mark ∷ marks) = refl
+
+pub length-marked : (marks : List Bool) (bytes : List ℕ) → length marks ≡ length bytes → length (marked marks bytes) ≡ length bytes
+length-marked [] [] same = refl
+length-marked [] (byte ∷ bytes) same = absurd (omega arith)
+length-marked (mark ∷ marks) [] same = absurd (omega arith)
+length-marked (true ∷ marks) (byte ∷ bytes) same = let more = length-marked marks bytes (omega arith) in omega arith
+length-marked (false ∷ marks) (byte ∷ bytes) same = let more = length-marked marks bytes (omega arith) in omega arith
+
+pub take-marked : (k : ℕ) (marks : List Bool) (bytes : List ℕ) → take k (marked marks bytes) ≡ marked (take k marks) (take k bytes)
+take-marked zero marks bytes = refl
+take-marked (suc k) [] bytes = refl
+take-marked (suc k) (mark ∷ marks) [] = refl
+take-marked (suc k) (true ∷ marks) (byte ∷ bytes) = ap (λ (l : List FrameByte). Byte byte ∷ l) (take-marked k marks bytes)
+take-marked (suc k) (false ∷ marks) (byte ∷ bytes) = ap (λ (l : List FrameByte). Unwritten ∷ l) (take-marked k marks bytes)
+
+pub drop-marked : (k : ℕ) (marks : List Bool) (bytes : List ℕ) → drop k (marked marks bytes) ≡ marked (drop k marks) (drop k bytes)
+drop-marked zero marks bytes = refl
+drop-marked (suc k) [] bytes = refl
+drop-marked (suc k) (mark ∷ marks) [] = sym (marked-nil (drop k marks))
+drop-marked (suc k) (true ∷ marks) (byte ∷ bytes) = drop-marked k marks bytes
+drop-marked (suc k) (false ∷ marks) (byte ∷ bytes) = drop-marked k marks bytes
+
+pub marked-append : (marks more : List Bool) (bytes others : List ℕ) → length marks ≡ length bytes → marked (marks ++ more) (bytes ++ others) ≡ marked marks bytes ++ marked more others
+marked-append [] more [] others same = refl
+marked-append [] more (byte ∷ bytes) others same = absurd (omega arith)
+marked-append (mark ∷ marks) more [] others same = absurd (omega arith)
+marked-append (true ∷ marks) more (byte ∷ bytes) others same = ap (λ (l : List FrameByte). Byte byte ∷ l) (marked-append marks more bytes others (omega arith))
+marked-append (false ∷ marks) more (byte ∷ bytes) others same = ap (λ (l : List FrameByte). Unwritten ∷ l) (marked-append marks more bytes others (omega arith))
+
+pub marked-replicate : (count : ℕ) (bytes : List ℕ) → length bytes ≡ count → marked (replicate count true) bytes ≡ map Byte bytes
+marked-replicate zero [] same = refl
+marked-replicate zero (byte ∷ bytes) same = absurd (omega arith)
+marked-replicate (suc count) [] same = absurd (omega arith)
+marked-replicate (suc count) (byte ∷ bytes) same = ap (λ (l : List FrameByte). Byte byte ∷ l) (marked-replicate count bytes (omega arith))
+
+-- the little-endian number of at most eight bytes fits
+
+power_grows : (n : ℕ) → n ≤ 7 → 256 ^ n ≤ 256 ^ 7
+power_grows n small = pow-le-pow_right (lit< tt) small
+
+pub low_fits : (number n : ℕ) → number < 256 ^ n → n ≤ 7 → 256 * number + 255 < 2 ^ 64
+low_fits number n below small = let most = power_grows n small in omega (arith, most, below)
+
+pub fits_more : (byte number n : ℕ) → byte < 256 → number < 256 ^ n → byte + 256 * number < 256 ^ (n + 1)
+fits_more byte number n small below = rw pow-add (omega (arith, below))
+
+-- what is read: a byte without a mark makes the number none, and with marks alone it's that of the bytes
+
+pub number_of-unmarked : (is_unmarked : Bool → Bool) (marks : List Bool) (bytes : List ℕ) → is_unmarked true ≡ false → length marks ≡ length bytes → list_any is_unmarked marks ≡ true → number_of (marked marks bytes) ≡ None
+number_of-unmarked is_unmarked [] bytes test same any = absurd (false≢true any)
+number_of-unmarked is_unmarked (mark ∷ marks) [] test same any = absurd (omega arith)
+number_of-unmarked is_unmarked (false ∷ marks) (byte ∷ bytes) test same any = refl
+number_of-unmarked is_unmarked (true ∷ marks) (byte ∷ bytes) test same any =
+    let later : list_any is_unmarked marks ≡ true = rw test at any in
+    ap (option_map (λ rest. byte + 256 * rest)) (number_of-unmarked is_unmarked marks bytes test (omega arith) later)
+
+pub marked-all : (is_unmarked : Bool → Bool) (marks : List Bool) (bytes : List ℕ) → is_unmarked false ≡ true → is_unmarked true ≡ false → length marks ≡ length bytes → list_any is_unmarked marks ≡ false → marked marks bytes ≡ map Byte bytes
+marked-all is_unmarked [] [] test other same any = refl
+marked-all is_unmarked [] (byte ∷ bytes) test other same any = absurd (omega arith)
+marked-all is_unmarked (mark ∷ marks) [] test other same any = absurd (omega arith)
+marked-all is_unmarked (false ∷ marks) (byte ∷ bytes) test other same any = absurd (let e : true ≡ false = rw test at any in false≢true (sym e))
+marked-all is_unmarked (true ∷ marks) (byte ∷ bytes) test other same any =
+    let later : list_any is_unmarked marks ≡ false = rw other at any in
+    ap (λ (l : List FrameByte). Byte byte ∷ l) (marked-all is_unmarked marks bytes test other (omega arith) later)
+
+-- what is written
+
+pub take-bytes_low_first : (i k n number : ℕ) → n ≤ k → take n (bytes_low_first i k number) ≡ bytes_low_first i n number
+take-bytes_low_first i k zero number less = refl
+take-bytes_low_first i zero (suc n) number less = absurd (omega arith)
+take-bytes_low_first i (suc k) (suc n) number less = ap (λ (l : List ℕ). byte_at i number ∷ l) (take-bytes_low_first (suc i) k n number (omega arith))
+
+pub length-bytes_low_first : (i n number : ℕ) → length (bytes_low_first i n number) ≡ n
+length-bytes_low_first i zero number = refl
+length-bytes_low_first i (suc n) number = let more = length-bytes_low_first (suc i) n number in omega arith
+
+-- marks and bytes written from a place on, as many as of the number
+pub marked-put_mid : (marks : List Bool) (bytes : List ℕ) (at k count number : ℕ) → length marks ≡ length bytes → k ≡ count → marked (put_mid at k marks (replicate count true)) (put_mid at k bytes (bytes_low_first 0 count number)) ≡ written (marked marks bytes) at count number
+marked-put_mid marks bytes at k count number same is =
+    let front : length (take at marks) ≡ length (take at bytes) = length-take at marks ∙ ap (λ (n : ℕ). min at n) same ∙ sym (length-take at bytes) in
+    let low = bytes_low_first 0 count number in
+    let long : length low ≡ count = length-bytes_low_first 0 count number in
+    let middle : length (replicate count true) ≡ length low = length-replicate count true ∙ sym long in
+    marked-append (take at marks) (replicate count true ++ drop k (drop at marks)) (take at bytes) (low ++ drop k (drop at bytes)) front
+    ∙ ap (λ (l : List FrameByte). l ++ marked (replicate count true ++ drop k (drop at marks)) (low ++ drop k (drop at bytes))) (sym (take-marked at marks bytes))
+    ∙ ap (λ (l : List FrameByte). take at (marked marks bytes) ++ l)
+    (marked-append (replicate count true) (drop k (drop at marks)) low (drop k (drop at bytes)) middle
+    ∙ ap (λ (l : List FrameByte). l ++ marked (drop k (drop at marks)) (drop k (drop at bytes))) (marked-replicate count low long)
+    ∙ ap (λ (l : List FrameByte). map Byte low ++ l) (sym (drop-marked k (drop at marks) (drop at bytes)) ∙ ap (λ (l : List FrameByte). drop k l) (sym (drop-marked at marks bytes)) ∙ rest (marked marks bytes)))
+    ∙ sym (append_assoc (take at (marked marks bytes)) (map Byte low) (drop (at + count) (marked marks bytes)))
+  where
+    rest : (memory : List FrameByte) → drop k (drop at memory) ≡ drop (at + count) memory
+    rest memory = ap (λ (n : ℕ). drop n (drop at memory)) is ∙ drop-drop count at memory
+
+-- the three at a frame's contents
+
+part_of : (marks : List Bool) (bytes : List ℕ) (memory : List FrameByte) (at count k : ℕ) → k ≡ count → marked marks bytes ≡ memory → take count (drop at memory) ≡ marked (mid_of at k marks) (mid_of at k bytes)
+part_of marks bytes memory at count k is same =
+    ap (λ (m : List FrameByte). take count (drop at m)) (sym same) ∙ ap (λ (n : ℕ). take n (drop at (marked marks bytes))) (sym is)
+    ∙ ap (λ (l : List FrameByte). take k l) (drop-marked at marks bytes) ∙ take-marked k (drop at marks) (drop at bytes)
+
+same_parts : (marks : List Bool) (bytes : List ℕ) (at k : ℕ) → length marks ≡ length bytes → length (mid_of at k marks) ≡ length (mid_of at k bytes)
+same_parts marks bytes at k same = simp (length-take, length-drop) (ap (λ (n : ℕ). min k (n - at)) same)
+
+pub unwritten_is_none : (is_unmarked : Bool → Bool) (marks : List Bool) (bytes : List ℕ) (memory : List FrameByte) (at count k : ℕ) → is_unmarked true ≡ false → k ≡ count → length marks ≡ length bytes → marked marks bytes ≡ memory → list_any is_unmarked (mid_of at k marks) ≡ true → number_of (take count (drop at memory)) ≡ None
+unwritten_is_none is_unmarked marks bytes memory at count k test is same view any =
+    ap number_of (part_of marks bytes memory at count k is view)
+    ∙ number_of-unmarked is_unmarked (mid_of at k marks) (mid_of at k bytes) test (same_parts marks bytes at k same) any
+
+pub written_is_number : (is_unmarked : Bool → Bool) (marks : List Bool) (bytes : List ℕ) (memory : List FrameByte) (at count k : ℕ) → is_unmarked false ≡ true → is_unmarked true ≡ false → k ≡ count → length marks ≡ length bytes → marked marks bytes ≡ memory → list_any is_unmarked (mid_of at k marks) ≡ false → number_of (take count (drop at memory)) ≡ number_of (map Byte (mid_of at k bytes))
+written_is_number is_unmarked marks bytes memory at count k test other is same view any =
+    ap number_of (part_of marks bytes memory at count k is view
+    ∙ marked-all is_unmarked (mid_of at k marks) (mid_of at k bytes) test other (same_parts marks bytes at k same) any)
+
+pub store_writes : (marks : List Bool) (bytes : List ℕ) (frame : FrameContents) (at count k number : ℕ) (new_bytes : List ℕ) (new_marks : List Bool) → length marks ≡ length bytes → k ≡ count → length (mid_of at k marks) ≡ count → count ≤ 8 → record { bytes = marked marks bytes } ≡ frame → new_bytes ≡ take count (bytes_low_first 0 8 number) → new_marks ≡ replicate (length (mid_of at k marks)) true → (let new : FrameContents = record { bytes = marked (put_mid at k marks new_marks) (put_mid at k bytes new_bytes) } in new) ≡ record frame { bytes = written frame.bytes at count number }
+store_writes marks bytes frame at count k number new_bytes new_marks same is long short view low all =
+    let low_is : new_bytes ≡ bytes_low_first 0 count number = low ∙ take-bytes_low_first 0 8 count number short in
+    let all_are : new_marks ≡ replicate count true = all ∙ ap (λ (n : ℕ). replicate n true) long in
+    let contents : List FrameByte → FrameContents = λ l. record { bytes = l } in
+    ap (λ (l : List ℕ). contents (marked (put_mid at k marks new_marks) (put_mid at k bytes l))) low_is
+    ∙ ap (λ (l : List Bool). contents (marked (put_mid at k marks l) (put_mid at k bytes (bytes_low_first 0 count number)))) all_are
+    ∙ ap contents (marked-put_mid marks bytes at k count number same is)
+    ∙ ap (λ (f : FrameContents). contents (written f.bytes at count number)) view
+
+-- what was stored is loaded, and other bytes stay
+
+byte_at-is : (i number : ℕ) → byte_at i number ≡ number / 256 ^ i % 256
+byte_at-is zero number = sym (ap (λ (n : ℕ). n % 256) (div-one number))
+byte_at-is (suc i) number = refl
+
+-- the byte i of a number and those above it, so many
+one_byte_more : (i count number : ℕ) → byte_at i number + 256 * (number / 256 ^ suc i % 256 ^ count) ≡ number / 256 ^ i % 256 ^ suc count
+one_byte_more i count number =
+    let above : number / 256 ^ suc i ≡ number / 256 ^ i / 256 = ap (λ (n : ℕ). number / n) (pow-suc 256 i) ∙ sym (div-div-eq-div-mul number (256 ^ i) 256) in
+    let split : number / 256 ^ i % 256 ^ suc count ≡ (number / 256 ^ i / 256 % 256 ^ count) * 256 + number / 256 ^ i % 256 =
+    ap (λ (n : ℕ). number / 256 ^ i % n) (pow-suc 256 count) ∙ mod-mul (number / 256 ^ i) (one-le-pow count 256 (lit< tt)) (lit< tt) in
+    let low = byte_at-is i number in
+    let high = ap (λ (n : ℕ). n % 256 ^ count) above in
+    omega (arith, split, low, high)
+
+number_of-low : (i count number : ℕ) → number_of (map Byte (bytes_low_first i count number)) ≡ Some (number / 256 ^ i % 256 ^ count)
+number_of-low i zero number = ap (λ (n : ℕ). Some n) (sym (mod-one (number / 256 ^ i)))
+number_of-low i (suc count) number =
+    ap (option_map (λ rest. byte_at i number + 256 * rest)) (number_of-low (suc i) count number) ∙ ap (λ (n : ℕ). Some n) (one_byte_more i count number)
+
+-- the parts of a memory that was written
+front_is : (memory : List FrameByte) (at count : ℕ) → at + count ≤ length memory → length (take at memory) ≡ at
+front_is memory at count within = length-take-le at memory (omega arith)
+
+low_is : (count number : ℕ) → length (map Byte (bytes_low_first 0 count number)) ≡ count
+low_is count number = length-map (bytes_low_first 0 count number) Byte ∙ length-bytes_low_first 0 count number
+
+pub stored_is_loaded : (memory : List FrameByte) (at count number : ℕ) → at + count ≤ length memory → number_of (take count (drop at (written memory at count number))) ≡ Some (number % 256 ^ count)
+stored_is_loaded memory at count number within =
+    let low = map Byte (bytes_low_first 0 count number) in
+    let behind = drop (at + count) memory in
+    ap (λ (l : List FrameByte). number_of (take count (drop at l))) (append_assoc (take at memory) low behind)
+    ∙ ap (λ (l : List FrameByte). number_of (take count l)) (drop_at (take at memory) (low ++ behind) at (front_is memory at count within))
+    ∙ ap number_of (take_at low behind count (low_is count number))
+    ∙ number_of-low 0 count number ∙ ap (λ (n : ℕ). Some (n % 256 ^ count)) (div-one number)
+
+-- what lies before the bytes written, and what lies behind them
+
+pub before_stays : (memory : List FrameByte) (at count number : ℕ) → at + count ≤ length memory → take at (written memory at count number) ≡ take at memory
+before_stays memory at count number within =
+    ap (take at) (append_assoc (take at memory) (map Byte (bytes_low_first 0 count number)) (drop (at + count) memory))
+    ∙ take_at (take at memory) (map Byte (bytes_low_first 0 count number) ++ drop (at + count) memory) at (front_is memory at count within)
+
+pub behind_stays : (memory : List FrameByte) (at count number : ℕ) → at + count ≤ length memory → drop (at + count) (written memory at count number) ≡ drop (at + count) memory
+behind_stays memory at count number within =
+    let low = map Byte (bytes_low_first 0 count number) in
+    let long : length (take at memory ++ low) ≡ at + count =
+    length-append (take at memory) low ∙ omega (arith, front_is memory at count within, low_is count number) in
+    drop_at (take at memory ++ low) (drop (at + count) memory) (at + count) long

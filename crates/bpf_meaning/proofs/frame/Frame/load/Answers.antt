@@ -1,0 +1,17 @@
+use Rattle.std.proofs.Common.{◌+◌, ◌-◌, refl, sym, ap, ◌∙◌, arith}
+use Rattle.bpf_meaning.specs.Memory.{FrameContents}
+use Rattle.bpf_meaning.proofs.MemoryLemmas.{unwritten_is_none, written_is_number}
+use Rattle.bpf_meaning.proofs.frame.Frame.load.Goals as goal
+
+pub returns-then-contains : goal.returns-then-contains
+returns-then-contains c =
+    let any = sym c.contains.ensures.value ∙ c.if-contains.true in
+    let same = ap (λ (frame : FrameContents). frame.bytes) c.self.view_is in
+    sym (unwritten_is_none _ c.self.inside.marks c.self.inside.bytes c.args.self.now.bytes c.args.at c.args.count (c.args.at + c.args.count - c.args.at) refl (omega arith) (omega arith) same any)
+
+pub returns : goal.returns
+returns c =
+    let any = sym c.contains.ensures.value ∙ c.if-contains.false in
+    let same = ap (λ (frame : FrameContents). frame.bytes) c.self.view_is in
+    c.little_endian.ensures.value
+    ∙ sym (written_is_number _ c.self.inside.marks c.self.inside.bytes c.args.self.now.bytes c.args.at c.args.count (c.args.at + c.args.count - c.args.at) refl refl (omega arith) (omega arith) same any)
