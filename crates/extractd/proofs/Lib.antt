@@ -3,3 +3,4 @@ mod ReadLemmas
 mod RunLemmas
 mod FailureLemmas
 mod WordLemmas
+mod ConvertLemmas

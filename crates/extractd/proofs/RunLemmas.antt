@@ -9,10 +9,12 @@ use Rattle.extract.specs.declared.fault.ExtractFault.{ExtractFault}
 use Rattle.extract.specs.declared.fault.ExtractFault.TheVariants.{Code, NotYet, LastNotExit, Refused, Rt1, Write, WriteZero, Memory}
 use Rattle.extract.specs.declared.lines.LineFault.{LineFault}
 use Rattle.extract.specs.declared.lines.LineFault.TheVariants as line_fault
-use Rattle.extractd.specs.Command.{flushed_status_of, IsAfterFlush}
+use Rattle.extractd.specs.Command.{flushed_status_of}
 use Rattle.extractd.specs.Reports.{status_of_fault}
-use Rattle.extractd.specs.Run.{rt1_name_of, status_of_run, IsOpenFault, IsReadFault, Extracts, ExtractsFiles, RunsTo, Says, EndsWith, IsDone, IsRefused}
-use Rattle.extractd.specs.Words.{IsCountyCode}
+use Rattle.extractd.specs.Run.{run_fault_of, status_of_run, Extracts, ExtractsFiles, RunsTo}
+use Rattle.extractd.specs.Reading.{IsOpenFault, IsReadFault}
+use Rattle.extractd.specs.declared.reading.FileFault.{FileFault}
+use Rattle.extractd.specs.declared.reading.FileFault.TheVariants as file
 use Rattle.extractd.specs.declared.run.InputFile.TheVariants.{Program, Rt1 as Rt1File}
 use Rattle.extractd.specs.declared.run.RunFault.{RunFault}
 use Rattle.extractd.specs.declared.run.RunFault.TheVariants as run_fault
@@ -115,30 +117,22 @@ run_out_of_memory known_program known_rt1 held fault is =
     subst (λ (fault : RunFault). RunsTo known_program known_rt1 (Err fault) held held) (sym is) (out_of_memory known_program known_rt1 held held (Keeps-refl held))
 
 -- a program that wasn't opened
-pub program_not_opened : (known_program known_rt1 held : Option (List ℕ)) (fault : RunFault) → IsOpenFault known_program Program fault → RunsTo known_program known_rt1 (Err fault) held held
-program_not_opened known_program known_rt1 held (run_fault.Missing Program) is = (is.1, Keeps-refl held)
-program_not_opened known_program known_rt1 held (run_fault.Missing Rt1File) is = (let other : Rt1File ≡ Program = is.0 in cc)
-program_not_opened known_program known_rt1 held (run_fault.Unusable Program) is = Keeps-refl held
-program_not_opened known_program known_rt1 held (run_fault.Unusable Rt1File) is = (let other : Rt1File ≡ Program = is.0 in cc)
-program_not_opened known_program known_rt1 held (run_fault.Refused fault) is =
-    run_out_of_memory known_program known_rt1 held (run_fault.Refused fault) (let memory : fault ≡ Memory = is in cc)
+pub program_not_opened : (known_program known_rt1 held : Option (List ℕ)) (file_fault : FileFault) (fault : RunFault) → fault ≡ run_fault_of Program file_fault → IsOpenFault known_program file_fault → RunsTo known_program known_rt1 (Err fault) held held
+program_not_opened known_program known_rt1 held file.Missing fault same is = rw same (is, Keeps-refl held)
+program_not_opened known_program known_rt1 held file.Unusable fault same is = rw same (Keeps-refl held)
+program_not_opened known_program known_rt1 held file.Memory fault same is = run_out_of_memory known_program known_rt1 held fault same
 
 -- a type 1 file that wasn't opened
-pub rt1_not_opened : (known_program opened_rt1 known_rt1 held : Option (List ℕ)) (fault : RunFault) → opened_rt1 ≡ known_rt1 → IsOpenFault opened_rt1 Rt1File fault → RunsTo known_program known_rt1 (Err fault) held held
-rt1_not_opened known_program opened_rt1 known_rt1 held (run_fault.Missing Rt1File) same is = (sym same ∙ is.1, Keeps-refl held)
-rt1_not_opened known_program opened_rt1 known_rt1 held (run_fault.Missing Program) same is = (let other : Program ≡ Rt1File = is.0 in cc)
-rt1_not_opened known_program opened_rt1 known_rt1 held (run_fault.Unusable Rt1File) same is = (sym same ∙ is.1, Keeps-refl held)
-rt1_not_opened known_program opened_rt1 known_rt1 held (run_fault.Unusable Program) same is = (let other : Program ≡ Rt1File = is.0 in cc)
-rt1_not_opened known_program opened_rt1 known_rt1 held (run_fault.Refused fault) same is =
-    run_out_of_memory known_program known_rt1 held (run_fault.Refused fault) (let memory : fault ≡ Memory = is in cc)
+pub rt1_not_opened : (known_program opened_rt1 known_rt1 held : Option (List ℕ)) (file_fault : FileFault) (fault : RunFault) → fault ≡ run_fault_of Rt1File file_fault → opened_rt1 ≡ known_rt1 → IsOpenFault opened_rt1 file_fault → RunsTo known_program known_rt1 (Err fault) held held
+rt1_not_opened known_program opened_rt1 known_rt1 held file.Missing fault same opened is = rw same (sym opened ∙ is, Keeps-refl held)
+rt1_not_opened known_program opened_rt1 known_rt1 held file.Unusable fault same opened is = rw same (sym opened ∙ is, Keeps-refl held)
+rt1_not_opened known_program opened_rt1 known_rt1 held file.Memory fault same opened is = run_out_of_memory known_program known_rt1 held fault same
 
 -- a program that wasn't read to its end
-pub program_not_read : (known_program known_rt1 held : Option (List ℕ)) (fault : RunFault) → IsReadFault fault → RunsTo known_program known_rt1 (Err fault) held held
-program_not_read known_program known_rt1 held (run_fault.Missing file) is = absurd is
-program_not_read known_program known_rt1 held (run_fault.Unusable Program) is = Keeps-refl held
-program_not_read known_program known_rt1 held (run_fault.Unusable Rt1File) is = (let other : Rt1File ≡ Program = is in cc)
-program_not_read known_program known_rt1 held (run_fault.Refused fault) is =
-    run_out_of_memory known_program known_rt1 held (run_fault.Refused fault) (let memory : fault ≡ Memory = is in cc)
+pub program_not_read : (known_program known_rt1 held : Option (List ℕ)) (file_fault : FileFault) (fault : RunFault) → fault ≡ run_fault_of Program file_fault → IsReadFault file_fault → RunsTo known_program known_rt1 (Err fault) held held
+program_not_read known_program known_rt1 held file.Missing fault same is = absurd is
+program_not_read known_program known_rt1 held file.Unusable fault same is = rw same (Keeps-refl held)
+program_not_read known_program known_rt1 held file.Memory fault same is = run_out_of_memory known_program known_rt1 held fault same
 
 -- the status of a refusal is 1 to 4
 pub rt1_status-le : (fault : LineFault) → status_of_fault (Rt1 fault) ≤ 4
@@ -187,40 +181,3 @@ flushed_status_of-le status flushed small = grind (arith, nat_tests)
 
 pub flushed_status_of-small : (status : ℕ) (flushed : Bool) → flushed_status_of status flushed ≤ 1 → flushed_status_of status flushed ≡ status
 flushed_status_of-small status flushed small = grind (arith, nat_tests)
-
--- the statuses of a run that was flushed
-pub flushed_run-le : (status after : ℕ) (known_program known_rt1 held new said new_said : Option (List ℕ)) (failed new_failed empty new_empty out_failed new_out_failed flushes new_flushes : ℕ) → EndsWith status known_program known_rt1 held new said new_said failed new_failed empty new_empty → IsAfterFlush status after out_failed new_out_failed flushes new_flushes → after ≤ 4
-flushed_run-le status after known_program known_rt1 held new said new_said failed new_failed empty new_empty out_failed new_out_failed flushes new_flushes ends flushed =
-    let small = status_of_run-le ends.outcome in
-    let is = ends.is_status in
-    let below : flushed_status_of status flushed.0 ≤ 4 = flushed_status_of-le status flushed.0 (omega arith) in
-    let value = flushed.1 in omega arith
-
-pub done_from_run : (known : List ℕ → Option (List ℕ)) (program folder county : List ℕ) (held new final : Option (List ℕ)) (outcome : Result ℕ RunFault) → IsCountyCode county → RunsTo (known program) (known (rt1_name_of folder county)) outcome held new → Keeps new final → status_of_run outcome ≡ 0 → IsDone known held final
-done_from_run known program folder county held new final (Ok rows) is_county runs kept is = record {
-  program = program;
-  folder = folder;
-  county = county;
-  is_county = is_county;
-  rows = rows;
-  extracts = extracts_files_kept (known program) (known (rt1_name_of folder county)) (Ok rows) held new final runs kept;
-}
-done_from_run known program folder county held new final (Err (run_fault.Missing file)) is_county runs kept is = absurd (omega arith)
-done_from_run known program folder county held new final (Err (run_fault.Unusable file)) is_county runs kept is = absurd (omega arith)
-done_from_run known program folder county held new final (Err (run_fault.Refused fault)) is_county runs kept is =
-    absurd (let some = status_of_fault-positive fault in omega arith)
-
-pub refused_from_run : (known : List ℕ → Option (List ℕ)) (program folder county : List ℕ) (held new final said new_said : Option (List ℕ)) (failed new_failed empty new_empty : ℕ) (outcome : Result ℕ RunFault) → IsCountyCode county → RunsTo (known program) (known (rt1_name_of folder county)) outcome held new → Says outcome said new_said failed new_failed empty new_empty → Keeps new final → status_of_run outcome ≡ 1 → IsRefused known held final said new_said failed new_failed empty new_empty
-refused_from_run known program folder county held new final said new_said failed new_failed empty new_empty (Ok rows) is_county runs says kept is = absurd (omega arith)
-refused_from_run known program folder county held new final said new_said failed new_failed empty new_empty (Err (run_fault.Missing file)) is_county runs says kept is = absurd (omega arith)
-refused_from_run known program folder county held new final said new_said failed new_failed empty new_empty (Err (run_fault.Unusable file)) is_county runs says kept is = absurd (omega arith)
-refused_from_run known program folder county held new final said new_said failed new_failed empty new_empty (Err (run_fault.Refused fault)) is_county runs says kept is = record {
-  program = program;
-  folder = folder;
-  county = county;
-  is_county = is_county;
-  fault = fault;
-  is_refusal = is;
-  extracts = extracts_files_kept (known program) (known (rt1_name_of folder county)) (Err fault) held new final runs kept;
-  says = says;
-}

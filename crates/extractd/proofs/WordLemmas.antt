@@ -1,6 +1,6 @@
 -- What the command line takes.
 use Rattle.std.proofs.Common.{◌≡◌, ◌≢◌, ◌∙◌, ◌++◌, ℕ, List, [], ◌∷◌, Some, None, Bool, true, false, refl, sym, codes, ap, append_assoc, arith}
-use Rattle.std.specs.Prelude.{is_some, slice_get, unwrap_or, option_and_then, fold, if◌then◌else◌, ◌==◌}
+use Rattle.std.specs.Prelude.{is_some, slice_get, unwrap_or, option_and_then, option_map, fold, if◌then◌else◌, ◌==◌}
 use Rattle.std.specs.Str.{bytes_eq}
 use Rattle.std.proofs.lemmas.List.{append-nil}
 use Rattle.std.proofs.lemmas.Bool.Decides.{nat_tests}
@@ -13,7 +13,9 @@ use Rattle.clap.specs.Values.{reading_of}
 use Rattle.clap.specs.declared.builder.value_parser.ValueParser.TheVariants as vp
 use Rattle.clap.specs.declared.parser.matches.ValueSource.TheVariants.{CommandLine}
 use Rattle.clap.proofs.OnLiterals.{clap_on_literals}
-use Rattle.extractd.specs.Words.{IsRun, IsValueWord, program_app, run_words, value_of, word_kinds}
+use Rattle.extractd.specs.Words.{Asked, Extract, Convert, HasValueWords, IsForm, IsValueWord, conversion_name, conversion_option, program_app, value_of, word_kinds, words_for}
+use Rattle.extractd.specs.declared.convert.Conversion.{Conversion}
+use Rattle.extractd.specs.declared.convert.Conversion.TheVariants.{Assemble, Disassemble}
 
 pub program-is_simple : is_simple program_app ≡ true
 unfolding clap_on_literals
@@ -242,7 +244,7 @@ unfolding clap_on_literals
 end_passes program folder code = refl
 
 -- such words are taken
-run_words_taken : (program folder code : Text) → IsValueWord program → IsValueWord folder → IsValueWord code → word_kinds (run_words program folder code) ≡ []
+run_words_taken : (program folder code : Text) → IsValueWord program → IsValueWord folder → IsValueWord code → word_kinds (words_for (Extract program folder code)) ≡ []
 run_words_taken program folder code is_program is_folder is_code =
     let p = plain_word program is_program in
     let d = plain_word folder is_folder in
@@ -253,7 +255,7 @@ run_words_taken program folder code is_program is_folder is_code =
     ∙ end_passes program folder code)
 
 options_give : (program folder code : Text) → IsPlainWord program → IsPlainWord folder → IsPlainWord code → (name : Text)
-    → value_of (run_words program folder code) name ≡ first_of name (finished run_shape.rules (at_end program folder code).held)
+    → value_of (words_for (Extract program folder code)) name ≡ first_of name (finished run_shape.rules (at_end program folder code).held)
 options_give program folder code p d c name =
     ap (option_and_then (λ (met : Text × List Row). first_of name met.1)) (run_met (run_options program folder code))
     ∙ ap (λ (w : Walk). first_of name (finished run_shape.rules w.held)) (options_walk program folder code p d c)
@@ -271,16 +273,126 @@ unfolding clap_on_literals
 end_gives_code program folder code = refl
 
 -- and give these values
-pub run_words_are : (program folder code : Text) → IsValueWord program → IsValueWord folder → IsValueWord code → IsRun (run_words program folder code) program folder code
-run_words_are program folder code is_program is_folder is_code =
+run_form : (program folder code : Text) → IsValueWord program → IsValueWord folder → IsValueWord code → IsForm (words_for (Extract program folder code)) (Extract program folder code)
+run_form program folder code is_program is_folder is_code =
     let p = plain_word program is_program in
     let d = plain_word folder is_folder in
     let c = plain_word code is_code in
     record {
       is_command = run_words_taken program folder code is_program is_folder is_code;
+      is_named = ap (option_map (λ (met : Text × List Row). met.0)) (run_met (run_options program folder code));
       gives = record {
         program_is = options_give program folder code p d c program_name ∙ end_gives_program program folder code;
         folder_is = options_give program folder code p d c folder_name ∙ end_gives_folder program folder code;
         code_is = options_give program folder code p d c code_name ∙ end_gives_code program folder code;
       };
     }
+
+-- ---- `asm --source FILE` and `dis --program FILE`
+
+-- a conversion's command with what building adds
+abbrev conversion_shape : Conversion → Shape
+conversion_shape Assemble = unwrap_or (slice_get above.subs 1) (new_shape [])
+conversion_shape Disassemble = unwrap_or (slice_get above.subs 2) (new_shape [])
+
+conversion_walk : (conversion : Conversion) (rest : List Text)
+    → walk above.top.rules (names_of above) nothing_held (conversion_name conversion ∷ rest) ≡ stopped_at nothing_held idle 1 false (conversion_name conversion) rest
+unfolding clap_on_literals
+conversion_walk Assemble rest = stopped_walk above.top.rules (names_of above) nothing_held idle 1 false (codes "asm") [] rest
+conversion_walk Disassemble rest = stopped_walk above.top.rules (names_of above) nothing_held idle 1 false (codes "dis") [] rest
+
+conversion_passes : (conversion : Conversion) (rest : List Text)
+    → walk_fault above.top (names_of above) (walk_from nothing_held) (conversion_name conversion ∷ rest) ≡ []
+unfolding clap_on_literals
+conversion_passes Assemble rest = stopped_passes above.top (names_of above) nothing_held idle 1 false (codes "asm") [] rest
+conversion_passes Disassemble rest = stopped_passes above.top (names_of above) nothing_held idle 1 false (codes "dis") [] rest
+
+abbrev conversion_kinds : Conversion → List Text → Kinds
+conversion_kinds conversion rest = level_fault (conversion_shape conversion) [] nothing_held rest false []
+
+kinds_of_conversion : (conversion : Conversion) (rest : List Text) → word_kinds (conversion_name conversion ∷ rest) ≡ conversion_kinds conversion rest
+unfolding clap_on_literals
+kinds_of_conversion Assemble rest =
+    app_by_walk above nothing_held (codes "asm" ∷ rest) _ (conversion_walk Assemble rest) (conversion_passes Assemble rest)
+    ∙ or_else-none (conversion_kinds Assemble rest)
+kinds_of_conversion Disassemble rest =
+    app_by_walk above nothing_held (codes "dis" ∷ rest) _ (conversion_walk Disassemble rest) (conversion_passes Disassemble rest)
+    ∙ or_else-none (conversion_kinds Disassemble rest)
+
+conversion_met : (conversion : Conversion) (rest : List Text)
+    → subcommand_of program_app (conversion_name conversion ∷ rest) ≡ Some (conversion_name conversion, rows_after (conversion_shape conversion).rules [] rest)
+unfolding clap_on_literals
+conversion_met Assemble rest = ap (λ (w : Walk). entered above w.stopped) (conversion_walk Assemble rest)
+conversion_met Disassemble rest = ap (λ (w : Walk). entered above w.stopped) (conversion_walk Disassemble rest)
+
+abbrev file_options : Conversion → Text → List Text
+file_options conversion file = (codes "--" ++ conversion_option conversion) ∷ file ∷ []
+
+file_option_walked : (conversion : Conversion)
+    → walked (conversion_shape conversion).rules [] (walk_from nothing_held) (codes "--" ++ conversion_option conversion) ≡ waiting_for (conversion_option conversion) 1 []
+unfolding clap_on_literals
+file_option_walked Assemble = refl
+file_option_walked Disassemble = refl
+
+file_option_passes : (conversion : Conversion)
+    → turn_fault (conversion_shape conversion) [] (walk_from nothing_held) (codes "--" ++ conversion_option conversion) ≡ []
+unfolding clap_on_literals
+file_option_passes Assemble = refl
+file_option_passes Disassemble = refl
+
+file_rule : Conversion → Rule
+file_rule conversion = unwrap_or (arg_by_id (conversion_shape conversion).rules (conversion_option conversion)) (new_rule [])
+
+file_given : (conversion : Conversion) (file : Text) → IsPlainWord file
+    → walked (conversion_shape conversion).rules [] (waiting_for (conversion_option conversion) 1 []) file ≡ given (conversion_option conversion) file 1 []
+unfolding clap_on_literals file_rule
+file_given Assemble file plain = option_walked (conversion_shape Assemble).rules (codes "source") (file_rule Assemble) 1 [] file plain refl refl refl
+file_given Disassemble file plain = option_walked (conversion_shape Disassemble).rules (codes "program") (file_rule Disassemble) 1 [] file plain refl refl refl
+
+abbrev at_file_end : Conversion → Text → Walk
+at_file_end conversion file = given (conversion_option conversion) file 1 []
+
+file_walk : (conversion : Conversion) (file : Text) → IsPlainWord file
+    → walk (conversion_shape conversion).rules [] nothing_held (file_options conversion file) ≡ at_file_end conversion file
+file_walk conversion file plain =
+    ap (λ (w : Walk). fold (walked (conversion_shape conversion).rules []) w (file ∷ [])) (file_option_walked conversion)
+    ∙ file_given conversion file plain
+
+file_passes : (conversion : Conversion) (file : Text) → IsPlainWord file
+    → walk_fault (conversion_shape conversion) [] (walk_from nothing_held) (file_options conversion file) ≡ []
+file_passes conversion file plain =
+    one_passes (conversion_shape conversion) [] _ _ _ _ (file_option_passes conversion) (file_option_walked conversion)
+    (one_passes (conversion_shape conversion) [] _ _ _ _ (option_passes (conversion_shape conversion) (conversion_option conversion) 1 [] file plain) (file_given conversion file plain)
+    (none_passes (conversion_shape conversion) [] (at_file_end conversion file)))
+
+file_end_passes : (conversion : Conversion) (file : Text) → closing_fault (conversion_shape conversion) (at_file_end conversion file).held false [] ≡ []
+unfolding clap_on_literals
+file_end_passes Assemble file = refl
+file_end_passes Disassemble file = refl
+
+file_end_gives : (conversion : Conversion) (file : Text)
+    → first_of (conversion_option conversion) (finished (conversion_shape conversion).rules (at_file_end conversion file).held) ≡ Some file
+unfolding clap_on_literals
+file_end_gives Assemble file = refl
+file_end_gives Disassemble file = refl
+
+conversion_form : (conversion : Conversion) (file : Text) → IsValueWord file → IsForm (words_for (Convert conversion file)) (Convert conversion file)
+conversion_form conversion file is_file =
+    let plain = plain_word file is_file in
+    record {
+      is_command =
+          kinds_of_conversion conversion (file_options conversion file)
+          ∙ (level_by_walk (conversion_shape conversion) [] nothing_held (file_options conversion file) false [] (at_file_end conversion file)
+          (file_walk conversion file plain) (file_passes conversion file plain)
+          ∙ file_end_passes conversion file);
+      is_named = ap (option_map (λ (met : Text × List Row). met.0)) (conversion_met conversion (file_options conversion file));
+      gives =
+          ap (option_and_then (λ (met : Text × List Row). first_of (conversion_option conversion) met.1)) (conversion_met conversion (file_options conversion file))
+          ∙ ap (λ (w : Walk). first_of (conversion_option conversion) (finished (conversion_shape conversion).rules w.held)) (file_walk conversion file plain)
+          ∙ file_end_gives conversion file;
+    }
+
+-- words of the usual order are a command, and give their values
+pub usual_form : (asked : Asked) → HasValueWords asked → IsForm (words_for asked) asked
+usual_form (Extract program folder county) values = run_form program folder county values.0 values.1 values.2
+usual_form (Convert conversion file) values = conversion_form conversion file values

@@ -1,6 +1,9 @@
 pub mod Files
+pub mod Reading
+pub mod Output
 pub mod Words
 pub mod Reports
+pub mod Convert
 pub mod Run
 pub mod Failures
 pub mod Command

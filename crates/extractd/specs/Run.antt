@@ -6,7 +6,8 @@ use Rattle.extract.specs.FaultLine.{extract_line}
 use Rattle.extract.specs.declared.fault.ExtractFault.{ExtractFault}
 use Rattle.extract.specs.declared.fault.ExtractFault.TheVariants.{Memory}
 use Rattle.extractd.specs.Reports.{status_of_fault, AppendsUnlessFailed}
-use Rattle.extractd.specs.Words.{IsCountyCode}
+use Rattle.extractd.specs.declared.reading.FileFault.{FileFault}
+use Rattle.extractd.specs.declared.reading.FileFault.TheVariants as file_fault
 use Rattle.extractd.specs.declared.run.InputFile.{InputFile}
 use Rattle.extractd.specs.declared.run.InputFile.TheVariants.{Program, Rt1}
 use Rattle.extractd.specs.declared.run.RunFault.{RunFault}
@@ -27,22 +28,11 @@ abbrev pub status_of_run : Result ℕ RunFault → ℕ
 status_of_run (Ok rows) = 0
 status_of_run (Err fault) = status_of_run_fault fault
 
--- a file that wasn't opened: one of known bytes is refused for want of memory alone
-abbrev pub IsOpenFault : Option (List ℕ) → InputFile → RunFault → Type 0
-IsOpenFault known file (Missing missing) = (missing ≡ file) × (known ≡ None)
-IsOpenFault known file (Unusable unusable) = (unusable ≡ file) × (known ≡ None)
-IsOpenFault known file (Refused fault) = fault ≡ Memory
-
--- a reader has the file's known bytes left
-abbrev pub OpensInput : {R : Type 0} → (R → Option (List ℕ)) → Option (List ℕ) → InputFile → Result R RunFault → Type 0
-OpensInput remaining known file (Ok reader) = Keeps known (remaining reader)
-OpensInput remaining known file (Err fault) = IsOpenFault known file fault
-
--- a program that was opened and can't be read whole
-abbrev pub IsReadFault : RunFault → Type 0
-IsReadFault (Missing file) = ⊥
-IsReadFault (Unusable file) = file ≡ Program
-IsReadFault (Refused fault) = fault ≡ Memory
+-- why a run ends at a file that it can't read
+abbrev pub run_fault_of : InputFile → FileFault → RunFault
+run_fault_of file file_fault.Missing = Missing file
+run_fault_of file file_fault.Unusable = Unusable file
+run_fault_of file file_fault.Memory = Refused Memory
 
 -- what the extract of a program from a type 1 file answers, and what it wrote
 abbrev pub Extracts : List ℕ → Result ℕ ExtractFault → Option (List ℕ) → Option (List ℕ) → Option (List ℕ) → Type 0
@@ -86,23 +76,3 @@ pub record EndsWith (status : ℕ) (known_program known_rt1 held new_held said n
   pub runs : RunsTo known_program known_rt1 outcome held new_held
   pub is_status : status ≡ status_of_run outcome
   pub says : Says outcome said new_said failed new_failed empty new_empty
-
--- the extract of a program from the files of a county was written: the names are those of the program, of the folder and of the county
-pub record IsDone (known : List ℕ → Option (List ℕ)) (held new_held : Option (List ℕ)) : Type 0 where
-  pub program : List ℕ
-  pub folder : List ℕ
-  pub county : List ℕ
-  pub is_county : IsCountyCode county
-  pub rows : ℕ
-  pub extracts : ExtractsFiles (known program) (known (rt1_name_of folder county)) (Ok rows) held new_held
-
--- Such an extract was refused, by neither file nor output nor want of memory, and the refusal's line was said.
-pub record IsRefused (known : List ℕ → Option (List ℕ)) (held new_held said new_said : Option (List ℕ)) (failed new_failed empty new_empty : ℕ) : Type 0 where
-  pub program : List ℕ
-  pub folder : List ℕ
-  pub county : List ℕ
-  pub is_county : IsCountyCode county
-  pub fault : ExtractFault
-  pub is_refusal : status_of_fault fault ≡ 1
-  pub extracts : ExtractsFiles (known program) (known (rt1_name_of folder county)) (Err fault) held new_held
-  pub says : AppendsUnlessFailed (extract_line fault ++ 10 ∷ []) said new_said failed new_failed empty new_empty

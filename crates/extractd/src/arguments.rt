@@ -1,19 +1,34 @@
 //! The words of a command line.
-ghost use Rattle.std.specs.Prelude.{◌≡◌, IfOk, IsTrue, ◌↔◌, List, ℕ, false};
+ghost use Rattle.std.specs.Prelude.{◌≡◌, IfOk, IsTrue, ◌↔◌, false, option_map};
 ghost use Rattle.clap.specs.Words.{app_of, first_value, found_of, rule_of};
 ghost use Rattle.extractd.specs.declared.arguments.WordsFault.TheVariants.{Memory};
-ghost use Rattle.extractd.specs.Words.{needed_option, program_app, run_app, texts_of, run_words, AnswersRun, IsCountyCode, IsReadFrom, IsValueWord, ReadsRun};
+ghost use Rattle.extractd.specs.Words.{Answers, Asked, HasValueWords, IsCountyCode, IsReadFrom, ReadsRequest, ReadsRun, conversion_app, needed_option, program_app, run_app, texts_of, words_for};
 ghost use Rattle.extractd.specs.Command.{IsFaultOf};
 
+use crate::convert::Conversion;
 use clap::error::ErrorKind;
 use clap::{Arg, ArgAction, ArgMatches, Command};
 use std::alloc::{AllocError, Global};
 
-const ABOUT: &str = "Extracts the TIGER/Line street segments that a BPF program chooses";
+const ABOUT: &str =
+    "Extracts the TIGER/Line street segments that a BPF program chooses, and converts programs";
 
 const EXIT_STATUSES: &str =
     "Exit status: 0 done, also where no row was chosen; 1 refused; 2 usage; \
     3 a file or output that can't be used; 4 out of memory";
+
+const PROGRAM_HELP: &str = "The program, as BPF instruction words";
+
+/// What the words ask for.
+#[derive(Clone, Copy, Debug)]
+pub enum Request<'a> {
+    Run(RunWords<'a>),
+    Convert {
+        conversion: Conversion,
+        /// The file to convert.
+        file: &'a str,
+    },
+}
 
 /// What `run` is asked for.
 #[derive(Clone, Copy, Debug)]
@@ -56,19 +71,42 @@ impl From<AllocError> for WordsFault {
 }
 
 /// Reads the words after the program's name.
-pub fn read_words<'a>(alloc: Global, words: &'a [&'a str]) -> Result<RunWords<'a>, WordsFault>
+pub fn read_words<'a>(alloc: Global, words: &'a [&'a str]) -> Result<Request<'a>, WordsFault>
     ensures read { IsReadFrom (texts_of words.now) result }
-    ensures run { (program folder code : List ℕ) → texts_of words.now ≡ run_words program folder code
-        → IsValueWord program → IsValueWord folder → IsValueWord code → AnswersRun program folder code result }
+    ensures usual { (asked : Asked) → texts_of words.now ≡ words_for asked → HasValueWords asked → Answers asked result }
 {
     let matches = program_command(alloc)?.try_get_matches_from(words)?;
-    let Some((_, matches)) = matches.subcommand() else {
+    let Some((name, matches)) = matches.subcommand() else {
         return Err(WordsFault::Code);
     };
-    match run_values(matches) {
-        Some(run) if is_county_code(run.code) => Ok(run),
-        _ => Err(WordsFault::Code),
+    match request_of(name, matches) {
+        Some(request) => Ok(request),
+        None => Err(WordsFault::Code),
     }
+}
+
+/// What a command asks for: its values are there, and the county is five digits.
+fn request_of<'a>(name: &str, matches: &ArgMatches<'a>) -> Option<Request<'a>>
+    ensures { ReadsRequest name.now (first_value (found_of matches.now)) result }
+{
+    match name {
+        "run" => match run_values(matches) {
+            Some(words) if is_county_code(words.code) => Some(Request::Run(words)),
+            _ => None,
+        },
+        "asm" => convert_request(Conversion::Assemble, matches.get_str("source")),
+        "dis" => convert_request(Conversion::Disassemble, matches.get_str("program")),
+        _ => None,
+    }
+}
+
+fn convert_request(conversion: Conversion, file: Option<&str>) -> Option<Request<'_>>
+    ensures { result ≡ option_map (λ file. Request.Convert conversion file) file.entry }
+{
+    Some(Request::Convert {
+        conversion,
+        file: file?,
+    })
 }
 
 fn run_values<'a>(matches: &ArgMatches<'a>) -> Option<RunWords<'a>>
@@ -90,7 +128,9 @@ fn program_command<'a>(alloc: Global) -> Result<Command<'a>, AllocError>
         .no_binary_name(true)
         .disable_help_subcommand(true)
         .subcommand_required(true)
-        .subcommand(run_command(alloc)?)
+        .subcommand(run_command(alloc)?)?
+        .subcommand(assemble_command(alloc)?)?
+        .subcommand(disassemble_command(alloc)?)
 }
 
 fn run_command<'a>(alloc: Global) -> Result<Command<'a>, AllocError>
@@ -99,12 +139,7 @@ fn run_command<'a>(alloc: Global) -> Result<Command<'a>, AllocError>
     Command::new(alloc, "run")
         .about("Writes the rows of the segments that a program chooses")
         .after_help(EXIT_STATUSES)
-        .arg(option(
-            alloc,
-            "program",
-            "FILE",
-            "The program, as BPF instruction words",
-        ))?
+        .arg(option(alloc, "program", "FILE", PROGRAM_HELP))?
         .arg(option(
             alloc,
             "data",
@@ -118,6 +153,24 @@ fn run_command<'a>(alloc: Global) -> Result<Command<'a>, AllocError>
                 .required(true)
                 .action(ArgAction::Set),
         )
+}
+
+fn assemble_command<'a>(alloc: Global) -> Result<Command<'a>, AllocError>
+    ensures { IfOk result (λ command. app_of command ≡ conversion_app Conversion.Assemble) }
+{
+    Command::new(alloc, "asm")
+        .about("Writes the BPF instruction words that a program text means")
+        .after_help(EXIT_STATUSES)
+        .arg(option(alloc, "source", "FILE", "The program, as text"))
+}
+
+fn disassemble_command<'a>(alloc: Global) -> Result<Command<'a>, AllocError>
+    ensures { IfOk result (λ command. app_of command ≡ conversion_app Conversion.Disassemble) }
+{
+    Command::new(alloc, "dis")
+        .about("Writes a program as text")
+        .after_help(EXIT_STATUSES)
+        .arg(option(alloc, "program", "FILE", PROGRAM_HELP))
 }
 
 fn option<'a>(alloc: Global, name: &'a str, value: &'a str, help: &'a str) -> Arg<'a>

@@ -1,12 +1,12 @@
 //! A command, from its words to its exit status.
-ghost use Rattle.std.specs.Prelude.{◌≡◌, ◌≢◌, ◌≤◌, ◌⊎◌, ℕ, List, is_ok};
+ghost use Rattle.std.specs.Prelude.{◌≡◌, ◌≢◌, ◌≤◌, ◌⊎◌, is_ok};
 ghost use Rattle.std.specs.Io.KnownBytes.{Keeps};
-ghost use Rattle.extractd.specs.Run.{IsDone, IsRefused};
-ghost use Rattle.extractd.specs.Failures.{IsUnusable};
-ghost use Rattle.extractd.specs.Words.{run_words, texts_of, IsCountyCode, IsValueWord};
-ghost use Rattle.extractd.specs.Command.{flushed_status_of, HasExtract, IsAfterFlush, IsExtractOf, IsMisused, status_of_words};
+ghost use Rattle.extractd.specs.Failures.{HasInputFailed, HasOutputFailed, IsUnusable};
+ghost use Rattle.extractd.specs.Words.{Asked, asked_by, texts_of, words_for, HasCounty, HasValueWords, IsMisused};
+ghost use Rattle.extractd.specs.Command.{flushed_status_of, status_of_words, AsksOnly, EndsAsked, IsAfterFlush, IsDone, IsRefused};
 
-use crate::arguments::{WordsFault, read_words};
+use crate::arguments::{Request, WordsFault, read_words};
+use crate::convert::convert;
 use crate::files::Files;
 use crate::reports::{DONE, OUT_OF_MEMORY, UNUSABLE, USAGE, write_refusal};
 use crate::run::run;
@@ -18,8 +18,9 @@ use tl_fields::CountedWrite;
 
 /// Runs the command of the words after the program's name, and answers the exit status.
 ///
-/// 0 is done, also where no row was chosen; 1 refused; 2 usage, also a call for help; 3 a file or an output that can't be used; 4
-/// want of memory. `out` has been flushed by then. What is wrong stands on `errors`; a write to it that fails changes nothing.
+/// 0 is done, also where no row was chosen; 1 refused; 2 usage, also a call for help; 3 a file or an output that can't be used, also
+/// a source that isn't UTF-8; 4 want of memory. `out` has been flushed by then. What is wrong stands on `errors`; a write to it that
+/// fails changes nothing.
 pub fn command<F: Files, W: CountedWrite, E: CountedWrite>(
     alloc: Global,
     words: &[&str],
@@ -28,14 +29,12 @@ pub fn command<F: Files, W: CountedWrite, E: CountedWrite>(
     errors: &mut E,
 ) -> u8
     ensures at_most { result ≤ 4 }
-    ensures done { result ≡ 0 → IsDone (F.bytes files.old) (W.contents out.old) (W.contents out.new) }
-    ensures refused { result ≡ 1 → IsRefused (F.bytes files.old) (W.contents out.old) (W.contents out.new)
+    ensures done { result ≡ 0 → IsDone (texts_of words.now) (F.bytes files.old) (W.contents out.old) (W.contents out.new) }
+    ensures refused { result ≡ 1 → IsRefused (texts_of words.now) (F.bytes files.old) (W.contents out.old) (W.contents out.new)
         (E.contents errors.old) (E.contents errors.new) (E.failed_writes errors.old) (E.failed_writes errors.new)
         (E.empty_writes errors.old) (E.empty_writes errors.new) }
-    ensures run { (program folder county : List ℕ) → texts_of words.now ≡ run_words program folder county
-        → IsValueWord program → IsValueWord folder → IsCountyCode county
-        → (result ≢ 2) × (result ≤ 1 → IsExtractOf program folder county result (F.bytes files.old) (W.contents out.old) (W.contents out.new)) }
-    ensures asked { result ≤ 1 → HasExtract (texts_of words.now) result (F.bytes files.old) (W.contents out.old) (W.contents out.new) }
+    ensures usual { (asked : Asked) → texts_of words.now ≡ words_for asked → HasValueWords asked → HasCounty asked
+        → (result ≢ 2) × AsksOnly (texts_of words.now) asked }
     ensures usage { result ≡ 2 → IsMisused (texts_of words.now) × (out.new ≡ out.old) }
     ensures misused { IsMisused (texts_of words.now) → (result ≡ 2) ⊎ (result ≡ 4) }
 
@@ -44,18 +43,45 @@ pub fn command<F: Files, W: CountedWrite, E: CountedWrite>(
     ensures whole { result ≡ 0 → (W.failed_writes out.new ≡ W.failed_writes out.old)
         × (W.empty_writes out.new ≡ W.empty_writes out.old) }
     ensures opened { result ≢ 3 → F.failed_opens files.new ≡ F.failed_opens files.old }
-    ensures unusable { result ≡ 3 → IsUnusable F.Reader.remaining F.Reader.failed_reads (F.bytes files.old)
-        (F.failed_opens files.old) (F.failed_opens files.new) W.failed_writes W.empty_writes W.flushes out.old out.new }
+    ensures unusable { result ≡ 3 → IsUnusable F.Reader.remaining F.Reader.failed_reads (texts_of words.now)
+        (F.bytes files.old) (F.failed_opens files.old) (F.failed_opens files.new) W.failed_writes W.empty_writes W.flushes out.old out.new }
 {
     match read_words(alloc, words) {
-        Ok(run_words) => {
-            let status = run(alloc, run_words, files, out, errors);
+        Ok(request) => {
+            let status = answer(alloc, request, files, out, errors);
             flush(status, out, errors)
         }
         Err(fault) => {
             let status = words_status(&fault);
             write_usage(errors, fault);
             status
+        }
+    }
+}
+
+/// Does what the words ask for, and answers the exit status.
+fn answer<F: Files, W: CountedWrite, E: CountedWrite>(
+    alloc: Global,
+    request: Request<'_>,
+    files: &mut F,
+    out: &mut W,
+    errors: &mut E,
+) -> u8
+    ensures ends { EndsAsked (asked_by request.entry) result (F.bytes files.old) (W.contents out.old) (W.contents out.new)
+        (E.contents errors.old) (E.contents errors.new) (E.failed_writes errors.old) (E.failed_writes errors.new)
+        (E.empty_writes errors.old) (E.empty_writes errors.new) }
+    ensures unusable { result ≡ 3 → HasInputFailed F.Reader.remaining F.Reader.failed_reads (F.bytes files.old)
+        (asked_by request.entry) (F.failed_opens files.old) (F.failed_opens files.new)
+        ⊎ HasOutputFailed (W.failed_writes out.old) (W.failed_writes out.new) (W.empty_writes out.old) (W.empty_writes out.new) }
+    ensures opened { result ≢ 3 → F.failed_opens files.new ≡ F.failed_opens files.old }
+    ensures whole { result ≢ 3 → (W.failed_writes out.new ≡ W.failed_writes out.old)
+        × (W.empty_writes out.new ≡ W.empty_writes out.old) }
+    ensures unflushed { W.flushes out.new ≡ W.flushes out.old }
+{
+    match request {
+        Request::Run(words) => run(alloc, words, files, out, errors),
+        Request::Convert { conversion, file } => {
+            convert(alloc, conversion, file, files, out, errors)
         }
     }
 }

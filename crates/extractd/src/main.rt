@@ -1,4 +1,4 @@
-//! Extracts of the street segments that a BPF program chooses: the program.
+//! Extracts of the street segments that a BPF program chooses, and programs as text: the program.
 #![tactic(auto)]
 
 ghost use Rattle.std.specs.Prelude.{◌≡◌, ◌≢◌};
@@ -7,7 +7,10 @@ ghost use Rattle.std.specs.IoError.{error_kind};
 mod arguments;
 mod by_byte;
 mod command;
+mod convert;
 mod files;
+mod output;
+mod reading;
 mod reports;
 mod run;
 #[cfg(test)]

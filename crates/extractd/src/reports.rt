@@ -3,7 +3,8 @@ ghost use Rattle.std.specs.Prelude.{◌≡◌, ◌∷◌, [], ◌++◌};
 ghost use Rattle.extract.specs.FaultLine.{extract_line};
 ghost use Rattle.extractd.specs.Reports.{AppendsUnlessFailed, status_of_fault};
 
-use arrayvec::ArrayVec;
+use crate::output::write_whole;
+use arrayvec::{ArrayString, ArrayVec};
 use extract::{ExtractFault, LineFault};
 use tl_fields::CountedWrite;
 
@@ -29,33 +30,26 @@ pub fn refusal_status(fault: ExtractFault) -> u8
     }
 }
 
-/// Writes the line of a refusal. A write that fails, or takes no byte, isn't tried again.
+/// Writes the line of a refusal.
 pub fn write_refusal<E: CountedWrite>(errors: &mut E, fault: ExtractFault)
     ensures { AppendsUnlessFailed (extract_line fault ++ 10 ∷ []) (E.contents errors.old) (E.contents errors.new)
         (E.failed_writes errors.old) (E.failed_writes errors.new) (E.empty_writes errors.old) (E.empty_writes errors.new) }
 {
-    write_text(errors, refusal_text(fault).as_slice());
+    write_line(errors, fault.line());
 }
 
-fn write_text<E: CountedWrite>(errors: &mut E, text: &[u8])
-    ensures { AppendsUnlessFailed text.now (E.contents errors.old) (E.contents errors.new)
+/// Writes a line. A write that fails, or takes no byte, isn't tried again.
+pub fn write_line<E: CountedWrite>(errors: &mut E, line: ArrayString<64>)
+    ensures { AppendsUnlessFailed (line.bytes ++ 10 ∷ []) (E.contents errors.old) (E.contents errors.new)
         (E.failed_writes errors.old) (E.failed_writes errors.new) (E.empty_writes errors.old) (E.empty_writes errors.new) }
 {
-    let mut rest = text;
-    while !rest.is_empty() {
-        match errors.write_counted(rest) {
-            Ok(0) => return,
-            Ok(count) => rest = &rest[count..],
-            Err(_) => return,
-        }
-    }
+    let _ = write_whole(errors, ended(line).as_slice());
 }
 
-/// The line of a refusal, with its end of line.
-fn refusal_text(fault: ExtractFault) -> ArrayVec<u8, 65>
-    ensures { result.items ≡ extract_line fault ++ 10 ∷ [] }
+/// The line, with its end of line.
+fn ended(line: ArrayString<64>) -> ArrayVec<u8, 65>
+    ensures { result.items ≡ line.bytes ++ 10 ∷ [] }
 {
-    let line = fault.line();
     let mut text = ArrayVec::new();
     text.try_extend_from_slice(line.as_bytes()).unwrap();
     text.push(b'\n');

@@ -1,15 +1,17 @@
 //! The command `run`.
-ghost use Rattle.std.specs.Prelude.{◌≡◌, ◌≢◌, ◌⊎◌, ℕ, List, IfOk, IfErr, Some, string_bytes};
-ghost use Rattle.std.specs.Io.KnownBytes.{Keeps};
+ghost use Rattle.std.specs.Prelude.{◌≡◌, ◌≢◌, ◌⊎◌, IfOk, IfErr, string_bytes};
 ghost use Rattle.extractd.specs.declared.run.RunFault.TheVariants.{Refused};
 ghost use Rattle.extract.specs.declared.fault.ExtractFault.TheVariants.{Memory};
-ghost use Rattle.extractd.specs.Run.{status_of_run_fault, rt1_name_of, OpensInput, Extracts, RunsTo, SaysFault, EndsWith, IsReadFault};
+ghost use Rattle.extractd.specs.Run.{status_of_run_fault, run_fault_of, rt1_name_of, Extracts, RunsTo, SaysFault, EndsWith};
 ghost use Rattle.extract.specs.Extracting.{CountsFailedWrites, CountsEmptyWrites};
 ghost use Rattle.extractd.specs.Files.{input_remaining, input_failed_reads};
-ghost use Rattle.extractd.specs.Failures.{CountsOpens, CountsProgramReads, HasFailedRead, WhereReadFailed, HasFileCause, CountsRunWrites, CountsRunEmptyWrites, HasInputFailed, HasOutputFailed};
+ghost use Rattle.extractd.specs.Reading.{HasFailedRead};
+ghost use Rattle.extractd.specs.Words.{Extract};
+ghost use Rattle.extractd.specs.Failures.{WhereReadFailed, HasFileCause, CountsRunWrites, CountsRunEmptyWrites, HasInputFailed, HasOutputFailed};
 
 use crate::arguments::RunWords;
-use crate::files::{Files, Input, Opened};
+use crate::files::{Files, Input};
+use crate::reading::{FileFault, open, read_to_end};
 use crate::reports::{DONE, UNUSABLE, refusal_status, write_refusal};
 use extract::{ExtractFault, extract};
 use std::alloc::{AllocError, Global};
@@ -62,8 +64,8 @@ pub fn run<F: Files, W: CountedWrite, E: CountedWrite>(
         (E.failed_writes errors.old) (E.failed_writes errors.new) (E.empty_writes errors.old) (E.empty_writes errors.new) }
 
     // No failure is answered that didn't happen, and none is passed over.
-    ensures unusable { result ≡ 3 → HasInputFailed F.Reader.remaining F.Reader.failed_reads
-        (F.bytes files.old words.entry.program.now) (F.bytes files.old (rt1_name_of words.entry.data.now words.entry.code.now))
+    ensures unusable { result ≡ 3 → HasInputFailed F.Reader.remaining F.Reader.failed_reads (F.bytes files.old)
+        (Extract words.entry.program.now words.entry.data.now words.entry.code.now)
         (F.failed_opens files.old) (F.failed_opens files.new)
         ⊎ HasOutputFailed (W.failed_writes out.old) (W.failed_writes out.new) (W.empty_writes out.old) (W.empty_writes out.new) }
     ensures opened { result ≢ 3 → F.failed_opens files.new ≡ F.failed_opens files.old }
@@ -131,25 +133,35 @@ fn extract_files<F: Files, W: CountedWrite>(
     ensures empty_writes { CountsRunEmptyWrites result (W.empty_writes out.old) (W.empty_writes out.new) }
     ensures unflushed { W.flushes out.new ≡ W.flushes out.old }
 {
-    let mut program = match open(files, InputFile::Program, words.program) {
+    let mut program = match open(files, words.program) {
         Ok(program) => program,
-        Err(fault) => return Err(fault),
+        Err(fault) => return Err(run_fault(InputFile::Program, fault)),
     };
     let name = match rt1_name(alloc, words.data, words.code) {
         Ok(name) => name,
         Err(error) => return Err(RunFault::from(error)),
     };
-    let rt1 = match open(files, InputFile::Rt1, name.as_str()) {
+    let rt1 = match open(files, name.as_str()) {
         Ok(rt1) => rt1,
-        Err(fault) => return Err(fault),
+        Err(fault) => return Err(run_fault(InputFile::Rt1, fault)),
     };
-    let program = match read_program(alloc, &mut program) {
+    let program = match read_to_end(alloc, &mut program) {
         Ok(program) => program,
-        Err(fault) => return Err(fault),
+        Err(fault) => return Err(run_fault(InputFile::Program, fault)),
     };
     match extract_one(alloc, program.as_slice(), rt1, out) {
         Ok(rows) => Ok(rows),
         Err(fault) => Err(RunFault::Refused(fault)),
+    }
+}
+
+fn run_fault(file: InputFile, fault: FileFault) -> RunFault
+    ensures { result ≡ run_fault_of file fault }
+{
+    match fault {
+        FileFault::Missing => RunFault::Missing(file),
+        FileFault::Unusable => RunFault::Unusable(file),
+        FileFault::Memory => RunFault::Refused(ExtractFault::Memory),
     }
 }
 
@@ -162,45 +174,6 @@ fn rt1_name(alloc: Global, data: &str, code: &str) -> Result<String, AllocError>
     name.push_str(code)?;
     name.push_str(".RT1")?;
     Ok(name)
-}
-
-fn open<F: Files>(files: &mut F, file: InputFile, name: &str) -> Result<F::Reader, RunFault>
-    ensures opens { OpensInput F.Reader.remaining (F.bytes files.old name.now) file result }
-    ensures stay { (other : List ℕ) → F.bytes files.new other ≡ F.bytes files.old other }
-    ensures failures { CountsOpens result (F.failed_opens files.old) (F.failed_opens files.new) }
-{
-    match files.open(name) {
-        Opened::Reader(reader) => Ok(reader),
-        Opened::Missing => Err(RunFault::Missing(file)),
-        Opened::Unusable => Err(RunFault::Unusable(file)),
-        Opened::OutOfMemory => Err(RunFault::Refused(ExtractFault::Memory)),
-    }
-}
-
-// The program is read in pieces of this size.
-const PIECE: usize = 4096;
-
-/// The program's bytes, from where the reader stands to its end. No read is tried again.
-fn read_program<R: CountedRead>(alloc: Global, reader: &mut R) -> Result<Vec<u8>, RunFault>
-    ensures ok { IfOk result (λ program. Keeps (R.remaining reader.old) (Some program.items)) }
-    ensures err { IfErr result IsReadFault }
-    ensures failures { CountsProgramReads result (R.failed_reads reader.old) (R.failed_reads reader.new) }
-{
-    let mut program = Vec::new(alloc);
-    for _ in 0..u64::MAX {
-        let mut piece = [0; PIECE];
-        match reader.read_counted(&mut piece) {
-            Ok(0) => return Ok(program),
-            Ok(count) => {
-                if program.extend_from_slice(&piece[..count]).is_err() {
-                    return Err(RunFault::Refused(ExtractFault::Memory));
-                }
-            }
-            Err(_) => return Err(RunFault::Unusable(InputFile::Program)),
-        }
-    }
-    // More bytes than there is memory.
-    Err(RunFault::Refused(ExtractFault::Memory))
 }
 
 /// The extract of a program that was read and a type 1 file, with no other file.

@@ -7,6 +7,10 @@ use tl_fields::{Counting, count_one};
 
 pub const RUN: &[&str] = &["run", "--program", "p.bpf", "--data", "d", "01001"];
 
+pub const ASSEMBLE: &[&str] = &["asm", "--source", "p.s"];
+
+pub const DISASSEMBLE: &[&str] = &["dis", "--program", "p.bpf"];
+
 // What stands under a name.
 #[derive(Clone, Copy)]
 pub enum Content<'a> {
@@ -32,6 +36,11 @@ impl<'a> MemoryFiles<'a> {
             rt1,
             failed_opens: 0,
         }
+    }
+
+    // The one file that a conversion reads.
+    pub fn of(file: Content<'a>) -> Self {
+        MemoryFiles::new(file, Content::Missing)
     }
 }
 
@@ -60,7 +69,7 @@ impl<'a> Files for MemoryFiles<'a> {
     ghost failed_opens = { λ files. files.failed_opens };
 
     fn open(&mut self, name: &str) -> Opened<Counting<MemoryReader<'a>>> {
-        let content = if name == "p.bpf" {
+        let content = if name == "p.bpf" || name == "p.s" {
             self.program
         } else if name == "d/TGR01001.RT1" {
             self.rt1

@@ -74,8 +74,21 @@ const CASES: &[(&[&str], &str)] = &[
     (&["run", "--program", "p.bpf", "--data", "d", ""], "error: "),
     (&["frob"], "error: "),
     (&["verify", "--program", "p.bpf"], "error: "),
-    (&["asm", "--source", "p.s"], "error: "),
-    (&["dis", "--program", "p.bpf"], "error: "),
+    (&["asm"], "error: "),
+    (&["asm", "--source"], "error: "),
+    (&["asm", "p.s"], "error: "),
+    (&["asm", "--program", "p.bpf"], "error: "),
+    (&["asm", "--source", "p.s", "p.s"], "error: "),
+    (&["asm", "--source", "p.s", "--source", "p.s"], "error: "),
+    (&["dis"], "error: "),
+    (&["dis", "--program"], "error: "),
+    (&["dis", "p.bpf"], "error: "),
+    (&["dis", "--source", "p.s"], "error: "),
+    (&["dis", "--program", "p.bpf", "01001"], "error: "),
+    (
+        &["dis", "--program", "p.bpf", "--program", "p.bpf"],
+        "error: ",
+    ),
     (
         &[
             "trace",
@@ -104,6 +117,8 @@ const CASES: &[(&[&str], &str)] = &[
     (&["help"], "error: "),
     (&["--help"], "Extracts "),
     (&["run", "--help"], "Writes "),
+    (&["asm", "--help"], "Writes "),
+    (&["dis", "--help"], "Writes "),
 ];
 
 #[test]

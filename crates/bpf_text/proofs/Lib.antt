@@ -1,0 +1,16 @@
+pub mod OperandLemmas
+pub mod NumberLemmas
+pub mod WordLemmas
+pub mod LineLemmas
+pub mod StatementLemmas
+pub mod LineCutLemmas
+pub mod NoteLemmas
+pub mod SpelledLemmas
+pub mod RoundTripLemmas
+pub mod TableLemmas
+pub mod ReadLemmas
+pub mod ReadLineLemmas
+pub mod ReadValueLemmas
+pub mod ReadWideLemmas
+pub mod ReadRegisterLemmas
+pub mod ReadRowLemmas

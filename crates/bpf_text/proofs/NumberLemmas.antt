@@ -1,0 +1,43 @@
+-- What follows from the digits of a number.
+use Rattle.std.proofs.Common.{◌≡◌, ℕ, ◌+◌, ◌*◌, ◌^◌, ◌<◌, ◌≤◌, true, List, [], ◌∷◌, length, get_or, take, ℤ, refl, ap, ◌∙◌, arith}
+use Rattle.std.specs.List.{list_all}
+use Rattle.std.specs.Char.{digit_value}
+use Rattle.std.specs.Str.Parse.{digits_value, AllDigits}
+use Rattle.std.proofs.lemmas.Bool.{and_parts, lt-ltb, ltb-true}
+use Rattle.std.proofs.lemmas.Int.Digits.{digits_value-lt, digits_value_more}
+use Rattle.std.proofs.lemmas.List.Folds.{list_all_more}
+use Rattle.std.proofs.Math.Nat.{lt_of_lt_of_le, pow-le-pow_right, pow-le-pow_left}
+use Rattle.std.specs.Int.{w16, w32}
+use mir.Val.{to_z, of_z, SFits}
+use Rattle.std.proofs.lemmas.Int.{ints, to_z-of_z}
+use Rattle.bpf_text.specs.Number.{is_digit, IsWithin, limit_of_16_bits}
+
+pub all_digits : (radix : ℕ) (ds : List ℕ) → list_all (is_digit radix) ds ≡ true → AllDigits radix ds
+all_digits radix [] all = tt
+all_digits radix (d ∷ ds) all =
+    let parts = and_parts (is_digit radix d) (list_all (is_digit radix) ds) all in
+    (ltb-true _ _ parts.0, all_digits radix ds parts.1)
+
+-- so many digits write a number below this power of the radix
+pub digits-lt : (radix most : ℕ) (ds : List ℕ) → 2 ≤ radix → length ds ≤ most → list_all (is_digit radix) ds ≡ true → digits_value radix ds < radix ^ most
+digits-lt radix most ds some few all =
+    lt_of_lt_of_le (digits_value-lt radix ds (all_digits radix ds all)) (pow-le-pow_right (omega arith) few)
+
+-- twenty digits, up to hexadecimal ones
+pub digits-small : (radix : ℕ) (ds : List ℕ) → 2 ≤ radix → radix ≤ 16 → length ds ≤ 20 → list_all (is_digit radix) ds ≡ true → digits_value radix ds < 2 ^ 80
+digits-small radix ds some few short all =
+    lt_of_lt_of_le (digits-lt radix 20 ds some short all) (pow-le-pow_left few 20)
+
+-- one more digit
+pub digits-next : (radix : ℕ) (ds : List ℕ) (i value : ℕ) → i < length ds → value ≡ digits_value radix (take i ds) → value * radix + digit_value (get_or ds i 0) ≡ digits_value radix (take (i + 1) ds)
+digits-next radix ds i value inside so_far = rw (digits_value_more radix ds i inside, so_far) refl
+
+pub all-next : (radix : ℕ) (ds : List ℕ) (i : ℕ) → i < length ds → digit_value (get_or ds i 0) < radix → list_all (is_digit radix) (take i ds) ≡ true → list_all (is_digit radix) (take (i + 1) ds) ≡ true
+all-next radix ds i inside digit so_far = rw (list_all_more (is_digit radix) ds i 0 inside, so_far, lt-ltb _ _ digit) refl
+
+-- a number of 32 bits that is cast to 16
+pub narrowed_16 : (value : ℤ) → IsWithin limit_of_16_bits value → to_z w16 (of_z w16 (to_z w32 (of_z w32 value))) ≡ value
+narrowed_16 value within =
+    let wide : SFits w32 value = omega (arith, ints) in
+    let narrow : SFits w16 value = omega (arith, ints) in
+    ap (λ (v : ℤ). to_z w16 (of_z w16 v)) (to_z-of_z _ _ wide) ∙ to_z-of_z _ _ narrow

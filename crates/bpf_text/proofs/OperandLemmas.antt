@@ -1,0 +1,31 @@
+-- Registers by their numbers.
+use Rattle.std.proofs.Common.{◌≡◌, ℕ, ◌≤◌, nat_le, Bool, true, false, Some, None, refl, sym, ◌∙◌, ap, arith}
+use Rattle.std.proofs.lemmas.Bool.{leb-true}
+use Rattle.std.proofs.lemmas.Bool.{le-leb, false≢true}
+use Rattle.bpf_insn.proofs.SpellingLemmas.{same_register, same_writable}
+use Rattle.bpf_insn.specs.declared.register.Register.{Register}
+use Rattle.bpf_insn.specs.declared.register.WritableRegister.{WritableRegister}
+use Rattle.bpf_text.specs.Operand.{register_at, register_if, writable_at, writable_if}
+
+register_if-same : (r : Register) (test : Bool) (is : nat_le r.number 10 ≡ test) → register_if r.number test is ≡ Some r
+register_if-same r true is = ap Some (same_register _ r refl)
+register_if-same r false is = absurd (false≢true (sym is ∙ le-leb r.number 10 r.in_range))
+
+-- a register is found by its number
+pub register_at-same : (r : Register) → register_at r.number ≡ Some r
+register_at-same r = register_if-same r _ refl
+
+writable_if-same : (r : WritableRegister) (test : Bool) (is : nat_le r.number 9 ≡ test) → writable_if r.number test is ≡ Some r
+writable_if-same r true is = ap Some (same_writable _ r refl)
+writable_if-same r false is = absurd (false≢true (sym is ∙ le-leb r.number 9 r.in_range))
+
+pub writable_at-same : (r : WritableRegister) → writable_at r.number ≡ Some r
+writable_at-same r = writable_if-same r _ refl
+
+writable_if-none : (number : ℕ) (test : Bool) (is : nat_le number 9 ≡ test) → 10 ≤ number → writable_if number test is ≡ None
+writable_if-none number true is above = absurd (omega (arith, leb-true number 9 is))
+writable_if-none number false is above = refl
+
+-- register 10 isn't writable
+pub writable_at-none : (number : ℕ) → 10 ≤ number → writable_at number ≡ None
+writable_at-none number above = writable_if-none number _ refl above

@@ -1,0 +1,10 @@
+pub mod Words
+pub mod Number
+pub mod Mnemonic
+pub mod Operand
+pub mod Line
+pub mod View
+pub mod Text
+pub mod Notes
+pub mod Spelled
+pub mod FaultLine

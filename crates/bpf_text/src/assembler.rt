@@ -1,0 +1,268 @@
+//! Text to code, in two passes: the first one finds the places of labels.
+ghost use Rattle.std.specs.Prelude.{◌≡◌, ◌<◌, ◌≤◌, ◌+◌, ◌-ℤ◌, ◌⊎◌, ℕ, pos, suc, List, [], ◌∷◌, ◌==◌, length, Ok, Err, IfOk, IfErr, IfSome, MatchResult};
+ghost use Rattle.std.specs.List.{position};
+ghost use Rattle.std.specs.Str.Lines.{lines, strip_carriage_return};
+ghost use Rattle.bpf_insn.specs.declared.instruction.Insn.{Insn};
+ghost use Rattle.bpf_text.specs.Line.{Statement as Meaning, Label, Instruction, statement_in};
+ghost use Rattle.bpf_text.specs.View.{name_view};
+ghost use Rattle.bpf_text.specs.Text.{Means, IsFirstFault, at_distance, placed, code_of, label_place};
+ghost use Rattle.bpf_text.specs.Notes.{item_view, AreNotesOf, places_in, NotesLine, HasNotes, ReadsNotes, PlacesItem};
+
+use crate::fault::{LineFault, TextFault};
+use crate::line::Statement;
+use bpf_insn::{Code, CodeBuilder, Insn, JumpDistance, WORD_LIMIT};
+use std::alloc::Allocator;
+use std::collections::BTreeMap;
+
+/// An instruction, with the label that it names.
+#[derive(Clone, Copy, Debug, PartialEq, Eq)]
+pub(crate) struct Item<'a> {
+    /// The line, counted from 1.
+    pub line: usize,
+    /// The place, which counts words from 0.
+    pub place: u32,
+    pub insn: Insn,
+    pub target: Option<&'a [u8]>,
+}
+
+/// What the first pass notes of the lines so far.
+#[derive(Drop)]
+struct Notes<'a, A: Allocator> {
+    items: Vec<Item<'a>, A>,
+    /// The place of each label.
+    labels: BTreeMap<&'a [u8], u32, A>,
+    /// How many words the instructions take.
+    words: usize,
+}
+
+/// The code that a program text means. Lines end with LF or CR LF, a semicolon begins a comment, and
+/// a name with a colon is a label.
+pub fn assemble<A: Allocator + Copy>(alloc: A, text: &str) -> Result<Code<A>, TextFault>
+    ensures ok { IfOk result (λ code. Means text.now code) }
+    ensures err { IfErr result (IsFirstFault text.now) }
+    ensures only { (code : List Insn) → Means text.now code → MatchResult result (λ given. given ≡ code) (λ fault. fault ≡ TextFault.Memory) }
+{
+    assembled(alloc, text.as_bytes())
+}
+
+fn assembled<A: Allocator + Copy>(alloc: A, text: &[u8]) -> Result<Code<A>, TextFault>
+    ensures { MatchResult result (Means text.now) (IsFirstFault text.now) }
+{
+    let notes = Notes::read(alloc, text)?;
+    let builder = notes.code(alloc)?;
+    match builder.finish() {
+        Ok(code) => Ok(code),
+        Err(_) => Err(TextFault::InLine {
+            line: 1,
+            fault: LineFault::NoInstruction,
+        }),
+    }
+}
+
+/// The first line of a text that isn't empty, without its end, and what follows it.
+fn first_line(text: &[u8]) -> (&[u8], &[u8])
+    requires { 0 < length text.now }
+    ensures cut { lines text.now ≡ result.0.now ∷ lines result.1.now }
+    ensures shorter { length result.1.now < length text.now }
+{
+    match find_line_feed(text) {
+        Some(end) => (without_carriage_return(&text[..end]), &text[end + 1..]),
+        None => (text, &[]),
+    }
+}
+
+fn find_line_feed(text: &[u8]) -> Option<usize>
+    ensures value { result ≡ position (λ byte. byte == 10) text.now }
+    ensures within { IfSome result (λ index. index < length text.now) }
+{
+    text.iter().position(|byte| *byte == b'\n')
+}
+
+/// A carriage return before the line feed belongs to the line's end.
+fn without_carriage_return(line: &[u8]) -> &[u8]
+    ensures { result.now ≡ strip_carriage_return line.now }
+{
+    match line {
+        [front @ .., b'\r'] => front,
+        _ => line,
+    }
+}
+
+impl<'a, A: Allocator + Copy> Notes<'a, A> {
+    /// The first pass.
+    fn read(alloc: A, text: &'a [u8]) -> Result<Notes<'a, A>, TextFault>
+        ensures notes { IfOk result (λ notes. HasNotes text.now notes.items.items (places_in notes.labels) notes.words) }
+        ensures err { IfErr result (ReadsNotes text.now) }
+    {
+        let mut notes = Notes {
+            items: Vec::new(alloc),
+            labels: BTreeMap::new(alloc),
+            words: 0,
+        };
+        let mut rest = text;
+        let mut number = 0;
+        while !rest.is_empty() {
+            let (line, after) = first_line(rest);
+            rest = after;
+            number += 1;
+            if let Err(fault) = notes.add(number, line) {
+                return Err(fault);
+            }
+        }
+        Ok(notes)
+    }
+
+    /// Notes the next line.
+    fn add(&mut self, number: usize, line: &'a [u8]) -> Result<(), TextFault>
+        requires { self.old.words ≤ WORD_LIMIT }
+        ensures within { self.new.words ≤ WORD_LIMIT }
+        ensures noted { (before : List Meaning) → AreNotesOf self.old.items.items (places_in self.old.labels) self.old.words before → number ≡ suc (length before)
+            → NotesLine before (statement_in line.now) number self.new.items.items (places_in self.new.labels) self.new.words result }
+    {
+        match Statement::read(line) {
+            Ok(Statement::Blank) => Ok(()),
+            Ok(Statement::Label(name)) => self.add_label(number, name),
+            Ok(Statement::Instruction { insn, target }) => {
+                self.add_instruction(number, insn, target)
+            }
+            Err(fault) => Err(TextFault::InLine {
+                line: number,
+                fault,
+            }),
+        }
+    }
+
+    fn add_label(&mut self, line: usize, name: &'a [u8]) -> Result<(), TextFault>
+        requires { self.old.words ≤ WORD_LIMIT }
+        ensures within { self.new.words ≤ WORD_LIMIT }
+        ensures noted { (before : List Meaning) → AreNotesOf self.old.items.items (places_in self.old.labels) self.old.words before → line ≡ suc (length before)
+            → NotesLine before (Ok (Label name.now)) line self.new.items.items (places_in self.new.labels) self.new.words result }
+    {
+        if self.labels.contains_key(&name) {
+            return Err(TextFault::InLine {
+                line,
+                fault: LineFault::DoubleLabel,
+            });
+        }
+        self.labels.insert(name, self.words as u32)?;
+        Ok(())
+    }
+
+    fn add_instruction(
+        &mut self,
+        line: usize,
+        insn: Insn,
+        target: Option<&'a [u8]>,
+    ) -> Result<(), TextFault>
+        requires { self.old.words ≤ WORD_LIMIT }
+        ensures within { self.new.words ≤ WORD_LIMIT }
+        ensures noted { (before : List Meaning) → AreNotesOf self.old.items.items (places_in self.old.labels) self.old.words before → line ≡ suc (length before)
+            → NotesLine before (Ok (Instruction insn (name_view target.entry))) line self.new.items.items (places_in self.new.labels) self.new.words result }
+    {
+        let words = insn.words();
+        if WORD_LIMIT - self.words < words {
+            return Err(TextFault::InLine {
+                line,
+                fault: LineFault::TooLong,
+            });
+        }
+        let place = self.words as u32;
+        self.items.push(Item {
+            line,
+            place,
+            insn,
+            target,
+        })?;
+        self.words += words;
+        Ok(())
+    }
+
+    /// The second pass.
+    fn code(&self, alloc: A) -> Result<CodeBuilder<A>, TextFault>
+        ensures { (statements : List Meaning) → AreNotesOf self.now.items.items (places_in self.now.labels) self.now.words statements
+            → MatchResult result (λ builder. code_of statements ≡ Ok builder) (λ fault. (fault ≡ TextFault.Memory) ⊎ (code_of statements ≡ Err fault)) }
+    {
+        let mut builder = CodeBuilder::new(alloc);
+        for item in &self.items {
+            if let Err(fault) = self.push(&mut builder, *item) {
+                return Err(fault);
+            }
+        }
+        Ok(builder)
+    }
+
+    /// Adds an item's instruction.
+    fn push(&self, builder: &mut CodeBuilder<A>, item: Item<'a>) -> Result<(), TextFault>
+        ensures { (statements : List Meaning) → ((name : List ℕ) → places_in self.now.labels name ≡ label_place name statements)
+            → PlacesItem statements item.entry builder.old builder.new result }
+    {
+        match self.placed(item) {
+            // The first pass has seen that the words are few enough, so only memory can be wanting.
+            Ok(insn) => match builder.push(insn) {
+                Ok(()) => Ok(()),
+                Err(_) => Err(TextFault::Memory),
+            },
+            Err(fault) => Err(TextFault::InLine {
+                line: item.line,
+                fault,
+            }),
+        }
+    }
+
+    /// An item's instruction, with its distance.
+    fn placed(&self, item: Item<'a>) -> Result<Insn, LineFault>
+        ensures { (statements : List Meaning) → ((name : List ℕ) → places_in self.now.labels name ≡ label_place name statements)
+            → result ≡ placed statements (item_view item.entry) }
+    {
+        let Some(name) = item.target else {
+            return Ok(item.insn);
+        };
+        let Some(target) = self.labels.get(&name) else {
+            return Err(LineFault::UnknownLabel);
+        };
+        match at_distance(distance(item.place, *target), item.insn) {
+            Some(insn) => Ok(insn),
+            None => Err(LineFault::LabelTooFar),
+        }
+    }
+}
+
+/// The distance of a jump at a place, which counts from the word after it.
+fn distance(place: u32, target: u32) -> i64
+    ensures { result ≡ pos target -ℤ pos (place + 1) }
+{
+    i64::from(target) - (i64::from(place) + 1)
+}
+
+/// A jump with another distance, if that fits its field.
+fn at_distance(distance: i64, insn: Insn) -> Option<Insn>
+    ensures { result ≡ at_distance distance insn }
+{
+    match insn {
+        Insn::JumpIf {
+            condition,
+            width,
+            left,
+            right,
+            ..
+        } => {
+            let offset = i16::try_from(distance).ok()?;
+            Some(Insn::JumpIf {
+                condition,
+                width,
+                left,
+                right,
+                offset,
+            })
+        }
+        Insn::Jump(JumpDistance::Short(_)) => {
+            let distance = i16::try_from(distance).ok()?;
+            Some(Insn::Jump(JumpDistance::Short(distance)))
+        }
+        Insn::Jump(JumpDistance::Long(_)) => {
+            let distance = i32::try_from(distance).ok()?;
+            Some(Insn::Jump(JumpDistance::Long(distance)))
+        }
+        _ => Some(insn),
+    }
+}

@@ -1,0 +1,18 @@
+//! BPF programs as text: an assembler and a disassembler.
+#![tactic(auto)]
+
+mod assembler;
+mod disassembler;
+mod fault;
+mod form;
+pub mod laws;
+mod line;
+mod number;
+mod operand;
+#[cfg(test)]
+mod tests;
+mod words;
+
+pub use assembler::assemble;
+pub use disassembler::disassemble;
+pub use fault::{LineFault, TextFault};

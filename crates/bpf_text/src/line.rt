@@ -1,0 +1,296 @@
+//! What a line means.
+ghost use Rattle.std.specs.Prelude.{◌≡◌};
+ghost use Rattle.bpf_text.specs.Words.{cut_operand};
+ghost use Rattle.bpf_text.specs.Operand.{or_fault, register_in, memory_in, source_in, target_in};
+ghost use Rattle.bpf_text.specs.Number.{immediate_in, wide_in, limit_of_16_bits};
+ghost use Rattle.bpf_text.specs.Line.{instruction_in, instruction_of, label_of, statement_in, two, plain, low_half, high_half};
+ghost use Rattle.bpf_text.specs.View.{statement_view, comparand_view, parts_view};
+
+use crate::fault::LineFault;
+use crate::form::Form;
+use crate::number::{immediate, wide};
+use crate::operand::{both, destination, memory, register, source, target_16, target_32};
+use crate::words::{content, is_label, is_mnemonic, split_operand, split_word};
+use bpf_insn::{
+    ByteOrder, Condition, Insn, JumpDistance, LoadFormat, Operation, Register, SignExtension,
+    Source, StoreSize, SwapWidth, Width,
+};
+
+/// What a line means. A jump to a label has the distance 0 for the time being.
+#[derive(Clone, Copy, Debug, PartialEq, Eq)]
+pub(crate) enum Statement<'a> {
+    Blank,
+    Label(&'a [u8]),
+    Instruction {
+        insn: Insn,
+        target: Option<&'a [u8]>,
+    },
+}
+
+impl<'a> Statement<'a> {
+    /// What a line means, without its end.
+    pub(crate) fn read(line: &'a [u8]) -> Result<Statement<'a>, LineFault>
+        ensures { statement_view result ≡ statement_in line.now }
+    {
+        let content = content(line);
+        if content.is_empty() {
+            return Ok(Statement::Blank);
+        }
+        let last = content.len() - 1;
+        if content[last] == b':' {
+            return label(&content[..last]);
+        }
+        instruction(content)
+    }
+}
+
+fn label(name: &[u8]) -> Result<Statement<'_>, LineFault>
+    ensures { statement_view result ≡ label_of name.now }
+{
+    if is_label(name) {
+        Ok(Statement::Label(name))
+    } else {
+        Err(LineFault::Syntax)
+    }
+}
+
+fn instruction(content: &[u8]) -> Result<Statement<'_>, LineFault>
+    ensures { statement_view result ≡ instruction_of content.now }
+{
+    let (word, operands) = split_word(content);
+    if !is_mnemonic(word) {
+        return Err(LineFault::Syntax);
+    }
+    match Form::named(word) {
+        Some(form) => with_operands(form, operands),
+        None => Err(LineFault::UnknownMnemonic),
+    }
+}
+
+fn with_operands(form: Form, operands: &[u8]) -> Result<Statement<'_>, LineFault>
+    ensures { statement_view result ≡ instruction_in form operands.now }
+{
+    match form {
+        Form::Alu(operation, width) => alu(operation, width, operands),
+        Form::MoveSignExtended(extension) => move_sign_extended(extension, operands),
+        Form::Negate(width) => negate(width, operands),
+        Form::ByteSwap(order, width) => byte_swap(order, width, operands),
+        Form::JumpIf(condition, width) => jump_if(condition, width, operands),
+        Form::Jump => jump(operands),
+        Form::LongJump => long_jump(operands),
+        Form::Call => call(operands),
+        Form::Exit => exit(operands),
+        Form::Load(format) => load(format, operands),
+        Form::StoreImmediate(size) => store_immediate(size, operands),
+        Form::Store(size) => store(size, operands),
+        Form::WideLoad => wide_load(operands),
+    }
+}
+
+/// An instruction that names no label.
+fn plain<'a>(insn: Insn) -> Result<Statement<'a>, LineFault>
+    ensures { statement_view result ≡ plain insn }
+{
+    Ok(Statement::Instruction { insn, target: None })
+}
+
+/// The operands on both sides of the first comma.
+fn split(operands: &[u8]) -> Result<(&[u8], &[u8]), LineFault>
+    ensures { parts_view result ≡ or_fault LineFault.Syntax (cut_operand operands.now) }
+{
+    match split_operand(operands) {
+        Some(parts) => Ok(parts),
+        None => Err(LineFault::Syntax),
+    }
+}
+
+fn alu(operation: Operation, width: Width, operands: &[u8]) -> Result<Statement<'_>, LineFault>
+    ensures { statement_view result ≡ instruction_in (Form.Alu operation width) operands.now }
+{
+    let (left, right) = split(operands)?;
+    let (register, source) = both(register(left), source(right))?;
+    let destination = destination(register)?;
+    plain(Insn::Alu {
+        operation,
+        width,
+        destination,
+        source,
+    })
+}
+
+fn move_sign_extended(extension: SignExtension, operands: &[u8]) -> Result<Statement<'_>, LineFault>
+    ensures { statement_view result ≡ instruction_in (Form.MoveSignExtended extension) operands.now }
+{
+    let (left, right) = split(operands)?;
+    let (register, source) = both(register(left), register(right))?;
+    let destination = destination(register)?;
+    plain(Insn::MoveSignExtended {
+        extension,
+        destination,
+        source,
+    })
+}
+
+fn negate(width: Width, operands: &[u8]) -> Result<Statement<'_>, LineFault>
+    ensures { statement_view result ≡ instruction_in (Form.Negate width) operands.now }
+{
+    let register = register(operands)?;
+    let destination = destination(register)?;
+    plain(Insn::Negate { width, destination })
+}
+
+fn byte_swap(
+    order: ByteOrder,
+    width: SwapWidth,
+    operands: &[u8],
+) -> Result<Statement<'_>, LineFault>
+    ensures { statement_view result ≡ instruction_in (Form.ByteSwap order width) operands.now }
+{
+    let register = register(operands)?;
+    let destination = destination(register)?;
+    plain(Insn::ByteSwap {
+        order,
+        width,
+        destination,
+    })
+}
+
+/// The second operand of a comparison, and the target.
+fn source_and_target(operands: &[u8]) -> Result<(Source, (i16, Option<&[u8]>)), LineFault>
+    ensures { comparand_view result ≡ two source_in (target_in limit_of_16_bits) operands.now }
+{
+    let (left, right) = split(operands)?;
+    both(source(left), target_16(right))
+}
+
+fn jump_if(condition: Condition, width: Width, operands: &[u8]) -> Result<Statement<'_>, LineFault>
+    ensures { statement_view result ≡ instruction_in (Form.JumpIf condition width) operands.now }
+{
+    let (left, rest) = split(operands)?;
+    let (left, (right, (offset, target))) = both(register(left), source_and_target(rest))?;
+    Ok(Statement::Instruction {
+        insn: Insn::JumpIf {
+            condition,
+            width,
+            left,
+            right,
+            offset,
+        },
+        target,
+    })
+}
+
+fn jump(operands: &[u8]) -> Result<Statement<'_>, LineFault>
+    ensures { statement_view result ≡ instruction_in Form.Jump operands.now }
+{
+    let (distance, target) = target_16(operands)?;
+    let insn = Insn::Jump(JumpDistance::Short(distance));
+    Ok(Statement::Instruction { insn, target })
+}
+
+fn long_jump(operands: &[u8]) -> Result<Statement<'_>, LineFault>
+    ensures { statement_view result ≡ instruction_in Form.LongJump operands.now }
+{
+    let (distance, target) = target_32(operands)?;
+    let insn = Insn::Jump(JumpDistance::Long(distance));
+    Ok(Statement::Instruction { insn, target })
+}
+
+fn call(operands: &[u8]) -> Result<Statement<'_>, LineFault>
+    ensures { statement_view result ≡ instruction_in Form.Call operands.now }
+{
+    let immediate = immediate(operands)?;
+    plain(Insn::Call { immediate })
+}
+
+fn exit(operands: &[u8]) -> Result<Statement<'_>, LineFault>
+    ensures { statement_view result ≡ instruction_in Form.Exit operands.now }
+{
+    if !operands.is_empty() {
+        return Err(LineFault::Syntax);
+    }
+    plain(Insn::Exit)
+}
+
+fn register_and_memory(operands: &[u8]) -> Result<(Register, (Register, i16)), LineFault>
+    ensures { result ≡ two register_in memory_in operands.now }
+{
+    let (left, right) = split(operands)?;
+    both(register(left), memory(right))
+}
+
+fn memory_and_immediate(operands: &[u8]) -> Result<((Register, i16), i32), LineFault>
+    ensures { result ≡ two memory_in immediate_in operands.now }
+{
+    let (left, right) = split(operands)?;
+    both(memory(left), immediate(right))
+}
+
+fn register_and_wide(operands: &[u8]) -> Result<(Register, u64), LineFault>
+    ensures { result ≡ two register_in wide_in operands.now }
+{
+    let (left, right) = split(operands)?;
+    both(register(left), wide(right))
+}
+
+fn load(format: LoadFormat, operands: &[u8]) -> Result<Statement<'_>, LineFault>
+    ensures { statement_view result ≡ instruction_in (Form.Load format) operands.now }
+{
+    let (register, (base, offset)) = register_and_memory(operands)?;
+    let destination = destination(register)?;
+    plain(Insn::Load {
+        format,
+        destination,
+        base,
+        offset,
+    })
+}
+
+fn store_immediate(size: StoreSize, operands: &[u8]) -> Result<Statement<'_>, LineFault>
+    ensures { statement_view result ≡ instruction_in (Form.StoreImmediate size) operands.now }
+{
+    let ((base, offset), immediate) = memory_and_immediate(operands)?;
+    plain(Insn::StoreImmediate {
+        size,
+        base,
+        offset,
+        immediate,
+    })
+}
+
+fn store(size: StoreSize, operands: &[u8]) -> Result<Statement<'_>, LineFault>
+    ensures { statement_view result ≡ instruction_in (Form.Store size) operands.now }
+{
+    let (left, right) = split(operands)?;
+    let ((base, offset), source) = both(memory(left), register(right))?;
+    plain(Insn::Store {
+        size,
+        base,
+        offset,
+        source,
+    })
+}
+
+fn wide_load(operands: &[u8]) -> Result<Statement<'_>, LineFault>
+    ensures { statement_view result ≡ instruction_in Form.WideLoad operands.now }
+{
+    let (register, number) = register_and_wide(operands)?;
+    let destination = destination(register)?;
+    plain(Insn::WideLoad {
+        destination,
+        immediate: low_half(number),
+        next_immediate: high_half(number),
+    })
+}
+
+fn low_half(number: u64) -> i32
+    ensures { result ≡ low_half number }
+{
+    ((number % (1 << 32)) as u32).cast_signed()
+}
+
+fn high_half(number: u64) -> i32
+    ensures { result ≡ high_half number }
+{
+    ((number / (1 << 32)) as u32).cast_signed()
+}

@@ -1,0 +1,156 @@
+//! The operands of an instruction.
+ghost use Rattle.std.specs.Prelude.{◌≡◌, ◌<◌, IfSome, length};
+ghost use Rattle.std.specs.List.{position};
+ghost use Rattle.std.specs.Str.{bytes_eq};
+ghost use Rattle.bpf_text.specs.Operand.{both, form_first, register_text, register_number, register_named, register_in, destination_of, source_in, offset_in, address_in, memory_in, target_in};
+ghost use Rattle.bpf_text.specs.Number.{limit_of_16_bits, limit_of_32_bits};
+ghost use Rattle.bpf_text.specs.View.{target_view};
+
+use crate::fault::LineFault;
+use crate::number::{immediate, signed_16, signed_32};
+use crate::words::{find_sign, is_label};
+use bpf_insn::{Register, Source, WritableRegister};
+
+/// The registers' names, by number.
+const REGISTER_NAMES: [&str; 11] = [
+    "r0", "r1", "r2", "r3", "r4", "r5", "r6", "r7", "r8", "r9", "r10",
+];
+
+/// Two operands: a fault of either one's form comes before a fault of a number's range.
+pub(crate) fn both<T: Copy, U: Copy>(
+    left: Result<T, LineFault>,
+    right: Result<U, LineFault>,
+) -> Result<(T, U), LineFault>
+    ensures { result ≡ both left right }
+{
+    match left {
+        Ok(left) => match right {
+            Ok(right) => Ok((left, right)),
+            Err(fault) => Err(fault),
+        },
+        Err(fault) => match right {
+            Ok(_) => Err(fault),
+            Err(other) => Err(form_first(fault, other)),
+        },
+    }
+}
+
+fn form_first(fault: LineFault, other: LineFault) -> LineFault
+    ensures { result ≡ form_first fault other }
+{
+    match fault {
+        LineFault::NumberRange => other,
+        _ => fault,
+    }
+}
+
+/// The number of the register that a word names.
+fn register_number(word: &[u8]) -> Option<usize>
+    ensures value { result ≡ register_number word.now }
+    ensures within { IfSome result (λ number. number < 11) }
+{
+    index_of(&REGISTER_NAMES, word)
+}
+
+fn index_of(names: &[&str], word: &[u8]) -> Option<usize>
+    ensures value { result ≡ position (λ name. bytes_eq name.now word.now) names.now }
+    ensures within { IfSome result (λ index. index < length names.now) }
+{
+    names.iter().position(|name| name.as_bytes() == word)
+}
+
+/// A register's name.
+pub(crate) fn register_name(register: Register) -> &'static str
+    ensures { result.now ≡ register_text register.number }
+{
+    REGISTER_NAMES[usize::from(register.number)]
+}
+
+/// The register that a word names.
+fn register_named(word: &[u8]) -> Option<Register>
+    ensures { result ≡ register_named word.now }
+{
+    let number = register_number(word)? as u8;
+    Some(Register { number })
+}
+
+/// A register.
+pub(crate) fn register(word: &[u8]) -> Result<Register, LineFault>
+    ensures { result ≡ register_in word.now }
+{
+    match register_named(word) {
+        Some(register) => Ok(register),
+        None => Err(LineFault::Syntax),
+    }
+}
+
+/// A register that an instruction writes.
+pub(crate) fn destination(register: Register) -> Result<WritableRegister, LineFault>
+    ensures { result ≡ destination_of register }
+{
+    let number = register.number;
+    if number > 9 {
+        return Err(LineFault::WritesFramePointer);
+    }
+    Ok(WritableRegister { number })
+}
+
+/// A register, or else an immediate.
+pub(crate) fn source(word: &[u8]) -> Result<Source, LineFault>
+    ensures { result ≡ source_in word.now }
+{
+    match register_named(word) {
+        Some(register) => Ok(Source::Register(register)),
+        None => Ok(Source::Immediate(immediate(word)?)),
+    }
+}
+
+/// An offset, which may be left out.
+fn offset(text: &[u8]) -> Result<i16, LineFault>
+    ensures { result ≡ offset_in text.now }
+{
+    if text.is_empty() {
+        return Ok(0);
+    }
+    signed_16(text)
+}
+
+/// A base register and an offset.
+fn address(text: &[u8]) -> Result<(Register, i16), LineFault>
+    ensures { result ≡ address_in text.now }
+{
+    match find_sign(text) {
+        Some(sign) => both(register(&text[..sign]), offset(&text[sign..])),
+        None => both(register(text), offset(&[])),
+    }
+}
+
+/// A base register and an offset, in brackets.
+pub(crate) fn memory(word: &[u8]) -> Result<(Register, i16), LineFault>
+    ensures { result ≡ memory_in word.now }
+{
+    match word {
+        [b'[', inner @ .., b']'] => address(inner),
+        _ => Err(LineFault::Syntax),
+    }
+}
+
+/// Where a jump goes: a distance, or 0 and the label that will say it.
+pub(crate) fn target_16(word: &[u8]) -> Result<(i16, Option<&[u8]>), LineFault>
+    ensures { target_view result ≡ target_in limit_of_16_bits word.now }
+{
+    if is_label(word) {
+        return Ok((0, Some(word)));
+    }
+    Ok((signed_16(word)?, None))
+}
+
+/// The same with a distance of 32 bits.
+pub(crate) fn target_32(word: &[u8]) -> Result<(i32, Option<&[u8]>), LineFault>
+    ensures { target_view result ≡ target_in limit_of_32_bits word.now }
+{
+    if is_label(word) {
+        return Ok((0, Some(word)));
+    }
+    Ok((signed_32(word)?, None))
+}

@@ -1,0 +1,4 @@
+//! Program texts and their bytes, through the public calls.
+
+mod codes;
+mod refusals;
