@@ -1,6 +1,6 @@
 -- From the words at a place to the code of all of them.
-use Rattle.std.proofs.Common.{◌≡◌, ℕ, zero, suc, ◌+◌, ◌-◌, ◌*◌, ◌/◌, ◌%◌, ◌<◌, ◌≤◌, ◌==◌, if◌then◌else◌, List, [], ◌∷◌, ◌++◌, length, take, drop, Option, Some, None, ◌⊎◌, inl, inr, refl, sym, ap, ◌∙◌, subst, arith, option_to_list, Result, Ok, Err, IfOk, IfErr}
-use Rattle.std.proofs.lemmas.List.{drop-drop, length-append, flat_map_more, take_rest}
+use Rattle.std.proofs.Common.{◌≡◌, ℕ, zero, suc, ◌+◌, ◌-◌, ◌*◌, ◌/◌, ◌%◌, ◌<◌, ◌≤◌, ◌==◌, if◌then◌else◌, List, [], ◌∷◌, ◌++◌, length, take, drop, Option, Some, None, MatchOption, Bor, slice_range, ◌⊎◌, inl, inr, refl, sym, ap, ◌∙◌, subst, arith, option_to_list, Result, Ok, Err, IfOk, IfErr}
+use Rattle.std.proofs.lemmas.List.{length-drop, drop-drop, length-append, flat_map_more}
 use Rattle.std.proofs.lemmas.Option.{none-some}
 use Rattle.bpf_insn.specs.Word.{word_of, words_of, first_words}
 use Rattle.bpf_insn.specs.Form.{spelling}
@@ -141,14 +141,18 @@ pub refuses : (bytes : List ℕ) (place : ℕ) (first : Word) (next : Option Wor
 refuses bytes place first next (Ok insn) below is follows wrong = tt
 refuses bytes place first next (Err fault) below is follows wrong = faulty bytes place first next fault below is follows wrong
 
--- the next word, where it was read
-pub no_next : (bytes : List ℕ) (place : ℕ) (next : Option Word) → place < length bytes / 8 → next ≡ None → length bytes - (place + 1) * 8 < 8 → IsNext bytes place next
-no_next bytes place next below none short = inl (none, omega arith)
+-- the next word, where there was one to read
+word_of-take : (bytes : List ℕ) → 8 ≤ length bytes → word_of (take 8 bytes) ≡ word_of bytes
+word_of-take (a ∷ b ∷ c ∷ d ∷ e ∷ f ∷ g ∷ h ∷ rest) long = refl
+word_of-take bytes long = absurd (omega arith)
 
-pub some_next : (bytes : List ℕ) (place : ℕ) (next : Option Word) (word : Word) → next ≡ Some word → word ≡ word_of (take (length bytes - (place + 1) * 8) (drop ((place + 1) * 8) bytes)) → 8 ≤ length bytes - (place + 1) * 8 → IsNext bytes place next
-some_next bytes place next word some is long =
+pub next_of : (bytes : List ℕ) (place : ℕ) (after : Option (Bor (List ℕ))) (next : Option Word) → place < length bytes / 8 → MatchOption after (next ≡ None) (λ x. next ≡ Some (word_of x.now)) → MatchOption after (length bytes < (place + 1) * 8 + 8) (λ x. ((place + 1) * 8 + 8 ≤ length bytes) × (x.now ≡ slice_range bytes ((place + 1) * 8) ((place + 1) * 8 + 8))) → IsNext bytes place next
+next_of bytes place None next below none short = inl (none, omega arith)
+next_of bytes place (Some x) next below some (long, are) =
+    let size : 8 ≤ length (drop ((place + 1) * 8) bytes) = (let counted = length-drop ((place + 1) * 8) bytes in omega arith) in
+    let eight : slice_range bytes ((place + 1) * 8) ((place + 1) * 8 + 8) ≡ take 8 (drop ((place + 1) * 8) bytes) = ap (λ n. take n (drop ((place + 1) * 8) bytes)) (let e : (place + 1) * 8 + 8 - (place + 1) * 8 ≡ 8 = omega arith in e) in
     let same : (place + 1) * 8 ≡ suc place * 8 = omega arith in
-    inr (some ∙ ap Some (is ∙ ap word_of (take_rest bytes ((place + 1) * 8)) ∙ ap (λ n. word_of (drop n bytes)) same), omega arith)
+    inr (some ∙ ap Some (ap word_of (are ∙ eight) ∙ word_of-take (drop ((place + 1) * 8) bytes) size ∙ ap (λ n. word_of (drop n bytes)) same), omega arith)
 
 -- instructions of so few bytes fit, so only memory can be wanting
 pub push_fault : (bytes : List ℕ) (place : ℕ) (code : List Insn) (insn : Insn) (fault : CodeFault) → length bytes ≤ 8 * WORD_LIMIT → place < length bytes / 8 → first_words place bytes ≡ spelled code → BeginsAt bytes place insn → IsPushFault code insn fault → IsFirstFault bytes fault

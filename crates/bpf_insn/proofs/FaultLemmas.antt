@@ -2,10 +2,8 @@
 use Rattle.std.proofs.Common.{◌≡◌, ◌==◌, nat_lt, true, false, ℤ, pos, List, ◌++◌, None, refl, arith}
 use Rattle.std.proofs.lemmas.Bool.Decides.{nat_tests}
 use Rattle.bpf_insn.specs.Form.{word, swap_bits, first_word, further_words}
-use Rattle.bpf_insn.specs.Fault.{row_fault, first_fault, is_bad_width, is_out_of_use, operation_row, comparison_row, change_row, load_row}
+use Rattle.bpf_insn.specs.Fault.{row_fault, first_fault, is_bad_width, is_out_of_use, operation_row, comparison_row, change_row, load_row, Use, Unused, ZeroOrOne, MoveBits, SwapBits}
 use Rattle.bpf_insn.specs.declared.word.Word.{Word}
-use Rattle.bpf_insn.specs.declared.row.Use.{Use}
-use Rattle.bpf_insn.specs.declared.row.Use.TheVariants.{Unused, ZeroOrOne, MoveWidth, SwapWidth}
 use Rattle.bpf_insn.specs.declared.register.Register.{Register as RegisterNumber}
 use Rattle.bpf_insn.specs.declared.register.WritableRegister.{WritableRegister}
 use Rattle.bpf_insn.specs.declared.instruction.Insn.{Insn}
@@ -19,7 +17,7 @@ use Rattle.bpf_insn.specs.declared.instruction.SignExtension.{SignExtension}
 use Rattle.bpf_insn.specs.declared.instruction.SignExtension.TheVariants.{Bits8To32, Bits16To32, Bits8To64, Bits16To64, Bits32To64}
 use Rattle.bpf_insn.specs.declared.instruction.ByteOrder.{ByteOrder}
 use Rattle.bpf_insn.specs.declared.instruction.ByteOrder.TheVariants.{LittleEndian, BigEndian, Swapped}
-use Rattle.bpf_insn.specs.declared.instruction.SwapWidth.{SwapWidth as SwapBits}
+use Rattle.bpf_insn.specs.declared.instruction.SwapWidth.{SwapWidth}
 use Rattle.bpf_insn.specs.declared.instruction.SwapWidth.TheVariants as swap
 use Rattle.bpf_insn.specs.declared.instruction.Condition.{Condition}
 use Rattle.bpf_insn.specs.declared.instruction.Condition.TheVariants.{Equal}
@@ -80,32 +78,32 @@ alu_register Modulo Bits32 d s rest = by_register ZeroOrOne d s (pos 0) refl ref
 alu_register Modulo Bits64 d s rest = by_register ZeroOrOne d s (pos 0) refl refl
 alu_register SignedModulo Bits32 d s rest = by_register ZeroOrOne d s (pos 1) refl refl
 alu_register SignedModulo Bits64 d s rest = by_register ZeroOrOne d s (pos 1) refl refl
-alu_register Move Bits32 d s rest = by_register (MoveWidth Bits32) d s (pos 0) refl refl
-alu_register Move Bits64 d s rest = by_register (MoveWidth Bits64) d s (pos 0) refl refl
+alu_register Move Bits32 d s rest = by_register (MoveBits Bits32) d s (pos 0) refl refl
+alu_register Move Bits64 d s rest = by_register (MoveBits Bits64) d s (pos 0) refl refl
 alu_register operation Bits32 d s rest = by_register Unused d s (pos 0) refl refl
 alu_register operation Bits64 d s rest = by_register Unused d s (pos 0) refl refl
 
 move_extended : (extension : SignExtension) (d : WritableRegister) (s : RegisterNumber) (rest : List Word) → first_fault (first_word (MoveSignExtended extension d s)) rest ≡ None
-move_extended Bits8To32 d s rest = by_register (MoveWidth Bits32) d s (pos 8) refl refl
-move_extended Bits16To32 d s rest = by_register (MoveWidth Bits32) d s (pos 16) refl refl
-move_extended Bits8To64 d s rest = by_register (MoveWidth Bits64) d s (pos 8) refl refl
-move_extended Bits16To64 d s rest = by_register (MoveWidth Bits64) d s (pos 16) refl refl
-move_extended Bits32To64 d s rest = by_register (MoveWidth Bits64) d s (pos 32) refl refl
+move_extended Bits8To32 d s rest = by_register (MoveBits Bits32) d s (pos 8) refl refl
+move_extended Bits16To32 d s rest = by_register (MoveBits Bits32) d s (pos 16) refl refl
+move_extended Bits8To64 d s rest = by_register (MoveBits Bits64) d s (pos 8) refl refl
+move_extended Bits16To64 d s rest = by_register (MoveBits Bits64) d s (pos 16) refl refl
+move_extended Bits32To64 d s rest = by_register (MoveBits Bits64) d s (pos 32) refl refl
 
 negated : (width : Width) (d : WritableRegister) (rest : List Word) → first_fault (first_word (Negate width d)) rest ≡ None
 negated Bits32 d rest = by_change Unused d (pos 0) refl refl
 negated Bits64 d rest = by_change Unused d (pos 0) refl refl
 
 -- a byte swap's width is one of three
-swap_width : (width : SwapBits) → is_bad_width SwapWidth (swap_bits width) ≡ false
+swap_width : (width : SwapWidth) → is_bad_width SwapBits (swap_bits width) ≡ false
 swap_width swap.Bits16 = refl
 swap_width swap.Bits32 = refl
 swap_width swap.Bits64 = refl
 
-swapped : (order : ByteOrder) (width : SwapBits) (d : WritableRegister) (rest : List Word) → first_fault (first_word (ByteSwap order width d)) rest ≡ None
-swapped LittleEndian width d rest = by_change SwapWidth d (swap_bits width) (swap_width width) refl
-swapped BigEndian width d rest = by_change SwapWidth d (swap_bits width) (swap_width width) refl
-swapped Swapped width d rest = by_change SwapWidth d (swap_bits width) (swap_width width) refl
+swapped : (order : ByteOrder) (width : SwapWidth) (d : WritableRegister) (rest : List Word) → first_fault (first_word (ByteSwap order width d)) rest ≡ None
+swapped LittleEndian width d rest = by_change SwapBits d (swap_bits width) (swap_width width) refl
+swapped BigEndian width d rest = by_change SwapBits d (swap_bits width) (swap_width width) refl
+swapped Swapped width d rest = by_change SwapBits d (swap_bits width) (swap_width width) refl
 
 -- jumps on a condition
 jump_immediate : (condition : Condition) (width : Width) (r : RegisterNumber) (v z : ℤ) (rest : List Word) → first_fault (first_word (JumpIf condition width r (Immediate v) z)) rest ≡ None

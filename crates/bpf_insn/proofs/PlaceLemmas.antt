@@ -184,14 +184,14 @@ instruction_at-middle (first ∷ before) insn after =
     instruction_at-behind first (before ++ insn ∷ after) (word_count (first ∷ before)) past
     ∙ ap (instruction_at (before ++ insn ∷ after)) there ∙ instruction_at-middle before insn after
 
--- no instruction takes more than two words
-pub two_words : (insn : Insn) (index : ℕ) → 2 ≤ length (spelling insn) → indexes_in index (spelling insn) ≡ Some index ∷ None ∷ []
-two_words (WideLoad destination immediate next_immediate) index e = refl
-two_words insn index e = absurd (omega arith)
+-- the indexes at an instruction's words, which are one or two
+as_many : (insn : Insn) (index : ℕ) → take (length (spelling insn)) (Some index ∷ None ∷ []) ≡ indexes_in index (spelling insn)
+as_many (WideLoad destination immediate next_immediate) index = refl
+as_many insn index = refl
 
-pub one_word : (insn : Insn) (index : ℕ) → length (spelling insn) < 2 → indexes_in index (spelling insn) ≡ Some index ∷ []
-one_word (WideLoad destination immediate next_immediate) index e = absurd (omega arith)
-one_word insn index e = refl
+pub noted_behind : (old new : List (Option ℕ)) (insn : Insn) (index words : ℕ) → words ≡ length (spelling insn) → new ≡ old ++ take words (Some index ∷ None ∷ []) → new ≡ old ++ indexes_in index (spelling insn)
+noted_behind old new insn index words is grown =
+    grown ∙ ap (λ (n : ℕ). old ++ take n (Some index ∷ None ∷ [])) is ∙ ap (λ (more : List (Option ℕ)). old ++ more) (as_many insn index)
 
 -- a code has a word for each instruction at least
 pub not_empty : (code : List Insn) → 1 ≤ length code → 1 ≤ word_count code

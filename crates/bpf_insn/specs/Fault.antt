@@ -1,25 +1,47 @@
 -- Which words are no instruction's, and why (RFC 9669, sections 3 to 5). The order of the tests is this project's own.
-use Rattle.std.specs.Prelude.{◌≡◌, ◌≤◌, MatchBool, ℕ, ⊤, ◌⊎◌, ◌/◌, ◌%◌, ◌==◌, ◌&&◌, ◌||◌, not, nat_lt, Bool, true, false, ℤ, pos, List, [], ◌∷◌, Option, Some, None, if◌then◌else◌}
+use Rattle.std.specs.Prelude.{ℕ, ◌/◌, ◌%◌, ◌==◌, ◌&&◌, ◌||◌, not, nat_lt, Bool, true, false, ℤ, pos, List, [], ◌∷◌, Option, Some, None, if◌then◌else◌}
 use Rattle.std.specs.Ordering.{int_eq}
 use Rattle.bpf_insn.specs.declared.word.Word.{Word}
-use Rattle.bpf_insn.specs.declared.row.Row.{Row}
-use Rattle.bpf_insn.specs.declared.row.Destination.{Destination}
-use Rattle.bpf_insn.specs.declared.row.Destination.TheVariants.{Nothing, Read, Written}
-use Rattle.bpf_insn.specs.declared.row.Use.{Use}
-use Rattle.bpf_insn.specs.declared.row.Use.TheVariants.{Unused, Any, ZeroOrOne, MoveWidth, SwapWidth}
 use Rattle.bpf_insn.specs.declared.fault.WordFault.{WordFault}
 use Rattle.bpf_insn.specs.declared.fault.WordFault.TheVariants.{UnknownOpcode, BadRegister, UnusedNotZero, BadWidth, CutWide, WritesFramePointer}
 use Rattle.bpf_insn.specs.declared.instruction.Width.{Width}
 use Rattle.bpf_insn.specs.declared.instruction.Width.TheVariants.{Bits32, Bits64}
 
+-- The use that a row has for the offset or the immediate: none, so that it's zero; any number; 0 or 1; how many bits a move to so many
+-- takes, where 0 stands for all of them; how many bits a byte swap keeps.
+pub data Use : Type 0 where
+  Unused : Use
+  Any : Use
+  ZeroOrOne : Use
+  MoveBits : (width : Width) → Use
+  SwapBits : Use
+
+-- what an instruction does with the register of the destination's field
+pub data Destination : Type 0 where
+  Nothing : Destination
+  Read : Destination
+  Written : Destination
+
+abbrev pub is_used : Destination → Bool
+is_used Nothing = false
+is_used Read = true
+is_used Written = true
+
+abbrev pub is_written : Destination → Bool
+is_written Nothing = false
+is_written Read = false
+is_written Written = true
+
+-- which fields a row of the instruction table uses
+pub record Row : Type 0 where
+  pub destination : Destination
+  pub uses_source : Bool
+  pub offset : Use
+  pub immediate : Use
+
 -- a row by its uses
 abbrev pub row : Destination → Bool → Use → Use → Row
-row Nothing uses_source offset immediate =
-    record { uses_destination = false; writes_destination = false; uses_source = uses_source; offset = offset; immediate = immediate }
-row Read uses_source offset immediate =
-    record { uses_destination = true; writes_destination = false; uses_source = uses_source; offset = offset; immediate = immediate }
-row Written uses_source offset immediate =
-    record { uses_destination = true; writes_destination = true; uses_source = uses_source; offset = offset; immediate = immediate }
+row destination uses_source offset immediate = record { destination = destination; uses_source = uses_source; offset = offset; immediate = immediate }
 
 -- a register is changed, by the immediate or by another register
 abbrev pub operation_row : Use → Bool → Row
@@ -57,7 +79,7 @@ abbrev pub arithmetic_row : Width → ℕ → Bool → Option Row
 arithmetic_row width code from_register =
     if is_among code (0x0 ∷ 0x1 ∷ 0x2 ∷ 0x4 ∷ 0x5 ∷ 0x6 ∷ 0x7 ∷ 0xa ∷ 0xc ∷ []) then Some (operation_row Unused from_register)
     else (if is_among code (0x3 ∷ 0x9 ∷ []) then Some (operation_row ZeroOrOne from_register)
-    else (if code == 0xb then Some (operation_row (if from_register then MoveWidth width else Unused) from_register) else None))
+    else (if code == 0xb then Some (operation_row (if from_register then MoveBits width else Unused) from_register) else None))
 
 -- jumps on a condition, by their code (section 4.3)
 abbrev pub condition_row : ℕ → Bool → Option Row
@@ -82,7 +104,7 @@ row_of opcode =
     else (if is_among opcode (0x63 ∷ 0x6b ∷ 0x73 ∷ 0x7b ∷ []) then Some (comparison_row true)
     else (if opcode == 0x18 then Some wide_row
     else (if is_among opcode (0x84 ∷ 0x87 ∷ []) then Some (change_row Unused)
-    else (if is_among opcode (0xd4 ∷ 0xdc ∷ 0xd7 ∷ []) then Some (change_row SwapWidth)
+    else (if is_among opcode (0xd4 ∷ 0xdc ∷ 0xd7 ∷ []) then Some (change_row SwapBits)
     else (if opcode == 0x05 then Some (bare_row Any Unused)
     else (if is_among opcode (0x06 ∷ 0x85 ∷ []) then Some (bare_row Unused Any)
     else (if opcode == 0x95 then Some (bare_row Unused Unused)
@@ -91,18 +113,18 @@ row_of opcode =
 -- a register field that is used names no register (section 3.1: registers are 0 to 10)
 abbrev pub names_bad_register : Row → Word → Bool
 names_bad_register row word =
-    (row.uses_destination && nat_lt 10 word.destination) || (row.uses_source && nat_lt 10 word.source)
+    (is_used row.destination && nat_lt 10 word.destination) || (row.uses_source && nat_lt 10 word.source)
 
 -- register 10 would be written
 abbrev pub writes_frame_pointer : Row → Word → Bool
-writes_frame_pointer row word = row.writes_destination && word.destination == 10
+writes_frame_pointer row word = is_written row.destination && word.destination == 10
 
 -- a number of bits that the row doesn't have: a move takes 8, 16 or, to 64 bits, 32 bits of a register, or all of them for 0; a byte
 -- swap keeps 16, 32 or 64 (sections 4.1 and 4.2)
 abbrev pub is_bad_width : Use → ℤ → Bool
-is_bad_width (MoveWidth Bits32) z = not (int_eq z (pos 0) || int_eq z (pos 8) || int_eq z (pos 16))
-is_bad_width (MoveWidth Bits64) z = not (int_eq z (pos 0) || int_eq z (pos 8) || int_eq z (pos 16) || int_eq z (pos 32))
-is_bad_width SwapWidth z = not (int_eq z (pos 16) || int_eq z (pos 32) || int_eq z (pos 64))
+is_bad_width (MoveBits Bits32) z = not (int_eq z (pos 0) || int_eq z (pos 8) || int_eq z (pos 16))
+is_bad_width (MoveBits Bits64) z = not (int_eq z (pos 0) || int_eq z (pos 8) || int_eq z (pos 16) || int_eq z (pos 32))
+is_bad_width SwapBits z = not (int_eq z (pos 16) || int_eq z (pos 32) || int_eq z (pos 64))
 is_bad_width role z = false
 
 -- a number where zero belongs, or anything but 0 and 1 where these two belong
@@ -117,7 +139,7 @@ has_bad_width row word = is_bad_width row.offset word.offset || is_bad_width row
 -- a field that isn't used isn't zero (section 3.1)
 abbrev pub has_unused_field : Row → Word → Bool
 has_unused_field row word =
-    (not row.uses_destination && not (word.destination == 0)) || (not row.uses_source && not (word.source == 0))
+    (not (is_used row.destination) && not (word.destination == 0)) || (not row.uses_source && not (word.source == 0))
     || is_out_of_use row.offset word.offset || is_out_of_use row.immediate word.immediate
 
 -- the first fault of a word whose opcode has this row
@@ -146,20 +168,3 @@ fault_by_row (Some row) word = row_fault row word
 -- the first fault of the instruction that would begin with this word and go on with the next ones, if it has one
 abbrev pub first_fault : Word → List Word → Option WordFault
 first_fault word rest = if word.opcode == 0x18 then wide_fault (row_fault wide_row word) rest else fault_by_row (row_of word.opcode) word
-
--- a number that a row's use lets stand
-abbrev pub IsInUse : Use → ℤ → Type 0
-IsInUse Unused z = z ≡ pos 0
-IsInUse Any z = ⊤
-IsInUse ZeroOrOne z = (z ≡ pos 0) ⊎ (z ≡ pos 1)
-IsInUse (MoveWidth Bits32) z = ((z ≡ pos 0) ⊎ (z ≡ pos 8)) ⊎ (z ≡ pos 16)
-IsInUse (MoveWidth Bits64) z = (((z ≡ pos 0) ⊎ (z ≡ pos 8)) ⊎ (z ≡ pos 16)) ⊎ (z ≡ pos 32)
-IsInUse SwapWidth z = ((z ≡ pos 16) ⊎ (z ≡ pos 32)) ⊎ (z ≡ pos 64)
-
--- a word that a row lets stand: what it says of a word without a fault, field by field
-pub record Fits (row : Row) (word : Word) : Type 0 where
-  pub destination : MatchBool row.uses_destination (word.destination ≤ 10) (word.destination ≡ 0)
-  pub written : MatchBool row.writes_destination (word.destination ≤ 9) ⊤
-  pub source : MatchBool row.uses_source (word.source ≤ 10) (word.source ≡ 0)
-  pub offset : IsInUse row.offset word.offset
-  pub immediate : IsInUse row.immediate word.immediate

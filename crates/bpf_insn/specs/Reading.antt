@@ -1,84 +1,68 @@
 -- What is read off the words of an instruction.
-use Rattle.std.specs.Prelude.{◌≡◌, ◌≤◌, MatchBool, ℕ, ◌-◌, ◌*◌, ◌/◌, ◌%◌, ℤ, Bool, true, false, if◌then◌else◌, List, [], ◌∷◌, ◌++◌, length, drop, ◌⊎◌, Option, Some}
-use Rattle.bpf_insn.specs.Form.{spelling, opcode_of, arithmetic_class, jump_class, operation_code, swap_opcode, condition_code, load_opcode, store_immediate_opcode, store_opcode, source_bit, source_field, source_immediate}
+use Rattle.std.specs.Prelude.{◌≡◌, ℕ, ◌-◌, ◌*◌, ◌/◌, ◌%◌, ℤ, pos, min, Bool, true, if◌then◌else◌, List, [], ◌∷◌, ◌++◌, length, drop, ◌⊎◌, Option, Some, option_map}
+use Rattle.std.specs.Ordering.{int_eq}
+use Rattle.bpf_insn.specs.Form.{spelling, source_bit, source_field, source_immediate}
 use Rattle.bpf_insn.specs.Word.{first_words}
-use Rattle.bpf_insn.specs.Fault.{IsInUse, Fits, first_fault, names_register, operation_row, change_row, comparison_row, bare_row, load_row, wide_row}
+use Rattle.bpf_insn.specs.Fault.{first_fault, names_register, Row, Destination, Nothing, Read, Written, Use, Unused, Any, ZeroOrOne, MoveBits, SwapBits}
 use Rattle.bpf_insn.specs.declared.fault.WordFault.{WordFault}
-use Rattle.bpf_insn.specs.declared.form.Form.{Form}
-use Rattle.bpf_insn.specs.declared.form.Form.TheVariants as form
 use Rattle.bpf_insn.specs.declared.word.Word.{Word}
-use Rattle.bpf_insn.specs.declared.row.Row.{Row}
-use Rattle.bpf_insn.specs.declared.row.Use.{Use}
-use Rattle.bpf_insn.specs.declared.row.Use.TheVariants as field
 use Rattle.bpf_insn.specs.declared.instruction.Insn.{Insn}
 use Rattle.bpf_insn.specs.declared.instruction.Operation.{Operation}
 use Rattle.bpf_insn.specs.declared.instruction.Operation.TheVariants as operation
 use Rattle.bpf_insn.specs.declared.instruction.Source.{Source}
 use Rattle.bpf_insn.specs.declared.instruction.Width.{Width}
-use Rattle.bpf_insn.specs.declared.instruction.Width.TheVariants.{Bits32}
+use Rattle.bpf_insn.specs.declared.instruction.Width.TheVariants.{Bits32, Bits64}
 
 -- an instruction stands in a word, or in it and the next
 abbrev pub Begins : Insn → Word → Option Word → Type 0
 Begins insn first next =
     (spelling insn ≡ first ∷ []) ⊎ ((second : Word) × (next ≡ Some second) × (spelling insn ≡ first ∷ second ∷ []))
 
--- the opcode of a form, with the source bit where there are two operands
-abbrev pub form_opcode : Form → ℕ → ℕ
-form_opcode (form.Alu operation width) source_bit = opcode_of (operation_code operation) source_bit (arithmetic_class width)
-form_opcode (form.Negate width) source_bit = opcode_of 0x8 0 (arithmetic_class width)
-form_opcode (form.ByteSwap order) source_bit = swap_opcode order
-form_opcode (form.JumpIf condition width) source_bit = opcode_of (condition_code condition) source_bit (jump_class width)
-form_opcode form.ShortJump source_bit = 0x05
-form_opcode form.LongJump source_bit = 0x06
-form_opcode form.Call source_bit = 0x85
-form_opcode form.Exit source_bit = 0x95
-form_opcode (form.Load format) source_bit = load_opcode format
-form_opcode (form.StoreImmediate size) source_bit = store_immediate_opcode size
-form_opcode (form.Store size) source_bit = store_opcode size
-form_opcode form.WideLoad source_bit = 0x18
-
 -- the use that an operation has for the offset: it tells signed from unsigned division, and how many bits of a register are moved
 abbrev pub offset_use : Operation → Width → Bool → Use
-offset_use operation.Divide width from_register = field.ZeroOrOne
-offset_use operation.SignedDivide width from_register = field.ZeroOrOne
-offset_use operation.Modulo width from_register = field.ZeroOrOne
-offset_use operation.SignedModulo width from_register = field.ZeroOrOne
-offset_use operation.Move width true = field.MoveWidth width
-offset_use operation width from_register = field.Unused
+offset_use operation.Divide width from_register = ZeroOrOne
+offset_use operation.SignedDivide width from_register = ZeroOrOne
+offset_use operation.Modulo width from_register = ZeroOrOne
+offset_use operation.SignedModulo width from_register = ZeroOrOne
+offset_use operation.Move width true = MoveBits width
+offset_use operation width from_register = Unused
 
--- the fields that a form uses
-abbrev pub form_row : Form → Bool → Row
-form_row (form.Alu operation width) from_register = operation_row (offset_use operation width from_register) from_register
-form_row (form.Negate width) from_register = change_row field.Unused
-form_row (form.ByteSwap order) from_register = change_row field.SwapWidth
-form_row (form.JumpIf condition width) from_register = comparison_row from_register
-form_row form.ShortJump from_register = bare_row field.Any field.Unused
-form_row form.LongJump from_register = bare_row field.Unused field.Any
-form_row form.Call from_register = bare_row field.Unused field.Any
-form_row form.Exit from_register = bare_row field.Unused field.Unused
-form_row (form.Load format) from_register = load_row
-form_row (form.StoreImmediate size) from_register = comparison_row false
-form_row (form.Store size) from_register = comparison_row true
-form_row form.WideLoad from_register = wide_row
+-- A number that a use lets stand: the given one where it does, else 0 for a division, 8 for a move, 64 for a byte swap; 0 where nothing
+-- is used.
+abbrev pub nearest_number : Use → ℤ → ℤ
+nearest_number Unused z = pos 0
+nearest_number Any z = z
+nearest_number ZeroOrOne z = if int_eq z (pos 1) then pos 1 else pos 0
+nearest_number (MoveBits Bits32) z = if int_eq z (pos 0) then pos 0 else (if int_eq z (pos 16) then pos 16 else pos 8)
+nearest_number (MoveBits Bits64) z =
+    if int_eq z (pos 0) then pos 0 else (if int_eq z (pos 16) then pos 16 else (if int_eq z (pos 32) then pos 32 else pos 8))
+nearest_number SwapBits z = if int_eq z (pos 16) then pos 16 else (if int_eq z (pos 32) then pos 32 else pos 64)
 
--- a word of this form whose fields fit
-pub record HasForm (form : Form) (word : Word) : Type 0 where
-  pub opcode : form_opcode form (word.opcode / 8 % 2) ≡ word.opcode
-  pub fits : Fits (form_row form (names_register word.opcode)) word
+abbrev pub nearest_register : Destination → ℕ → ℕ
+nearest_register Nothing n = 0
+nearest_register Read n = min n 10
+nearest_register Written n = min n 9
 
--- the second operand that a word has
-abbrev pub IsSource : Word → Source → Type 0
-IsSource word source =
-    (word.opcode / 8 % 2 ≡ source_bit source) × (word.source ≡ source_field source) × (word.immediate ≡ source_immediate source)
+-- The word nearest to another that a row lets stand. A register or a width is zero in it only where the other word's is: so a field that
+-- differs and isn't zero in it is out of its range, and any other that differs isn't used, or is a division's offset.
+abbrev pub nearest : Row → ℕ → Word → Word
+nearest row opcode near = record {
+  opcode = opcode;
+  destination = nearest_register row.destination near.destination;
+  source = if row.uses_source then min near.source 10 else 0;
+  offset = nearest_number row.offset near.offset;
+  immediate = nearest_number row.immediate near.immediate;
+}
 
--- its fields, by the source bit
-pub record HasOperand (word : Word) : Type 0 where
-  pub source : MatchBool (names_register word.opcode) (word.source ≤ 10) (word.source ≡ 0)
-  pub immediate : IsInUse (if names_register word.opcode then field.Unused else field.Any) word.immediate
+-- the same where there is a row
+abbrev pub nearest_by : Option Row → ℕ → Word → Option Word
+nearest_by row opcode near = option_map (λ r. nearest r opcode near) row
 
--- an offset that is one of an operation's: 0 and 1 for division and its remainder, else 0
-abbrev pub HasOffset : Operation → ℤ → Type 0
-HasOffset operation offset = IsInUse (offset_use operation Bits32 false) offset
+-- the second operand nearest to a word's, by its fields
+abbrev pub IsNearestSource : Word → Source → Type 0
+IsNearestSource near source =
+    (source_bit source ≡ near.opcode / 8 % 2) × (source_field source ≡ (if names_register near.opcode then min near.source 10 else 0))
+    × (source_immediate source ≡ (if names_register near.opcode then pos 0 else near.immediate))
 
 -- an instruction begins with the word at a place
 abbrev pub BeginsAt : List ℕ → ℕ → Insn → Type 0

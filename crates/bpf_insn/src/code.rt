@@ -1,7 +1,6 @@
-ghost use Rattle.std.specs.Prelude.{◌≡◌, ◌≤◌, ◌<◌, ◌+◌, ◌++◌, ◌∷◌, [], length, IfOk, IfErr, OnErr, IfSome, IsSome, MatchResult, Err, vec_len, vec_capacity};
+ghost use Rattle.std.specs.Prelude.{◌≡◌, ◌≤◌, ◌<◌, ◌+◌, ◌++◌, ◌∷◌, [], length, IfOk, IfErr, OnErr, IfSome, IsSome, MatchResult, Err};
 ghost use Rattle.bpf_insn.specs.Form.{spelling};
 ghost use Rattle.bpf_insn.specs.Code.{HasProgramSize, word_count, instruction_at, index_at, place_of, IsPushFault};
-ghost use Rattle.bpf_insn.specs.Table.{indexes_in};
 ghost use Rattle.bpf_insn.specs.declared.fault.CodeFault.{CodeFault};
 
 use crate::fault::{CodeFault, WordFault};
@@ -80,10 +79,8 @@ impl<A: Allocator> CodeBuilder<A> {
     {
         let number = register.number;
         if number > 9 {
-            return Err(CodeFault::InWord {
-                place: self.words(),
-                fault: WordFault::WritesFramePointer,
-            });
+            let (place, fault) = (self.words(), WordFault::WritesFramePointer);
+            return Err(CodeFault::InWord { place, fault });
         }
         Ok(WritableRegister { number })
     }
@@ -100,8 +97,8 @@ impl<A: Allocator> CodeBuilder<A> {
         }
         self.instructions.reserve(1)?;
         self.places.reserve(1)?;
-        self.indexes.reserve(2)?;
-        push_indexes(&mut self.indexes, self.instructions.len(), insn);
+        let indexes = [Some(self.instructions.len()), None];
+        self.indexes.extend_from_slice(&indexes[..insn.words()])?;
         self.places.push_reserved(place);
         self.instructions.push_reserved(insn);
         Ok(())
@@ -118,18 +115,6 @@ impl<A: Allocator> CodeBuilder<A> {
         }
         Ok(Code { built: self })
     }
-}
-
-/// Notes the index of an instruction at its words. There is room for two.
-fn push_indexes<A: Allocator>(indexes: &mut Vec<Option<usize>, A>, index: usize, insn: Insn)
-    requires { vec_len indexes.old + 2 ≤ vec_capacity indexes.old }
-    ensures { indexes.new.items ≡ indexes.old.items ++ indexes_in index (spelling insn) }
-{
-    indexes.push_reserved(Some(index));
-    if insn.words() < 2 {
-        return;
-    }
-    indexes.push_reserved(None);
 }
 
 /// The instructions of a program, in order: 1 to `WORD_LIMIT` words of them. Contracts see them as

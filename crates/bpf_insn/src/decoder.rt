@@ -15,8 +15,8 @@ use std::alloc::Allocator;
 const WORD_BYTES: usize = 8;
 
 /// The code of a program's bytes, which are little-endian words (RFC 9669, section 3.1). The code
-/// keeps the allocator and takes nothing of `bytes`. Memory is asked for once, after the length was
-/// looked at.
+/// keeps the allocator and takes nothing of `bytes`. Memory is asked for at one point, for three
+/// lists, after the length was looked at.
 pub fn decode<A: Allocator + Copy>(alloc: A, bytes: &[u8]) -> Result<Code<A>, CodeFault>
     ensures ok { IfOk result (IsCodeOf bytes.now) }
     ensures err { IfErr result (IsFirstFault bytes.now) }
@@ -46,16 +46,12 @@ fn check_length(bytes: &[u8]) -> Result<(), CodeFault>
         ((length bytes.now % 8 ≡ 0) × (0 < length bytes.now) × (length bytes.now ≤ 8 * WORD_LIMIT)) }
     ensures err { IfErr result (IsFirstFault bytes.now) }
 {
-    if bytes.is_empty() {
-        return Err(CodeFault::Empty);
+    match bytes.len() {
+        0 => Err(CodeFault::Empty),
+        length if length % WORD_BYTES != 0 => Err(CodeFault::NotWhole),
+        length if length > WORD_BYTES * WORD_LIMIT => Err(CodeFault::TooLong),
+        _ => Ok(()),
     }
-    if bytes.len() % WORD_BYTES != 0 {
-        return Err(CodeFault::NotWhole);
-    }
-    if bytes.len() > WORD_BYTES * WORD_LIMIT {
-        return Err(CodeFault::TooLong);
-    }
-    Ok(())
 }
 
 fn read_instructions<A: Allocator + Copy>(
@@ -91,10 +87,6 @@ fn read_instruction(bytes: &[u8], place: usize) -> Result<Insn, WordFault>
 {
     let first = Word::read(&bytes[place * WORD_BYTES..]);
     let after = (place + 1) * WORD_BYTES;
-    let next = if bytes.len() - after < WORD_BYTES {
-        None
-    } else {
-        Some(Word::read(&bytes[after..]))
-    };
+    let next = bytes.get(after..after + WORD_BYTES).map(Word::read);
     first.instruction(next)
 }

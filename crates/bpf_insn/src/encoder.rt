@@ -1,10 +1,10 @@
-ghost use Rattle.std.specs.Prelude.{◌≡◌, ◌≤◌, ◌<◌, ◌∷◌, ◌+◌, ◌*◌, ℕ, List, length, All, IfOk, OnOk, option_to_list};
+ghost use Rattle.std.specs.Prelude.{◌≡◌, ◌≤◌, ◌<◌, ◌+◌, ◌*◌, ℕ, List, All, IfOk, OnOk, option_to_list};
 ghost use Rattle.bpf_insn.specs.Word.{AppendsWords};
-ghost use Rattle.bpf_insn.specs.Form.{spelling, first_word, further_words, opcode_of, operation_code, operation_offset, arithmetic_class, jump_class, extension_class, extension_bits, swap_opcode, swap_bits, condition_code, load_opcode, store_opcode, store_immediate_opcode, source_bit, source_field, source_immediate};
+ghost use Rattle.bpf_insn.specs.Form.{spelling, first_word, further_words, opcode_of, source_bit, source_field, source_immediate};
 ghost use Rattle.bpf_insn.specs.Code.{IsCodeOf};
 
 use crate::code::Code;
-use crate::instruction::{Insn, JumpDistance, Operation, SignExtension, Source, Width};
+use crate::instruction::{Insn, JumpDistance, Source, Width};
 use crate::word::Word;
 use std::alloc::{AllocError, Allocator};
 
@@ -42,25 +42,21 @@ fn write_instruction<A: Allocator>(
 
 impl Insn {
     /// The words that the instruction is written in.
-    fn spelled(&self) -> (Word, Option<Word>)
+    pub(crate) fn spelled(&self) -> (Word, Option<Word>)
         ensures first { result.0 ≡ first_word self.now }
         ensures further { option_to_list result.1 ≡ further_words self.now }
     {
-        let (destination, source) = self.registers();
         let first = Word {
             opcode: self.opcode(),
-            destination,
-            source,
+            destination: self.first_register(),
+            source: self.second_register(),
             offset: self.offset(),
             immediate: self.immediate(),
         };
         let second = match *self {
             Insn::WideLoad { next_immediate, .. } => Some(Word {
-                opcode: 0,
-                destination: 0,
-                source: 0,
-                offset: 0,
                 immediate: next_immediate,
+                ..Word::default()
             }),
             _ => None,
         };
@@ -76,20 +72,19 @@ impl Insn {
                 width,
                 source,
                 ..
-            } => opcode(
-                operation.code(),
-                source.fields().0,
-                width.arithmetic_class(),
-            ),
-            Insn::MoveSignExtended { extension, .. } => opcode(0xb, 1, extension.fields().0),
-            Insn::Negate { width, .. } => opcode(0x8, 0, width.arithmetic_class()),
+            } => opcode(operation as u8 % 16, source.fields().0, width as u8),
+            Insn::MoveSignExtended { extension, .. } => (extension as u16 % 256) as u8,
+            Insn::Negate { width, .. } => opcode(0x8, 0, width as u8),
             Insn::ByteSwap { order, .. } => order as u8,
             Insn::JumpIf {
                 condition,
                 width,
                 right,
                 ..
-            } => opcode(condition as u8, right.fields().0, width.jump_class()),
+            } => match width {
+                Width::Bits32 => opcode(condition as u8, right.fields().0, 6),
+                Width::Bits64 => opcode(condition as u8, right.fields().0, 5),
+            },
             Insn::Jump(JumpDistance::Short(_)) => 0x05,
             Insn::Jump(JumpDistance::Long(_)) => 0x06,
             Insn::Call { .. } => 0x85,
@@ -101,35 +96,34 @@ impl Insn {
         }
     }
 
-    /// The fields of the destination and of the source.
-    fn registers(&self) -> (u8, u8)
-        ensures destination { result.0 ≡ (first_word self.now).destination }
-        ensures source { result.1 ≡ (first_word self.now).source }
-        ensures four_bits { (result.0 ≤ 10) × (result.1 ≤ 10) }
+    /// What stands in the destination's field.
+    fn first_register(&self) -> u8
+        ensures field { result ≡ (first_word self.now).destination }
+        ensures four_bits { result ≤ 10 }
     {
         match *self {
-            Insn::Alu {
-                destination,
-                source,
-                ..
-            } => (destination.number, source.fields().1),
-            Insn::MoveSignExtended {
-                destination,
-                source,
-                ..
-            } => (destination.number, source.number),
-            Insn::Negate { destination, .. }
+            Insn::Alu { destination, .. }
+            | Insn::MoveSignExtended { destination, .. }
+            | Insn::Negate { destination, .. }
             | Insn::ByteSwap { destination, .. }
-            | Insn::WideLoad { destination, .. } => (destination.number, 0),
-            Insn::JumpIf { left, right, .. } => (left.number, right.fields().1),
-            Insn::Jump(_) | Insn::Call { .. } | Insn::Exit => (0, 0),
-            Insn::Load {
-                destination,
-                base,
-                ..
-            } => (destination.number, base.number),
-            Insn::StoreImmediate { base, .. } => (base.number, 0),
-            Insn::Store { base, source, .. } => (base.number, source.number),
+            | Insn::Load { destination, .. }
+            | Insn::WideLoad { destination, .. } => destination.number,
+            Insn::JumpIf { left, .. } => left.number,
+            Insn::StoreImmediate { base, .. } | Insn::Store { base, .. } => base.number,
+            Insn::Jump(_) | Insn::Call { .. } | Insn::Exit => 0,
+        }
+    }
+
+    /// What stands in the source's field.
+    fn second_register(&self) -> u8
+        ensures field { result ≡ (first_word self.now).source }
+        ensures four_bits { result ≤ 10 }
+    {
+        match *self {
+            Insn::Alu { source, .. } | Insn::JumpIf { right: source, .. } => source.fields().1,
+            Insn::MoveSignExtended { source, .. } | Insn::Store { source, .. } => source.number,
+            Insn::Load { base, .. } => base.number,
+            _ => 0,
         }
     }
 
@@ -137,8 +131,8 @@ impl Insn {
         ensures { result ≡ (first_word self.now).offset }
     {
         match *self {
-            Insn::Alu { operation, .. } => operation.offset(),
-            Insn::MoveSignExtended { extension, .. } => extension.fields().1,
+            Insn::Alu { operation, .. } => operation as i16 / 16,
+            Insn::MoveSignExtended { extension, .. } => extension as i16 / 256,
             Insn::JumpIf { offset, .. }
             | Insn::Load { offset, .. }
             | Insn::StoreImmediate { offset, .. }
@@ -152,9 +146,8 @@ impl Insn {
         ensures { result ≡ (first_word self.now).immediate }
     {
         match *self {
-            Insn::Alu { source, .. } => source.fields().2,
+            Insn::Alu { source, .. } | Insn::JumpIf { right: source, .. } => source.fields().2,
             Insn::ByteSwap { width, .. } => width as i32,
-            Insn::JumpIf { right, .. } => right.fields().2,
             Insn::Jump(JumpDistance::Long(immediate))
             | Insn::Call { immediate }
             | Insn::StoreImmediate { immediate, .. }
@@ -172,43 +165,6 @@ fn opcode(code: u8, source: u8, class: u8) -> u8
     code * 16 + source * 8 + class
 }
 
-impl Operation {
-    fn code(self) -> u8
-        ensures value { result ≡ operation_code self }
-        ensures small { result < 16 }
-    {
-        self as u8 % 16
-    }
-
-    fn offset(self) -> i16
-        ensures { result ≡ operation_offset self }
-    {
-        self as i16 / 16
-    }
-}
-
-impl Width {
-    fn arithmetic_class(self) -> u8
-        ensures value { result ≡ arithmetic_class self }
-        ensures small { result < 8 }
-    {
-        match self {
-            Width::Bits32 => 4,
-            Width::Bits64 => 7,
-        }
-    }
-
-    fn jump_class(self) -> u8
-        ensures value { result ≡ jump_class self }
-        ensures small { result < 8 }
-    {
-        match self {
-            Width::Bits32 => 6,
-            Width::Bits64 => 5,
-        }
-    }
-}
-
 impl Source {
     /// The source bit, the field of the source register, and the immediate.
     fn fields(self) -> (u8, u8, i32)
@@ -219,22 +175,6 @@ impl Source {
         match self {
             Source::Immediate(immediate) => (0, 0, immediate),
             Source::Register(register) => (1, register.number, 0),
-        }
-    }
-}
-
-impl SignExtension {
-    /// The class, and the bits that are taken.
-    fn fields(self) -> (u8, i16)
-        ensures class { (result.0 ≡ extension_class self) × (result.0 < 8) }
-        ensures bits { result.1 ≡ extension_bits self }
-    {
-        match self {
-            SignExtension::Bits8To32 => (4, 8),
-            SignExtension::Bits16To32 => (4, 16),
-            SignExtension::Bits8To64 => (7, 8),
-            SignExtension::Bits16To64 => (7, 16),
-            SignExtension::Bits32To64 => (7, 32),
         }
     }
 }

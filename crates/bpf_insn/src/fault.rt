@@ -1,4 +1,4 @@
-ghost use Rattle.std.specs.Prelude.{◌≡◌, ◌+◌, ◌++◌, ◌≤◌, length, decimal};
+ghost use Rattle.std.specs.Prelude.{◌≡◌, ◌+◌, ◌≤◌, length};
 ghost use Rattle.bpf_insn.specs.declared.fault.CodeFault.TheVariants.{Memory};
 ghost use Rattle.bpf_insn.specs.FaultLine.{fault_line, place_line};
 
@@ -81,14 +81,12 @@ fn word_line(place: usize, fault: WordFault) -> ArrayString<64>
     ensures { result.bytes ≡ fault_line (CodeFault.InWord place fault) }
 {
     match fault {
-        WordFault::UnknownOpcode => at_place("refused 13 place ", place, " UnknownOpcode"),
-        WordFault::BadRegister => at_place("refused 14 place ", place, " BadRegister"),
-        WordFault::UnusedNotZero => at_place("refused 15 place ", place, " UnusedNotZero"),
-        WordFault::BadWidth => at_place("refused 16 place ", place, " BadWidth"),
-        WordFault::CutWide => at_place("refused 17 place ", place, " CutWide"),
-        WordFault::WritesFramePointer => {
-            at_place("refused 18 place ", place, " WritesFramePointer")
-        }
+        WordFault::UnknownOpcode => line_at("refused 13 place ", place, " UnknownOpcode"),
+        WordFault::BadRegister => line_at("refused 14 place ", place, " BadRegister"),
+        WordFault::UnusedNotZero => line_at("refused 15 place ", place, " UnusedNotZero"),
+        WordFault::BadWidth => line_at("refused 16 place ", place, " BadWidth"),
+        WordFault::CutWide => line_at("refused 17 place ", place, " CutWide"),
+        WordFault::WritesFramePointer => line_at("refused 18 place ", place, " WritesFramePointer"),
     }
 }
 
@@ -101,13 +99,12 @@ fn text(line: &str) -> ArrayString<64>
     text
 }
 
-fn at_place(head: &str, place: usize, name: &str) -> ArrayString<64>
+fn line_at(head: &str, place: usize, name: &str) -> ArrayString<64>
     requires { length head.now + length name.now ≤ 44 }
     ensures { result.bytes ≡ place_line head.now place name.now }
 {
     let mut digits = Buffer::new();
-    let mut line = ArrayString::new();
-    line.push_str(head);
+    let mut line = text(head);
     line.push_str(digits.format(place));
     line.push_str(name);
     line

@@ -31,11 +31,11 @@ pub enum Operation {
 }
 
 /// How wide an instruction's operands are (RFC 9669, section 3.3: the classes ALU and JMP32 with 32
-/// bits, ALU64 and JMP with 64).
+/// bits, ALU64 and JMP with 64), with the class of its arithmetic.
 #[derive(Clone, Copy, Debug, PartialEq, Eq)]
 pub enum Width {
-    Bits32,
-    Bits64,
+    Bits32 = 0x4,
+    Bits64 = 0x7,
 }
 
 /// Where the second operand comes from (RFC 9669, section 4: the source bit).
@@ -47,14 +47,14 @@ pub enum Source {
 }
 
 /// How many bits a move takes of its source, and to how many it extends their sign (RFC 9669,
-/// section 4.1: MOVSX, the offset and the class).
+/// section 4.1: MOVSX): its number is the opcode, with 256 times the offset more.
 #[derive(Clone, Copy, Debug, PartialEq, Eq)]
 pub enum SignExtension {
-    Bits8To32,
-    Bits16To32,
-    Bits8To64,
-    Bits16To64,
-    Bits32To64,
+    Bits8To32 = 0x08bc,
+    Bits16To32 = 0x10bc,
+    Bits8To64 = 0x08bf,
+    Bits16To64 = 0x10bf,
+    Bits32To64 = 0x20bf,
 }
 
 /// Which order of bytes a byte swap is for, with its opcode (RFC 9669, section 4.2).

@@ -6,11 +6,10 @@ mod code;
 mod decoder;
 mod encoder;
 mod fault;
-mod form;
 mod instruction;
 pub mod laws;
+mod reading;
 mod register;
-mod row;
 #[cfg(test)]
 mod tests;
 mod value;
