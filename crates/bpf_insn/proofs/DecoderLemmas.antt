@@ -1,10 +1,14 @@
 -- From the words at a place to the code of all of them.
-use Rattle.std.proofs.Common.{◌≡◌, ℕ, zero, suc, ◌+◌, ◌-◌, ◌*◌, ◌/◌, ◌%◌, ◌<◌, ◌≤◌, ◌==◌, if◌then◌else◌, List, [], ◌∷◌, ◌++◌, length, take, drop, Option, Some, None, MatchOption, Bor, slice_range, ◌⊎◌, inl, inr, refl, sym, ap, ◌∙◌, subst, arith, option_to_list, Result, Ok, Err, IfOk, IfErr}
+use Rattle.std.proofs.Common.{◌≡◌, ℕ, zero, suc, ◌+◌, ◌-◌, ◌*◌, ◌/◌, ◌%◌, ◌<◌, ◌≤◌, List, [], ◌∷◌, ◌++◌, length, take, drop, Option, Some, None, MatchOption, Bor, slice_range, ◌⊎◌, inl, inr, refl, sym, ap, ◌∙◌, subst, arith, option_to_list, Result, Ok, Err, IfOk, IfErr}
 use Rattle.std.proofs.lemmas.List.{length-drop, drop-drop, length-append, flat_map_more}
 use Rattle.std.proofs.lemmas.Option.{none-some}
 use Rattle.bpf_insn.specs.Word.{word_of, words_of, first_words}
 use Rattle.bpf_insn.specs.Form.{spelling}
-use Rattle.bpf_insn.specs.Fault.{first_fault, wide_fault, row_fault, wide_row, row_of, fault_by_row}
+use Rattle.bpf_insn.specs.Row.{fault}
+use Rattle.bpf_insn.specs.Opcode.{row, form_of}
+use Rattle.bpf_insn.specs.Fault.{first_fault, wide_fault, form_fault}
+use Rattle.bpf_insn.specs.declared.form.Form.{Form}
+use Rattle.bpf_insn.specs.declared.form.Form.TheVariants.{WideLoad}
 use Rattle.bpf_insn.specs.Reading.{Begins, BeginsAt, IsFaultAt}
 use Rattle.bpf_insn.specs.Code.{spelled, HasFaultAt, IsFirstFault, IsPushFault}
 use Rattle.bpf_insn.specs.declared.code.TheConstants.{WORD_LIMIT}
@@ -41,15 +45,20 @@ next_is_head bytes place next (inr more) =
     inr (word_of (drop (suc place * 8) bytes), first_words (length bytes / 8 - suc (suc place)) (drop (suc (suc place) * 8) bytes), more.0, from_place bytes (suc place) more.1)
 
 -- a fault looks at the next word alone
-second_alone : (fault : Option WordFault) (word : Word) (more : List Word) → wide_fault fault (word ∷ []) ≡ wide_fault fault (word ∷ more)
-second_alone None word more = refl
-second_alone (Some fault) word more = refl
+wide_alone : (found : Option WordFault) (word : Word) (more : List Word) → wide_fault found (word ∷ []) ≡ wide_fault found (word ∷ more)
+wide_alone None word more = refl
+wide_alone (Some found) word more = refl
+
+second_alone : (form : Option Form) (first word : Word) (more : List Word) → form_fault form first (word ∷ []) ≡ form_fault form first (word ∷ more)
+second_alone None first word more = refl
+second_alone (Some WideLoad) first word more = wide_alone (fault (row WideLoad) first) word more
+second_alone (Some form) first word more = refl
 
 fault_of_head : (first : Word) (next : Option Word) (rest : List Word) → IsHead next rest → first_fault first (option_to_list next) ≡ first_fault first rest
 fault_of_head first next rest (inl none) = ap (λ (n : Option Word). first_fault first (option_to_list n)) none.0 ∙ ap (first_fault first) (sym none.1)
 fault_of_head first next rest (inr (word, more, is, are)) =
     ap (λ (n : Option Word). first_fault first (option_to_list n)) is
-    ∙ ap (λ (x : Option WordFault). if first.opcode == 0x18 then x else fault_by_row (row_of first.opcode) first) (second_alone (row_fault wide_row first) word more)
+    ∙ second_alone (form_of first.opcode) first word more
     ∙ ap (first_fault first) (sym are)
 
 -- what was read at a place

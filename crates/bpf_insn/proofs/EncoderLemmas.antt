@@ -132,16 +132,20 @@ each_byte : (xs : List ℕ) → All (λ byte. byte < 256) xs → AreBytes xs
 each_byte [] all = tt
 each_byte (x ∷ xs) all = (all 0 0 (omega arith), each_byte xs (λ k d h. all (suc k) d (omega arith)))
 
--- whatever bytes have this code are the bytes that were written
+-- a code has one spelling in bytes
+pub one_spelling : (a b : List ℕ) (code : List Insn) → All (λ byte. byte < 256) a → All (λ byte. byte < 256) b → IsCodeOf a code → IsCodeOf b code → a ≡ b
+one_spelling a b code small little is also =
+    let first = is.whole in
+    let second = also.whole in
+    let same : length a / 8 ≡ length b / 8 = sym (length-first_words (length a / 8) a) ∙ ap length (is.words ∙ sym also.words) ∙ length-first_words (length b / 8) b in
+    same_bytes (length a / 8) a b (each_byte a small) (each_byte b little) (omega arith) (omega arith)
+    (is.words ∙ sym also.words ∙ ap (λ k. first_words k b) (sym same))
+
+-- so whatever bytes have this code are the bytes that were written
 pub only_spelling : (code : List Insn) (written bytes : List ℕ) → AreWords (spelled code) written → All (λ byte. byte < 256) bytes → IsCodeOf bytes code → written ≡ bytes
 only_spelling code written bytes are small is =
-    let count = ap length is.words in
-    let words = length-first_words (length bytes / 8) bytes in
-    let whole = is.whole in
-    let long = are.long in
-    let same : length bytes / 8 ≡ length (spelled code) = omega arith in
-    same_bytes (length (spelled code)) written bytes (each_byte written are.small) (each_byte bytes small) long (omega arith)
-    (are.same ∙ sym is.words ∙ ap (λ k. first_words k bytes) same)
+    let has = are_code (spelled code) written are in
+    one_spelling written bytes code are.small small (record { whole = has.0; words = has.1; sized = is.sized }) is
 
 -- what was written has the code
 pub writes_code : (code items : List Insn) (count : ℕ) (bytes : List ℕ) → items ≡ code → length items ≤ count → AreWords (spelled (take count items)) bytes → AreWords (spelled code) bytes

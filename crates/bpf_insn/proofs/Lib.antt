@@ -1,7 +1,7 @@
 pub mod WordLemmas
 pub mod RowLemmas
+pub mod FormLemmas
 pub mod FaultLemmas
-pub mod NearestLemmas
 pub mod SpellingLemmas
 pub mod CodeLemmas
 pub mod PlaceLemmas

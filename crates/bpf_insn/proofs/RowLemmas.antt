@@ -1,36 +1,22 @@
 -- What a row lets stand, from the tests that find no fault.
-use Rattle.std.proofs.Common.{◌≡◌, ℕ, ◌≤◌, ◌==◌, ◌&&◌, ◌||◌, not, nat_lt, Bool, true, false, ℤ, pos, Option, Some, None, MatchBool, if◌then◌else◌, ◌⊎◌, refl, sym, arith}
+use Rattle.std.proofs.Common.{◌≡◌, ℕ, ◌≤◌, ◌==◌, ◌&&◌, ◌||◌, not, nat_lt, Bool, true, false, ℤ, pos, Option, Some, None, MatchBool, if◌then◌else◌, refl, sym, arith}
 use Rattle.std.proofs.lemmas.Bool.Decides.{nat_tests, Decides-int_eq, Decides-or}
 use Rattle.std.specs.Bool.{⊤, Decides}
 use Rattle.std.proofs.lemmas.Bool.{true≢false}
 use Rattle.std.proofs.lemmas.Option.{none-some}
-use Rattle.bpf_insn.specs.Fault.{row_fault, names_bad_register, writes_frame_pointer, has_bad_width, has_unused_field, is_bad_width, is_out_of_use, is_used, is_written, Row, Use, Unused, Any, ZeroOrOne, MoveBits, SwapBits}
+use Rattle.bpf_insn.specs.Row.{fault, names_bad_register, writes_frame_pointer, has_bad_width, has_unused_field, is_bad_width, is_out_of_use, is_used, is_written, IsInUse, Fits}
+use Rattle.bpf_insn.specs.declared.row.Row.{Row}
+use Rattle.bpf_insn.specs.declared.row.Use.{Use}
+use Rattle.bpf_insn.specs.declared.row.Use.TheVariants.{Unused, Any, ZeroOrOne, MoveBits, SwapBits}
 use Rattle.bpf_insn.specs.declared.word.Word.{Word}
 use Rattle.bpf_insn.specs.declared.fault.WordFault.{WordFault}
 use Rattle.bpf_insn.specs.declared.fault.WordFault.TheVariants.{BadRegister, WritesFramePointer, BadWidth, UnusedNotZero}
 use Rattle.bpf_insn.specs.declared.instruction.Width.TheVariants.{Bits32, Bits64}
 
--- a number that a row's use lets stand
-abbrev pub IsInUse : Use → ℤ → Type 0
-IsInUse Unused z = z ≡ pos 0
-IsInUse Any z = ⊤
-IsInUse ZeroOrOne z = (z ≡ pos 0) ⊎ (z ≡ pos 1)
-IsInUse (MoveBits Bits32) z = ((z ≡ pos 0) ⊎ (z ≡ pos 8)) ⊎ (z ≡ pos 16)
-IsInUse (MoveBits Bits64) z = (((z ≡ pos 0) ⊎ (z ≡ pos 8)) ⊎ (z ≡ pos 16)) ⊎ (z ≡ pos 32)
-IsInUse SwapBits z = ((z ≡ pos 16) ⊎ (z ≡ pos 32)) ⊎ (z ≡ pos 64)
-
--- a word that a row lets stand: what it says of a word without a fault, field by field
-pub record Fits (row : Row) (word : Word) : Type 0 where
-  pub destination : MatchBool (is_used row.destination) (word.destination ≤ 10) (word.destination ≡ 0)
-  pub written : MatchBool (is_written row.destination) (word.destination ≤ 9) ⊤
-  pub source : MatchBool row.uses_source (word.source ≤ 10) (word.source ≡ 0)
-  pub offset : IsInUse row.offset word.offset
-  pub immediate : IsInUse row.immediate word.immediate
-
 -- a chain of tests that gives nothing
-no_fault : (test : Bool) (fault : WordFault) (rest : Option WordFault) → (if test then Some fault else rest) ≡ None → (test ≡ false) × (rest ≡ None)
-no_fault true fault rest e = absurd (none-some fault (sym e))
-no_fault false fault rest e = (refl, e)
+no_fault : (test : Bool) (found : WordFault) (rest : Option WordFault) → (if test then Some found else rest) ≡ None → (test ≡ false) × (rest ≡ None)
+no_fault true found rest e = absurd (none-some found (sym e))
+no_fault false found rest e = (refl, e)
 
 neither : (a b : Bool) → (a || b) ≡ false → (a ≡ false) × (b ≡ false)
 neither true b e = absurd (true≢false e)
@@ -51,7 +37,7 @@ holds : {P : Type 0} (test : Bool) → Decides test P → not test ≡ false →
 holds true decides e = decides.0 refl
 holds false decides e = absurd (true≢false e)
 
-pub in_use : (role : Use) (z : ℤ) → is_bad_width role z ≡ false → is_out_of_use role z ≡ false → IsInUse role z
+in_use : (role : Use) (z : ℤ) → is_bad_width role z ≡ false → is_out_of_use role z ≡ false → IsInUse role z
 in_use Unused z wide out = holds _ (Decides-int_eq z (pos 0)) out
 in_use Any z wide out = tt
 in_use ZeroOrOne z wide out = holds _ (Decides-or _ _ (Decides-int_eq z (pos 0)) (Decides-int_eq z (pos 1))) out
@@ -63,7 +49,7 @@ in_use SwapBits z wide out =
     holds _ (Decides-or _ _ (Decides-or _ _ (Decides-int_eq z (pos 16)) (Decides-int_eq z (pos 32))) (Decides-int_eq z (pos 64))) wide
 
 -- what has no fault fits
-pub fits : (row : Row) (word : Word) → row_fault row word ≡ None → Fits row word
+pub fits : (row : Row) (word : Word) → fault row word ≡ None → Fits row word
 fits row word e =
     let registers = no_fault (names_bad_register row word) BadRegister _ e in
     let written = no_fault (writes_frame_pointer row word) WritesFramePointer _ registers.1 in

@@ -1,8 +1,12 @@
 pub mod Word
 pub mod Form
+pub mod Row
+pub mod Opcode
 pub mod Fault
 pub mod Reading
 pub mod Code
 pub mod Table
 pub mod Arithmetic
-pub mod FaultLine
+pub mod Refusal
+pub mod WordFault
+pub mod CodeFault

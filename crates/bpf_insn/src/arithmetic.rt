@@ -1,3 +1,4 @@
+//! What arithmetic, comparisons and loads give, on numbers of 64 bits.
 ghost use Rattle.std.specs.Prelude.{◌≡◌, ◌<◌, ◌%◌, ◌^◌};
 ghost use Rattle.std.specs.Int.{w8, w16, w32, w64, cast_signed, cast_unsigned, swap_bytes};
 ghost use mir.Val.{bits};

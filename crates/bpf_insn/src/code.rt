@@ -1,3 +1,4 @@
+//! Codes: instructions with their places, built one by one.
 ghost use Rattle.std.specs.Prelude.{◌≡◌, ◌≤◌, ◌<◌, ◌+◌, ◌++◌, ◌∷◌, [], length, IfOk, IfErr, OnErr, IfSome, IsSome, MatchResult, Err};
 ghost use Rattle.bpf_insn.specs.Form.{spelling};
 ghost use Rattle.bpf_insn.specs.Code.{HasProgramSize, word_count, instruction_at, index_at, place_of, IsPushFault};

@@ -1,3 +1,4 @@
+//! The code of bytes.
 ghost use Rattle.std.specs.Prelude.{◌≡◌, ◌≢◌, ◌*◌, ◌/◌, ◌≤◌, ◌<◌, ◌%◌, List, length, IfOk, IfErr, ◌⊎◌, OnOk, MatchResult, IsErrAnd};
 ghost use Rattle.bpf_insn.specs.Word.{words_of};
 ghost use Rattle.bpf_insn.specs.Code.{IsCodeOf, IsFirstFault, spelled};

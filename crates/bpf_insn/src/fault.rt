@@ -1,9 +1,11 @@
-ghost use Rattle.std.specs.Prelude.{◌≡◌, ◌+◌, ◌≤◌, length};
+//! Why bytes are no program: each fault has its number and its name here, and nowhere else.
+ghost use Rattle.std.specs.Prelude.{◌≡◌, ◌≤◌, length};
 ghost use Rattle.bpf_insn.specs.declared.fault.CodeFault.TheVariants.{Memory};
-ghost use Rattle.bpf_insn.specs.FaultLine.{fault_line, place_line};
+ghost use Rattle.bpf_insn.specs.WordFault as word_fault;
+ghost use Rattle.bpf_insn.specs.CodeFault as code_fault;
 
+use crate::refusal::{place_line, refusal_line};
 use arrayvec::ArrayString;
-use itoa::Buffer;
 use std::alloc::{AllocError, AllocFailed};
 use thiserror::Error;
 
@@ -61,51 +63,71 @@ impl<T: Drop> From<AllocFailed<T>> for CodeFault {
     }
 }
 
-impl CodeFault {
-    /// The refusal's line of text, as `refused 13 place 2 UnknownOpcode`, without an end of line.
-    /// It takes no memory.
-    pub fn line(&self) -> ArrayString<64>
-        ensures { result.bytes ≡ fault_line self.now }
+impl WordFault {
+    pub fn number(self) -> u8
+        ensures { result ≡ word_fault.number self }
     {
-        match *self {
-            CodeFault::Empty => text("refused 10 Empty"),
-            CodeFault::NotWhole => text("refused 11 NotWhole"),
-            CodeFault::TooLong => text("refused 12 TooLong"),
-            CodeFault::InWord { place, fault } => word_line(place, fault),
-            CodeFault::Memory => text("refused memory"),
+        match self {
+            WordFault::UnknownOpcode => 13,
+            WordFault::BadRegister => 14,
+            WordFault::UnusedNotZero => 15,
+            WordFault::BadWidth => 16,
+            WordFault::CutWide => 17,
+            WordFault::WritesFramePointer => 18,
+        }
+    }
+
+    pub fn name(self) -> &'static str
+        ensures value { result.now ≡ word_fault.name self }
+        ensures short { length result.now ≤ 18 }
+    {
+        match self {
+            WordFault::UnknownOpcode => "UnknownOpcode",
+            WordFault::BadRegister => "BadRegister",
+            WordFault::UnusedNotZero => "UnusedNotZero",
+            WordFault::BadWidth => "BadWidth",
+            WordFault::CutWide => "CutWide",
+            WordFault::WritesFramePointer => "WritesFramePointer",
         }
     }
 }
 
-fn word_line(place: usize, fault: WordFault) -> ArrayString<64>
-    ensures { result.bytes ≡ fault_line (CodeFault.InWord place fault) }
-{
-    match fault {
-        WordFault::UnknownOpcode => line_at("refused 13 place ", place, " UnknownOpcode"),
-        WordFault::BadRegister => line_at("refused 14 place ", place, " BadRegister"),
-        WordFault::UnusedNotZero => line_at("refused 15 place ", place, " UnusedNotZero"),
-        WordFault::BadWidth => line_at("refused 16 place ", place, " BadWidth"),
-        WordFault::CutWide => line_at("refused 17 place ", place, " CutWide"),
-        WordFault::WritesFramePointer => line_at("refused 18 place ", place, " WritesFramePointer"),
+impl CodeFault {
+    /// None for want of memory.
+    pub fn number(&self) -> Option<u8>
+        ensures { result ≡ code_fault.number self.now }
+    {
+        match *self {
+            CodeFault::Empty => Some(10),
+            CodeFault::NotWhole => Some(11),
+            CodeFault::TooLong => Some(12),
+            CodeFault::InWord { fault, .. } => Some(fault.number()),
+            CodeFault::Memory => None,
+        }
     }
-}
 
-fn text(line: &str) -> ArrayString<64>
-    requires { length line.now ≤ 64 }
-    ensures { result.bytes ≡ line.now }
-{
-    let mut text = ArrayString::new();
-    text.push_str(line);
-    text
-}
+    pub fn name(&self) -> &'static str
+        ensures value { result.now ≡ code_fault.name self.now }
+        ensures short { length result.now ≤ 18 }
+    {
+        match *self {
+            CodeFault::Empty => "Empty",
+            CodeFault::NotWhole => "NotWhole",
+            CodeFault::TooLong => "TooLong",
+            CodeFault::InWord { fault, .. } => fault.name(),
+            CodeFault::Memory => "memory",
+        }
+    }
 
-fn line_at(head: &str, place: usize, name: &str) -> ArrayString<64>
-    requires { length head.now + length name.now ≤ 44 }
-    ensures { result.bytes ≡ place_line head.now place name.now }
-{
-    let mut digits = Buffer::new();
-    let mut line = text(head);
-    line.push_str(digits.format(place));
-    line.push_str(name);
-    line
+    /// The refusal's line of text, as `refused 13 place 2 UnknownOpcode`.
+    pub fn line(&self) -> ArrayString<64>
+        ensures { result.bytes ≡ code_fault.line self.now }
+    {
+        match *self {
+            CodeFault::InWord { place, fault } => {
+                place_line(fault.number(), place, fault.name(), None)
+            }
+            _ => refusal_line(self.number(), self.name()),
+        }
+    }
 }

@@ -1,13 +1,25 @@
 //! What holds of the definitions themselves. The functions do nothing: each one's contract is the
 //! law.
-ghost use Rattle.std.specs.Prelude.{◌≡◌, ◌≢◌, ℕ, List};
+ghost use Rattle.std.specs.Prelude.{◌≡◌, ◌≢◌, ◌<◌, ℕ, List, All};
 ghost use Rattle.bpf_insn.specs.Code.{IsCodeOf, IsFirstFault};
+ghost use Rattle.bpf_insn.specs.declared.code.TheConstants.{WORD_LIMIT};
 ghost use Rattle.bpf_insn.specs.declared.fault.CodeFault.{CodeFault};
 ghost use Rattle.bpf_insn.specs.declared.instruction.Insn.{Insn};
 
 /// Bytes have at most one code.
 pub fn one_code()
     ensures { (bytes : List ℕ) (a b : List Insn) → IsCodeOf bytes a → IsCodeOf bytes b → a ≡ b }
+{}
+
+/// A code has one spelling in bytes.
+pub fn one_spelling()
+    ensures { (a b : List ℕ) (code : List Insn) → All (λ byte. byte < 256) a → All (λ byte. byte < 256) b
+        → IsCodeOf a code → IsCodeOf b code → a ≡ b }
+{}
+
+/// A program has 4,096 words at most.
+pub fn word_limit()
+    ensures { WORD_LIMIT ≡ 4096 }
 {}
 
 /// Bytes have at most one first fault, apart from want of memory, which depends on more than the

@@ -6,10 +6,12 @@ mod code;
 mod decoder;
 mod encoder;
 mod fault;
+mod form;
 mod instruction;
 pub mod laws;
-mod reading;
+mod refusal;
 mod register;
+mod row;
 #[cfg(test)]
 mod tests;
 mod value;
@@ -24,6 +26,7 @@ pub use instruction::{
     ByteOrder, Condition, Insn, JumpDistance, LoadFormat, Operation, SignExtension, Source,
     StoreSize, SwapWidth, Width,
 };
+pub use refusal::{place_line, refusal_line, refusal_line_at};
 pub use register::{Register, WritableRegister};
 pub use value::{Area, Pointer, Value};
 pub use word::Word;

@@ -1,3 +1,4 @@
+//! What registers hold.
 /// What a pointer points into.
 #[derive(Clone, Copy, Debug, PartialEq, Eq)]
 pub enum Area {

@@ -8,19 +8,24 @@ use Rattle.bpf_insn.specs.declared.instruction.Source.TheVariants.{Immediate}
 use Rattle.bpf_insn.specs.declared.value.Value.TheVariants.{Number}
 use Rattle.bpf_meaning.specs.Segment.{Contents}
 use Rattle.bpf_meaning.specs.State.{start}
-use Rattle.bpf_meaning.specs.Step.{Running, Exited, Stuck, with_register, after}
+use Rattle.bpf_meaning.specs.Step.{Running, Exited, Stuck, carry_out, after}
+use Rattle.bpf_meaning.specs.declared.effect.Change.TheVariants.{SetRegister}
+use Rattle.bpf_insn.specs.declared.register.WritableRegister.{WritableRegister}
 use Rattle.bpf_meaning.specs.Run.{Answers, IsRun}
 use Rattle.bpf_meaning.specs.Extract.{IsExtract, row_of}
 use Rattle.bpf_meaning.specs.declared.cause.Cause.TheVariants.{OutOfProgram, ReadsNothing}
 
+abbrev r0 : WritableRegister
+r0 = record { number = 0; in_range = lit≤ tt }
+
 abbrev move : ℕ → Insn
-move n = Alu Move Bits64 (record { number = 0; in_range = lit≤ tt }) (Immediate (pos n))
+move n = Alu Move Bits64 r0 (Immediate (pos n))
 
 -- it answers 1 with score 0 on every segment
 one_answers : (segment : Contents) → Answers (move 1 ∷ Exit ∷ []) segment 1 0
 unfolding after
 one_answers segment = record {
-  run = Running (record (with_register start 0 (Number 1)) { place = 1 }) ∷ Exited 1 0 ∷ [];
+  run = Running (record (carry_out start (SetRegister r0 (Number 1))) { place = 1 }) ∷ Exited 1 0 ∷ [];
   is_run = (refl, (refl, tt));
   exits = refl;
 }
@@ -42,7 +47,7 @@ two_rows first second = (
 zero_answers : (segment : Contents) → Answers (move 0 ∷ Exit ∷ []) segment 0 0
 unfolding after
 zero_answers segment = record {
-  run = Running (record (with_register start 0 (Number 0)) { place = 1 }) ∷ Exited 0 0 ∷ [];
+  run = Running (record (carry_out start (SetRegister r0 (Number 0))) { place = 1 }) ∷ Exited 0 0 ∷ [];
   is_run = (refl, (refl, tt));
   exits = refl;
 }

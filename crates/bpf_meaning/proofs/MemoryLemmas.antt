@@ -1,5 +1,5 @@
 -- Marks beside bytes, and what is read and written of them.
-use Rattle.std.proofs.Common.{◌≡◌, ℕ, zero, suc, ◌+◌, ◌-◌, ◌*◌, ◌/◌, ◌%◌, ◌<◌, ◌≤◌, ◌^◌, Bool, true, false, List, [], ◌∷◌, ◌++◌, length, map, take, drop, replicate, Option, Some, None, refl, sym, ap, ◌∙◌, arith, lit<, min, append_assoc, length-append}
+use Rattle.std.proofs.Common.{◌≡◌, ℕ, zero, suc, ◌+◌, ◌-◌, ◌*◌, ◌/◌, ◌%◌, ◌<◌, ◌≤◌, ◌^◌, Bool, true, false, List, [], ◌∷◌, ◌++◌, length, map, take, drop, replicate, Some, None, refl, sym, ap, ◌∙◌, arith, lit<, min, append_assoc, length-append}
 use Rattle.std.specs.List.{list_any}
 use Rattle.std.proofs.lemmas.Bool.{false≢true}
 use Rattle.std.proofs.lemmas.List.{length-take, length-take-le, length-drop, length-map, length-replicate, drop-drop, take_at, drop_at}
@@ -9,47 +9,47 @@ use Rattle.std.proofs.Math.Nat.{pow-le-pow_right, pow-suc, one-le-pow, div-one, 
 use Rattle.std.proofs.lemmas.Nat.{pow-add}
 use Rattle.std.specs.Option.{option_map}
 use Rattle.std.specs.Int.{byte_at, bytes_low_first}
-use Rattle.bpf_meaning.specs.Memory.{FrameByte, FrameContents, Unwritten, Byte, marked, number_of, written}
+use Rattle.bpf_meaning.specs.Memory.{FrameByte, FrameContents, Unwritten, Byte, frame_bytes, number_of, store}
 
 -- as many bytes as marks
 
-pub marked-nil : (marks : List Bool) → marked marks [] ≡ []
-marked-nil [] = refl
-marked-nil (mark ∷ marks) = refl
+pub frame_bytes-nil : (marks : List Bool) → frame_bytes marks [] ≡ []
+frame_bytes-nil [] = refl
+frame_bytes-nil (mark ∷ marks) = refl
 
-pub length-marked : (marks : List Bool) (bytes : List ℕ) → length marks ≡ length bytes → length (marked marks bytes) ≡ length bytes
-length-marked [] [] same = refl
-length-marked [] (byte ∷ bytes) same = absurd (omega arith)
-length-marked (mark ∷ marks) [] same = absurd (omega arith)
-length-marked (true ∷ marks) (byte ∷ bytes) same = let more = length-marked marks bytes (omega arith) in omega arith
-length-marked (false ∷ marks) (byte ∷ bytes) same = let more = length-marked marks bytes (omega arith) in omega arith
+pub length-frame_bytes : (marks : List Bool) (bytes : List ℕ) → length marks ≡ length bytes → length (frame_bytes marks bytes) ≡ length bytes
+length-frame_bytes [] [] same = refl
+length-frame_bytes [] (byte ∷ bytes) same = absurd (omega arith)
+length-frame_bytes (mark ∷ marks) [] same = absurd (omega arith)
+length-frame_bytes (true ∷ marks) (byte ∷ bytes) same = let more = length-frame_bytes marks bytes (omega arith) in omega arith
+length-frame_bytes (false ∷ marks) (byte ∷ bytes) same = let more = length-frame_bytes marks bytes (omega arith) in omega arith
 
-pub take-marked : (k : ℕ) (marks : List Bool) (bytes : List ℕ) → take k (marked marks bytes) ≡ marked (take k marks) (take k bytes)
-take-marked zero marks bytes = refl
-take-marked (suc k) [] bytes = refl
-take-marked (suc k) (mark ∷ marks) [] = refl
-take-marked (suc k) (true ∷ marks) (byte ∷ bytes) = ap (λ (l : List FrameByte). Byte byte ∷ l) (take-marked k marks bytes)
-take-marked (suc k) (false ∷ marks) (byte ∷ bytes) = ap (λ (l : List FrameByte). Unwritten ∷ l) (take-marked k marks bytes)
+pub take-frame_bytes : (k : ℕ) (marks : List Bool) (bytes : List ℕ) → take k (frame_bytes marks bytes) ≡ frame_bytes (take k marks) (take k bytes)
+take-frame_bytes zero marks bytes = refl
+take-frame_bytes (suc k) [] bytes = refl
+take-frame_bytes (suc k) (mark ∷ marks) [] = refl
+take-frame_bytes (suc k) (true ∷ marks) (byte ∷ bytes) = ap (λ (l : List FrameByte). Byte byte ∷ l) (take-frame_bytes k marks bytes)
+take-frame_bytes (suc k) (false ∷ marks) (byte ∷ bytes) = ap (λ (l : List FrameByte). Unwritten ∷ l) (take-frame_bytes k marks bytes)
 
-pub drop-marked : (k : ℕ) (marks : List Bool) (bytes : List ℕ) → drop k (marked marks bytes) ≡ marked (drop k marks) (drop k bytes)
-drop-marked zero marks bytes = refl
-drop-marked (suc k) [] bytes = refl
-drop-marked (suc k) (mark ∷ marks) [] = sym (marked-nil (drop k marks))
-drop-marked (suc k) (true ∷ marks) (byte ∷ bytes) = drop-marked k marks bytes
-drop-marked (suc k) (false ∷ marks) (byte ∷ bytes) = drop-marked k marks bytes
+pub drop-frame_bytes : (k : ℕ) (marks : List Bool) (bytes : List ℕ) → drop k (frame_bytes marks bytes) ≡ frame_bytes (drop k marks) (drop k bytes)
+drop-frame_bytes zero marks bytes = refl
+drop-frame_bytes (suc k) [] bytes = refl
+drop-frame_bytes (suc k) (mark ∷ marks) [] = sym (frame_bytes-nil (drop k marks))
+drop-frame_bytes (suc k) (true ∷ marks) (byte ∷ bytes) = drop-frame_bytes k marks bytes
+drop-frame_bytes (suc k) (false ∷ marks) (byte ∷ bytes) = drop-frame_bytes k marks bytes
 
-pub marked-append : (marks more : List Bool) (bytes others : List ℕ) → length marks ≡ length bytes → marked (marks ++ more) (bytes ++ others) ≡ marked marks bytes ++ marked more others
-marked-append [] more [] others same = refl
-marked-append [] more (byte ∷ bytes) others same = absurd (omega arith)
-marked-append (mark ∷ marks) more [] others same = absurd (omega arith)
-marked-append (true ∷ marks) more (byte ∷ bytes) others same = ap (λ (l : List FrameByte). Byte byte ∷ l) (marked-append marks more bytes others (omega arith))
-marked-append (false ∷ marks) more (byte ∷ bytes) others same = ap (λ (l : List FrameByte). Unwritten ∷ l) (marked-append marks more bytes others (omega arith))
+pub frame_bytes-append : (marks more : List Bool) (bytes others : List ℕ) → length marks ≡ length bytes → frame_bytes (marks ++ more) (bytes ++ others) ≡ frame_bytes marks bytes ++ frame_bytes more others
+frame_bytes-append [] more [] others same = refl
+frame_bytes-append [] more (byte ∷ bytes) others same = absurd (omega arith)
+frame_bytes-append (mark ∷ marks) more [] others same = absurd (omega arith)
+frame_bytes-append (true ∷ marks) more (byte ∷ bytes) others same = ap (λ (l : List FrameByte). Byte byte ∷ l) (frame_bytes-append marks more bytes others (omega arith))
+frame_bytes-append (false ∷ marks) more (byte ∷ bytes) others same = ap (λ (l : List FrameByte). Unwritten ∷ l) (frame_bytes-append marks more bytes others (omega arith))
 
-pub marked-replicate : (count : ℕ) (bytes : List ℕ) → length bytes ≡ count → marked (replicate count true) bytes ≡ map Byte bytes
-marked-replicate zero [] same = refl
-marked-replicate zero (byte ∷ bytes) same = absurd (omega arith)
-marked-replicate (suc count) [] same = absurd (omega arith)
-marked-replicate (suc count) (byte ∷ bytes) same = ap (λ (l : List FrameByte). Byte byte ∷ l) (marked-replicate count bytes (omega arith))
+pub frame_bytes-replicate : (count : ℕ) (bytes : List ℕ) → length bytes ≡ count → frame_bytes (replicate count true) bytes ≡ map Byte bytes
+frame_bytes-replicate zero [] same = refl
+frame_bytes-replicate zero (byte ∷ bytes) same = absurd (omega arith)
+frame_bytes-replicate (suc count) [] same = absurd (omega arith)
+frame_bytes-replicate (suc count) (byte ∷ bytes) same = ap (λ (l : List FrameByte). Byte byte ∷ l) (frame_bytes-replicate count bytes (omega arith))
 
 -- the little-endian number of at most eight bytes fits
 
@@ -64,7 +64,7 @@ fits_more byte number n small below = rw pow-add (omega (arith, below))
 
 -- what is read: a byte without a mark makes the number none, and with marks alone it's that of the bytes
 
-pub number_of-unmarked : (is_unmarked : Bool → Bool) (marks : List Bool) (bytes : List ℕ) → is_unmarked true ≡ false → length marks ≡ length bytes → list_any is_unmarked marks ≡ true → number_of (marked marks bytes) ≡ None
+pub number_of-unmarked : (is_unmarked : Bool → Bool) (marks : List Bool) (bytes : List ℕ) → is_unmarked true ≡ false → length marks ≡ length bytes → list_any is_unmarked marks ≡ true → number_of (frame_bytes marks bytes) ≡ None
 number_of-unmarked is_unmarked [] bytes test same any = absurd (false≢true any)
 number_of-unmarked is_unmarked (mark ∷ marks) [] test same any = absurd (omega arith)
 number_of-unmarked is_unmarked (false ∷ marks) (byte ∷ bytes) test same any = refl
@@ -72,14 +72,14 @@ number_of-unmarked is_unmarked (true ∷ marks) (byte ∷ bytes) test same any =
     let later : list_any is_unmarked marks ≡ true = rw test at any in
     ap (option_map (λ rest. byte + 256 * rest)) (number_of-unmarked is_unmarked marks bytes test (omega arith) later)
 
-pub marked-all : (is_unmarked : Bool → Bool) (marks : List Bool) (bytes : List ℕ) → is_unmarked false ≡ true → is_unmarked true ≡ false → length marks ≡ length bytes → list_any is_unmarked marks ≡ false → marked marks bytes ≡ map Byte bytes
-marked-all is_unmarked [] [] test other same any = refl
-marked-all is_unmarked [] (byte ∷ bytes) test other same any = absurd (omega arith)
-marked-all is_unmarked (mark ∷ marks) [] test other same any = absurd (omega arith)
-marked-all is_unmarked (false ∷ marks) (byte ∷ bytes) test other same any = absurd (let e : true ≡ false = rw test at any in false≢true (sym e))
-marked-all is_unmarked (true ∷ marks) (byte ∷ bytes) test other same any =
+pub frame_bytes-all : (is_unmarked : Bool → Bool) (marks : List Bool) (bytes : List ℕ) → is_unmarked false ≡ true → is_unmarked true ≡ false → length marks ≡ length bytes → list_any is_unmarked marks ≡ false → frame_bytes marks bytes ≡ map Byte bytes
+frame_bytes-all is_unmarked [] [] test other same any = refl
+frame_bytes-all is_unmarked [] (byte ∷ bytes) test other same any = absurd (omega arith)
+frame_bytes-all is_unmarked (mark ∷ marks) [] test other same any = absurd (omega arith)
+frame_bytes-all is_unmarked (false ∷ marks) (byte ∷ bytes) test other same any = absurd (let e : true ≡ false = rw test at any in false≢true (sym e))
+frame_bytes-all is_unmarked (true ∷ marks) (byte ∷ bytes) test other same any =
     let later : list_any is_unmarked marks ≡ false = rw other at any in
-    ap (λ (l : List FrameByte). Byte byte ∷ l) (marked-all is_unmarked marks bytes test other (omega arith) later)
+    ap (λ (l : List FrameByte). Byte byte ∷ l) (frame_bytes-all is_unmarked marks bytes test other (omega arith) later)
 
 -- what is written
 
@@ -93,52 +93,52 @@ length-bytes_low_first i zero number = refl
 length-bytes_low_first i (suc n) number = let more = length-bytes_low_first (suc i) n number in omega arith
 
 -- marks and bytes written from a place on, as many as of the number
-pub marked-put_mid : (marks : List Bool) (bytes : List ℕ) (at k count number : ℕ) → length marks ≡ length bytes → k ≡ count → marked (put_mid at k marks (replicate count true)) (put_mid at k bytes (bytes_low_first 0 count number)) ≡ written (marked marks bytes) at count number
-marked-put_mid marks bytes at k count number same is =
+pub frame_bytes-put_mid : (marks : List Bool) (bytes : List ℕ) (at k count number : ℕ) → length marks ≡ length bytes → k ≡ count → frame_bytes (put_mid at k marks (replicate count true)) (put_mid at k bytes (bytes_low_first 0 count number)) ≡ store (frame_bytes marks bytes) at count number
+frame_bytes-put_mid marks bytes at k count number same is =
     let front : length (take at marks) ≡ length (take at bytes) = length-take at marks ∙ ap (λ (n : ℕ). min at n) same ∙ sym (length-take at bytes) in
     let low = bytes_low_first 0 count number in
     let long : length low ≡ count = length-bytes_low_first 0 count number in
     let middle : length (replicate count true) ≡ length low = length-replicate count true ∙ sym long in
-    marked-append (take at marks) (replicate count true ++ drop k (drop at marks)) (take at bytes) (low ++ drop k (drop at bytes)) front
-    ∙ ap (λ (l : List FrameByte). l ++ marked (replicate count true ++ drop k (drop at marks)) (low ++ drop k (drop at bytes))) (sym (take-marked at marks bytes))
-    ∙ ap (λ (l : List FrameByte). take at (marked marks bytes) ++ l)
-    (marked-append (replicate count true) (drop k (drop at marks)) low (drop k (drop at bytes)) middle
-    ∙ ap (λ (l : List FrameByte). l ++ marked (drop k (drop at marks)) (drop k (drop at bytes))) (marked-replicate count low long)
-    ∙ ap (λ (l : List FrameByte). map Byte low ++ l) (sym (drop-marked k (drop at marks) (drop at bytes)) ∙ ap (λ (l : List FrameByte). drop k l) (sym (drop-marked at marks bytes)) ∙ rest (marked marks bytes)))
-    ∙ sym (append_assoc (take at (marked marks bytes)) (map Byte low) (drop (at + count) (marked marks bytes)))
+    frame_bytes-append (take at marks) (replicate count true ++ drop k (drop at marks)) (take at bytes) (low ++ drop k (drop at bytes)) front
+    ∙ ap (λ (l : List FrameByte). l ++ frame_bytes (replicate count true ++ drop k (drop at marks)) (low ++ drop k (drop at bytes))) (sym (take-frame_bytes at marks bytes))
+    ∙ ap (λ (l : List FrameByte). take at (frame_bytes marks bytes) ++ l)
+    (frame_bytes-append (replicate count true) (drop k (drop at marks)) low (drop k (drop at bytes)) middle
+    ∙ ap (λ (l : List FrameByte). l ++ frame_bytes (drop k (drop at marks)) (drop k (drop at bytes))) (frame_bytes-replicate count low long)
+    ∙ ap (λ (l : List FrameByte). map Byte low ++ l) (sym (drop-frame_bytes k (drop at marks) (drop at bytes)) ∙ ap (λ (l : List FrameByte). drop k l) (sym (drop-frame_bytes at marks bytes)) ∙ rest (frame_bytes marks bytes)))
+    ∙ sym (append_assoc (take at (frame_bytes marks bytes)) (map Byte low) (drop (at + count) (frame_bytes marks bytes)))
   where
     rest : (memory : List FrameByte) → drop k (drop at memory) ≡ drop (at + count) memory
     rest memory = ap (λ (n : ℕ). drop n (drop at memory)) is ∙ drop-drop count at memory
 
 -- the three at a frame's contents
 
-part_of : (marks : List Bool) (bytes : List ℕ) (memory : List FrameByte) (at count k : ℕ) → k ≡ count → marked marks bytes ≡ memory → take count (drop at memory) ≡ marked (mid_of at k marks) (mid_of at k bytes)
+part_of : (marks : List Bool) (bytes : List ℕ) (memory : List FrameByte) (at count k : ℕ) → k ≡ count → frame_bytes marks bytes ≡ memory → take count (drop at memory) ≡ frame_bytes (mid_of at k marks) (mid_of at k bytes)
 part_of marks bytes memory at count k is same =
-    ap (λ (m : List FrameByte). take count (drop at m)) (sym same) ∙ ap (λ (n : ℕ). take n (drop at (marked marks bytes))) (sym is)
-    ∙ ap (λ (l : List FrameByte). take k l) (drop-marked at marks bytes) ∙ take-marked k (drop at marks) (drop at bytes)
+    ap (λ (m : List FrameByte). take count (drop at m)) (sym same) ∙ ap (λ (n : ℕ). take n (drop at (frame_bytes marks bytes))) (sym is)
+    ∙ ap (λ (l : List FrameByte). take k l) (drop-frame_bytes at marks bytes) ∙ take-frame_bytes k (drop at marks) (drop at bytes)
 
 same_parts : (marks : List Bool) (bytes : List ℕ) (at k : ℕ) → length marks ≡ length bytes → length (mid_of at k marks) ≡ length (mid_of at k bytes)
 same_parts marks bytes at k same = simp (length-take, length-drop) (ap (λ (n : ℕ). min k (n - at)) same)
 
-pub unwritten_is_none : (is_unmarked : Bool → Bool) (marks : List Bool) (bytes : List ℕ) (memory : List FrameByte) (at count k : ℕ) → is_unmarked true ≡ false → k ≡ count → length marks ≡ length bytes → marked marks bytes ≡ memory → list_any is_unmarked (mid_of at k marks) ≡ true → number_of (take count (drop at memory)) ≡ None
+pub unwritten_is_none : (is_unmarked : Bool → Bool) (marks : List Bool) (bytes : List ℕ) (memory : List FrameByte) (at count k : ℕ) → is_unmarked true ≡ false → k ≡ count → length marks ≡ length bytes → frame_bytes marks bytes ≡ memory → list_any is_unmarked (mid_of at k marks) ≡ true → number_of (take count (drop at memory)) ≡ None
 unwritten_is_none is_unmarked marks bytes memory at count k test is same view any =
     ap number_of (part_of marks bytes memory at count k is view)
     ∙ number_of-unmarked is_unmarked (mid_of at k marks) (mid_of at k bytes) test (same_parts marks bytes at k same) any
 
-pub written_is_number : (is_unmarked : Bool → Bool) (marks : List Bool) (bytes : List ℕ) (memory : List FrameByte) (at count k : ℕ) → is_unmarked false ≡ true → is_unmarked true ≡ false → k ≡ count → length marks ≡ length bytes → marked marks bytes ≡ memory → list_any is_unmarked (mid_of at k marks) ≡ false → number_of (take count (drop at memory)) ≡ number_of (map Byte (mid_of at k bytes))
+pub written_is_number : (is_unmarked : Bool → Bool) (marks : List Bool) (bytes : List ℕ) (memory : List FrameByte) (at count k : ℕ) → is_unmarked false ≡ true → is_unmarked true ≡ false → k ≡ count → length marks ≡ length bytes → frame_bytes marks bytes ≡ memory → list_any is_unmarked (mid_of at k marks) ≡ false → number_of (take count (drop at memory)) ≡ number_of (map Byte (mid_of at k bytes))
 written_is_number is_unmarked marks bytes memory at count k test other is same view any =
     ap number_of (part_of marks bytes memory at count k is view
-    ∙ marked-all is_unmarked (mid_of at k marks) (mid_of at k bytes) test other (same_parts marks bytes at k same) any)
+    ∙ frame_bytes-all is_unmarked (mid_of at k marks) (mid_of at k bytes) test other (same_parts marks bytes at k same) any)
 
-pub store_writes : (marks : List Bool) (bytes : List ℕ) (frame : FrameContents) (at count k number : ℕ) (new_bytes : List ℕ) (new_marks : List Bool) → length marks ≡ length bytes → k ≡ count → length (mid_of at k marks) ≡ count → count ≤ 8 → record { bytes = marked marks bytes } ≡ frame → new_bytes ≡ take count (bytes_low_first 0 8 number) → new_marks ≡ replicate (length (mid_of at k marks)) true → (let new : FrameContents = record { bytes = marked (put_mid at k marks new_marks) (put_mid at k bytes new_bytes) } in new) ≡ record frame { bytes = written frame.bytes at count number }
+pub store_writes : (marks : List Bool) (bytes : List ℕ) (frame : FrameContents) (at count k number : ℕ) (new_bytes : List ℕ) (new_marks : List Bool) → length marks ≡ length bytes → k ≡ count → length (mid_of at k marks) ≡ count → count ≤ 8 → record { bytes = frame_bytes marks bytes } ≡ frame → new_bytes ≡ take count (bytes_low_first 0 8 number) → new_marks ≡ replicate (length (mid_of at k marks)) true → (let new : FrameContents = record { bytes = frame_bytes (put_mid at k marks new_marks) (put_mid at k bytes new_bytes) } in new) ≡ record frame { bytes = store frame.bytes at count number }
 store_writes marks bytes frame at count k number new_bytes new_marks same is long short view low all =
     let low_is : new_bytes ≡ bytes_low_first 0 count number = low ∙ take-bytes_low_first 0 8 count number short in
     let all_are : new_marks ≡ replicate count true = all ∙ ap (λ (n : ℕ). replicate n true) long in
     let contents : List FrameByte → FrameContents = λ l. record { bytes = l } in
-    ap (λ (l : List ℕ). contents (marked (put_mid at k marks new_marks) (put_mid at k bytes l))) low_is
-    ∙ ap (λ (l : List Bool). contents (marked (put_mid at k marks l) (put_mid at k bytes (bytes_low_first 0 count number)))) all_are
-    ∙ ap contents (marked-put_mid marks bytes at k count number same is)
-    ∙ ap (λ (f : FrameContents). contents (written f.bytes at count number)) view
+    ap (λ (l : List ℕ). contents (frame_bytes (put_mid at k marks new_marks) (put_mid at k bytes l))) low_is
+    ∙ ap (λ (l : List Bool). contents (frame_bytes (put_mid at k marks l) (put_mid at k bytes (bytes_low_first 0 count number)))) all_are
+    ∙ ap contents (frame_bytes-put_mid marks bytes at k count number same is)
+    ∙ ap (λ (f : FrameContents). contents (store f.bytes at count number)) view
 
 -- what was stored is loaded, and other bytes stay
 
@@ -168,7 +168,7 @@ front_is memory at count within = length-take-le at memory (omega arith)
 low_is : (count number : ℕ) → length (map Byte (bytes_low_first 0 count number)) ≡ count
 low_is count number = length-map (bytes_low_first 0 count number) Byte ∙ length-bytes_low_first 0 count number
 
-pub stored_is_loaded : (memory : List FrameByte) (at count number : ℕ) → at + count ≤ length memory → number_of (take count (drop at (written memory at count number))) ≡ Some (number % 256 ^ count)
+pub stored_is_loaded : (memory : List FrameByte) (at count number : ℕ) → at + count ≤ length memory → number_of (take count (drop at (store memory at count number))) ≡ Some (number % 256 ^ count)
 stored_is_loaded memory at count number within =
     let low = map Byte (bytes_low_first 0 count number) in
     let behind = drop (at + count) memory in
@@ -179,12 +179,12 @@ stored_is_loaded memory at count number within =
 
 -- what lies before the bytes written, and what lies behind them
 
-pub before_stays : (memory : List FrameByte) (at count number : ℕ) → at + count ≤ length memory → take at (written memory at count number) ≡ take at memory
+pub before_stays : (memory : List FrameByte) (at count number : ℕ) → at + count ≤ length memory → take at (store memory at count number) ≡ take at memory
 before_stays memory at count number within =
     ap (take at) (append_assoc (take at memory) (map Byte (bytes_low_first 0 count number)) (drop (at + count) memory))
     ∙ take_at (take at memory) (map Byte (bytes_low_first 0 count number) ++ drop (at + count) memory) at (front_is memory at count within)
 
-pub behind_stays : (memory : List FrameByte) (at count number : ℕ) → at + count ≤ length memory → drop (at + count) (written memory at count number) ≡ drop (at + count) memory
+pub behind_stays : (memory : List FrameByte) (at count number : ℕ) → at + count ≤ length memory → drop (at + count) (store memory at count number) ≡ drop (at + count) memory
 behind_stays memory at count number within =
     let low = map Byte (bytes_low_first 0 count number) in
     let long : length (take at memory ++ low) ≡ at + count =

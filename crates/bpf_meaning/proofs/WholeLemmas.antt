@@ -1,25 +1,112 @@
--- A state that has all its registers and a whole frame keeps them.
-use Rattle.std.proofs.Common.{◌≡◌, ℕ, ◌+◌, ◌≤◌, ℤ, pos, negsuc, ◌+ℤ◌, Bool, true, false, List, [], ◌∷◌, ◌++◌, length, map, take, drop, unsigned_abs, Option, Some, None, Result, Ok, Err, if◌then◌else◌, refl, sym, ap, ◌∙◌, subst, arith, length-append, length-set}
+-- What an effect stores lies within the frame, so a state that has all its registers and a whole frame keeps them.
+use Rattle.std.proofs.Common.{◌≡◌, ℕ, ◌+◌, ◌≤◌, ℤ, pos, negsuc, ◌+ℤ◌, Bool, true, false, List, [], ◌∷◌, ◌++◌, length, map, take, drop, unsigned_abs, nat_lt, is_some, Option, Some, None, Result, Ok, Err, if◌then◌else◌, refl, sym, ap, ◌∙◌, subst, arith, length-append, length-set}
 use Rattle.std.specs.Int.{bytes_low_first}
 use Rattle.std.proofs.lemmas.Bool.{false≢true}
 use Rattle.std.proofs.lemmas.Bool.Decides.{nat_tests}
 use Rattle.std.proofs.lemmas.List.{length-map, length-take-le, length-drop}
-use Rattle.bpf_insn.specs.Arithmetic.{extended, wide_number_of}
-use Rattle.bpf_insn.specs.Code.{instruction_at}
+use Rattle.bpf_insn.specs.Code.{instruction_at, word_count}
 use Rattle.bpf_insn.specs.declared.instruction.Insn.{Insn}
 use Rattle.bpf_insn.specs.declared.instruction.Insn.TheVariants.{Alu, MoveSignExtended, Negate, ByteSwap, JumpIf, Jump, Call, Exit, Load, StoreImmediate, Store, WideLoad}
+use Rattle.bpf_insn.specs.declared.instruction.Source.{Source}
+use Rattle.bpf_insn.specs.declared.instruction.Source.TheVariants.{Immediate, Register}
 use Rattle.bpf_insn.specs.declared.instruction.StoreSize.{StoreSize}
-use Rattle.bpf_insn.specs.declared.value.Value.{Value}
-use Rattle.bpf_insn.specs.declared.value.Value.TheVariants.{Number}
 use Rattle.bpf_meaning.specs.Segment.{Contents}
-use Rattle.bpf_meaning.specs.Memory.{FrameByte, FrameContents, Byte, written}
+use Rattle.bpf_meaning.specs.Memory.{FrameByte, Byte, store}
 use Rattle.bpf_meaning.specs.State.{IsWhole, start}
-use Rattle.bpf_meaning.specs.Step.{Configuration, Running, Exited, Stuck, after, after_instruction, carry_out, obstacle, go_on, arrive, arrive_at, jump, jump_if, write_result, write_frame, exit_with, with_register, lie_within, stored, store_length, frame_offset, pointer_in, store_frame, number_from, read, ◌>>=◌}
+use Rattle.bpf_meaning.specs.Effect.{effect, effect_of, instruction_effect, go_on, go_to, jump, lie_within, store_at, store_change, store_length, pointer_in, frame_offset, operand, read, number_or, LiesInFrame, WritesInFrame, ◌>>=◌}
+use Rattle.bpf_meaning.specs.Step.{Configuration, Running, Exited, Stuck, after, carry_out, next_of}
 use Rattle.bpf_meaning.specs.Run.{Step, FollowSteps, IsRun, last_of, end_of}
 use Rattle.bpf_meaning.specs.declared.cause.Cause.{Cause}
-use Rattle.bpf_meaning.specs.declared.cause.Cause.TheVariants.{OutOfBounds}
+use Rattle.bpf_meaning.specs.declared.cause.Cause.TheVariants.{OutOfProgram, IntoWide, OutOfBounds, StoresPointer, ExitNotNumber}
+use Rattle.bpf_meaning.specs.declared.effect.Change.{Change}
+use Rattle.bpf_meaning.specs.declared.effect.Change.TheVariants.{Nothing, SetRegister, StoreBytes}
+use Rattle.bpf_meaning.specs.declared.effect.Effect.{Effect}
+use Rattle.bpf_meaning.specs.declared.effect.Effect.TheVariants.{GoOn, End}
+use Rattle.bpf_meaning.specs.declared.frame.TheConstants.{FRAME_LENGTH}
 use Rattle.bpf_meaning.specs.declared.state.State.{State}
 use Rattle.bpf_meaning.proofs.MemoryLemmas.{length-bytes_low_first}
+
+-- a fact of what the checks give, if they pass
+
+abbrev IfPasses : {A : Type 0} → (A → Type 0) → Result A Cause → Type 0
+IfPasses P (Ok x) = P x
+IfPasses P (Err cause) = Unit {0}
+
+then_passes : {A B : Type 0} (P : B → Type 0) (result : Result A Cause) (f : A → Result B Cause) → ((x : A) → IfPasses P (f x)) → IfPasses P (result >>= f)
+then_passes P (Ok x) f all = all x
+then_passes P (Err cause) f all = tt
+
+-- the same where the first checks say something, too
+then_keeps : {A B : Type 0} (P : A → Type 0) (Q : B → Type 0) (result : Result A Cause) (f : A → Result B Cause) → IfPasses P result → ((x : A) → P x → IfPasses Q (f x)) → IfPasses Q (result >>= f)
+then_keeps P Q (Ok x) f one all = all x one
+then_keeps P Q (Err cause) f one all = tt
+
+-- what an effect stores lies within the frame
+
+goes_on_within : (code : List Insn) (place : ℕ) (change : Change) → LiesInFrame change → IfPasses WritesInFrame (go_on code place change)
+goes_on_within code place change lies = by_test (is_some (instruction_at code place)) (nat_lt place (word_count code))
+  where
+    by_test : (begins inside : Bool) → IfPasses WritesInFrame (if begins then Ok (GoOn change place) else (if inside then Err IntoWide else Err OutOfProgram))
+    by_test true inside = lies
+    by_test false true = tt
+    by_test false false = tt
+
+goes_to_within : (code : List Insn) (place : ℤ) → IfPasses WritesInFrame (go_to code place)
+goes_to_within code (pos place) = goes_on_within code place Nothing tt
+goes_to_within code (negsuc before) = tt
+
+jumps_within : (code : List Insn) (place next : ℕ) (offset : ℤ) (taken : Bool) → IfPasses WritesInFrame (if taken then jump code place offset else go_on code next Nothing)
+jumps_within code place next offset true = goes_to_within code (pos (place + 1) +ℤ offset)
+jumps_within code place next offset false = goes_on_within code next Nothing tt
+
+inside_ends : (from : ℤ) (count bytes : ℕ) → lie_within from count bytes ≡ true → unsigned_abs from + count ≤ bytes
+inside_ends (pos n) count bytes inside = grind (arith, nat_tests)
+inside_ends (negsuc n) count bytes inside = absurd (false≢true inside)
+
+stores_within : (from : ℤ) (size : StoreSize) (number : ℕ) → IfPasses LiesInFrame (store_at from size number)
+stores_within from size number = by_test (lie_within from (store_length size) FRAME_LENGTH) refl
+  where
+    by_test : (inside : Bool) → lie_within from (store_length size) FRAME_LENGTH ≡ inside → IfPasses LiesInFrame (if inside then Ok (StoreBytes (unsigned_abs from) size number) else Err OutOfBounds)
+    by_test true is = inside_ends from (store_length size) FRAME_LENGTH is
+    by_test false is = tt
+
+change_within : (state : State) (size : StoreSize) (base : ℕ) (offset : ℤ) (source : Source) → IfPasses LiesInFrame (store_change state size base offset source)
+change_within state size base offset source =
+    then_passes LiesInFrame (pointer_in state base) _ (λ pointer. then_passes LiesInFrame (frame_offset pointer.area (pointer.offset +ℤ offset)) _
+    (λ from. then_passes LiesInFrame (operand state source >>= number_or StoresPointer) _ (λ number. stores_within from size number)))
+
+-- it does for each row of the instruction table
+row_within : (code : List Insn) (segment : Contents) (state : State) (next : ℕ) (insn : Insn) → IfPasses WritesInFrame (instruction_effect code segment state next insn)
+row_within code segment state next (Alu operation width destination source) = then_passes WritesInFrame _ _ (λ value. goes_on_within code next (SetRegister destination value) tt)
+row_within code segment state next (MoveSignExtended extension destination source) = then_passes WritesInFrame _ _ (λ x. goes_on_within code next _ tt)
+row_within code segment state next (Negate width destination) = then_passes WritesInFrame _ _ (λ x. goes_on_within code next _ tt)
+row_within code segment state next (ByteSwap order width destination) = then_passes WritesInFrame _ _ (λ x. goes_on_within code next _ tt)
+row_within code segment state next (JumpIf condition width left right offset) = then_passes WritesInFrame _ _ (jumps_within code state.place next offset)
+row_within code segment state next (Jump distance) = goes_to_within code _
+row_within code segment state next (Call immediate) = tt
+row_within code segment state next Exit = then_passes {A = ℕ} WritesInFrame (read state 0 >>= number_or ExitNotNumber) (λ answer. Ok (End answer)) (λ answer. tt)
+row_within code segment state next (Load format destination base offset) = then_passes WritesInFrame _ _ (λ value. goes_on_within code next (SetRegister destination value) tt)
+row_within code segment state next (StoreImmediate size base offset immediate) =
+    then_keeps LiesInFrame WritesInFrame _ _ (change_within state size base.number offset (Immediate immediate)) (goes_on_within code next)
+row_within code segment state next (Store size base offset source) =
+    then_keeps LiesInFrame WritesInFrame _ _ (change_within state size base.number offset (Register source)) (goes_on_within code next)
+row_within code segment state next (WideLoad destination immediate next_immediate) = goes_on_within code next _ tt
+
+found_within : (code : List Insn) (segment : Contents) (state : State) (found : Option Insn) → IfPasses WritesInFrame (effect_of code segment state found)
+found_within code segment state None = tt
+found_within code segment state (Some insn) = row_within code segment state _ insn
+
+pub effect_within : (code : List Insn) (segment : Contents) (state : State) (does : Effect) → Ok does ≡ effect code segment state → WritesInFrame does
+effect_within code segment state does is = subst (IfPasses WritesInFrame) (sym is) (found_within code segment state (instruction_at code state.place))
+
+-- a frame that is written keeps its length
+length-store : (memory : List FrameByte) (at count number : ℕ) → at + count ≤ length memory → length (store memory at count number) ≡ length memory
+length-store memory at count number within =
+    let front : length (take at memory) ≡ at = length-take-le at memory (omega arith) in
+    let low : length (map Byte (bytes_low_first 0 count number)) ≡ count = length-map (bytes_low_first 0 count number) Byte ∙ length-bytes_low_first 0 count number in
+    length-append (take at memory ++ map Byte (bytes_low_first 0 count number)) (drop (at + count) memory)
+    ∙ ap (λ (n : ℕ). n + length (drop (at + count) memory)) (length-append (take at memory) (map Byte (bytes_low_first 0 count number)))
+    ∙ omega (arith, front, low, length-drop (at + count) memory)
 
 -- where it goes on, the state is whole
 abbrev IsWholeOnItsWay : Configuration → Type 0
@@ -27,102 +114,25 @@ IsWholeOnItsWay (Running state) = IsWhole state
 IsWholeOnItsWay (Exited answer score) = Unit {0}
 IsWholeOnItsWay (Stuck place cause) = Unit {0}
 
-goes_on_whole : (from : ℕ) (why : Option Cause) (state : State) → IsWhole state → IsWholeOnItsWay (go_on from why state)
-goes_on_whole from None state whole = whole
-goes_on_whole from (Some cause) state whole = tt
+carries_out_whole : (state : State) (change : Change) → LiesInFrame change → IsWhole state → IsWhole (carry_out state change)
+carries_out_whole state Nothing lies whole = whole
+carries_out_whole state (SetRegister register value) lies whole = record { registers = simp length-set whole.registers; frame = whole.frame }
+carries_out_whole state (StoreBytes at size number) lies whole = record {
+  registers = whole.registers;
+  frame = let same = whole.frame in length-store state.frame.bytes at (store_length size) number (omega arith) ∙ whole.frame;
+}
 
-arrives_whole : (code : List Insn) (from place : ℕ) (state : State) → IsWhole state → IsWholeOnItsWay (arrive code from place state)
-arrives_whole code from place state whole =
-    goes_on_whole from (obstacle code place) (record state { place = place }) (record { registers = whole.registers; frame = whole.frame })
-
-arrives_at_whole : (code : List Insn) (from : ℕ) (place : ℤ) (state : State) → IsWhole state → IsWholeOnItsWay (arrive_at code from place state)
-arrives_at_whole code from (pos place) state whole = arrives_whole code from place state whole
-arrives_at_whole code from (negsuc before) state whole = tt
-
-jumps_whole : (code : List Insn) (state : State) (distance : ℤ) → IsWhole state → IsWholeOnItsWay (jump code state distance)
-jumps_whole code state distance whole = arrives_at_whole code state.place (pos (state.place + 1) +ℤ distance) state whole
-
-jumps_if_whole : (code : List Insn) (state : State) (next : ℕ) (distance : ℤ) (comparison : Result Bool Cause) → IsWhole state → IsWholeOnItsWay (jump_if code state next distance comparison)
-jumps_if_whole code state next distance (Ok true) whole = jumps_whole code state distance whole
-jumps_if_whole code state next distance (Ok false) whole = arrives_whole code state.place next state whole
-jumps_if_whole code state next distance (Err cause) whole = tt
-
-writes_result_whole : (code : List Insn) (state : State) (next destination : ℕ) (result : Result Value Cause) → IsWhole state → IsWholeOnItsWay (write_result code state next destination result)
-writes_result_whole code state next destination (Ok value) whole =
-    arrives_whole code state.place next (with_register state destination value) (record { registers = simp length-set whole.registers; frame = whole.frame })
-writes_result_whole code state next destination (Err cause) whole = tt
-
--- a frame that is written keeps its length
-
-length-written : (memory : List FrameByte) (at count number : ℕ) → at + count ≤ length memory → length (written memory at count number) ≡ length memory
-length-written memory at count number within =
-    let front : length (take at memory) ≡ at = length-take-le at memory (omega arith) in
-    let low : length (map Byte (bytes_low_first 0 count number)) ≡ count = length-map (bytes_low_first 0 count number) Byte ∙ length-bytes_low_first 0 count number in
-    length-append (take at memory ++ map Byte (bytes_low_first 0 count number)) (drop (at + count) memory)
-    ∙ ap (λ (n : ℕ). n + length (drop (at + count) memory)) (length-append (take at memory) (map Byte (bytes_low_first 0 count number)))
-    ∙ omega (arith, front, low, length-drop (at + count) memory)
-
-inside_ends : (from : ℤ) (count bytes : ℕ) → lie_within from count bytes ≡ true → unsigned_abs from + count ≤ bytes
-inside_ends (pos n) count bytes inside = grind (arith, nat_tests)
-inside_ends (negsuc n) count bytes inside = absurd (false≢true inside)
-
--- a frame of this length, if there is one
-abbrev IfFrameOf : ℕ → Result FrameContents Cause → Type 0
-IfFrameOf bytes (Ok frame) = length frame.bytes ≡ bytes
-IfFrameOf bytes (Err cause) = Unit {0}
-
-stored_if : (inside : Bool) (size : StoreSize) (frame : FrameContents) (from : ℤ) (number : ℕ) → lie_within from (store_length size) (length frame.bytes) ≡ inside → IfFrameOf (length frame.bytes) (if inside then Ok (record frame { bytes = written frame.bytes (unsigned_abs from) (store_length size) number }) else Err OutOfBounds)
-stored_if true size frame from number is = length-written frame.bytes (unsigned_abs from) (store_length size) number (inside_ends from (store_length size) (length frame.bytes) is)
-stored_if false size frame from number is = tt
-
-then_frame_of : {A : Type 0} (bytes : ℕ) (result : Result A Cause) (f : A → Result FrameContents Cause) → ((x : A) → IfFrameOf bytes (f x)) → IfFrameOf bytes (result >>= f)
-then_frame_of bytes (Ok x) f all = all x
-then_frame_of bytes (Err cause) f all = tt
-
-stores_whole : (state : State) (size : StoreSize) (base : ℕ) (offset : ℤ) (number : Result ℕ Cause) → IfFrameOf (length state.frame.bytes) (store_frame state size base offset number)
-stores_whole state size base offset number =
-    let bytes = length state.frame.bytes in
-    then_frame_of bytes (pointer_in state base) (λ pointer. frame_offset pointer.area (pointer.offset +ℤ offset) >>= λ from. number >>= λ n. stored size state.frame from n)
-    (λ pointer. then_frame_of bytes (frame_offset pointer.area (pointer.offset +ℤ offset)) (λ from. number >>= λ n. stored size state.frame from n)
-    (λ from. then_frame_of bytes number (λ n. stored size state.frame from n)
-    (λ n. stored_if (lie_within from (store_length size) bytes) size state.frame from n refl)))
-
-writes_frame_whole : (code : List Insn) (state : State) (next : ℕ) (result : Result FrameContents Cause) → IfFrameOf (length state.frame.bytes) result → IsWhole state → IsWholeOnItsWay (write_frame code state next result)
-writes_frame_whole code state next (Ok frame) same whole =
-    arrives_whole code state.place next (record state { frame = frame }) (record { registers = whole.registers; frame = same ∙ whole.frame })
-writes_frame_whole code state next (Err cause) same whole = tt
-
-exits_whole : (state : State) (result : Result Value Cause) → IsWholeOnItsWay (exit_with state result)
-exits_whole state (Ok (Number answer)) = tt
-exits_whole state (Ok value) = tt
-exits_whole state (Err cause) = tt
-
-carries_out_whole : (code : List Insn) (segment : Contents) (state : State) (next : ℕ) (insn : Insn) → IsWhole state → IsWholeOnItsWay (carry_out code segment state next insn)
-carries_out_whole code segment state next (Alu operation width destination source) whole = writes_result_whole code state next destination.number _ whole
-carries_out_whole code segment state next (MoveSignExtended extension destination source) whole = writes_result_whole code state next destination.number _ whole
-carries_out_whole code segment state next (Negate width destination) whole = writes_result_whole code state next destination.number _ whole
-carries_out_whole code segment state next (ByteSwap order width destination) whole = writes_result_whole code state next destination.number _ whole
-carries_out_whole code segment state next (JumpIf condition width left right offset) whole = jumps_if_whole code state next offset _ whole
-carries_out_whole code segment state next (Jump distance) whole = jumps_whole code state _ whole
-carries_out_whole code segment state next (Call immediate) whole = tt
-carries_out_whole code segment state next Exit whole = exits_whole state (read state 0)
-carries_out_whole code segment state next (Load format destination base offset) whole = writes_result_whole code state next destination.number _ whole
-carries_out_whole code segment state next (StoreImmediate size base offset immediate) whole =
-    writes_frame_whole code state next _ (stores_whole state size base.number offset (Ok (extended immediate))) whole
-carries_out_whole code segment state next (Store size base offset source) whole =
-    writes_frame_whole code state next _ (stores_whole state size base.number offset (number_from state source.number)) whole
-carries_out_whole code segment state next (WideLoad destination immediate next_immediate) whole =
-    writes_result_whole code state next destination.number (Ok (Number (wide_number_of immediate next_immediate))) whole
-
-does_whole : (code : List Insn) (segment : Contents) (state : State) (found : Option Insn) → IsWhole state → IsWholeOnItsWay (after_instruction code segment state found)
-does_whole code segment state None whole = tt
-does_whole code segment state (Some insn) whole = carries_out_whole code segment state _ insn whole
+applies_whole : (state : State) (result : Result Effect Cause) → IfPasses WritesInFrame result → IsWhole state → IsWholeOnItsWay (next_of state result)
+applies_whole state (Ok (GoOn change place)) lies whole =
+    let there = carries_out_whole state change lies whole in record { registers = there.registers; frame = there.frame }
+applies_whole state (Ok (End answer)) lies whole = tt
+applies_whole state (Err cause) lies whole = tt
 
 -- a step from a whole state leads to a whole one
 pub step_whole : (code : List Insn) (segment : Contents) (state there : State) → IsWhole state → Step code segment (Running state) (Running there) → IsWhole there
 unfolding after
 step_whole code segment state there whole step =
-    subst IsWholeOnItsWay (sym step) (does_whole code segment state (instruction_at code state.place) whole)
+    subst IsWholeOnItsWay (sym step) (applies_whole state (effect code segment state) (found_within code segment state (instruction_at code state.place)) whole)
 
 -- so is each state that a run comes to
 

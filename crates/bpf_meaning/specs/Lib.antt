@@ -1,6 +1,8 @@
 pub mod Segment
 pub mod Memory
 pub mod State
+pub mod Cause
+pub mod Effect
 pub mod Step
 pub mod Run
 pub mod Extract

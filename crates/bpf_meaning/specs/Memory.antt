@@ -13,11 +13,11 @@ pub record FrameContents : Type 0 where
   pub bytes : List FrameByte
 
 -- bytes of which those with a mark are written
-abbrev pub marked : List Bool → List ℕ → List FrameByte
-marked [] bytes = []
-marked (mark ∷ marks) [] = []
-marked (true ∷ marks) (byte ∷ bytes) = Byte byte ∷ marked marks bytes
-marked (false ∷ marks) (byte ∷ bytes) = Unwritten ∷ marked marks bytes
+abbrev pub frame_bytes : List Bool → List ℕ → List FrameByte
+frame_bytes [] bytes = []
+frame_bytes (mark ∷ marks) [] = []
+frame_bytes (true ∷ marks) (byte ∷ bytes) = Byte byte ∷ frame_bytes marks bytes
+frame_bytes (false ∷ marks) (byte ∷ bytes) = Unwritten ∷ frame_bytes marks bytes
 
 -- the little-endian number of bytes; none where one of them is unwritten
 abbrev pub number_of : List FrameByte → Option ℕ
@@ -26,5 +26,5 @@ number_of (Unwritten ∷ bytes) = None
 number_of (Byte byte ∷ bytes) = option_map (λ rest. byte + 256 * rest) (number_of bytes)
 
 -- the memory with the low bytes of a number, so many, written from a place on, the lowest first
-abbrev pub written : List FrameByte → ℕ → ℕ → ℕ → List FrameByte
-written memory at count number = take at memory ++ map Byte (bytes_low_first 0 count number) ++ drop (at + count) memory
+abbrev pub store : List FrameByte → ℕ → ℕ → ℕ → List FrameByte
+store memory at count number = take at memory ++ map Byte (bytes_low_first 0 count number) ++ drop (at + count) memory

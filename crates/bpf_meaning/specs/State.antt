@@ -14,7 +14,7 @@ abbrev pub start : State
 start = record {
   place = 0;
   registers = value.Empty ∷ value.Pointer (record { area = area.Record; offset = pos 0 }) ∷ value.Empty ∷ value.Empty ∷ value.Empty ∷ value.Empty
-      ∷ value.Empty ∷ value.Empty ∷ value.Empty ∷ value.Empty ∷ value.Pointer (record { area = area.Frame; offset = pos 512 }) ∷ [];
+      ∷ value.Empty ∷ value.Empty ∷ value.Empty ∷ value.Empty ∷ value.Pointer (record { area = area.Frame; offset = pos FRAME_LENGTH }) ∷ [];
   frame = record { bytes = replicate FRAME_LENGTH Unwritten };
   score = 0;
 }

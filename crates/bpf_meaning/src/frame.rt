@@ -1,5 +1,6 @@
+//! The program's own memory.
 ghost use Rattle.std.specs.Prelude.{◌≡◌, ◌+◌, ◌≤◌, length, take, drop, replicate};
-ghost use Rattle.bpf_meaning.specs.Memory.{Unwritten, number_of, written};
+ghost use Rattle.bpf_meaning.specs.Memory.{Unwritten, number_of, store};
 
 use crate::memory::little_endian;
 use std::marker::Model;
@@ -16,11 +17,11 @@ pub struct Frame {
 }
 
 impl Model for Frame {
-    ghost use Rattle.bpf_meaning.specs.Memory.{FrameContents, marked};
+    ghost use Rattle.bpf_meaning.specs.Memory.{FrameContents, frame_bytes};
 
     ghost Value = { FrameContents };
 
-    ghost view = { λ frame. record { bytes = marked frame.marks frame.bytes } };
+    ghost view = { λ frame. record { bytes = frame_bytes frame.marks frame.bytes } };
 }
 
 impl Frame {
@@ -58,7 +59,7 @@ impl Frame {
     pub fn store(&mut self, at: usize, count: usize, number: u64)
         requires count { count ≤ 8 }
         requires within { at + count ≤ FRAME_LENGTH }
-        ensures { self.new ≡ record self.old { bytes = written self.old.bytes at count number } }
+        ensures { self.new ≡ record self.old { bytes = store self.old.bytes at count number } }
     {
         let bytes = number.to_le_bytes();
         self.bytes[at..at + count].copy_from_slice(&bytes[..count]);

@@ -2,7 +2,7 @@
 ghost use Rattle.std.specs.Prelude.{◌≡◌, ◌≤◌, ◌+◌, ◌%◌, ◌^◌, ◌++◌, ℕ, List, length, take, drop, Some};
 ghost use Rattle.bpf_insn.specs.declared.instruction.Insn.{Insn};
 ghost use Rattle.bpf_meaning.specs.Segment.{Contents};
-ghost use Rattle.bpf_meaning.specs.Memory.{FrameByte, number_of, written};
+ghost use Rattle.bpf_meaning.specs.Memory.{FrameByte, number_of, store};
 ghost use Rattle.bpf_meaning.specs.State.{IsWhole};
 ghost use Rattle.bpf_meaning.specs.Step.{Configuration, Running, Exited, Stuck};
 ghost use Rattle.bpf_meaning.specs.Run.{Answers, HasNoNext, HasOneNext, IsRun, Step, end_of};
@@ -29,11 +29,11 @@ pub fn one_step()
 /// Bytes that were stored are loaded as the number's low bytes; what lies before them and behind them stays.
 pub fn stores_are_loaded()
     ensures loaded { (memory : List FrameByte) (at count number : ℕ) → at + count ≤ length memory
-        → number_of (take count (drop at (written memory at count number))) ≡ Some (number % 256 ^ count) }
+        → number_of (take count (drop at (store memory at count number))) ≡ Some (number % 256 ^ count) }
     ensures before { (memory : List FrameByte) (at count number : ℕ) → at + count ≤ length memory
-        → take at (written memory at count number) ≡ take at memory }
+        → take at (store memory at count number) ≡ take at memory }
     ensures behind { (memory : List FrameByte) (at count number : ℕ) → at + count ≤ length memory
-        → drop (at + count) (written memory at count number) ≡ drop (at + count) memory }
+        → drop (at + count) (store memory at count number) ≡ drop (at + count) memory }
 {}
 
 /// Each state that a run comes to has eleven registers and a whole frame, and a step keeps them.

@@ -2,6 +2,7 @@
 #![tactic(auto)]
 
 mod cause;
+mod effect;
 mod frame;
 pub mod laws;
 mod memory;
@@ -11,10 +12,12 @@ mod progress;
 mod segment;
 mod state;
 mod stepper;
+mod table;
 #[cfg(test)]
 mod tests;
 
 pub use cause::Cause;
+pub use effect::{Change, Effect};
 pub use frame::{FRAME_LENGTH, Frame};
 pub use outcome::Outcome;
 pub use segment::{RECORD_LENGTH, Segment};

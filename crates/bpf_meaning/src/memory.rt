@@ -1,10 +1,15 @@
-ghost use Rattle.std.specs.Prelude.{◌≡◌, ◌+◌, ◌^◌, ◌<◌, ◌≤◌, IsTrue, map, length, unsigned_abs, Some, MatchOption, false};
+//! Loads and stores.
+ghost use Rattle.std.specs.Prelude.{◌≡◌, ◌+◌, ◌+ℤ◌, ◌^◌, ◌<◌, ◌≤◌, IsTrue, map, length, unsigned_abs, Some, MatchOption, false};
 ghost use Rattle.bpf_meaning.specs.Memory.{Byte, number_of};
-ghost use Rattle.bpf_meaning.specs.Step.{lie_within, loaded, load_length, store_length};
+ghost use Rattle.bpf_meaning.specs.Effect.{lie_within, load_bytes, load_length, load_value, pointer_in, store_at, store_change, store_length};
 
 use crate::cause::Cause;
-use crate::frame::Frame;
-use bpf_insn::{LoadFormat, StoreSize, Value};
+use crate::effect::Change;
+use crate::frame::{FRAME_LENGTH, Frame};
+use crate::operands::{number_or, operand};
+use crate::segment::Segment;
+use crate::state::State;
+use bpf_insn::{Area, LoadFormat, Pointer, Register, Source, StoreSize, Value};
 
 /// How many bytes a load reads (RFC 9669, section 5.1).
 fn load_length(format: LoadFormat) -> usize
@@ -33,7 +38,7 @@ pub(crate) fn store_length(size: StoreSize) -> usize
 }
 
 /// An offset from which on so many bytes lie within the first ones, so many, of an area.
-pub(crate) fn offset_within(offset: i32, count: usize, bytes: usize) -> Option<usize>
+fn offset_within(offset: i32, count: usize, bytes: usize) -> Option<usize>
     requires { count ≤ 8 }
     ensures { MatchOption result (lie_within offset count bytes ≡ false)
         (λ at. IsTrue (lie_within offset count bytes) × (at ≡ unsigned_abs offset) × (at + count ≤ bytes)) }
@@ -61,8 +66,8 @@ pub(crate) fn little_endian(bytes: &[u8]) -> u64
 }
 
 /// A load from the record, from an offset on.
-pub(crate) fn load_record(bytes: &[u8], format: LoadFormat, offset: i32) -> Result<Value, Cause>
-    ensures { result ≡ loaded format (map Byte bytes.now) offset }
+fn load_record(bytes: &[u8], format: LoadFormat, offset: i32) -> Result<Value, Cause>
+    ensures { result ≡ load_bytes format (map Byte bytes.now) offset }
 {
     let count = load_length(format);
     let Some(at) = offset_within(offset, count, bytes.len()) else {
@@ -73,8 +78,8 @@ pub(crate) fn load_record(bytes: &[u8], format: LoadFormat, offset: i32) -> Resu
 }
 
 /// A load from the frame, from an offset on.
-pub(crate) fn load_frame(frame: &Frame, format: LoadFormat, offset: i32) -> Result<Value, Cause>
-    ensures { result ≡ loaded format frame.now.bytes offset }
+fn load_frame(frame: &Frame, format: LoadFormat, offset: i32) -> Result<Value, Cause>
+    ensures { result ≡ load_bytes format frame.now.bytes offset }
 {
     let count = load_length(format);
     let Some(at) = offset_within(offset, count, frame.len()) else {
@@ -83,5 +88,69 @@ pub(crate) fn load_frame(frame: &Frame, format: LoadFormat, offset: i32) -> Resu
     match frame.load(at, count) {
         Some(number) => Ok(Value::Number(format.extend(number))),
         None => Err(Cause::UnwrittenFrame),
+    }
+}
+
+/// The pointer in a register that is the base of a load or a store.
+fn pointer_in(state: &State, register: u8) -> Result<Pointer, Cause>
+    requires { register ≤ 10 }
+    ensures { result ≡ pointer_in state.now register }
+{
+    match state.read(register)? {
+        Value::Pointer(pointer) => Ok(pointer),
+        _ => Err(Cause::NotPointer),
+    }
+}
+
+/// Where a load or a store begins: so many bytes from where a pointer points.
+fn offset_from(pointer: Pointer, offset: i16) -> i32
+    ensures { result ≡ pointer.offset +ℤ offset }
+{
+    i32::from(pointer.offset) + i32::from(offset)
+}
+
+/// What a load gives.
+pub(crate) fn load_value(
+    segment: &Segment,
+    state: &State,
+    format: LoadFormat,
+    base: Register,
+    offset: i16,
+) -> Result<Value, Cause>
+    ensures { result ≡ load_value segment.now state.now format base.number offset }
+{
+    let pointer = pointer_in(state, base.number)?;
+    let start = offset_from(pointer, offset);
+    match pointer.area {
+        Area::Record => load_record(segment.bytes(), format, start),
+        Area::Frame => load_frame(&state.frame, format, start),
+    }
+}
+
+/// The bytes of the frame that a store changes.
+pub(crate) fn store_change(
+    state: &State,
+    size: StoreSize,
+    base: Register,
+    offset: i16,
+    source: Source,
+) -> Result<Change, Cause>
+    ensures { result ≡ store_change state.now size base.number offset source }
+{
+    let pointer = pointer_in(state, base.number)?;
+    let Area::Frame = pointer.area else {
+        return Err(Cause::WritesRecord);
+    };
+    let number = number_or(Cause::StoresPointer, operand(state, source)?)?;
+    store_at(offset_from(pointer, offset), size, number)
+}
+
+/// A number stored in the frame from an offset on.
+fn store_at(offset: i32, size: StoreSize, number: u64) -> Result<Change, Cause>
+    ensures { result ≡ store_at offset size number }
+{
+    match offset_within(offset, store_length(size), FRAME_LENGTH) {
+        Some(at) => Ok(Change::StoreBytes { at, size, number }),
+        None => Err(Cause::OutOfBounds),
     }
 }

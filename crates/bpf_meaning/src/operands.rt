@@ -1,16 +1,75 @@
-ghost use Rattle.std.specs.Prelude.{◌≡◌};
-ghost use Rattle.bpf_meaning.specs.Step.{operate, operate_on_pointer, operate_with_pointer, moved, moved_back, near, pointer_to, compare};
+//! What instructions make of registers and immediates.
+ghost use Rattle.std.specs.Prelude.{◌≡◌, ◌≤◌};
+ghost use Rattle.bpf_meaning.specs.Effect.{compare, comparison, move_pointer, move_pointer_back, move_value, near_distance, number_in, number_or, operand, operate, operate_on_pointer, operate_with_pointer, operation_value, pointer_to};
 
 use crate::cause::Cause;
-use bpf_insn::{Area, Condition, Operation, Pointer, Value, Width};
+use crate::state::State;
+use bpf_insn::{
+    Area, Condition, Operation, Pointer, Register, Source, Value, Width, WritableRegister,
+    sign_extended,
+};
 
-/// An operation on two values.
-pub(crate) fn operate(
+/// The number that a value is, or the cause where it's none.
+pub(crate) fn number_or(cause: Cause, value: Value) -> Result<u64, Cause>
+    ensures { result ≡ number_or cause value }
+{
+    match value {
+        Value::Number(number) => Ok(number),
+        _ => Err(cause),
+    }
+}
+
+/// The number in a register, of which an instruction makes another.
+pub(crate) fn number_in(state: &State, register: u8) -> Result<u64, Cause>
+    requires { register ≤ 10 }
+    ensures { result ≡ number_in state.now register }
+{
+    number_or(Cause::PointerArithmetic, state.read(register)?)
+}
+
+/// The second operand.
+pub(crate) fn operand(state: &State, source: Source) -> Result<Value, Cause>
+    ensures { result ≡ operand state.now source }
+{
+    match source {
+        Source::Immediate(immediate) => Ok(Value::Number(sign_extended(immediate))),
+        Source::Register(register) => state.read(register.number),
+    }
+}
+
+/// What an arithmetic instruction gives. A move doesn't read its destination.
+pub(crate) fn operation_value(
+    state: &State,
     operation: Operation,
     width: Width,
-    x: Value,
-    y: Value,
+    destination: WritableRegister,
+    source: Source,
 ) -> Result<Value, Cause>
+    ensures { result ≡ operation_value state.now operation width destination.number source }
+{
+    match operation {
+        Operation::Move => move_value(width, operand(state, source)?),
+        _ => {
+            let x = state.read(destination.number)?;
+            let y = operand(state, source)?;
+            operate(operation, width, x, y)
+        }
+    }
+}
+
+/// What a move gives: any value with 64 bits, the low half of a number with 32.
+fn move_value(width: Width, value: Value) -> Result<Value, Cause>
+    ensures { result ≡ move_value width value }
+{
+    match (width, value) {
+        (Width::Bits64, value) => Ok(value),
+        (Width::Bits32, Value::Number(number)) => Ok(Value::Number(number % (1 << 32))),
+        _ => Err(Cause::PointerArithmetic),
+    }
+}
+
+/// An operation on two values.
+fn operate(operation: Operation, width: Width, x: Value, y: Value) -> Result<Value, Cause>
     ensures { result ≡ operate operation width x y }
 {
     match (width, x, y) {
@@ -32,8 +91,8 @@ fn operate_on_pointer(operation: Operation, pointer: Pointer, y: u64) -> Result<
     ensures { result ≡ operate_on_pointer operation pointer y }
 {
     match operation {
-        Operation::Add => moved(pointer, y),
-        Operation::Subtract => moved_back(pointer, y),
+        Operation::Add => move_pointer(pointer, y),
+        Operation::Subtract => move_pointer_back(pointer, y),
         _ => Err(Cause::PointerArithmetic),
     }
 }
@@ -43,17 +102,16 @@ fn operate_with_pointer(operation: Operation, x: u64, pointer: Pointer) -> Resul
     ensures { result ≡ operate_with_pointer operation x pointer }
 {
     match operation {
-        Operation::Add => moved(pointer, x),
-        Operation::Move => Ok(Value::Pointer(pointer)),
+        Operation::Add => move_pointer(pointer, x),
         _ => Err(Cause::PointerArithmetic),
     }
 }
 
 /// A pointer moved forwards by a number of bytes.
-fn moved(pointer: Pointer, number: u64) -> Result<Value, Cause>
-    ensures { result ≡ moved pointer number }
+fn move_pointer(pointer: Pointer, number: u64) -> Result<Value, Cause>
+    ensures { result ≡ move_pointer pointer number }
 {
-    let distance = near(number)?;
+    let distance = near_distance(number)?;
     pointer_to(
         pointer.area,
         i32::from(pointer.offset) + i32::from(distance),
@@ -61,10 +119,10 @@ fn moved(pointer: Pointer, number: u64) -> Result<Value, Cause>
 }
 
 /// The same backwards.
-fn moved_back(pointer: Pointer, number: u64) -> Result<Value, Cause>
-    ensures { result ≡ moved_back pointer number }
+fn move_pointer_back(pointer: Pointer, number: u64) -> Result<Value, Cause>
+    ensures { result ≡ move_pointer_back pointer number }
 {
-    let distance = near(number)?;
+    let distance = near_distance(number)?;
     pointer_to(
         pointer.area,
         i32::from(pointer.offset) - i32::from(distance),
@@ -72,8 +130,8 @@ fn moved_back(pointer: Pointer, number: u64) -> Result<Value, Cause>
 }
 
 /// A number that a pointer may be moved by, read as two's complement.
-fn near(number: u64) -> Result<i16, Cause>
-    ensures { result ≡ near number }
+fn near_distance(number: u64) -> Result<i16, Cause>
+    ensures { result ≡ near_distance number }
 {
     match i16::try_from(number.cast_signed()) {
         Ok(distance) => Ok(distance),
@@ -91,8 +149,23 @@ fn pointer_to(area: Area, offset: i32) -> Result<Value, Cause>
     }
 }
 
+/// Whether a conditional jump is taken.
+pub(crate) fn comparison(
+    state: &State,
+    condition: Condition,
+    width: Width,
+    left: Register,
+    right: Source,
+) -> Result<bool, Cause>
+    ensures { result ≡ comparison state.now condition width left.number right }
+{
+    let x = state.read(left.number)?;
+    let y = operand(state, right)?;
+    compare(condition, width, x, y)
+}
+
 /// Whether two values meet a condition.
-pub(crate) fn compare(condition: Condition, width: Width, x: Value, y: Value) -> Result<bool, Cause>
+fn compare(condition: Condition, width: Width, x: Value, y: Value) -> Result<bool, Cause>
     ensures { result ≡ compare condition width x y }
 {
     match (x, y) {

@@ -1,3 +1,5 @@
+//! What a step leads to.
+
 use crate::cause::Cause;
 
 /// What a step led to.

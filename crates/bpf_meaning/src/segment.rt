@@ -1,3 +1,4 @@
+//! Street segments.
 ghost use Rattle.std.specs.Prelude.{◌≡◌, length};
 ghost use Rattle.bpf_meaning.specs.Segment.{IsSegment};
 

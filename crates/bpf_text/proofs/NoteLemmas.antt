@@ -4,7 +4,7 @@ use Rattle.std.specs.Prelude.{◌==◌}
 use Rattle.std.specs.Str.Lines.{lines}
 use Rattle.std.proofs.lemmas.Bool.{false≢true, le-ltb}
 use Rattle.std.proofs.lemmas.Bool.Decides.{nat_tests}
-use Rattle.std.proofs.lemmas.List.{append-nil, append_assoc, map-append, length-append, length-map, drop_all}
+use Rattle.std.proofs.lemmas.List.{append-nil, append_assoc, map-append, length-append, drop_all}
 use Rattle.std.proofs.lemmas.Slice.Eq.{bytes_eq-Decides}
 use Rattle.std.specs.Str.{bytes_eq}
 use Rattle.std.specs.BTreeMap.{BTreeMap, is_at}
@@ -17,13 +17,13 @@ use Rattle.bpf_insn.specs.Form.{spelling}
 use Rattle.bpf_insn.specs.declared.instruction.Insn.{Insn}
 use Rattle.bpf_text.specs.declared.assembler.Item.{Item}
 use Rattle.bpf_insn.specs.declared.code.TheConstants.{WORD_LIMIT}
-use Rattle.bpf_text.specs.declared.fault.LineFault.{LineFault}
+use Rattle.bpf_text.specs.declared.fault.TextFlaw.{TextFlaw}
 use Rattle.bpf_text.specs.Line.{Statement, Blank, Label, Instruction, statement_in}
 use Rattle.bpf_text.specs.Text as text
-use Rattle.bpf_text.specs.Text.{words_of, label_place, label_from, items_from, item, fault_after, refusal_after, FaultlessAfter, HasFirstFaultAt, HasStatements, onto_code, code_from, placed, placed_at, jump_to, jump_by, at_distance}
+use Rattle.bpf_text.specs.Text.{words_of, label_place, items_from, item, fault_after, refusal_after, HasFirstFaultAt, onto_code, code_from, resolve, resolve_at, jump_to, jump_by, at_distance}
 use Rattle.bpf_text.specs.View.{name_view}
 use Rattle.bpf_text.specs.Notes.{item_view, AreNotesOf, HasRead, HasNotes, ReadsNotes, IsRefusal, places_in}
-use Rattle.bpf_text.proofs.StatementLemmas.{words-snoc, items-snoc, label-snoc, first_of, faultless-snoc}
+use Rattle.bpf_text.proofs.StatementLemmas.{words-snoc, items-snoc, label-snoc, first_of, faultless-snoc, length-meant}
 
 first-none : (place : Option ℕ) → first_of place None ≡ place
 first-none (Some place) = refl
@@ -81,9 +81,6 @@ pub noted-none : (labels : List ℕ → Option ℕ) → ((name : List ℕ) → l
 noted-none labels none = record { items_are = refl; labels_are = none; words_are = refl }
 
 -- one line more
-length-meant : (front : List (List ℕ)) (statements : List Statement) → map statement_in front ≡ map Ok statements → length front ≡ length statements
-length-meant front statements meant = simp length-map at (ap length meant)
-
 pub read-counted : (text rest : List ℕ) (number : ℕ) (items : List Item) (labels : List ℕ → Option ℕ) (words : ℕ) (read : HasRead text rest number items labels words) → number + 1 ≡ suc (length read.statements)
 read-counted text rest number items labels words read = omega (arith, read.counted, length-meant read.front read.statements read.meant)
 
@@ -93,12 +90,12 @@ read-more text rest after line number items new_items labels new_labels words ne
   front = read.front ++ line ∷ [];
   split = read.split ∙ ap (λ (xs : List (List ℕ)). read.front ++ xs) cut ∙ sym (append_assoc read.front (line ∷ []) (lines after));
   counted = omega (arith, read.counted, length-append read.front (line ∷ []));
-  meant = map-append statement_in read.front (line ∷ []) ∙ ap (λ (xs : List (Result Statement LineFault)). xs ++ statement_in line ∷ []) read.meant ∙ ap (λ (r : Result Statement LineFault). map Ok read.statements ++ r ∷ []) means ∙ sym (map-append Ok read.statements (statement ∷ []));
+  meant = map-append statement_in read.front (line ∷ []) ∙ ap (λ (xs : List (Result Statement TextFlaw)). xs ++ statement_in line ∷ []) read.meant ∙ ap (λ (r : Result Statement TextFlaw). map Ok read.statements ++ r ∷ []) means ∙ sym (map-append Ok read.statements (statement ∷ []));
   faultless = faultless-snoc [] read.statements statement read.faultless none;
   noted = noted;
 }
 
-pub read-fault : (text rest after line : List ℕ) (number : ℕ) (items : List Item) (labels : List ℕ → Option ℕ) (words : ℕ) (why : LineFault) (read : HasRead text rest number items labels words) → lines rest ≡ line ∷ lines after → refusal_after read.statements (statement_in line) ≡ Some why → HasFirstFaultAt text (number + 1) why
+pub read-fault : (text rest after line : List ℕ) (number : ℕ) (items : List Item) (labels : List ℕ → Option ℕ) (words : ℕ) (why : TextFlaw) (read : HasRead text rest number items labels words) → lines rest ≡ line ∷ lines after → refusal_after read.statements (statement_in line) ≡ Some why → HasFirstFaultAt text (number + 1) why
 read-fault text rest after line number items labels words why read cut refused = record {
   before = read.statements;
   front = read.front;
@@ -128,8 +125,8 @@ read-all text rest number items labels words read none =
     }
 
 -- a jump to a label
-pub placed-found : (statements : List Statement) (it : Item) (name : Bor (List ℕ)) (target : ℕ) → it.target ≡ Some name → label_place name.now statements ≡ Some target → placed statements (item_view it) ≡ jump_by (at_distance (pos target -ℤ pos (it.place + 1)) it.insn)
-placed-found statements it name target names found = ap (λ (t : Option (Bor (List ℕ))). placed_at statements it.place it.insn (name_view t)) names ∙ ap (jump_to it.place it.insn) found
+pub resolve-found : (statements : List Statement) (it : Item) (name : Bor (List ℕ)) (target : ℕ) → it.target ≡ Some name → label_place name.now statements ≡ Some target → resolve statements (item_view it) ≡ jump_by (at_distance (pos target -ℤ pos (it.place + 1)) it.insn)
+resolve-found statements it name target names found = ap (λ (t : Option (Bor (List ℕ))). resolve_at statements it.place it.insn (name_view t)) names ∙ ap (jump_to it.place it.insn) found
 
 pub noted-new : (items : List Item) (labels : BTreeMap (Bor (List ℕ)) ℕ) → items ≡ [] → labels.entries ≡ [] → AreNotesOf items (places_in labels) 0 []
 noted-new items labels none empty = record {
@@ -159,17 +156,17 @@ items-at items i d inside =
     let cut : drop i items ≡ get_or items i d ∷ drop (i + 1) items = rw add-one (drop-cons items i d inside) in
     ap (map item_view) cut
 
-pub code-more : (statements : List Statement) (items : List Item) (i : ℕ) (it : Item) (old new : List Insn) (insn : Insn) → i < length items → it ≡ get_or items i it → placed statements (item_view it) ≡ Ok insn → new ≡ old ++ insn ∷ [] → with_front new (code_from statements (map item_view (drop (i + 1) items))) ≡ with_front old (code_from statements (map item_view (drop i items)))
+pub code-more : (statements : List Statement) (items : List Item) (i : ℕ) (it : Item) (old new : List Insn) (insn : Insn) → i < length items → it ≡ get_or items i it → resolve statements (item_view it) ≡ Ok insn → new ≡ old ++ insn ∷ [] → with_front new (code_from statements (map item_view (drop (i + 1) items))) ≡ with_front old (code_from statements (map item_view (drop i items)))
 code-more statements items i it old new insn inside is means adds =
     let rest = code_from statements (map item_view (drop (i + 1) items)) in
     let at : map item_view (drop i items) ≡ item_view it ∷ map item_view (drop (i + 1) items) = items-at items i it inside ∙ ap (λ (x : Item). item_view x ∷ map item_view (drop (i + 1) items)) (sym is) in
-    ap (λ (xs : List Insn). with_front xs rest) adds ∙ with-front-more old it.line insn rest ∙ ap (λ (r : Result Insn LineFault). with_front old (onto_code it.line r rest)) (sym means) ∙ ap (λ (xs : List text.Item). with_front old (code_from statements xs)) (sym at)
+    ap (λ (xs : List Insn). with_front xs rest) adds ∙ with-front-more old it.line insn rest ∙ ap (λ (r : Result Insn TextFlaw). with_front old (onto_code it.line r rest)) (sym means) ∙ ap (λ (xs : List text.Item). with_front old (code_from statements xs)) (sym at)
 
-pub code-fault : (statements : List Statement) (items : List Item) (i : ℕ) (it : Item) (old : List Insn) (why : LineFault) → i < length items → it ≡ get_or items i it → placed statements (item_view it) ≡ Err why → with_front old (code_from statements (map item_view (drop i items))) ≡ Err (InLine it.line why)
+pub code-fault : (statements : List Statement) (items : List Item) (i : ℕ) (it : Item) (old : List Insn) (why : TextFlaw) → i < length items → it ≡ get_or items i it → resolve statements (item_view it) ≡ Err why → with_front old (code_from statements (map item_view (drop i items))) ≡ Err (InLine it.line why)
 code-fault statements items i it old why inside is fails =
     let rest = code_from statements (map item_view (drop (i + 1) items)) in
     let at : map item_view (drop i items) ≡ item_view it ∷ map item_view (drop (i + 1) items) = items-at items i it inside ∙ ap (λ (x : Item). item_view x ∷ map item_view (drop (i + 1) items)) (sym is) in
-    ap (λ (xs : List text.Item). with_front old (code_from statements xs)) at ∙ ap (λ (r : Result Insn LineFault). with_front old (onto_code it.line r rest)) fails
+    ap (λ (xs : List text.Item). with_front old (code_from statements xs)) at ∙ ap (λ (r : Result Insn TextFlaw). with_front old (onto_code it.line r rest)) fails
 
 pub code-end : (statements : List Statement) (items : List Item) (i : ℕ) (old : List Insn) → length items ≤ i → with_front old (code_from statements (map item_view (drop i items))) ≡ Ok old
 code-end statements items i old past =

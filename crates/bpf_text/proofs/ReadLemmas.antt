@@ -6,7 +6,7 @@ use Rattle.std.proofs.lemmas.Bool.{and_parts, and_from}
 use Rattle.std.proofs.lemmas.List.{append_assoc, length-append, reverse-append, reverse-reverse, take_all}
 use Rattle.std.proofs.lemmas.List.Folds.{list_all-append}
 use Rattle.std.proofs.Math.Seq.{take-append_seam, drop-append-add}
-use Rattle.bpf_text.specs.Words.{is_blank, without_blanks_before, trimmed}
+use Rattle.bpf_text.specs.Words.{is_blank, trim_start, trim}
 
 -- what holds of each byte
 pub all-by : (p q : ℕ → Bool) → ((byte : ℕ) → p byte ≡ true → q byte ≡ true) → (xs : List ℕ) → list_all p xs ≡ true → list_all q xs ≡ true
@@ -57,17 +57,17 @@ pub record IsFramed (xs : List ℕ) : Type 0 where
   pub begins : starts xs ≡ true
   pub ends : starts (reverse xs) ≡ true
 
-kept-by : (byte : ℕ) (bytes : List ℕ) (test : Bool) → is_blank byte ≡ test → not test ≡ true → without_blanks_before (byte ∷ bytes) ≡ byte ∷ bytes
+kept-by : (byte : ℕ) (bytes : List ℕ) (test : Bool) → is_blank byte ≡ test → not test ≡ true → trim_start (byte ∷ bytes) ≡ byte ∷ bytes
 kept-by byte bytes true is kept = cc
 kept-by byte bytes false is kept = rw is refl
 
-starts-kept : (xs : List ℕ) → starts xs ≡ true → without_blanks_before xs ≡ xs
+starts-kept : (xs : List ℕ) → starts xs ≡ true → trim_start xs ≡ xs
 starts-kept [] begins = refl
 starts-kept (byte ∷ bytes) begins = kept-by byte bytes (is_blank byte) refl begins
 
-pub trimmed-framed : (xs : List ℕ) → IsFramed xs → trimmed xs ≡ xs
-trimmed-framed xs framed =
-    ap (λ (ys : List ℕ). reverse (without_blanks_before (reverse ys))) (starts-kept xs framed.begins) ∙ ap reverse (starts-kept (reverse xs) framed.ends) ∙ reverse-reverse xs
+pub trim-framed : (xs : List ℕ) → IsFramed xs → trim xs ≡ xs
+trim-framed xs framed =
+    ap (λ (ys : List ℕ). reverse (trim_start (reverse ys))) (starts-kept xs framed.begins) ∙ ap reverse (starts-kept (reverse xs) framed.ends) ∙ reverse-reverse xs
 
 starts-append : (xs ys : List ℕ) → 1 ≤ length xs → starts xs ≡ true → starts (xs ++ ys) ≡ true
 starts-append [] ys some begins = absurd (omega arith)

@@ -6,14 +6,14 @@ use Rattle.std.proofs.lemmas.Bool.{lt-ltb}
 use Rattle.std.proofs.lemmas.Bool.Decides.{nat_tests}
 use Rattle.std.proofs.lemmas.List.{append_assoc, length-append}
 use Rattle.std.proofs.lemmas.List.Sums.{AllPass-from_list_all}
-use Rattle.bpf_text.specs.declared.fault.LineFault.{LineFault}
-use Rattle.bpf_text.specs.declared.fault.LineFault.TheVariants.{Syntax}
-use Rattle.bpf_text.specs.Words.{is_blank, is_comma, is_semicolon, trimmed, content_of, first_word, after_word, is_mnemonic_byte, cut_operand}
+use Rattle.bpf_text.specs.declared.fault.TextFlaw.{TextFlaw}
+use Rattle.bpf_text.specs.declared.fault.TextFlaw.TheVariants.{Syntax}
+use Rattle.bpf_text.specs.Words.{is_blank, is_comma, is_semicolon, trim, content_of, first_word, after_word, is_mnemonic_byte, split_operand}
 use Rattle.bpf_text.specs.Operand.{both}
 use Rattle.bpf_text.specs.Line.{statement_in, statement_of, instruction_with, instruction_of, two, with_two}
 use Rattle.bpf_text.specs.Mnemonic.{form_named}
 use Rattle.bpf_text.proofs.LineLemmas.{statement-of-instruction}
-use Rattle.bpf_text.proofs.ReadLemmas.{all-by, all-append, place-at, before-at, after-at, before-none, IsFramed, trimmed-framed, framed-join, framed-word}
+use Rattle.bpf_text.proofs.ReadLemmas.{all-by, all-append, place-at, before-at, after-at, before-none, IsFramed, trim-framed, framed-join, framed-word}
 
 -- a byte of a line, and one of a word
 abbrev pub is_line_byte : ℕ → Bool
@@ -68,18 +68,18 @@ more-operands xs ys word others = record {
   bytes = all-append is_line_byte (xs ++ codes ", ") ys (all-append is_line_byte xs (codes ", ") (line-bytes xs word) refl) others.bytes;
 }
 
-pub cut-operands : (xs ys : List ℕ) → IsWord xs → AreOperands ys → cut_operand ((xs ++ codes ", ") ++ ys) ≡ Some (xs, ys)
+pub cut-operands : (xs ys : List ℕ) → IsWord xs → AreOperands ys → split_operand ((xs ++ codes ", ") ++ ys) ≡ Some (xs, ys)
 cut-operands xs ys word others =
     let none = all-by is_word_byte (λ byte. not (is_comma byte)) word-not-comma xs word.bytes in
     let whole : (xs ++ codes ", ") ++ ys ≡ xs ++ 44 ∷ (32 ∷ ys) = append_assoc xs (codes ", ") ys in
     let inside : position_or_len is_comma (xs ++ 44 ∷ (32 ∷ ys)) < length (xs ++ 44 ∷ (32 ∷ ys)) = omega (arith, place-at is_comma xs (32 ∷ ys) 44 none refl, length-append xs (44 ∷ (32 ∷ ys))) in
-    let first : trimmed (before_first is_comma (xs ++ 44 ∷ (32 ∷ ys))) ≡ xs = ap trimmed (before-at is_comma xs (32 ∷ ys) 44 none refl) ∙ trimmed-framed xs (framed xs word) in
-    let rest : trimmed (after_first is_comma (xs ++ 44 ∷ (32 ∷ ys))) ≡ ys = ap trimmed (after-at is_comma xs (32 ∷ ys) 44 none refl) ∙ trimmed-framed ys others.framed_by in
-    ap cut_operand whole ∙ ap (λ (test : Bool). cond test (Some (trimmed (before_first is_comma (xs ++ 44 ∷ (32 ∷ ys))), trimmed (after_first is_comma (xs ++ 44 ∷ (32 ∷ ys))))) None) (lt-ltb _ _ inside) ∙ ap (λ (l : List ℕ). Some (l, trimmed (after_first is_comma (xs ++ 44 ∷ (32 ∷ ys))))) first ∙ ap (λ (l : List ℕ). Some (xs, l)) rest
+    let first : trim (before_first is_comma (xs ++ 44 ∷ (32 ∷ ys))) ≡ xs = ap trim (before-at is_comma xs (32 ∷ ys) 44 none refl) ∙ trim-framed xs (framed xs word) in
+    let rest : trim (after_first is_comma (xs ++ 44 ∷ (32 ∷ ys))) ≡ ys = ap trim (after-at is_comma xs (32 ∷ ys) 44 none refl) ∙ trim-framed ys others.framed_by in
+    ap split_operand whole ∙ ap (λ (test : Bool). cond test (Some (trim (before_first is_comma (xs ++ 44 ∷ (32 ∷ ys))), trim (after_first is_comma (xs ++ 44 ∷ (32 ∷ ys))))) None) (lt-ltb _ _ inside) ∙ ap (λ (l : List ℕ). Some (l, trim (after_first is_comma (xs ++ 44 ∷ (32 ∷ ys))))) first ∙ ap (λ (l : List ℕ). Some (xs, l)) rest
 
-pub two-operands : {A B : Type 0} (left : List ℕ → Result A LineFault) (right : List ℕ → Result B LineFault) (xs ys : List ℕ) (a : A) (b : B) → IsWord xs → AreOperands ys → left xs ≡ Ok a → right ys ≡ Ok b → two left right ((xs ++ codes ", ") ++ ys) ≡ Ok (a, b)
+pub two-operands : {A B : Type 0} (left : List ℕ → Result A TextFlaw) (right : List ℕ → Result B TextFlaw) (xs ys : List ℕ) (a : A) (b : B) → IsWord xs → AreOperands ys → left xs ≡ Ok a → right ys ≡ Ok b → two left right ((xs ++ codes ", ") ++ ys) ≡ Ok (a, b)
 two-operands left right xs ys a b word others first second =
-    ap (with_two left right) (cut-operands xs ys word others) ∙ ap (λ (r : Result _ LineFault). both r (right ys)) first ∙ ap (λ (r : Result _ LineFault). both (Ok a) r) second
+    ap (with_two left right) (cut-operands xs ys word others) ∙ ap (λ (r : Result _ TextFlaw). both r (right ys)) first ∙ ap (λ (r : Result _ TextFlaw). both (Ok a) r) second
 
 instruction-by : (content name ops : List ℕ) → first_word content ≡ name → after_word content ≡ ops → list_all is_mnemonic_byte name ≡ true → instruction_of content ≡ instruction_with (form_named name) ops
 instruction-by content name ops first rest mnemonic =
@@ -92,11 +92,11 @@ read-line name ops some mnemonic operands =
     let word : IsWord name = record { some = some; bytes = all-by is_mnemonic_byte is_word_byte mnemonic-is-word name mnemonic } in
     let bytes : list_all is_line_byte line ≡ true = all-append is_line_byte name (32 ∷ ops) (line-bytes name word) operands.bytes in
     let frame : IsFramed line = subst IsFramed (append_assoc name (32 ∷ []) ops) (framed-join name (32 ∷ []) ops (framed name word) operands.framed_by) in
-    let content : content_of line ≡ line = ap trimmed (before-none is_semicolon line (all-by is_line_byte (λ byte. not (is_semicolon byte)) line-not-semicolon line bytes)) ∙ trimmed-framed line frame in
+    let content : content_of line ≡ line = ap trim (before-none is_semicolon line (all-by is_line_byte (λ byte. not (is_semicolon byte)) line-not-semicolon line bytes)) ∙ trim-framed line frame in
     let full : (length line == 0) ≡ false = (let long : 1 ≤ length line = frame.some in grind (arith, nat_tests)) in
     let last : length line - 1 < length line = omega (arith, frame.some) in
     let other : slice_index line (length line - 1) ≡ 58 → ⊥ = line-not-colon _ (AllPass-from_list_all is_line_byte line bytes (length line - 1) 0 last) in
     let unblank = all-by is_word_byte (λ byte. not (is_blank byte)) word-not-blank name word.bytes in
     let first = before-at is_blank name ops 32 unblank refl in
-    let rest : trimmed (after_first is_blank line) ≡ ops = ap trimmed (after-at is_blank name ops 32 unblank refl) ∙ trimmed-framed ops operands.framed_by in
+    let rest : trim (after_first is_blank line) ≡ ops = ap trim (after-at is_blank name ops 32 unblank refl) ∙ trim-framed ops operands.framed_by in
     ap statement_of content ∙ statement-of-instruction line full other ∙ instruction-by line name ops first rest mnemonic

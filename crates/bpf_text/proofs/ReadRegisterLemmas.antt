@@ -1,62 +1,61 @@
 -- Registers and numbers are read as they're written.
-use Rattle.std.proofs.Common.{◌≡◌, ℕ, suc, zero, ℤ, pos, negsuc, neg_ℤ, ◌≤ℤ◌, ◌<ℤ◌, ◌^◌, ◌<◌, ◌≤◌, Bool, true, ◌&&◌, cond, nat_le, List, [], ◌∷◌, length, Option, Some, Result, Ok, Err, decimal, refl, ap, ◌∙◌, arith}
+use Rattle.std.proofs.Common.{◌≡◌, ℕ, suc, zero, ℤ, pos, negsuc, neg_ℤ, ◌≤ℤ◌, ◌<ℤ◌, ◌^◌, ◌<◌, ◌≤◌, ◌++◌, Bool, true, ◌&&◌, cond, nat_le, List, [], ◌∷◌, length, Option, Some, Result, Ok, Err, decimal, refl, ap, ◌∙◌, arith}
+use Rattle.std.specs.Prelude.{codes}
+use Rattle.std.specs.Fmt.{digits}
 use Rattle.std.specs.List.{list_all}
 use Rattle.std.specs.Str.Parse.{digits_value, AllDigits}
-use Rattle.std.proofs.lemmas.Bool.{and_from, lt-ltb, le-leb}
+use Rattle.std.proofs.lemmas.Bool.{and_from, lt-ltb, le-leb, leb-true}
 use Rattle.std.proofs.lemmas.Bool.Decides.{nat_tests}
 use Rattle.std.proofs.lemmas.Int.{ints}
 use Rattle.std.proofs.lemmas.Fmt.{decimal_is_IsNumeral, length-decimal-le, decimal_nonempty}
 use Rattle.bpf_insn.specs.declared.register.Register.{Register}
 use Rattle.bpf_insn.specs.declared.instruction.Source.TheVariants as source
-use Rattle.bpf_text.specs.declared.fault.LineFault.{LineFault}
-use Rattle.bpf_text.specs.declared.fault.LineFault.TheVariants.{Syntax}
+use Rattle.bpf_text.specs.declared.fault.TextFlaw.{TextFlaw}
+use Rattle.bpf_text.specs.declared.fault.TextFlaw.TheVariants.{Syntax}
 use Rattle.bpf_text.specs.Number.{and_then, is_digit, decimal_in, positive, negative, signed_in}
-use Rattle.bpf_text.specs.Operand.{register_text, register_number, register_named, register_at, register_in, option_and_then, or_fault, source_in, source_with}
+use Rattle.bpf_text.specs.Operand.{register_name, register_number, register_named, register_at, register_in, option_and_then, or_fault, source_in, source_with}
 use Rattle.bpf_text.specs.Spelled.{signed_text}
 use Rattle.bpf_text.proofs.OperandLemmas.{register_at-same}
 use Rattle.bpf_text.proofs.ReadLemmas.{all-by}
 use Rattle.bpf_text.proofs.ReadLineLemmas.{IsWord, is_word_byte}
 
-register-word : (number : ℕ) → number ≤ 10 → IsWord (register_text number)
-register-word zero within = record { some = omega arith; bytes = refl }
-register-word (suc zero) within = record { some = omega arith; bytes = refl }
-register-word (suc (suc zero)) within = record { some = omega arith; bytes = refl }
-register-word (suc (suc (suc zero))) within = record { some = omega arith; bytes = refl }
-register-word (suc (suc (suc (suc zero)))) within = record { some = omega arith; bytes = refl }
-register-word (suc (suc (suc (suc (suc zero))))) within = record { some = omega arith; bytes = refl }
-register-word (suc (suc (suc (suc (suc (suc zero)))))) within = record { some = omega arith; bytes = refl }
-register-word (suc (suc (suc (suc (suc (suc (suc zero))))))) within = record { some = omega arith; bytes = refl }
-register-word (suc (suc (suc (suc (suc (suc (suc (suc zero)))))))) within = record { some = omega arith; bytes = refl }
-register-word (suc (suc (suc (suc (suc (suc (suc (suc (suc zero))))))))) within = record { some = omega arith; bytes = refl }
-register-word (suc (suc (suc (suc (suc (suc (suc (suc (suc (suc zero)))))))))) within = record { some = omega arith; bytes = refl }
-register-word (suc (suc (suc (suc (suc (suc (suc (suc (suc (suc (suc n))))))))))) within = absurd (omega arith)
+-- a register's name
+pub record IsNamed (number : ℕ) : Type 0 where
+  pub named : register_name number ≡ codes "r" ++ decimal number
+  pub word : list_all is_word_byte (register_name number) ≡ true
+  pub some : nat_le 1 (length (register_name number)) ≡ true
+  pub found : register_number (register_name number) ≡ Some number
 
-register-number : (number : ℕ) → number ≤ 10 → register_number (register_text number) ≡ Some number
-register-number zero within = refl
-register-number (suc zero) within = refl
-register-number (suc (suc zero)) within = refl
-register-number (suc (suc (suc zero))) within = refl
-register-number (suc (suc (suc (suc zero)))) within = refl
-register-number (suc (suc (suc (suc (suc zero))))) within = refl
-register-number (suc (suc (suc (suc (suc (suc zero)))))) within = refl
-register-number (suc (suc (suc (suc (suc (suc (suc zero))))))) within = refl
-register-number (suc (suc (suc (suc (suc (suc (suc (suc zero)))))))) within = refl
-register-number (suc (suc (suc (suc (suc (suc (suc (suc (suc zero))))))))) within = refl
-register-number (suc (suc (suc (suc (suc (suc (suc (suc (suc (suc zero)))))))))) within = refl
-register-number (suc (suc (suc (suc (suc (suc (suc (suc (suc (suc (suc n))))))))))) within = absurd (omega arith)
+row : (number : ℕ) → register_name number ≡ codes "r" ++ decimal number → list_all is_word_byte (register_name number) ≡ true → nat_le 1 (length (register_name number)) ≡ true → register_number (register_name number) ≡ Some number → IsNamed number
+row number named word some found = record { named = named; word = word; some = some; found = found }
+
+pub register-name : (number : ℕ) → number ≤ 10 → IsNamed number
+unfolding digits
+register-name zero within = row 0 refl refl refl refl
+register-name (suc zero) within = row 1 refl refl refl refl
+register-name (suc (suc zero)) within = row 2 refl refl refl refl
+register-name (suc (suc (suc zero))) within = row 3 refl refl refl refl
+register-name (suc (suc (suc (suc zero)))) within = row 4 refl refl refl refl
+register-name (suc (suc (suc (suc (suc zero))))) within = row 5 refl refl refl refl
+register-name (suc (suc (suc (suc (suc (suc zero)))))) within = row 6 refl refl refl refl
+register-name (suc (suc (suc (suc (suc (suc (suc zero))))))) within = row 7 refl refl refl refl
+register-name (suc (suc (suc (suc (suc (suc (suc (suc zero)))))))) within = row 8 refl refl refl refl
+register-name (suc (suc (suc (suc (suc (suc (suc (suc (suc zero))))))))) within = row 9 refl refl refl refl
+register-name (suc (suc (suc (suc (suc (suc (suc (suc (suc (suc zero)))))))))) within = row 10 refl refl refl refl
+register-name (suc (suc (suc (suc (suc (suc (suc (suc (suc (suc (suc n))))))))))) within = absurd (omega arith)
 
 -- a register
-pub word-of-register : (r : Register) → IsWord (register_text r.number)
-word-of-register r = register-word r.number r.in_range
+pub word-of-register : (r : Register) → IsWord (register_name r.number)
+word-of-register r = let name = register-name r.number r.in_range in record { some = leb-true 1 (length (register_name r.number)) name.some; bytes = name.word }
 
-named-back : (r : Register) → register_named (register_text r.number) ≡ Some r
-named-back r = ap (option_and_then register_at) (register-number r.number r.in_range) ∙ register_at-same r
+named-back : (r : Register) → register_named (register_name r.number) ≡ Some r
+named-back r = ap (option_and_then register_at) (register-name r.number r.in_range).found ∙ register_at-same r
 
-pub register-back : (r : Register) → register_in (register_text r.number) ≡ Ok r
+pub register-back : (r : Register) → register_in (register_name r.number) ≡ Ok r
 register-back r = ap (or_fault Syntax) (named-back r)
 
-pub source-register-back : (r : Register) → source_in (register_text r.number) ≡ Ok (source.Register r)
-source-register-back r = ap (λ (o : Option Register). source_with o (register_text r.number)) (named-back r)
+pub source-register-back : (r : Register) → source_in (register_name r.number) ≡ Ok (source.Register r)
+source-register-back r = ap (λ (o : Option Register). source_with o (register_name r.number)) (named-back r)
 
 -- digits
 all-digits : (ds : List ℕ) → AllDigits 10 ds → list_all (is_digit 10) ds ≡ true
@@ -80,7 +79,7 @@ decimal-back n small =
     let some = le-leb 1 (length (decimal n)) (decimal_nonempty n small) in
     let few = le-leb (length (decimal n)) 20 (length-decimal-le 20 n (omega arith) (omega arith) small) in
     let test : (nat_le 1 (length (decimal n)) && nat_le (length (decimal n)) 20 && list_all (is_digit 10) (decimal n)) ≡ true = and_from _ _ (and_from _ _ some few) (decimal-digits n small) in
-    ap (λ (t : Bool). cond t (Ok (digits_value 10 (decimal n))) (Err Syntax)) test ∙ ap (λ (v : ℕ). let r : Result ℕ LineFault = Ok v in r) (decimal_is_IsNumeral n small).1
+    ap (λ (t : Bool). cond t (Ok (digits_value 10 (decimal n))) (Err Syntax)) test ∙ ap (λ (v : ℕ). let r : Result ℕ TextFlaw = Ok v in r) (decimal_is_IsNumeral n small).1
 
 pub positive-back : (limit n : ℕ) → n < limit → positive limit n ≡ Ok (pos n)
 positive-back limit n within = rw (lt-ltb n limit within) refl
@@ -92,7 +91,7 @@ negative-back limit n within = rw (le-leb (suc n) limit within) refl
 pub signed-back : (limit : ℕ) (z : ℤ) → limit ≤ 2 ^ 31 → neg_ℤ (pos limit) ≤ℤ z → z <ℤ pos limit → signed_in limit (signed_text z) ≡ Ok z
 signed-back limit (pos n) bound low high =
     let within : n < limit = omega (arith, ints, high) in
-    ap (λ (r : Result ℕ LineFault). and_then r (positive limit)) (decimal-back n (omega arith)) ∙ positive-back limit n within
+    ap (λ (r : Result ℕ TextFlaw). and_then r (positive limit)) (decimal-back n (omega arith)) ∙ positive-back limit n within
 signed-back limit (negsuc n) bound low high =
     let within : suc n ≤ limit = omega (arith, ints, low) in
-    ap (λ (r : Result ℕ LineFault). and_then r (negative limit)) (decimal-back (suc n) (omega arith)) ∙ negative-back limit n within
+    ap (λ (r : Result ℕ TextFlaw). and_then r (negative limit)) (decimal-back (suc n) (omega arith)) ∙ negative-back limit n within

@@ -7,8 +7,8 @@ use Rattle.std.proofs.lemmas.Bool.{and_from, lt-ltb, le-leb}
 use Rattle.std.proofs.lemmas.Bool.Decides.{nat_tests}
 use Rattle.std.proofs.Math.Arith.{mod-mul}
 use Rattle.std.proofs.Math.Pow.{pow-add, pow_pos}
-use Rattle.bpf_text.specs.declared.fault.LineFault.{LineFault}
-use Rattle.bpf_text.specs.declared.fault.LineFault.TheVariants.{Syntax}
+use Rattle.bpf_text.specs.declared.fault.TextFlaw.{TextFlaw}
+use Rattle.bpf_text.specs.declared.fault.TextFlaw.TheVariants.{Syntax}
 use Rattle.bpf_text.specs.Number.{is_digit, wide_in}
 use Rattle.bpf_text.specs.Spelled.{hexadecimal, wide_text}
 use Rattle.bpf_text.proofs.ReadLemmas.{all-by}
@@ -51,7 +51,7 @@ wide-back n small =
     let few = le-leb (length ds) 16 (omega (arith, size)) in
     let test : (nat_le 1 (length ds) && nat_le (length ds) 16 && list_all (is_digit 16) ds) ≡ true = and_from _ _ (and_from _ _ some few) (hexadecimal-digits 16 n) in
     let value : digits_value 16 ds ≡ n = hexadecimal-value 16 0 n ∙ (let whole : 0 * 2 ^ (4 * 16) + n % 2 ^ (4 * 16) ≡ n = omega arith in whole) in
-    ap (λ (t : Bool). cond t (Ok (digits_value 16 ds)) (Err Syntax)) test ∙ ap (λ (v : ℕ). let r : Result ℕ LineFault = Ok v in r) value
+    ap (λ (t : Bool). cond t (Ok (digits_value 16 ds)) (Err Syntax)) test ∙ ap (λ (v : ℕ). let r : Result ℕ TextFlaw = Ok v in r) value
 
 pub word-of-wide : (n : ℕ) → IsWord (wide_text n)
 word-of-wide n = record { some = omega arith; bytes = and_from _ _ refl (and_from _ _ refl (all-by (is_digit 16) is_word_byte hex-is-word (hexadecimal 16 n) (hexadecimal-digits 16 n))) }

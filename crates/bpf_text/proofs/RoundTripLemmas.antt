@@ -13,7 +13,7 @@ use Rattle.bpf_insn.specs.Form.{spelling}
 use Rattle.bpf_insn.specs.Code.{word_count, spelled, HasProgramSize}
 use Rattle.bpf_insn.specs.declared.code.TheConstants.{WORD_LIMIT}
 use Rattle.bpf_insn.specs.declared.instruction.Insn.{Insn}
-use Rattle.bpf_text.specs.declared.fault.LineFault.{LineFault}
+use Rattle.bpf_text.specs.declared.fault.TextFlaw.{TextFlaw}
 use Rattle.bpf_text.specs.Line.{Statement, Instruction, statement_in}
 use Rattle.bpf_text.specs.Text.{words_of, FaultlessAfter, items_from, code_from, onto_code, Means}
 use Rattle.bpf_text.specs.Spelled.{line_text, text_of, IsReadBack}
@@ -68,7 +68,7 @@ statements_of code = map (λ insn. Instruction insn None) code
 meant-back : (code : List Insn) → AreReadBack code → map statement_in (map line_text code) ≡ map Ok (statements_of code)
 meant-back [] all = refl
 meant-back (insn ∷ code) all =
-    ap (λ (r : Result Statement LineFault). r ∷ map statement_in (map line_text code)) all.0.means ∙ ap (λ (rs : List (Result Statement LineFault)). Ok (Instruction insn None) ∷ rs) (meant-back code all.1)
+    ap (λ (r : Result Statement TextFlaw). r ∷ map statement_in (map line_text code)) all.0.means ∙ ap (λ (rs : List (Result Statement TextFlaw)). Ok (Instruction insn None) ∷ rs) (meant-back code all.1)
 
 faultless-back : (before : List Statement) (code : List Insn) → words_of before + word_count code ≤ WORD_LIMIT → FaultlessAfter before (statements_of code)
 faultless-back before [] fits = tt

@@ -1,6 +1,8 @@
 -- The table of mnemonics: each name is a mnemonic, and names its form alone.
-use Rattle.std.proofs.Common.{◌≡◌, true, nat_le, length, Some, refl}
-use Rattle.std.specs.List.{list_all}
+use Rattle.std.proofs.Common.{◌≡◌, ◌&&◌, Bool, true, false, nat_le, cond, List, [], ◌∷◌, length, Option, Some, refl, subst}
+use Rattle.std.specs.List.{list_all, find}
+use Rattle.std.specs.Str.{bytes_eq}
+use Rattle.std.proofs.lemmas.Bool.{and_parts}
 use Rattle.bpf_insn.specs.declared.instruction.Operation.{Operation}
 use Rattle.bpf_insn.specs.declared.instruction.Operation.TheVariants.{Add, Subtract, Multiply, Divide, SignedDivide, Or, And, ShiftLeft, ShiftRight, Modulo, SignedModulo, ExclusiveOr, Move, ArithmeticShiftRight}
 use Rattle.bpf_insn.specs.declared.instruction.Width.{Width}
@@ -19,125 +21,108 @@ use Rattle.bpf_insn.specs.declared.instruction.StoreSize.{StoreSize}
 use Rattle.bpf_insn.specs.declared.instruction.StoreSize.TheVariants as store
 use Rattle.bpf_text.specs.declared.form.Form.{Form}
 use Rattle.bpf_text.specs.declared.form.Form.TheVariants.{Alu, MoveSignExtended, Negate, ByteSwap, JumpIf, Jump, LongJump, Call, Exit, Load, StoreImmediate, Store, WideLoad}
+use Rattle.bpf_text.specs.declared.form.TheConstants.{FORMS}
 use Rattle.bpf_text.specs.Words.{is_mnemonic_byte}
 use Rattle.bpf_text.specs.Mnemonic.{name_of, form_named}
 
-pub record IsInTable (form : Form) : Type 0 where
-  pub named : form_named (name_of form) ≡ Some form
-  pub word : list_all is_mnemonic_byte (name_of form) ≡ true
-  pub some : nat_le 1 (length (name_of form)) ≡ true
+-- a form is found by its own name
+abbrev pub IsNamed : Form → Type 0
+IsNamed form = form_named (name_of form) ≡ Some form
 
-row : (form : Form) → form_named (name_of form) ≡ Some form → list_all is_mnemonic_byte (name_of form) ≡ true → nat_le 1 (length (name_of form)) ≡ true → IsInTable form
-row form named word some = record { named = named; word = word; some = some }
+widths : (made : Width → Form) → IsNamed (made Bits64) → IsNamed (made Bits32) → (width : Width) → IsNamed (made width)
+widths made wide narrow Bits64 = wide
+widths made wide narrow Bits32 = narrow
 
-operations : (operation : Operation) (width : Width) → IsInTable (Alu operation width)
-operations Add Bits64 = row (Alu Add Bits64) refl refl refl
-operations Subtract Bits64 = row (Alu Subtract Bits64) refl refl refl
-operations Multiply Bits64 = row (Alu Multiply Bits64) refl refl refl
-operations Divide Bits64 = row (Alu Divide Bits64) refl refl refl
-operations SignedDivide Bits64 = row (Alu SignedDivide Bits64) refl refl refl
-operations Or Bits64 = row (Alu Or Bits64) refl refl refl
-operations And Bits64 = row (Alu And Bits64) refl refl refl
-operations ShiftLeft Bits64 = row (Alu ShiftLeft Bits64) refl refl refl
-operations ShiftRight Bits64 = row (Alu ShiftRight Bits64) refl refl refl
-operations Modulo Bits64 = row (Alu Modulo Bits64) refl refl refl
-operations SignedModulo Bits64 = row (Alu SignedModulo Bits64) refl refl refl
-operations ExclusiveOr Bits64 = row (Alu ExclusiveOr Bits64) refl refl refl
-operations Move Bits64 = row (Alu Move Bits64) refl refl refl
-operations ArithmeticShiftRight Bits64 = row (Alu ArithmeticShiftRight Bits64) refl refl refl
-operations Add Bits32 = row (Alu Add Bits32) refl refl refl
-operations Subtract Bits32 = row (Alu Subtract Bits32) refl refl refl
-operations Multiply Bits32 = row (Alu Multiply Bits32) refl refl refl
-operations Divide Bits32 = row (Alu Divide Bits32) refl refl refl
-operations SignedDivide Bits32 = row (Alu SignedDivide Bits32) refl refl refl
-operations Or Bits32 = row (Alu Or Bits32) refl refl refl
-operations And Bits32 = row (Alu And Bits32) refl refl refl
-operations ShiftLeft Bits32 = row (Alu ShiftLeft Bits32) refl refl refl
-operations ShiftRight Bits32 = row (Alu ShiftRight Bits32) refl refl refl
-operations Modulo Bits32 = row (Alu Modulo Bits32) refl refl refl
-operations SignedModulo Bits32 = row (Alu SignedModulo Bits32) refl refl refl
-operations ExclusiveOr Bits32 = row (Alu ExclusiveOr Bits32) refl refl refl
-operations Move Bits32 = row (Alu Move Bits32) refl refl refl
-operations ArithmeticShiftRight Bits32 = row (Alu ArithmeticShiftRight Bits32) refl refl refl
+operations : (operation : Operation) (width : Width) → IsNamed (Alu operation width)
+operations Add = widths (Alu Add) refl refl
+operations Subtract = widths (Alu Subtract) refl refl
+operations Multiply = widths (Alu Multiply) refl refl
+operations Divide = widths (Alu Divide) refl refl
+operations SignedDivide = widths (Alu SignedDivide) refl refl
+operations Or = widths (Alu Or) refl refl
+operations And = widths (Alu And) refl refl
+operations ShiftLeft = widths (Alu ShiftLeft) refl refl
+operations ShiftRight = widths (Alu ShiftRight) refl refl
+operations Modulo = widths (Alu Modulo) refl refl
+operations SignedModulo = widths (Alu SignedModulo) refl refl
+operations ExclusiveOr = widths (Alu ExclusiveOr) refl refl
+operations Move = widths (Alu Move) refl refl
+operations ArithmeticShiftRight = widths (Alu ArithmeticShiftRight) refl refl
 
-conditions : (condition : Condition) (width : Width) → IsInTable (JumpIf condition width)
-conditions Equal Bits64 = row (JumpIf Equal Bits64) refl refl refl
-conditions Greater Bits64 = row (JumpIf Greater Bits64) refl refl refl
-conditions GreaterOrEqual Bits64 = row (JumpIf GreaterOrEqual Bits64) refl refl refl
-conditions SharesBit Bits64 = row (JumpIf SharesBit Bits64) refl refl refl
-conditions NotEqual Bits64 = row (JumpIf NotEqual Bits64) refl refl refl
-conditions SignedGreater Bits64 = row (JumpIf SignedGreater Bits64) refl refl refl
-conditions SignedGreaterOrEqual Bits64 = row (JumpIf SignedGreaterOrEqual Bits64) refl refl refl
-conditions Less Bits64 = row (JumpIf Less Bits64) refl refl refl
-conditions LessOrEqual Bits64 = row (JumpIf LessOrEqual Bits64) refl refl refl
-conditions SignedLess Bits64 = row (JumpIf SignedLess Bits64) refl refl refl
-conditions SignedLessOrEqual Bits64 = row (JumpIf SignedLessOrEqual Bits64) refl refl refl
-conditions Equal Bits32 = row (JumpIf Equal Bits32) refl refl refl
-conditions Greater Bits32 = row (JumpIf Greater Bits32) refl refl refl
-conditions GreaterOrEqual Bits32 = row (JumpIf GreaterOrEqual Bits32) refl refl refl
-conditions SharesBit Bits32 = row (JumpIf SharesBit Bits32) refl refl refl
-conditions NotEqual Bits32 = row (JumpIf NotEqual Bits32) refl refl refl
-conditions SignedGreater Bits32 = row (JumpIf SignedGreater Bits32) refl refl refl
-conditions SignedGreaterOrEqual Bits32 = row (JumpIf SignedGreaterOrEqual Bits32) refl refl refl
-conditions Less Bits32 = row (JumpIf Less Bits32) refl refl refl
-conditions LessOrEqual Bits32 = row (JumpIf LessOrEqual Bits32) refl refl refl
-conditions SignedLess Bits32 = row (JumpIf SignedLess Bits32) refl refl refl
-conditions SignedLessOrEqual Bits32 = row (JumpIf SignedLessOrEqual Bits32) refl refl refl
+conditions : (condition : Condition) (width : Width) → IsNamed (JumpIf condition width)
+conditions Equal = widths (JumpIf Equal) refl refl
+conditions Greater = widths (JumpIf Greater) refl refl
+conditions GreaterOrEqual = widths (JumpIf GreaterOrEqual) refl refl
+conditions SharesBit = widths (JumpIf SharesBit) refl refl
+conditions NotEqual = widths (JumpIf NotEqual) refl refl
+conditions SignedGreater = widths (JumpIf SignedGreater) refl refl
+conditions SignedGreaterOrEqual = widths (JumpIf SignedGreaterOrEqual) refl refl
+conditions Less = widths (JumpIf Less) refl refl
+conditions LessOrEqual = widths (JumpIf LessOrEqual) refl refl
+conditions SignedLess = widths (JumpIf SignedLess) refl refl
+conditions SignedLessOrEqual = widths (JumpIf SignedLessOrEqual) refl refl
 
-extensions : (extension : SignExtension) → IsInTable (MoveSignExtended extension)
-extensions Bits8To64 = row (MoveSignExtended Bits8To64) refl refl refl
-extensions Bits16To64 = row (MoveSignExtended Bits16To64) refl refl refl
-extensions Bits32To64 = row (MoveSignExtended Bits32To64) refl refl refl
-extensions Bits8To32 = row (MoveSignExtended Bits8To32) refl refl refl
-extensions Bits16To32 = row (MoveSignExtended Bits16To32) refl refl refl
+extensions : (extension : SignExtension) → IsNamed (MoveSignExtended extension)
+extensions Bits8To64 = refl
+extensions Bits16To64 = refl
+extensions Bits32To64 = refl
+extensions Bits8To32 = refl
+extensions Bits16To32 = refl
 
-negations : (width : Width) → IsInTable (Negate width)
-negations Bits64 = row (Negate Bits64) refl refl refl
-negations Bits32 = row (Negate Bits32) refl refl refl
+swap_widths : (made : SwapWidth → Form) → IsNamed (made swap.Bits16) → IsNamed (made swap.Bits32) → IsNamed (made swap.Bits64) → (width : SwapWidth) → IsNamed (made width)
+swap_widths made narrow middle wide swap.Bits16 = narrow
+swap_widths made narrow middle wide swap.Bits32 = middle
+swap_widths made narrow middle wide swap.Bits64 = wide
 
-swaps : (order : ByteOrder) (width : SwapWidth) → IsInTable (ByteSwap order width)
-swaps LittleEndian swap.Bits16 = row (ByteSwap LittleEndian swap.Bits16) refl refl refl
-swaps LittleEndian swap.Bits32 = row (ByteSwap LittleEndian swap.Bits32) refl refl refl
-swaps LittleEndian swap.Bits64 = row (ByteSwap LittleEndian swap.Bits64) refl refl refl
-swaps BigEndian swap.Bits16 = row (ByteSwap BigEndian swap.Bits16) refl refl refl
-swaps BigEndian swap.Bits32 = row (ByteSwap BigEndian swap.Bits32) refl refl refl
-swaps BigEndian swap.Bits64 = row (ByteSwap BigEndian swap.Bits64) refl refl refl
-swaps Swapped swap.Bits16 = row (ByteSwap Swapped swap.Bits16) refl refl refl
-swaps Swapped swap.Bits32 = row (ByteSwap Swapped swap.Bits32) refl refl refl
-swaps Swapped swap.Bits64 = row (ByteSwap Swapped swap.Bits64) refl refl refl
+swaps : (order : ByteOrder) (width : SwapWidth) → IsNamed (ByteSwap order width)
+swaps LittleEndian = swap_widths (ByteSwap LittleEndian) refl refl refl
+swaps BigEndian = swap_widths (ByteSwap BigEndian) refl refl refl
+swaps Swapped = swap_widths (ByteSwap Swapped) refl refl refl
 
-loads : (format : LoadFormat) → IsInTable (Load format)
-loads load.Byte = row (Load load.Byte) refl refl refl
-loads load.HalfWord = row (Load load.HalfWord) refl refl refl
-loads load.Word = row (Load load.Word) refl refl refl
-loads load.DoubleWord = row (Load load.DoubleWord) refl refl refl
-loads load.SignedByte = row (Load load.SignedByte) refl refl refl
-loads load.SignedHalfWord = row (Load load.SignedHalfWord) refl refl refl
-loads load.SignedWord = row (Load load.SignedWord) refl refl refl
+loads : (format : LoadFormat) → IsNamed (Load format)
+loads load.Byte = refl
+loads load.HalfWord = refl
+loads load.Word = refl
+loads load.DoubleWord = refl
+loads load.SignedByte = refl
+loads load.SignedHalfWord = refl
+loads load.SignedWord = refl
 
-stores_immediate : (size : StoreSize) → IsInTable (StoreImmediate size)
-stores_immediate store.Byte = row (StoreImmediate store.Byte) refl refl refl
-stores_immediate store.HalfWord = row (StoreImmediate store.HalfWord) refl refl refl
-stores_immediate store.Word = row (StoreImmediate store.Word) refl refl refl
-stores_immediate store.DoubleWord = row (StoreImmediate store.DoubleWord) refl refl refl
+sizes : (made : StoreSize → Form) → IsNamed (made store.Byte) → IsNamed (made store.HalfWord) → IsNamed (made store.Word) → IsNamed (made store.DoubleWord) → (size : StoreSize) → IsNamed (made size)
+sizes made byte half_word word double_word store.Byte = byte
+sizes made byte half_word word double_word store.HalfWord = half_word
+sizes made byte half_word word double_word store.Word = word
+sizes made byte half_word word double_word store.DoubleWord = double_word
 
-stores : (size : StoreSize) → IsInTable (Store size)
-stores store.Byte = row (Store store.Byte) refl refl refl
-stores store.HalfWord = row (Store store.HalfWord) refl refl refl
-stores store.Word = row (Store store.Word) refl refl refl
-stores store.DoubleWord = row (Store store.DoubleWord) refl refl refl
+pub named : (form : Form) → IsNamed form
+named (Alu operation width) = operations operation width
+named (MoveSignExtended extension) = extensions extension
+named (Negate width) = widths Negate refl refl width
+named (ByteSwap order width) = swaps order width
+named (JumpIf condition width) = conditions condition width
+named Jump = refl
+named LongJump = refl
+named Call = refl
+named Exit = refl
+named (Load format) = loads format
+named (StoreImmediate size) = sizes StoreImmediate refl refl refl refl size
+named (Store size) = sizes Store refl refl refl refl size
+named WideLoad = refl
 
-pub in-table : (form : Form) → IsInTable form
-in-table (Alu operation width) = operations operation width
-in-table (MoveSignExtended extension) = extensions extension
-in-table (Negate width) = negations width
-in-table (ByteSwap order width) = swaps order width
-in-table (JumpIf condition width) = conditions condition width
-in-table Jump = row Jump refl refl refl
-in-table LongJump = row LongJump refl refl refl
-in-table Call = row Call refl refl refl
-in-table Exit = row Exit refl refl refl
-in-table (Load format) = loads format
-in-table (StoreImmediate size) = stores_immediate size
-in-table (Store size) = stores size
-in-table WideLoad = row WideLoad refl refl refl
+-- what holds of all elements holds of the one that is found
+found-by : {A : Type 0} (q : A → Bool) (first x : A) (rest : Option A) (test : Bool) → q first ≡ true → (rest ≡ Some x → q x ≡ true) → cond test (Some first) rest ≡ Some x → q x ≡ true
+found-by q first x rest true here later found = let same : first ≡ x = cc in subst (λ y. q y ≡ true) same here
+found-by q first x rest false here later found = later found
+
+found : {A : Type 0} (p q : A → Bool) (xs : List A) (x : A) → list_all q xs ≡ true → find p xs ≡ Some x → q x ≡ true
+found p q [] x all is = cc
+found p q (first ∷ xs) x all is =
+    let parts = and_parts (q first) (list_all q xs) all in
+    found-by q first x (find p xs) (p first) parts.0 (found p q xs x parts.1) is
+
+abbrev pub is_mnemonic : Form → Bool
+is_mnemonic form = nat_le 1 (length (name_of form)) && list_all is_mnemonic_byte (name_of form)
+
+-- a name is a word of at least one byte
+pub mnemonic : (form : Form) → is_mnemonic form ≡ true
+mnemonic form = found (λ other. bytes_eq (name_of other) (name_of form)) is_mnemonic FORMS form refl (named form)

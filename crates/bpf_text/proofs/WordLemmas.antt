@@ -5,7 +5,7 @@ use Rattle.std.specs.List.{position, position_or_len, before_first, after_first}
 use Rattle.std.proofs.lemmas.Bool.{ltb-true, ltb-false, lt-ltb, le-ltb, le-leb}
 use Rattle.std.specs.Prelude.{slice_index, slice_range}
 use Rattle.bpf_text.specs.Operand.{memory_in, address_in}
-use Rattle.bpf_text.specs.Words.{is_comma, cut_operand, trimmed}
+use Rattle.bpf_text.specs.Words.{is_comma, split_operand, trim}
 
 found-by : {X : Type 0} (p : X → Bool) (xs : List X) (i : ℕ) (test : Bool) → nat_lt (position_or_len p xs) (length xs) ≡ test → cond test (Some (position_or_len p xs)) None ≡ Some i → (i ≡ position_or_len p xs) × (position_or_len p xs < length xs)
 found-by p xs i true is found = (cc, ltb-true _ _ is)
@@ -47,12 +47,12 @@ pub from-missing : {X : Type 0} (p : X → Bool) (xs : List X) → None ≡ posi
 from-missing p xs missing = sym (drop_all (position_or_len p xs) xs (position-missing p xs (sym missing)))
 
 -- operands with a comma, and those with none
-pub cut-found : (xs : List ℕ) (i : ℕ) → Some i ≡ position is_comma xs → cut_operand xs ≡ Some (trimmed (take i xs), trimmed (take (length xs - (i + 1)) (drop (i + 1) xs)))
+pub cut-found : (xs : List ℕ) (i : ℕ) → Some i ≡ position is_comma xs → split_operand xs ≡ Some (trim (take i xs), trim (take (length xs - (i + 1)) (drop (i + 1) xs)))
 cut-found xs i found =
     let at = position-found is_comma xs i (sym found) in
     rw (rest-from (i + 1) xs, at.0, lt-ltb _ _ at.1) refl
 
-pub cut-missing : (xs : List ℕ) → None ≡ position is_comma xs → cut_operand xs ≡ None
+pub cut-missing : (xs : List ℕ) → None ≡ position is_comma xs → split_operand xs ≡ None
 cut-missing xs missing = rw (le-ltb _ _ (position-missing is_comma xs (sym missing))) refl
 
 -- a word in brackets

@@ -7,4 +7,5 @@ pub mod View
 pub mod Text
 pub mod Notes
 pub mod Spelled
-pub mod FaultLine
+pub mod TextFlaw
+pub mod TextFault

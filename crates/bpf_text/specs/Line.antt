@@ -10,9 +10,9 @@ use Rattle.bpf_insn.specs.declared.instruction.Insn.TheVariants as insn
 use Rattle.bpf_insn.specs.declared.instruction.JumpDistance.TheVariants as distance
 use Rattle.bpf_text.specs.declared.form.Form.{Form}
 use Rattle.bpf_text.specs.declared.form.Form.TheVariants.{Alu, MoveSignExtended, Negate, ByteSwap, JumpIf, Jump, LongJump, Call, Exit, Load, StoreImmediate, Store, WideLoad}
-use Rattle.bpf_text.specs.declared.fault.LineFault.{LineFault}
-use Rattle.bpf_text.specs.declared.fault.LineFault.TheVariants.{Syntax, UnknownMnemonic}
-use Rattle.bpf_text.specs.Words.{content_of, first_word, after_word, is_mnemonic_byte, is_label, cut_operand}
+use Rattle.bpf_text.specs.declared.fault.TextFlaw.{TextFlaw}
+use Rattle.bpf_text.specs.declared.fault.TextFlaw.TheVariants.{Syntax, UnknownMnemonic}
+use Rattle.bpf_text.specs.Words.{content_of, first_word, after_word, is_mnemonic_byte, is_label, split_operand}
 use Rattle.bpf_text.specs.Number.{and_then, immediate_in, wide_in, limit_of_16_bits, limit_of_32_bits}
 use Rattle.bpf_text.specs.Mnemonic.{form_named}
 use Rattle.bpf_text.specs.Operand.{both, register_in, destination_of, source_in, memory_in, target_in}
@@ -24,26 +24,26 @@ pub data Statement : Type 0 where
   Instruction : (insn : Insn) (target : Option (List ℕ)) → Statement
 
 -- an instruction that names no label
-abbrev pub plain : Insn → Result Statement LineFault
+abbrev pub plain : Insn → Result Statement TextFlaw
 plain insn = Ok (Instruction insn None)
 
 -- an instruction that writes its first operand
-abbrev pub writing : Register → (WritableRegister → Insn) → Result Statement LineFault
+abbrev pub writing : Register → (WritableRegister → Insn) → Result Statement TextFlaw
 writing register insn = and_then (destination_of register) (λ destination. plain (insn destination))
 
 -- two operands, or three
-abbrev pub with_two : {A B : Type 0} → (List ℕ → Result A LineFault) → (List ℕ → Result B LineFault) → Option (List ℕ × List ℕ) → Result (A × B) LineFault
+abbrev pub with_two : {A B : Type 0} → (List ℕ → Result A TextFlaw) → (List ℕ → Result B TextFlaw) → Option (List ℕ × List ℕ) → Result (A × B) TextFlaw
 with_two left right (Some parts) = both (left parts.0) (right parts.1)
 with_two left right None = Err Syntax
 
-abbrev pub two : {A B : Type 0} → (List ℕ → Result A LineFault) → (List ℕ → Result B LineFault) → List ℕ → Result (A × B) LineFault
-two left right operands = with_two left right (cut_operand operands)
+abbrev pub two : {A B : Type 0} → (List ℕ → Result A TextFlaw) → (List ℕ → Result B TextFlaw) → List ℕ → Result (A × B) TextFlaw
+two left right operands = with_two left right (split_operand operands)
 
 -- `rD, rS` or `rD, imm`
-abbrev pub register_and_source : List ℕ → Result (Register × Source) LineFault
+abbrev pub register_and_source : List ℕ → Result (Register × Source) TextFlaw
 register_and_source operands = two register_in source_in operands
 
-abbrev pub comparands_and_target : List ℕ → Result (Register × (Source × (ℤ × Option (List ℕ)))) LineFault
+abbrev pub comparands_and_target : List ℕ → Result (Register × (Source × (ℤ × Option (List ℕ)))) TextFlaw
 comparands_and_target operands = two register_in (two source_in (target_in limit_of_16_bits)) operands
 
 -- the two halves of a wide load's number
@@ -54,7 +54,7 @@ abbrev pub high_half : ℕ → ℤ
 high_half number = cast_signed w32 (number / 2 ^ 32)
 
 -- What a form and its operands mean: one line for each row of the instruction table.
-abbrev pub instruction_in : Form → List ℕ → Result Statement LineFault
+abbrev pub instruction_in : Form → List ℕ → Result Statement TextFlaw
 instruction_in (Alu operation width) operands =
     and_then (register_and_source operands) (λ read. writing read.0 (λ destination. insn.Alu operation width destination read.1))
 instruction_in (MoveSignExtended extension) operands =
@@ -82,23 +82,23 @@ instruction_in WideLoad operands =
     and_then (two register_in wide_in operands) (λ read. writing read.0 (λ destination. insn.WideLoad destination (low_half read.1) (high_half read.1)))
 
 -- a mnemonic with its operands
-abbrev pub instruction_with : Option Form → List ℕ → Result Statement LineFault
+abbrev pub instruction_with : Option Form → List ℕ → Result Statement TextFlaw
 instruction_with (Some form) operands = instruction_in form operands
 instruction_with None operands = Err UnknownMnemonic
 
-abbrev pub instruction_of : List ℕ → Result Statement LineFault
+abbrev pub instruction_of : List ℕ → Result Statement TextFlaw
 instruction_of content =
     if list_all is_mnemonic_byte (first_word content) then instruction_with (form_named (first_word content)) (after_word content) else Err Syntax
 
-abbrev pub label_of : List ℕ → Result Statement LineFault
+abbrev pub label_of : List ℕ → Result Statement TextFlaw
 label_of name = if is_label name then Ok (Label name) else Err Syntax
 
 -- what ends in a colon is a label, or else an error
-abbrev pub statement_of : List ℕ → Result Statement LineFault
+abbrev pub statement_of : List ℕ → Result Statement TextFlaw
 statement_of content =
     if length content == 0 then Ok Blank
     else (if slice_index content (length content - 1) == 58 then label_of (take (length content - 1) content) else instruction_of content)
 
 -- a line, without its end
-abbrev pub statement_in : List ℕ → Result Statement LineFault
+abbrev pub statement_in : List ℕ → Result Statement TextFlaw
 statement_in line = statement_of (content_of line)

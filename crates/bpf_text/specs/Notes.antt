@@ -7,13 +7,13 @@ use Rattle.std.specs.Ordering.{nat_cmp}
 use Rattle.std.specs.Str.Lines.{lines}
 use Rattle.bpf_insn.specs.declared.instruction.Insn.{Insn}
 use Rattle.bpf_text.specs.declared.assembler.Item.{Item}
-use Rattle.bpf_text.specs.declared.fault.LineFault.{LineFault}
+use Rattle.bpf_text.specs.declared.fault.TextFlaw.{TextFlaw}
 use Rattle.bpf_text.specs.declared.fault.TextFault.{TextFault}
 use Rattle.bpf_text.specs.declared.fault.TextFault.TheVariants.{InLine, Memory}
 use Rattle.bpf_text.specs.Line.{Statement, statement_in}
 use Rattle.bpf_text.specs.View.{name_view}
 use Rattle.bpf_text.specs.Text as text
-use Rattle.bpf_text.specs.Text.{words_of, label_place, items_from, fault_after, refusal_after, FaultlessAfter, HasFirstFaultAt, HasStatements, placed}
+use Rattle.bpf_text.specs.Text.{words_of, label_place, items_from, fault_after, refusal_after, FaultlessAfter, HasFirstFaultAt, HasStatements, resolve}
 
 abbrev pub item_view : Item → text.Item
 item_view item = text.item item.line item.place item.insn (name_view item.target)
@@ -25,21 +25,21 @@ pub record AreNotesOf (items : List Item) (labels : List ℕ → Option ℕ) (wo
   pub words_are : words ≡ words_of statements
 
 -- a fault of a line after statements, or want of memory
-abbrev pub IsRefusal : ℕ → Option LineFault → TextFault → Type 0
-IsRefusal line refused fault = (fault ≡ Memory) ⊎ ((why : LineFault) × (refused ≡ Some why) × (fault ≡ InLine line why))
+abbrev pub IsRefusal : ℕ → Option TextFlaw → TextFault → Type 0
+IsRefusal line refused fault = (fault ≡ Memory) ⊎ ((why : TextFlaw) × (refused ≡ Some why) × (fault ≡ InLine line why))
 
 -- an item's instruction was added, or it has a fault
-abbrev pub PlacesItem : List Statement → Item → List Insn → List Insn → Result (Unit {0}) TextFault → Type 0
-PlacesItem statements item old new result = MatchResult result
-    (λ _. (insn : Insn) × (placed statements (item_view item) ≡ Ok insn) × (new ≡ old ++ insn ∷ []))
-    (λ fault. (fault ≡ Memory) ⊎ ((why : LineFault) × (placed statements (item_view item) ≡ Err why) × (fault ≡ InLine item.line why)))
+abbrev pub PushesItem : List Statement → Item → List Insn → List Insn → Result (Unit {0}) TextFault → Type 0
+PushesItem statements item old new result = MatchResult result
+    (λ _. (insn : Insn) × (resolve statements (item_view item) ≡ Ok insn) × (new ≡ old ++ insn ∷ []))
+    (λ fault. (fault ≡ Memory) ⊎ ((why : TextFlaw) × (resolve statements (item_view item) ≡ Err why) × (fault ≡ InLine item.line why)))
 
 -- the places of labels, by name
 abbrev pub places_in : BTreeMap (Bor (List ℕ)) ℕ → List ℕ → Option ℕ
 places_in labels name = get_by (λ key. slice_cmp nat_cmp name key.now) labels
 
 -- One line more: its statement is noted behind those before it, or it's refused.
-abbrev pub NotesLine : List Statement → Result Statement LineFault → ℕ → List Item → (List ℕ → Option ℕ) → ℕ → Result (Unit {0}) TextFault → Type 0
+abbrev pub NotesLine : List Statement → Result Statement TextFlaw → ℕ → List Item → (List ℕ → Option ℕ) → ℕ → Result (Unit {0}) TextFault → Type 0
 NotesLine before meaning line items labels words result = MatchResult result
     (λ _. (statement : Statement) × (meaning ≡ Ok statement) × (fault_after before statement ≡ None) × AreNotesOf items labels words (before ++ statement ∷ []))
     (λ fault. IsRefusal line (refusal_after before meaning) fault)

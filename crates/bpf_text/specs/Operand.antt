@@ -7,18 +7,18 @@ use Rattle.bpf_insn.specs.declared.register.Register.{Register}
 use Rattle.bpf_insn.specs.declared.register.WritableRegister.{WritableRegister}
 use Rattle.bpf_insn.specs.declared.instruction.Source.{Source}
 use Rattle.bpf_insn.specs.declared.instruction.Source.TheVariants as source
-use Rattle.bpf_text.specs.declared.fault.LineFault.{LineFault}
-use Rattle.bpf_text.specs.declared.fault.LineFault.TheVariants.{Syntax, NumberRange, WritesFramePointer}
+use Rattle.bpf_text.specs.declared.fault.TextFlaw.{TextFlaw}
+use Rattle.bpf_text.specs.declared.fault.TextFlaw.TheVariants.{Syntax, NumberRange, WritesFramePointer}
 use Rattle.bpf_text.specs.declared.operand.TheConstants.{REGISTER_NAMES}
 use Rattle.bpf_text.specs.Words.{is_sign, is_label}
 use Rattle.bpf_text.specs.Number.{and_then, signed_in, immediate_in, limit_of_16_bits}
 
 -- two operands: a fault of either one's form comes before a fault of a number's range
-abbrev pub form_first : LineFault → LineFault → LineFault
+abbrev pub form_first : TextFlaw → TextFlaw → TextFlaw
 form_first NumberRange other = other
 form_first fault other = fault
 
-abbrev pub both : {A B : Type 0} → Result A LineFault → Result B LineFault → Result (A × B) LineFault
+abbrev pub both : {A B : Type 0} → Result A TextFlaw → Result B TextFlaw → Result (A × B) TextFlaw
 both (Ok left) (Ok right) = Ok (left, right)
 both (Ok left) (Err fault) = Err fault
 both (Err fault) (Ok right) = Err fault
@@ -28,8 +28,8 @@ both (Err fault) (Err other) = Err (form_first fault other)
 abbrev pub register_names : List (List ℕ)
 register_names = map (λ name. name.now) REGISTER_NAMES
 
-abbrev pub register_text : ℕ → List ℕ
-register_text number = slice_index_or register_names number []
+abbrev pub register_name : ℕ → List ℕ
+register_name number = slice_index_or register_names number []
 
 abbrev pub register_number : List ℕ → Option ℕ
 register_number word = position (λ name. bytes_eq name.now word) REGISTER_NAMES
@@ -55,42 +55,42 @@ option_and_then next (Some value) = next value
 option_and_then next None = None
 
 -- a value, or else this fault
-abbrev pub or_fault : {A : Type 0} → LineFault → Option A → Result A LineFault
+abbrev pub or_fault : {A : Type 0} → TextFlaw → Option A → Result A TextFlaw
 or_fault fault (Some value) = Ok value
 or_fault fault None = Err fault
 
 abbrev pub register_named : List ℕ → Option Register
 register_named word = option_and_then register_at (register_number word)
 
-abbrev pub register_in : List ℕ → Result Register LineFault
+abbrev pub register_in : List ℕ → Result Register TextFlaw
 register_in word = or_fault Syntax (register_named word)
 
 -- a register that an instruction writes
-abbrev pub destination_of : Register → Result WritableRegister LineFault
+abbrev pub destination_of : Register → Result WritableRegister TextFlaw
 destination_of register = or_fault WritesFramePointer (writable_at register.number)
 
 -- a register, or else an immediate
-abbrev pub source_with : Option Register → List ℕ → Result Source LineFault
+abbrev pub source_with : Option Register → List ℕ → Result Source TextFlaw
 source_with (Some register) word = Ok (source.Register register)
 source_with None word = and_then (immediate_in word) (λ value. Ok (source.Immediate value))
 
-abbrev pub source_in : List ℕ → Result Source LineFault
+abbrev pub source_in : List ℕ → Result Source TextFlaw
 source_in word = source_with (register_named word) word
 
 -- `[rB]`, `[rB+N]` and `[rB-N]`: a base register and an offset
-abbrev pub offset_in : List ℕ → Result ℤ LineFault
+abbrev pub offset_in : List ℕ → Result ℤ TextFlaw
 offset_in text = if length text == 0 then Ok (pos 0) else signed_in limit_of_16_bits text
 
-abbrev pub address_in : List ℕ → Result (Register × ℤ) LineFault
+abbrev pub address_in : List ℕ → Result (Register × ℤ) TextFlaw
 address_in text = both (register_in (before_first is_sign text)) (offset_in (drop (position_or_len is_sign text) text))
 
 -- it stands in brackets
 abbrev pub is_bracketed : List ℕ → Bool
 is_bracketed word = nat_le 2 (length word) && slice_index word 0 == 91 && slice_index word (length word - 1) == 93
 
-abbrev pub memory_in : List ℕ → Result (Register × ℤ) LineFault
+abbrev pub memory_in : List ℕ → Result (Register × ℤ) TextFlaw
 memory_in word = if is_bracketed word then address_in (slice_range word 1 (length word - 1)) else Err Syntax
 
 -- where a jump goes: a distance, or 0 and the label that will say it
-abbrev pub target_in : ℕ → List ℕ → Result (ℤ × Option (List ℕ)) LineFault
+abbrev pub target_in : ℕ → List ℕ → Result (ℤ × Option (List ℕ)) TextFlaw
 target_in limit word = if is_label word then Ok (pos 0, Some word) else and_then (signed_in limit word) (λ distance. Ok (distance, None))

@@ -15,7 +15,7 @@ use Rattle.bpf_text.specs.declared.form.Form.TheVariants.{Alu, MoveSignExtended,
 use Rattle.bpf_text.specs.Line.{Instruction, statement_in}
 use Rattle.bpf_text.specs.Mnemonic.{name_of}
 use Rattle.bpf_text.specs.Number.{IsWithin, limit_of_16_bits, limit_of_32_bits}
-use Rattle.bpf_text.specs.Operand.{register_text}
+use Rattle.bpf_text.specs.Operand.{register_name}
 
 -- a number with its sign
 abbrev pub signed_text : ℤ → List ℕ
@@ -23,12 +23,12 @@ signed_text (pos amount) = 43 ∷ decimal amount
 signed_text (negsuc less) = 45 ∷ decimal (suc less)
 
 abbrev pub source_text : Source → List ℕ
-source_text (source.Register register) = register_text register.number
+source_text (source.Register register) = register_name register.number
 source_text (source.Immediate value) = signed_decimal value
 
 -- `[rB+N]`
 abbrev pub memory_text : Register → ℤ → List ℕ
-memory_text base offset = 91 ∷ register_text base.number ++ signed_text offset ++ codes "]"
+memory_text base offset = 91 ∷ register_name base.number ++ signed_text offset ++ codes "]"
 
 -- so many hexadecimal digits, the highest first
 unfoldable pub hexadecimal : ℕ → ℕ → List ℕ
@@ -65,19 +65,19 @@ abbrev pub three : List ℕ → List ℕ → List ℕ → List ℕ
 three first second third = 32 ∷ first ++ codes ", " ++ second ++ codes ", " ++ third
 
 abbrev pub operands_text : Insn → List ℕ
-operands_text (insn.Alu operation width destination source) = two (register_text destination.number) (source_text source)
-operands_text (insn.MoveSignExtended extension destination source) = two (register_text destination.number) (register_text source.number)
-operands_text (insn.Negate width destination) = one (register_text destination.number)
-operands_text (insn.ByteSwap order width destination) = one (register_text destination.number)
-operands_text (insn.JumpIf condition width left right offset) = three (register_text left.number) (source_text right) (signed_text offset)
+operands_text (insn.Alu operation width destination source) = two (register_name destination.number) (source_text source)
+operands_text (insn.MoveSignExtended extension destination source) = two (register_name destination.number) (register_name source.number)
+operands_text (insn.Negate width destination) = one (register_name destination.number)
+operands_text (insn.ByteSwap order width destination) = one (register_name destination.number)
+operands_text (insn.JumpIf condition width left right offset) = three (register_name left.number) (source_text right) (signed_text offset)
 operands_text (insn.Jump (distance.Short offset)) = one (signed_text offset)
 operands_text (insn.Jump (distance.Long offset)) = one (signed_text offset)
 operands_text (insn.Call helper) = one (signed_decimal helper)
 operands_text insn.Exit = []
-operands_text (insn.Load format destination base offset) = two (register_text destination.number) (memory_text base offset)
+operands_text (insn.Load format destination base offset) = two (register_name destination.number) (memory_text base offset)
 operands_text (insn.StoreImmediate size base offset value) = two (memory_text base offset) (signed_decimal value)
-operands_text (insn.Store size base offset source) = two (memory_text base offset) (register_text source.number)
-operands_text (insn.WideLoad destination value next) = two (register_text destination.number) (wide_text (wide_number_of value next))
+operands_text (insn.Store size base offset source) = two (memory_text base offset) (register_name source.number)
+operands_text (insn.WideLoad destination value next) = two (register_name destination.number) (wide_text (wide_number_of value next))
 
 -- an instruction's line, without its end
 abbrev pub line_text : Insn → List ℕ

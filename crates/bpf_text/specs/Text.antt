@@ -7,8 +7,8 @@ use Rattle.bpf_insn.specs.declared.code.TheConstants.{WORD_LIMIT}
 use Rattle.bpf_insn.specs.declared.instruction.Insn.{Insn}
 use Rattle.bpf_insn.specs.declared.instruction.Insn.TheVariants.{JumpIf, Jump}
 use Rattle.bpf_insn.specs.declared.instruction.JumpDistance.TheVariants.{Short, Long}
-use Rattle.bpf_text.specs.declared.fault.LineFault.{LineFault}
-use Rattle.bpf_text.specs.declared.fault.LineFault.TheVariants.{DoubleLabel, TooLong, NoInstruction, UnknownLabel, LabelTooFar}
+use Rattle.bpf_text.specs.declared.fault.TextFlaw.{TextFlaw}
+use Rattle.bpf_text.specs.declared.fault.TextFlaw.TheVariants.{DoubleLabel, TooLong, NoInstruction, UnknownLabel, LabelTooFar}
 use Rattle.bpf_text.specs.declared.fault.TextFault.{TextFault}
 use Rattle.bpf_text.specs.declared.fault.TextFault.TheVariants.{InLine, Memory}
 use Rattle.bpf_text.specs.Line.{Statement, Blank, Label, Instruction, statement_in}
@@ -31,7 +31,7 @@ abbrev pub label_place : List ℕ → List Statement → Option ℕ
 label_place name statements = label_from 0 name statements
 
 -- the fault of a statement after others: a label stands once, and a program has up to WORD_LIMIT words
-abbrev pub fault_after : List Statement → Statement → Option LineFault
+abbrev pub fault_after : List Statement → Statement → Option TextFlaw
 fault_after before Blank = None
 fault_after before (Label name) = if is_some (label_place name before) then Some DoubleLabel else None
 fault_after before (Instruction insn target) = if nat_lt WORD_LIMIT (words_of before + length (spelling insn)) then Some TooLong else None
@@ -74,30 +74,30 @@ at_distance distance insn = Some insn
 
 -- An instruction whose label's place is looked up among the statements. The distance counts from the word after the jump, which takes
 -- one word.
-abbrev pub jump_by : Option Insn → Result Insn LineFault
+abbrev pub jump_by : Option Insn → Result Insn TextFlaw
 jump_by (Some insn) = Ok insn
 jump_by None = Err LabelTooFar
 
-abbrev pub jump_to : ℕ → Insn → Option ℕ → Result Insn LineFault
+abbrev pub jump_to : ℕ → Insn → Option ℕ → Result Insn TextFlaw
 jump_to place insn (Some target) = jump_by (at_distance (pos target -ℤ pos (place + 1)) insn)
 jump_to place insn None = Err UnknownLabel
 
-abbrev pub placed_at : List Statement → ℕ → Insn → Option (List ℕ) → Result Insn LineFault
-placed_at statements place insn None = Ok insn
-placed_at statements place insn (Some name) = jump_to place insn (label_place name statements)
+abbrev pub resolve_at : List Statement → ℕ → Insn → Option (List ℕ) → Result Insn TextFlaw
+resolve_at statements place insn None = Ok insn
+resolve_at statements place insn (Some name) = jump_to place insn (label_place name statements)
 
-abbrev pub placed : List Statement → Item → Result Insn LineFault
-placed statements item = placed_at statements item.place item.insn item.target
+abbrev pub resolve : List Statement → Item → Result Insn TextFlaw
+resolve statements item = resolve_at statements item.place item.insn item.target
 
 -- the instructions of items, or the first fault, by its line
-abbrev pub onto_code : ℕ → Result Insn LineFault → Result (List Insn) TextFault → Result (List Insn) TextFault
+abbrev pub onto_code : ℕ → Result Insn TextFlaw → Result (List Insn) TextFault → Result (List Insn) TextFault
 onto_code line (Ok insn) (Ok code) = Ok (insn ∷ code)
 onto_code line (Ok insn) (Err fault) = Err fault
 onto_code line (Err fault) code = Err (InLine line fault)
 
 abbrev pub code_from : List Statement → List Item → Result (List Insn) TextFault
 code_from statements [] = Ok []
-code_from statements (item ∷ items) = onto_code item.line (placed statements item) (code_from statements items)
+code_from statements (item ∷ items) = onto_code item.line (resolve statements item) (code_from statements items)
 
 abbrev pub code_of : List Statement → Result (List Insn) TextFault
 code_of statements = code_from statements (items_from 1 0 statements)
@@ -115,12 +115,12 @@ pub record Means (text : List ℕ) (code : List Insn) : Type 0 where
   pub some : 1 ≤ length code
 
 -- what a line is refused for after statements: it has no meaning, or its statement has a fault
-abbrev pub refusal_after : List Statement → Result Statement LineFault → Option LineFault
+abbrev pub refusal_after : List Statement → Result Statement TextFlaw → Option TextFlaw
 refusal_after before (Ok statement) = fault_after before statement
 refusal_after before (Err fault) = Some fault
 
 -- the lines before this one are statements without a fault, and this one has this fault
-pub record HasFirstFaultAt (text : List ℕ) (line : ℕ) (fault : LineFault) : Type 0 where
+pub record HasFirstFaultAt (text : List ℕ) (line : ℕ) (fault : TextFlaw) : Type 0 where
   pub before : List Statement
   pub front : List (List ℕ)
   pub faulty : List ℕ
@@ -132,12 +132,12 @@ pub record HasFirstFaultAt (text : List ℕ) (line : ℕ) (fault : LineFault) : 
   pub refused : refusal_after before (statement_in faulty) ≡ Some fault
 
 -- the lines are all good, and there is no instruction
-abbrev pub HasNoInstruction : List ℕ → ℕ → LineFault → Type 0
+abbrev pub HasNoInstruction : List ℕ → ℕ → TextFlaw → Type 0
 HasNoInstruction text line fault =
     (statements : List Statement) × HasStatements text statements × (code_of statements ≡ Ok []) × (line ≡ 1) × (fault ≡ NoInstruction)
 
 -- the lines are all good, and this is the first one whose label has no place, or one too far away
-abbrev pub HasBadTarget : List ℕ → ℕ → LineFault → Type 0
+abbrev pub HasBadTarget : List ℕ → ℕ → TextFlaw → Type 0
 HasBadTarget text line fault =
     (statements : List Statement) × HasStatements text statements × (code_of statements ≡ Err (InLine line fault))
 

@@ -18,24 +18,24 @@ abbrev pub is_sign : ℕ → Bool
 is_sign byte = byte == 43 || byte == 45
 
 -- the bytes from the first one on that is no blank and no tab
-abbrev pub without_blanks_before : List ℕ → List ℕ
-without_blanks_before [] = []
-without_blanks_before (byte ∷ bytes) = if is_blank byte then without_blanks_before bytes else byte ∷ bytes
+abbrev pub trim_start : List ℕ → List ℕ
+trim_start [] = []
+trim_start (byte ∷ bytes) = if is_blank byte then trim_start bytes else byte ∷ bytes
 
 -- the bytes without the blanks and tabs at both ends
-abbrev pub trimmed : List ℕ → List ℕ
-trimmed bytes = reverse (without_blanks_before (reverse (without_blanks_before bytes)))
+abbrev pub trim : List ℕ → List ℕ
+trim bytes = reverse (trim_start (reverse (trim_start bytes)))
 
 -- what a line holds: a semicolon begins a comment
 abbrev pub content_of : List ℕ → List ℕ
-content_of line = trimmed (before_first is_semicolon line)
+content_of line = trim (before_first is_semicolon line)
 
 -- the first word, and what follows it
 abbrev pub first_word : List ℕ → List ℕ
 first_word content = before_first is_blank content
 
 abbrev pub after_word : List ℕ → List ℕ
-after_word content = trimmed (after_first is_blank content)
+after_word content = trim (after_first is_blank content)
 
 -- a mnemonic is made of small letters, digits and underscores
 abbrev pub is_mnemonic_byte : ℕ → Bool
@@ -50,6 +50,6 @@ is_label name =
     nat_le 1 (length name) && nat_le (length name) 32 && not (is_ascii_digit (slice_index name 0)) && list_all is_label_byte name
 
 -- the operand before the first comma, and what follows it
-abbrev pub cut_operand : List ℕ → Option (List ℕ × List ℕ)
-cut_operand operands =
-    if nat_lt (position_or_len is_comma operands) (length operands) then Some (trimmed (before_first is_comma operands), trimmed (after_first is_comma operands)) else None
+abbrev pub split_operand : List ℕ → Option (List ℕ × List ℕ)
+split_operand operands =
+    if nat_lt (position_or_len is_comma operands) (length operands) then Some (trim (before_first is_comma operands), trim (after_first is_comma operands)) else None

@@ -1,14 +1,14 @@
 //! Text to code, in two passes: the first one finds the places of labels.
-ghost use Rattle.std.specs.Prelude.{◌≡◌, ◌<◌, ◌≤◌, ◌+◌, ◌-ℤ◌, ◌⊎◌, ℕ, pos, suc, List, [], ◌∷◌, ◌==◌, length, Ok, Err, IfOk, IfErr, IfSome, MatchResult};
+ghost use Rattle.std.specs.Prelude.{◌≡◌, ◌≢◌, IsErrAnd, ◌<◌, ◌≤◌, ◌+◌, ◌-ℤ◌, ◌⊎◌, ℕ, pos, suc, List, [], ◌∷◌, ◌==◌, length, Ok, Err, IfOk, IfErr, IfSome, MatchResult};
 ghost use Rattle.std.specs.List.{position};
 ghost use Rattle.std.specs.Str.Lines.{lines, strip_carriage_return};
 ghost use Rattle.bpf_insn.specs.declared.instruction.Insn.{Insn};
 ghost use Rattle.bpf_text.specs.Line.{Statement as Meaning, Label, Instruction, statement_in};
 ghost use Rattle.bpf_text.specs.View.{name_view};
-ghost use Rattle.bpf_text.specs.Text.{Means, IsFirstFault, at_distance, placed, code_of, label_place};
-ghost use Rattle.bpf_text.specs.Notes.{item_view, AreNotesOf, places_in, NotesLine, HasNotes, ReadsNotes, PlacesItem};
+ghost use Rattle.bpf_text.specs.Text.{Means, IsFirstFault, at_distance, resolve, code_of, label_place};
+ghost use Rattle.bpf_text.specs.Notes.{item_view, AreNotesOf, places_in, NotesLine, HasNotes, ReadsNotes, PushesItem};
 
-use crate::fault::{LineFault, TextFault};
+use crate::fault::{TextFault, TextFlaw};
 use crate::line::Statement;
 use bpf_insn::{Code, CodeBuilder, Insn, JumpDistance, WORD_LIMIT};
 use std::alloc::Allocator;
@@ -40,12 +40,18 @@ struct Notes<'a, A: Allocator> {
 pub fn assemble<A: Allocator + Copy>(alloc: A, text: &str) -> Result<Code<A>, TextFault>
     ensures ok { IfOk result (λ code. Means text.now code) }
     ensures err { IfErr result (IsFirstFault text.now) }
+
+    // A text that means a code is refused for memory alone, and means no other code.
     ensures only { (code : List Insn) → Means text.now code → MatchResult result (λ given. given ≡ code) (λ fault. fault ≡ TextFault.Memory) }
+
+    // A text that has a first fault is refused, with it or for memory.
+    ensures refused { (fault : TextFault) → IsFirstFault text.now fault → fault ≢ TextFault.Memory
+        → IsErrAnd result (λ given. (given ≡ fault) ⊎ (given ≡ TextFault.Memory)) }
 {
-    assembled(alloc, text.as_bytes())
+    assemble_bytes(alloc, text.as_bytes())
 }
 
-fn assembled<A: Allocator + Copy>(alloc: A, text: &[u8]) -> Result<Code<A>, TextFault>
+fn assemble_bytes<A: Allocator + Copy>(alloc: A, text: &[u8]) -> Result<Code<A>, TextFault>
     ensures { MatchResult result (Means text.now) (IsFirstFault text.now) }
 {
     let notes = Notes::read(alloc, text)?;
@@ -54,7 +60,7 @@ fn assembled<A: Allocator + Copy>(alloc: A, text: &[u8]) -> Result<Code<A>, Text
         Ok(code) => Ok(code),
         Err(_) => Err(TextFault::InLine {
             line: 1,
-            fault: LineFault::NoInstruction,
+            flaw: TextFlaw::NoInstruction,
         }),
     }
 }
@@ -105,9 +111,7 @@ impl<'a, A: Allocator + Copy> Notes<'a, A> {
             let (line, after) = first_line(rest);
             rest = after;
             number += 1;
-            if let Err(fault) = notes.add(number, line) {
-                return Err(fault);
-            }
+            notes.add(number, line)?;
         }
         Ok(notes)
     }
@@ -125,10 +129,7 @@ impl<'a, A: Allocator + Copy> Notes<'a, A> {
             Ok(Statement::Instruction { insn, target }) => {
                 self.add_instruction(number, insn, target)
             }
-            Err(fault) => Err(TextFault::InLine {
-                line: number,
-                fault,
-            }),
+            Err(flaw) => Err(TextFault::InLine { line: number, flaw }),
         }
     }
 
@@ -141,7 +142,7 @@ impl<'a, A: Allocator + Copy> Notes<'a, A> {
         if self.labels.contains_key(&name) {
             return Err(TextFault::InLine {
                 line,
-                fault: LineFault::DoubleLabel,
+                flaw: TextFlaw::DoubleLabel,
             });
         }
         self.labels.insert(name, self.words as u32)?;
@@ -163,7 +164,7 @@ impl<'a, A: Allocator + Copy> Notes<'a, A> {
         if WORD_LIMIT - self.words < words {
             return Err(TextFault::InLine {
                 line,
-                fault: LineFault::TooLong,
+                flaw: TextFlaw::TooLong,
             });
         }
         let place = self.words as u32;
@@ -184,9 +185,7 @@ impl<'a, A: Allocator + Copy> Notes<'a, A> {
     {
         let mut builder = CodeBuilder::new(alloc);
         for item in &self.items {
-            if let Err(fault) = self.push(&mut builder, *item) {
-                return Err(fault);
-            }
+            self.push(&mut builder, *item)?;
         }
         Ok(builder)
     }
@@ -194,35 +193,35 @@ impl<'a, A: Allocator + Copy> Notes<'a, A> {
     /// Adds an item's instruction.
     fn push(&self, builder: &mut CodeBuilder<A>, item: Item<'a>) -> Result<(), TextFault>
         ensures { (statements : List Meaning) → ((name : List ℕ) → places_in self.now.labels name ≡ label_place name statements)
-            → PlacesItem statements item.entry builder.old builder.new result }
+            → PushesItem statements item.entry builder.old builder.new result }
     {
-        match self.placed(item) {
+        match self.resolve(item) {
             // The first pass has seen that the words are few enough, so only memory can be wanting.
             Ok(insn) => match builder.push(insn) {
                 Ok(()) => Ok(()),
                 Err(_) => Err(TextFault::Memory),
             },
-            Err(fault) => Err(TextFault::InLine {
+            Err(flaw) => Err(TextFault::InLine {
                 line: item.line,
-                fault,
+                flaw,
             }),
         }
     }
 
     /// An item's instruction, with its distance.
-    fn placed(&self, item: Item<'a>) -> Result<Insn, LineFault>
+    fn resolve(&self, item: Item<'a>) -> Result<Insn, TextFlaw>
         ensures { (statements : List Meaning) → ((name : List ℕ) → places_in self.now.labels name ≡ label_place name statements)
-            → result ≡ placed statements (item_view item.entry) }
+            → result ≡ resolve statements (item_view item.entry) }
     {
         let Some(name) = item.target else {
             return Ok(item.insn);
         };
         let Some(target) = self.labels.get(&name) else {
-            return Err(LineFault::UnknownLabel);
+            return Err(TextFlaw::UnknownLabel);
         };
         match at_distance(distance(item.place, *target), item.insn) {
             Some(insn) => Ok(insn),
-            None => Err(LineFault::LabelTooFar),
+            None => Err(TextFlaw::LabelTooFar),
         }
     }
 }

@@ -5,7 +5,7 @@ ghost use Rattle.std.specs.Fmt.{signed_decimal};
 ghost use Rattle.std.specs.String.{string_bytes};
 ghost use Rattle.bpf_insn.specs.Arithmetic.{wide_number_of};
 ghost use Rattle.bpf_text.specs.Number.{IsWithin, limit_of_16_bits, limit_of_32_bits};
-ghost use Rattle.bpf_text.specs.Operand.{register_text};
+ghost use Rattle.bpf_text.specs.Operand.{register_name};
 ghost use Rattle.bpf_text.specs.Text.{Means};
 ghost use Rattle.bpf_text.specs.Spelled.{text_of, line_text, operands_text, form_of, signed_text, source_text, memory_text, wide_text, hexadecimal, one, two, three, NumbersFit, SourceFits};
 
@@ -130,7 +130,7 @@ fn push_alu<A: Allocator>(
     destination: WritableRegister,
     source: Source,
 ) -> Result<(), AllocError>
-    ensures text { OnOk result (string_bytes text.new ≡ string_bytes text.old ++ two (register_text destination.number) (source_text source)) }
+    ensures text { OnOk result (string_bytes text.new ≡ string_bytes text.old ++ two (register_name destination.number) (source_text source)) }
     ensures fits { OnOk result (SourceFits source) }
 {
     push_destination(text, destination)?;
@@ -144,7 +144,7 @@ fn push_comparison<A: Allocator>(
     right: Source,
     offset: i16,
 ) -> Result<(), AllocError>
-    ensures text { OnOk result (string_bytes text.new ≡ string_bytes text.old ++ three (register_text left.number) (source_text right) (signed_text offset)) }
+    ensures text { OnOk result (string_bytes text.new ≡ string_bytes text.old ++ three (register_name left.number) (source_text right) (signed_text offset)) }
     ensures fits { OnOk result (SourceFits right × IsWithin limit_of_16_bits offset) }
 {
     text.push_str(" ")?;
@@ -184,7 +184,7 @@ fn push_load<A: Allocator>(
     base: Register,
     offset: i16,
 ) -> Result<(), AllocError>
-    ensures text { OnOk result (string_bytes text.new ≡ string_bytes text.old ++ two (register_text destination.number) (memory_text base offset)) }
+    ensures text { OnOk result (string_bytes text.new ≡ string_bytes text.old ++ two (register_name destination.number) (memory_text base offset)) }
     ensures fits { OnOk result (IsWithin limit_of_16_bits offset) }
 {
     push_destination(text, destination)?;
@@ -214,7 +214,7 @@ fn push_wide_load<A: Allocator>(
     next_immediate: i32,
 ) -> Result<(), AllocError>
     ensures text { OnOk result (string_bytes text.new ≡ string_bytes text.old
-        ++ two (register_text destination.number) (wide_text (wide_number_of immediate next_immediate))) }
+        ++ two (register_name destination.number) (wide_text (wide_number_of immediate next_immediate))) }
     ensures fits { OnOk result (IsWithin limit_of_32_bits immediate × IsWithin limit_of_32_bits next_immediate) }
 {
     push_destination(text, destination)?;
@@ -227,7 +227,7 @@ fn push_destination<A: Allocator>(
     text: &mut String<A>,
     destination: WritableRegister,
 ) -> Result<(), AllocError>
-    ensures { OnOk result (string_bytes text.new ≡ string_bytes text.old ++ one (register_text destination.number)) }
+    ensures { OnOk result (string_bytes text.new ≡ string_bytes text.old ++ one (register_name destination.number)) }
 {
     let number = destination.number;
     text.push_str(" ")?;

@@ -1,16 +1,18 @@
-ghost use Rattle.std.specs.Prelude.{◌≡◌, ◌+◌, ◌++◌, ◌≤◌, length, decimal};
+//! Why program text is refused.
+ghost use Rattle.std.specs.Prelude.{◌≡◌, ◌≤◌, length};
 ghost use Rattle.bpf_text.specs.declared.fault.TextFault.TheVariants.{Memory};
-ghost use Rattle.bpf_text.specs.FaultLine.{fault_line, at_line};
+ghost use Rattle.bpf_text.specs.TextFlaw as text_flaw;
+ghost use Rattle.bpf_text.specs.TextFault as text_fault;
 
 use arrayvec::ArrayString;
-use itoa::Buffer;
+use bpf_insn::{CodeFault, WordFault, refusal_line, refusal_line_at};
 use std::alloc::{AllocError, AllocFailed};
 use thiserror::Error;
 
 /// What is wrong with a line of program text. The derived text is for people; the refusal's text is
 /// `TextFault::line`.
 #[derive(Clone, Copy, Debug, PartialEq, Eq, Error)]
-pub enum LineFault {
+pub enum TextFlaw {
     #[error("no label, and no mnemonic with its operands")]
     Syntax,
     #[error("no mnemonic has this name")]
@@ -34,11 +36,11 @@ pub enum LineFault {
 /// Why text is no program, or that memory was wanting.
 #[derive(Clone, Copy, Debug, PartialEq, Eq, Error)]
 pub enum TextFault {
-    #[error("line {line}: {fault}")]
+    #[error("line {line}: {flaw}")]
     InLine {
         /// The line, counted from 1.
         line: usize,
-        fault: LineFault,
+        flaw: TextFlaw,
     },
     #[error("out of memory")]
     Memory,
@@ -60,47 +62,87 @@ impl<T: Drop> From<AllocFailed<T>> for TextFault {
     }
 }
 
-impl TextFault {
-    /// The refusal's line of text, as `refused 21 line 2 UnknownMnemonic`, without an end of line. It
-    /// takes no memory.
-    pub fn line(&self) -> ArrayString<64>
-        ensures { result.bytes ≡ fault_line self.now }
+impl TextFlaw {
+    pub fn number(self) -> u8
+        ensures { result ≡ text_flaw.number self }
     {
-        match *self {
-            TextFault::InLine { line, fault } => line_of(line, fault),
-            TextFault::Memory => {
-                let mut text = ArrayString::new();
-                text.push_str("refused memory");
-                text
-            }
+        match self {
+            TextFlaw::Syntax => 20,
+            TextFlaw::UnknownMnemonic => 21,
+            TextFlaw::NumberRange => 22,
+            TextFlaw::UnknownLabel => 23,
+            TextFlaw::DoubleLabel => 24,
+            TextFlaw::LabelTooFar => 25,
+            TextFlaw::NoInstruction | TextFlaw::TooLong | TextFlaw::WritesFramePointer => 26,
+        }
+    }
+
+    pub fn name(self) -> &'static str
+        ensures value { result.now ≡ text_flaw.name self }
+        ensures short { length result.now ≤ 18 }
+    {
+        match self {
+            TextFlaw::Syntax => "Syntax",
+            TextFlaw::UnknownMnemonic => "UnknownMnemonic",
+            TextFlaw::NumberRange => "NumberRange",
+            TextFlaw::UnknownLabel => "UnknownLabel",
+            TextFlaw::DoubleLabel => "DoubleLabel",
+            TextFlaw::LabelTooFar => "LabelTooFar",
+            TextFlaw::NoInstruction | TextFlaw::TooLong | TextFlaw::WritesFramePointer =>
+                "CodeFault",
+        }
+    }
+
+    /// The number of the code's fault, where the flaw is one of the code that the text gives.
+    pub fn detail(self) -> Option<u8>
+        ensures { result ≡ text_flaw.detail self }
+    {
+        match self {
+            TextFlaw::NoInstruction => CodeFault::Empty.number(),
+            TextFlaw::TooLong => CodeFault::TooLong.number(),
+            TextFlaw::WritesFramePointer => Some(WordFault::WritesFramePointer.number()),
+            _ => None,
         }
     }
 }
 
-fn line_of(line: usize, fault: LineFault) -> ArrayString<64>
-    ensures { result.bytes ≡ fault_line (TextFault.InLine line fault) }
-{
-    match fault {
-        LineFault::Syntax => at_line("refused 20 line ", line, " Syntax"),
-        LineFault::UnknownMnemonic => at_line("refused 21 line ", line, " UnknownMnemonic"),
-        LineFault::NumberRange => at_line("refused 22 line ", line, " NumberRange"),
-        LineFault::UnknownLabel => at_line("refused 23 line ", line, " UnknownLabel"),
-        LineFault::DoubleLabel => at_line("refused 24 line ", line, " DoubleLabel"),
-        LineFault::LabelTooFar => at_line("refused 25 line ", line, " LabelTooFar"),
-        LineFault::NoInstruction => at_line("refused 26 line ", line, " CodeFault(10)"),
-        LineFault::TooLong => at_line("refused 26 line ", line, " CodeFault(12)"),
-        LineFault::WritesFramePointer => at_line("refused 26 line ", line, " CodeFault(18)"),
+impl TextFault {
+    /// None for want of memory.
+    pub fn number(&self) -> Option<u8>
+        ensures { result ≡ text_fault.number self.now }
+    {
+        match *self {
+            TextFault::InLine { flaw, .. } => Some(flaw.number()),
+            TextFault::Memory => None,
+        }
     }
-}
 
-fn at_line(head: &str, line: usize, name: &str) -> ArrayString<64>
-    requires { length head.now + length name.now ≤ 44 }
-    ensures { result.bytes ≡ at_line head.now line name.now }
-{
-    let mut digits = Buffer::new();
-    let mut text = ArrayString::new();
-    text.push_str(head);
-    text.push_str(digits.format(line));
-    text.push_str(name);
-    text
+    pub fn name(&self) -> &'static str
+        ensures value { result.now ≡ text_fault.name self.now }
+        ensures short { length result.now ≤ 18 }
+    {
+        match *self {
+            TextFault::InLine { flaw, .. } => flaw.name(),
+            TextFault::Memory => CodeFault::Memory.name(),
+        }
+    }
+
+    /// The refusal's line of text, as `refused 21 line 2 UnknownMnemonic`, without an end of line. It
+    /// takes no memory.
+    pub fn line(&self) -> ArrayString<64>
+        ensures { result.bytes ≡ text_fault.line self.now }
+    {
+        match *self {
+            TextFault::InLine { line, flaw } => {
+                refusal_line_at(
+                    flaw.number(),
+                    "line",
+                    line as u64,
+                    flaw.name(),
+                    flaw.detail(),
+                )
+            }
+            TextFault::Memory => refusal_line(None, self.name()),
+        }
+    }
 }

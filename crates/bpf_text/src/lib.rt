@@ -15,4 +15,4 @@ mod words;
 
 pub use assembler::assemble;
 pub use disassembler::disassemble;
-pub use fault::{LineFault, TextFault};
+pub use fault::{TextFault, TextFlaw};

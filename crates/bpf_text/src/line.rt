@@ -1,16 +1,18 @@
 //! What a line means.
 ghost use Rattle.std.specs.Prelude.{◌≡◌};
-ghost use Rattle.bpf_text.specs.Words.{cut_operand};
+ghost use Rattle.bpf_text.specs.Words.{split_operand};
 ghost use Rattle.bpf_text.specs.Operand.{or_fault, register_in, memory_in, source_in, target_in};
 ghost use Rattle.bpf_text.specs.Number.{immediate_in, wide_in, limit_of_16_bits};
 ghost use Rattle.bpf_text.specs.Line.{instruction_in, instruction_of, label_of, statement_in, two, plain, low_half, high_half};
 ghost use Rattle.bpf_text.specs.View.{statement_view, comparand_view, parts_view};
 
-use crate::fault::LineFault;
+use crate::fault::TextFlaw;
 use crate::form::Form;
-use crate::number::{immediate, wide};
-use crate::operand::{both, destination, memory, register, source, target_16, target_32};
-use crate::words::{content, is_label, is_mnemonic, split_operand, split_word};
+use crate::number::{immediate_in, wide_in};
+use crate::operand::{
+    both, destination_of, memory_in, register_in, source_in, target_16, target_32,
+};
+use crate::words::{content_of, is_label, is_mnemonic, split_operand, split_word};
 use bpf_insn::{
     ByteOrder, Condition, Insn, JumpDistance, LoadFormat, Operation, Register, SignExtension,
     Source, StoreSize, SwapWidth, Width,
@@ -29,45 +31,45 @@ pub(crate) enum Statement<'a> {
 
 impl<'a> Statement<'a> {
     /// What a line means, without its end.
-    pub(crate) fn read(line: &'a [u8]) -> Result<Statement<'a>, LineFault>
+    pub(crate) fn read(line: &'a [u8]) -> Result<Statement<'a>, TextFlaw>
         ensures { statement_view result ≡ statement_in line.now }
     {
-        let content = content(line);
+        let content = content_of(line);
         if content.is_empty() {
             return Ok(Statement::Blank);
         }
         let last = content.len() - 1;
         if content[last] == b':' {
-            return label(&content[..last]);
+            return label_of(&content[..last]);
         }
-        instruction(content)
+        instruction_of(content)
     }
 }
 
-fn label(name: &[u8]) -> Result<Statement<'_>, LineFault>
+fn label_of(name: &[u8]) -> Result<Statement<'_>, TextFlaw>
     ensures { statement_view result ≡ label_of name.now }
 {
     if is_label(name) {
         Ok(Statement::Label(name))
     } else {
-        Err(LineFault::Syntax)
+        Err(TextFlaw::Syntax)
     }
 }
 
-fn instruction(content: &[u8]) -> Result<Statement<'_>, LineFault>
+fn instruction_of(content: &[u8]) -> Result<Statement<'_>, TextFlaw>
     ensures { statement_view result ≡ instruction_of content.now }
 {
     let (word, operands) = split_word(content);
     if !is_mnemonic(word) {
-        return Err(LineFault::Syntax);
+        return Err(TextFlaw::Syntax);
     }
     match Form::named(word) {
-        Some(form) => with_operands(form, operands),
-        None => Err(LineFault::UnknownMnemonic),
+        Some(form) => instruction_in(form, operands),
+        None => Err(TextFlaw::UnknownMnemonic),
     }
 }
 
-fn with_operands(form: Form, operands: &[u8]) -> Result<Statement<'_>, LineFault>
+fn instruction_in(form: Form, operands: &[u8]) -> Result<Statement<'_>, TextFlaw>
     ensures { statement_view result ≡ instruction_in form operands.now }
 {
     match form {
@@ -88,28 +90,28 @@ fn with_operands(form: Form, operands: &[u8]) -> Result<Statement<'_>, LineFault
 }
 
 /// An instruction that names no label.
-fn plain<'a>(insn: Insn) -> Result<Statement<'a>, LineFault>
+fn plain<'a>(insn: Insn) -> Result<Statement<'a>, TextFlaw>
     ensures { statement_view result ≡ plain insn }
 {
     Ok(Statement::Instruction { insn, target: None })
 }
 
 /// The operands on both sides of the first comma.
-fn split(operands: &[u8]) -> Result<(&[u8], &[u8]), LineFault>
-    ensures { parts_view result ≡ or_fault LineFault.Syntax (cut_operand operands.now) }
+fn split(operands: &[u8]) -> Result<(&[u8], &[u8]), TextFlaw>
+    ensures { parts_view result ≡ or_fault TextFlaw.Syntax (split_operand operands.now) }
 {
     match split_operand(operands) {
         Some(parts) => Ok(parts),
-        None => Err(LineFault::Syntax),
+        None => Err(TextFlaw::Syntax),
     }
 }
 
-fn alu(operation: Operation, width: Width, operands: &[u8]) -> Result<Statement<'_>, LineFault>
+fn alu(operation: Operation, width: Width, operands: &[u8]) -> Result<Statement<'_>, TextFlaw>
     ensures { statement_view result ≡ instruction_in (Form.Alu operation width) operands.now }
 {
     let (left, right) = split(operands)?;
-    let (register, source) = both(register(left), source(right))?;
-    let destination = destination(register)?;
+    let (register, source) = both(register_in(left), source_in(right))?;
+    let destination = destination_of(register)?;
     plain(Insn::Alu {
         operation,
         width,
@@ -118,12 +120,12 @@ fn alu(operation: Operation, width: Width, operands: &[u8]) -> Result<Statement<
     })
 }
 
-fn move_sign_extended(extension: SignExtension, operands: &[u8]) -> Result<Statement<'_>, LineFault>
+fn move_sign_extended(extension: SignExtension, operands: &[u8]) -> Result<Statement<'_>, TextFlaw>
     ensures { statement_view result ≡ instruction_in (Form.MoveSignExtended extension) operands.now }
 {
     let (left, right) = split(operands)?;
-    let (register, source) = both(register(left), register(right))?;
-    let destination = destination(register)?;
+    let (register, source) = both(register_in(left), register_in(right))?;
+    let destination = destination_of(register)?;
     plain(Insn::MoveSignExtended {
         extension,
         destination,
@@ -131,23 +133,19 @@ fn move_sign_extended(extension: SignExtension, operands: &[u8]) -> Result<State
     })
 }
 
-fn negate(width: Width, operands: &[u8]) -> Result<Statement<'_>, LineFault>
+fn negate(width: Width, operands: &[u8]) -> Result<Statement<'_>, TextFlaw>
     ensures { statement_view result ≡ instruction_in (Form.Negate width) operands.now }
 {
-    let register = register(operands)?;
-    let destination = destination(register)?;
+    let register = register_in(operands)?;
+    let destination = destination_of(register)?;
     plain(Insn::Negate { width, destination })
 }
 
-fn byte_swap(
-    order: ByteOrder,
-    width: SwapWidth,
-    operands: &[u8],
-) -> Result<Statement<'_>, LineFault>
+fn byte_swap(order: ByteOrder, width: SwapWidth, operands: &[u8]) -> Result<Statement<'_>, TextFlaw>
     ensures { statement_view result ≡ instruction_in (Form.ByteSwap order width) operands.now }
 {
-    let register = register(operands)?;
-    let destination = destination(register)?;
+    let register = register_in(operands)?;
+    let destination = destination_of(register)?;
     plain(Insn::ByteSwap {
         order,
         width,
@@ -156,18 +154,18 @@ fn byte_swap(
 }
 
 /// The second operand of a comparison, and the target.
-fn source_and_target(operands: &[u8]) -> Result<(Source, (i16, Option<&[u8]>)), LineFault>
+fn source_and_target(operands: &[u8]) -> Result<(Source, (i16, Option<&[u8]>)), TextFlaw>
     ensures { comparand_view result ≡ two source_in (target_in limit_of_16_bits) operands.now }
 {
     let (left, right) = split(operands)?;
-    both(source(left), target_16(right))
+    both(source_in(left), target_16(right))
 }
 
-fn jump_if(condition: Condition, width: Width, operands: &[u8]) -> Result<Statement<'_>, LineFault>
+fn jump_if(condition: Condition, width: Width, operands: &[u8]) -> Result<Statement<'_>, TextFlaw>
     ensures { statement_view result ≡ instruction_in (Form.JumpIf condition width) operands.now }
 {
     let (left, rest) = split(operands)?;
-    let (left, (right, (offset, target))) = both(register(left), source_and_target(rest))?;
+    let (left, (right, (offset, target))) = both(register_in(left), source_and_target(rest))?;
     Ok(Statement::Instruction {
         insn: Insn::JumpIf {
             condition,
@@ -180,7 +178,7 @@ fn jump_if(condition: Condition, width: Width, operands: &[u8]) -> Result<Statem
     })
 }
 
-fn jump(operands: &[u8]) -> Result<Statement<'_>, LineFault>
+fn jump(operands: &[u8]) -> Result<Statement<'_>, TextFlaw>
     ensures { statement_view result ≡ instruction_in Form.Jump operands.now }
 {
     let (distance, target) = target_16(operands)?;
@@ -188,7 +186,7 @@ fn jump(operands: &[u8]) -> Result<Statement<'_>, LineFault>
     Ok(Statement::Instruction { insn, target })
 }
 
-fn long_jump(operands: &[u8]) -> Result<Statement<'_>, LineFault>
+fn long_jump(operands: &[u8]) -> Result<Statement<'_>, TextFlaw>
     ensures { statement_view result ≡ instruction_in Form.LongJump operands.now }
 {
     let (distance, target) = target_32(operands)?;
@@ -196,48 +194,48 @@ fn long_jump(operands: &[u8]) -> Result<Statement<'_>, LineFault>
     Ok(Statement::Instruction { insn, target })
 }
 
-fn call(operands: &[u8]) -> Result<Statement<'_>, LineFault>
+fn call(operands: &[u8]) -> Result<Statement<'_>, TextFlaw>
     ensures { statement_view result ≡ instruction_in Form.Call operands.now }
 {
-    let immediate = immediate(operands)?;
+    let immediate = immediate_in(operands)?;
     plain(Insn::Call { immediate })
 }
 
-fn exit(operands: &[u8]) -> Result<Statement<'_>, LineFault>
+fn exit(operands: &[u8]) -> Result<Statement<'_>, TextFlaw>
     ensures { statement_view result ≡ instruction_in Form.Exit operands.now }
 {
     if !operands.is_empty() {
-        return Err(LineFault::Syntax);
+        return Err(TextFlaw::Syntax);
     }
     plain(Insn::Exit)
 }
 
-fn register_and_memory(operands: &[u8]) -> Result<(Register, (Register, i16)), LineFault>
+fn register_and_memory(operands: &[u8]) -> Result<(Register, (Register, i16)), TextFlaw>
     ensures { result ≡ two register_in memory_in operands.now }
 {
     let (left, right) = split(operands)?;
-    both(register(left), memory(right))
+    both(register_in(left), memory_in(right))
 }
 
-fn memory_and_immediate(operands: &[u8]) -> Result<((Register, i16), i32), LineFault>
+fn memory_and_immediate(operands: &[u8]) -> Result<((Register, i16), i32), TextFlaw>
     ensures { result ≡ two memory_in immediate_in operands.now }
 {
     let (left, right) = split(operands)?;
-    both(memory(left), immediate(right))
+    both(memory_in(left), immediate_in(right))
 }
 
-fn register_and_wide(operands: &[u8]) -> Result<(Register, u64), LineFault>
+fn register_and_wide(operands: &[u8]) -> Result<(Register, u64), TextFlaw>
     ensures { result ≡ two register_in wide_in operands.now }
 {
     let (left, right) = split(operands)?;
-    both(register(left), wide(right))
+    both(register_in(left), wide_in(right))
 }
 
-fn load(format: LoadFormat, operands: &[u8]) -> Result<Statement<'_>, LineFault>
+fn load(format: LoadFormat, operands: &[u8]) -> Result<Statement<'_>, TextFlaw>
     ensures { statement_view result ≡ instruction_in (Form.Load format) operands.now }
 {
     let (register, (base, offset)) = register_and_memory(operands)?;
-    let destination = destination(register)?;
+    let destination = destination_of(register)?;
     plain(Insn::Load {
         format,
         destination,
@@ -246,7 +244,7 @@ fn load(format: LoadFormat, operands: &[u8]) -> Result<Statement<'_>, LineFault>
     })
 }
 
-fn store_immediate(size: StoreSize, operands: &[u8]) -> Result<Statement<'_>, LineFault>
+fn store_immediate(size: StoreSize, operands: &[u8]) -> Result<Statement<'_>, TextFlaw>
     ensures { statement_view result ≡ instruction_in (Form.StoreImmediate size) operands.now }
 {
     let ((base, offset), immediate) = memory_and_immediate(operands)?;
@@ -258,11 +256,11 @@ fn store_immediate(size: StoreSize, operands: &[u8]) -> Result<Statement<'_>, Li
     })
 }
 
-fn store(size: StoreSize, operands: &[u8]) -> Result<Statement<'_>, LineFault>
+fn store(size: StoreSize, operands: &[u8]) -> Result<Statement<'_>, TextFlaw>
     ensures { statement_view result ≡ instruction_in (Form.Store size) operands.now }
 {
     let (left, right) = split(operands)?;
-    let ((base, offset), source) = both(memory(left), register(right))?;
+    let ((base, offset), source) = both(memory_in(left), register_in(right))?;
     plain(Insn::Store {
         size,
         base,
@@ -271,11 +269,11 @@ fn store(size: StoreSize, operands: &[u8]) -> Result<Statement<'_>, LineFault>
     })
 }
 
-fn wide_load(operands: &[u8]) -> Result<Statement<'_>, LineFault>
+fn wide_load(operands: &[u8]) -> Result<Statement<'_>, TextFlaw>
     ensures { statement_view result ≡ instruction_in Form.WideLoad operands.now }
 {
     let (register, number) = register_and_wide(operands)?;
-    let destination = destination(register)?;
+    let destination = destination_of(register)?;
     plain(Insn::WideLoad {
         destination,
         immediate: low_half(number),

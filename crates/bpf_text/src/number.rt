@@ -1,10 +1,8 @@
 //! Numbers.
-ghost use Rattle.std.specs.Prelude.{◌≡◌, ◌≤◌, ◌<◌, ◌^◌, IfOk, length};
-ghost use Rattle.std.specs.Int.{w16, w32};
-ghost use Rattle.std.specs.Int.RustNames.{FitsSigned};
-ghost use Rattle.bpf_text.specs.Number.{IsWithin, number_in, decimal_in, positive, negative, signed_in, is_hexadecimal, immediate_in, wide_in, limit_of_16_bits, limit_of_32_bits};
+ghost use Rattle.std.specs.Prelude.{◌≡◌, ◌≤◌, ◌<◌, ◌^◌, IfOk};
+ghost use Rattle.bpf_text.specs.Number.{IsWithin, number_in, decimal_in, positive, negative, signed_in, immediate_in, wide_in, limit_of_16_bits, limit_of_32_bits};
 
-use crate::fault::LineFault;
+use crate::fault::TextFlaw;
 
 /// The least number that 16 bits in two's complement don't have.
 pub(crate) const LIMIT_OF_16_BITS: u64 = 1 << 15;
@@ -12,32 +10,32 @@ pub(crate) const LIMIT_OF_16_BITS: u64 = 1 << 15;
 pub(crate) const LIMIT_OF_32_BITS: u64 = 1 << 31;
 
 /// The number that digits write, of which there are one or more, up to a number of them.
-fn number(digits: &[u8], radix: u32, most: usize) -> Result<u128, LineFault>
+fn number_in(digits: &[u8], radix: u32, most: usize) -> Result<u128, TextFlaw>
     requires radixes { (2 ≤ radix) × (radix ≤ 16) }
     requires few { most ≤ 20 }
     ensures value { result ≡ number_in radix most digits.now }
     ensures small { IfOk result (λ number. number < radix ^ most) }
 {
     if digits.is_empty() || digits.len() > most {
-        return Err(LineFault::Syntax);
+        return Err(TextFlaw::Syntax);
     }
     let mut number = 0u128;
     for byte in digits {
         let Some(digit) = (*byte as char).to_digit(radix) else {
-            return Err(LineFault::Syntax);
+            return Err(TextFlaw::Syntax);
         };
         number = number * u128::from(radix) + u128::from(digit);
     }
     Ok(number)
 }
 
-fn decimal(digits: &[u8]) -> Result<u128, LineFault>
+fn decimal_in(digits: &[u8]) -> Result<u128, TextFlaw>
     ensures { result ≡ decimal_in digits.now }
 {
-    number(digits, 10, 20)
+    number_in(digits, 10, 20)
 }
 
-fn positive(amount: u128, limit: u64) -> Result<i32, LineFault>
+fn positive(amount: u128, limit: u64) -> Result<i32, TextFlaw>
     requires { limit ≤ 2 ^ 31 }
     ensures value { result ≡ positive limit amount }
     ensures within { IfOk result (λ value. IsWithin limit value) }
@@ -45,11 +43,11 @@ fn positive(amount: u128, limit: u64) -> Result<i32, LineFault>
     if amount < u128::from(limit) {
         Ok(amount as i32)
     } else {
-        Err(LineFault::NumberRange)
+        Err(TextFlaw::NumberRange)
     }
 }
 
-fn negative(amount: u128, limit: u64) -> Result<i32, LineFault>
+fn negative(amount: u128, limit: u64) -> Result<i32, TextFlaw>
     requires { (0 < limit) × (limit ≤ 2 ^ 31) }
     ensures value { result ≡ negative limit amount }
     ensures within { IfOk result (λ value. IsWithin limit value) }
@@ -57,59 +55,59 @@ fn negative(amount: u128, limit: u64) -> Result<i32, LineFault>
     if amount <= u128::from(limit) {
         Ok(-(amount as i64) as i32)
     } else {
-        Err(LineFault::NumberRange)
+        Err(TextFlaw::NumberRange)
     }
 }
 
 /// A decimal number with its sign, as two's complement below the limit has it.
-fn signed(text: &[u8], limit: u64) -> Result<i32, LineFault>
+fn signed_in(text: &[u8], limit: u64) -> Result<i32, TextFlaw>
     requires { (0 < limit) × (limit ≤ 2 ^ 31) }
     ensures value { result ≡ signed_in limit text.now }
     ensures within { IfOk result (λ value. IsWithin limit value) }
 {
     match text {
-        [b'+', digits @ ..] => positive(decimal(digits)?, limit),
-        [b'-', digits @ ..] => negative(decimal(digits)?, limit),
-        _ => Err(LineFault::Syntax),
+        [b'+', digits @ ..] => positive(decimal_in(digits)?, limit),
+        [b'-', digits @ ..] => negative(decimal_in(digits)?, limit),
+        _ => Err(TextFlaw::Syntax),
     }
 }
 
 /// A decimal number of 16 bits with its sign.
-pub(crate) fn signed_16(text: &[u8]) -> Result<i16, LineFault>
+pub(crate) fn signed_16(text: &[u8]) -> Result<i16, TextFlaw>
     ensures { result ≡ signed_in limit_of_16_bits text.now }
 {
-    Ok(signed(text, LIMIT_OF_16_BITS)? as i16)
+    Ok(signed_in(text, LIMIT_OF_16_BITS)? as i16)
 }
 
 /// A decimal number of 32 bits with its sign.
-pub(crate) fn signed_32(text: &[u8]) -> Result<i32, LineFault>
+pub(crate) fn signed_32(text: &[u8]) -> Result<i32, TextFlaw>
     ensures { result ≡ signed_in limit_of_32_bits text.now }
 {
-    signed(text, LIMIT_OF_32_BITS)
+    signed_in(text, LIMIT_OF_32_BITS)
 }
 
 /// The 32 bits of an immediate.
-pub(crate) fn immediate(text: &[u8]) -> Result<i32, LineFault>
+pub(crate) fn immediate_in(text: &[u8]) -> Result<i32, TextFlaw>
     ensures { result ≡ immediate_in text.now }
 {
     match text {
-        [b'0', b'x', digits @ ..] => Ok((number(digits, 16, 8)? as u32).cast_signed()),
-        [b'-', digits @ ..] => negative(decimal(digits)?, LIMIT_OF_32_BITS),
-        _ => positive(decimal(text)?, LIMIT_OF_32_BITS),
+        [b'0', b'x', digits @ ..] => Ok((number_in(digits, 16, 8)? as u32).cast_signed()),
+        [b'-', digits @ ..] => negative(decimal_in(digits)?, LIMIT_OF_32_BITS),
+        _ => positive(decimal_in(text)?, LIMIT_OF_32_BITS),
     }
 }
 
 /// The number of a wide load.
-pub(crate) fn wide(text: &[u8]) -> Result<u64, LineFault>
+pub(crate) fn wide_in(text: &[u8]) -> Result<u64, TextFlaw>
     ensures { result ≡ wide_in text.now }
 {
     if let [b'0', b'x', digits @ ..] = text {
-        return Ok(number(digits, 16, 16)? as u64);
+        return Ok(number_in(digits, 16, 16)? as u64);
     }
-    let number = decimal(text)?;
+    let number = decimal_in(text)?;
     if number < 1 << 64 {
         Ok(number as u64)
     } else {
-        Err(LineFault::NumberRange)
+        Err(TextFlaw::NumberRange)
     }
 }

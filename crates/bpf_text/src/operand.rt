@@ -2,12 +2,12 @@
 ghost use Rattle.std.specs.Prelude.{◌≡◌, ◌<◌, IfSome, length};
 ghost use Rattle.std.specs.List.{position};
 ghost use Rattle.std.specs.Str.{bytes_eq};
-ghost use Rattle.bpf_text.specs.Operand.{both, form_first, register_text, register_number, register_named, register_in, destination_of, source_in, offset_in, address_in, memory_in, target_in};
+ghost use Rattle.bpf_text.specs.Operand.{both, form_first, register_name, register_number, register_named, register_in, destination_of, source_in, offset_in, address_in, memory_in, target_in};
 ghost use Rattle.bpf_text.specs.Number.{limit_of_16_bits, limit_of_32_bits};
 ghost use Rattle.bpf_text.specs.View.{target_view};
 
-use crate::fault::LineFault;
-use crate::number::{immediate, signed_16, signed_32};
+use crate::fault::TextFlaw;
+use crate::number::{immediate_in, signed_16, signed_32};
 use crate::words::{find_sign, is_label};
 use bpf_insn::{Register, Source, WritableRegister};
 
@@ -16,31 +16,31 @@ const REGISTER_NAMES: [&str; 11] = [
     "r0", "r1", "r2", "r3", "r4", "r5", "r6", "r7", "r8", "r9", "r10",
 ];
 
-/// Two operands: a fault of either one's form comes before a fault of a number's range.
+/// Two operands: a flaw of either one's form comes before one of a number's range.
 pub(crate) fn both<T: Copy, U: Copy>(
-    left: Result<T, LineFault>,
-    right: Result<U, LineFault>,
-) -> Result<(T, U), LineFault>
+    left: Result<T, TextFlaw>,
+    right: Result<U, TextFlaw>,
+) -> Result<(T, U), TextFlaw>
     ensures { result ≡ both left right }
 {
     match left {
         Ok(left) => match right {
             Ok(right) => Ok((left, right)),
-            Err(fault) => Err(fault),
+            Err(flaw) => Err(flaw),
         },
-        Err(fault) => match right {
-            Ok(_) => Err(fault),
-            Err(other) => Err(form_first(fault, other)),
+        Err(flaw) => match right {
+            Ok(_) => Err(flaw),
+            Err(other) => Err(form_first(flaw, other)),
         },
     }
 }
 
-fn form_first(fault: LineFault, other: LineFault) -> LineFault
-    ensures { result ≡ form_first fault other }
+fn form_first(flaw: TextFlaw, other: TextFlaw) -> TextFlaw
+    ensures { result ≡ form_first flaw other }
 {
-    match fault {
-        LineFault::NumberRange => other,
-        _ => fault,
+    match flaw {
+        TextFlaw::NumberRange => other,
+        _ => flaw,
     }
 }
 
@@ -61,7 +61,7 @@ fn index_of(names: &[&str], word: &[u8]) -> Option<usize>
 
 /// A register's name.
 pub(crate) fn register_name(register: Register) -> &'static str
-    ensures { result.now ≡ register_text register.number }
+    ensures { result.now ≡ register_name register.number }
 {
     REGISTER_NAMES[usize::from(register.number)]
 }
@@ -75,38 +75,38 @@ fn register_named(word: &[u8]) -> Option<Register>
 }
 
 /// A register.
-pub(crate) fn register(word: &[u8]) -> Result<Register, LineFault>
+pub(crate) fn register_in(word: &[u8]) -> Result<Register, TextFlaw>
     ensures { result ≡ register_in word.now }
 {
     match register_named(word) {
         Some(register) => Ok(register),
-        None => Err(LineFault::Syntax),
+        None => Err(TextFlaw::Syntax),
     }
 }
 
 /// A register that an instruction writes.
-pub(crate) fn destination(register: Register) -> Result<WritableRegister, LineFault>
+pub(crate) fn destination_of(register: Register) -> Result<WritableRegister, TextFlaw>
     ensures { result ≡ destination_of register }
 {
     let number = register.number;
     if number > 9 {
-        return Err(LineFault::WritesFramePointer);
+        return Err(TextFlaw::WritesFramePointer);
     }
     Ok(WritableRegister { number })
 }
 
 /// A register, or else an immediate.
-pub(crate) fn source(word: &[u8]) -> Result<Source, LineFault>
+pub(crate) fn source_in(word: &[u8]) -> Result<Source, TextFlaw>
     ensures { result ≡ source_in word.now }
 {
     match register_named(word) {
         Some(register) => Ok(Source::Register(register)),
-        None => Ok(Source::Immediate(immediate(word)?)),
+        None => Ok(Source::Immediate(immediate_in(word)?)),
     }
 }
 
 /// An offset, which may be left out.
-fn offset(text: &[u8]) -> Result<i16, LineFault>
+fn offset_in(text: &[u8]) -> Result<i16, TextFlaw>
     ensures { result ≡ offset_in text.now }
 {
     if text.is_empty() {
@@ -116,27 +116,27 @@ fn offset(text: &[u8]) -> Result<i16, LineFault>
 }
 
 /// A base register and an offset.
-fn address(text: &[u8]) -> Result<(Register, i16), LineFault>
+fn address_in(text: &[u8]) -> Result<(Register, i16), TextFlaw>
     ensures { result ≡ address_in text.now }
 {
     match find_sign(text) {
-        Some(sign) => both(register(&text[..sign]), offset(&text[sign..])),
-        None => both(register(text), offset(&[])),
+        Some(sign) => both(register_in(&text[..sign]), offset_in(&text[sign..])),
+        None => both(register_in(text), offset_in(&[])),
     }
 }
 
 /// A base register and an offset, in brackets.
-pub(crate) fn memory(word: &[u8]) -> Result<(Register, i16), LineFault>
+pub(crate) fn memory_in(word: &[u8]) -> Result<(Register, i16), TextFlaw>
     ensures { result ≡ memory_in word.now }
 {
     match word {
-        [b'[', inner @ .., b']'] => address(inner),
-        _ => Err(LineFault::Syntax),
+        [b'[', inner @ .., b']'] => address_in(inner),
+        _ => Err(TextFlaw::Syntax),
     }
 }
 
 /// Where a jump goes: a distance, or 0 and the label that will say it.
-pub(crate) fn target_16(word: &[u8]) -> Result<(i16, Option<&[u8]>), LineFault>
+pub(crate) fn target_16(word: &[u8]) -> Result<(i16, Option<&[u8]>), TextFlaw>
     ensures { target_view result ≡ target_in limit_of_16_bits word.now }
 {
     if is_label(word) {
@@ -146,7 +146,7 @@ pub(crate) fn target_16(word: &[u8]) -> Result<(i16, Option<&[u8]>), LineFault>
 }
 
 /// The same with a distance of 32 bits.
-pub(crate) fn target_32(word: &[u8]) -> Result<(i32, Option<&[u8]>), LineFault>
+pub(crate) fn target_32(word: &[u8]) -> Result<(i32, Option<&[u8]>), TextFlaw>
     ensures { target_view result ≡ target_in limit_of_32_bits word.now }
 {
     if is_label(word) {

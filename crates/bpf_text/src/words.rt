@@ -1,7 +1,7 @@
 //! The words of a line.
 ghost use Rattle.std.specs.Prelude.{◌≡◌, ◌<◌, length, reverse, option_map, IfSome};
 ghost use Rattle.std.specs.List.{list_all, position};
-ghost use Rattle.bpf_text.specs.Words.{is_blank, is_semicolon, is_comma, is_sign, without_blanks_before, trimmed, content_of, first_word, after_word, is_mnemonic_byte, is_label_byte, is_label, cut_operand};
+ghost use Rattle.bpf_text.specs.Words.{is_blank, is_semicolon, is_comma, is_sign, trim_start, trim, content_of, first_word, after_word, is_mnemonic_byte, is_label_byte, is_label, split_operand};
 
 const LABEL_LIMIT: usize = 32;
 
@@ -12,14 +12,14 @@ fn is_blank(byte: u8) -> bool
 }
 
 /// The bytes without the blanks and tabs at both ends.
-pub(crate) fn trimmed(bytes: &[u8]) -> &[u8]
-    ensures { result.now ≡ trimmed bytes.now }
+pub(crate) fn trim(bytes: &[u8]) -> &[u8]
+    ensures { result.now ≡ trim bytes.now }
 {
-    without_trailing_blanks(without_leading_blanks(bytes))
+    trim_end(trim_start(bytes))
 }
 
-fn without_leading_blanks(bytes: &[u8]) -> &[u8]
-    ensures { result.now ≡ without_blanks_before bytes.now }
+fn trim_start(bytes: &[u8]) -> &[u8]
+    ensures { result.now ≡ trim_start bytes.now }
 {
     let mut rest = bytes;
     while let [b' ' | b'\t', after @ ..] = rest {
@@ -28,8 +28,8 @@ fn without_leading_blanks(bytes: &[u8]) -> &[u8]
     rest
 }
 
-fn without_trailing_blanks(bytes: &[u8]) -> &[u8]
-    ensures { result.now ≡ reverse (without_blanks_before (reverse bytes.now)) }
+fn trim_end(bytes: &[u8]) -> &[u8]
+    ensures { result.now ≡ reverse (trim_start (reverse bytes.now)) }
 {
     let mut rest = bytes;
     while let [before @ .., b' ' | b'\t'] = rest {
@@ -39,12 +39,12 @@ fn without_trailing_blanks(bytes: &[u8]) -> &[u8]
 }
 
 /// A line without its comment, and without blanks at its ends.
-pub(crate) fn content(line: &[u8]) -> &[u8]
+pub(crate) fn content_of(line: &[u8]) -> &[u8]
     ensures { result.now ≡ content_of line.now }
 {
     match find_semicolon(line) {
-        Some(end) => trimmed(&line[..end]),
-        None => trimmed(line),
+        Some(end) => trim(&line[..end]),
+        None => trim(line),
     }
 }
 
@@ -54,17 +54,17 @@ pub(crate) fn split_word(content: &[u8]) -> (&[u8], &[u8])
     ensures rest { result.1.now ≡ after_word content.now }
 {
     match find_blank(content) {
-        Some(end) => (&content[..end], trimmed(&content[end + 1..])),
+        Some(end) => (&content[..end], trim(&content[end + 1..])),
         None => (content, &[]),
     }
 }
 
 /// The operand before the first comma, and what follows it.
 pub(crate) fn split_operand(operands: &[u8]) -> Option<(&[u8], &[u8])>
-    ensures { option_map (λ parts. (parts.0.now, parts.1.now)) result ≡ cut_operand operands.now }
+    ensures { option_map (λ parts. (parts.0.now, parts.1.now)) result ≡ split_operand operands.now }
 {
     match find_comma(operands) {
-        Some(end) => Some((trimmed(&operands[..end]), trimmed(&operands[end + 1..]))),
+        Some(end) => Some((trim(&operands[..end]), trim(&operands[end + 1..]))),
         None => None,
     }
 }

@@ -1,5 +1,5 @@
 -- Good lines, and the extract that a safe code has of them.
-use Rattle.std.proofs.Common.{◌≡◌, ℕ, zero, suc, ◌+◌, List, [], ◌∷◌, ◌++◌, length, take, All, IfSome, Option, Some, None, Err, refl, sym, ap, ◌∙◌, subst, arith}
+use Rattle.std.proofs.Common.{◌≡◌, ℕ, zero, suc, ◌+◌, List, [], ◌∷◌, ◌++◌, length, take, All, IfSome, Option, Some, None, Err, inl, refl, ap, ◌∙◌, subst, arith}
 use Rattle.std.proofs.lemmas.List.{take-map}
 use Rattle.std.proofs.lemmas.List.Elements.{recursion_from_All, All-from_recursion}
 use Rattle.std.proofs.lemmas.Bool.Decides.{nat_tests}
@@ -9,19 +9,18 @@ use Rattle.bpf_insn.specs.declared.instruction.Insn.{Insn}
 use Rattle.bpf_meaning.specs.Segment.{Contents, IsSegment}
 use Rattle.bpf_meaning.specs.Run.{IsSafe}
 use Rattle.bpf_meaning.specs.Extract.{IsExtract, row_if_chosen, chosen_count}
-use Rattle.extract.specs.Lines.{type1_fault, IsGoodLine, AreLines, AreFirstLines}
-use Rattle.extract.specs.Segments.{AreSegmentsOf, ComesAfterGood, BeginsWith, IsFirstFault, segments_of}
-use Rattle.extract.specs.Rows.{AppendsBeginning, WritesExtract}
-use Rattle.extract.specs.Faults.{of_segments, of_write}
-use Rattle.extract.specs.Extracting.{IsSafeProgram, HasBegun, StopsWithin, IsLineRefusal, IsWriteRefusal, IsFaultAfter, HasLineNumber, line_of}
-use Rattle.extract.specs.declared.lines.LineFault.{LineFault}
-use Rattle.extract.specs.declared.lines.LineFault.TheVariants as line_fault
-use Rattle.extract.specs.declared.fault.ExtractFault.{ExtractFault}
-use Rattle.extract.specs.declared.fault.ExtractFault.TheVariants.{Rt1}
-use Rattle.extract.specs.declared.segments.SegmentsFault.{SegmentsFault}
-use Rattle.extract.specs.declared.segments.SegmentsFault.TheVariants as segments_fault
-use Rattle.extract.specs.declared.rows.WriteFault.{WriteFault}
-use Rattle.extract.specs.declared.rows.WriteFault.TheVariants as write_fault
+use Rattle.tl_fields.specs.Device.{Reader, Writer}
+use Rattle.tl_fields.specs.declared.writing.WriteFault.{WriteFault}
+use Rattle.extract.specs.Lines.{type1_flaw, IsGoodLine, AreLines, AreFirstLines}
+use Rattle.extract.specs.Segments.{LoadsSegments, BeginsWith, IsLoadFault, segments_of}
+use Rattle.extract.specs.Rows.{WritesExtract}
+use Rattle.extract.specs.ExtractFault.{of_load}
+use Rattle.extract.specs.Extracting.{HasBegun, IsOutcome}
+use Rattle.extract.specs.Program.{IsSafeProgram}
+use Rattle.extract.specs.declared.fault.ExtractFault.TheVariants.{Write}
+use Rattle.extract.specs.declared.load.fault.CountyFile.{CountyFile}
+use Rattle.extract.specs.declared.load.fault.LoadFault.{LoadFault}
+use Rattle.extract.specs.declared.load.fault.LoadFault.TheVariants as load_fault
 
 -- an extract with its number of rows
 record HasExtract (code : List Insn) (segments : List Contents) : Type 0 where
@@ -30,7 +29,7 @@ record HasExtract (code : List Insn) (segments : List Contents) : Type 0 where
   is_extract : IsExtract code segments text rows
 
 -- a good line has the length of a record
-good_length : (line : List ℕ) → type1_fault line ≡ None → length line ≡ 228
+good_length : (line : List ℕ) → type1_flaw line ≡ None → length line ≡ 228
 good_length line good = grind (arith, nat_tests, good)
 
 -- a safe code has an extract of good lines
@@ -57,8 +56,8 @@ has_extract code safe (line ∷ lines) good =
     }
 
 -- where nothing was written, a beginning of the extract of good lines was
-begins_with_nothing : (program : List ℕ) (code : List Insn) (lines : List (List ℕ)) (held : Option (List ℕ)) → IsSafeProgram program code → All IsGoodLine lines → HasBegun program lines held held
-begins_with_nothing program code lines held is good =
+begins_with_nothing : (program : List ℕ) (code : List Insn) (lines : List (List ℕ)) (out : Writer) → IsSafeProgram program code → All IsGoodLine lines → HasBegun program lines out out
+begins_with_nothing program code lines out is good =
     let extract = has_extract code is.safe lines (recursion_from_All IsGoodLine lines good) in
     record {
       code = code;
@@ -66,26 +65,8 @@ begins_with_nothing program code lines held is good =
       text = extract.text;
       rows = extract.rows;
       is_extract = extract.is_extract;
-      written = record { count = 0; appends = Appends-refl held };
+      written = record { count = 0; appends = Appends-refl out.held };
     }
-
--- a refusal of a line, before anything was written
-refused_before : (program : List ℕ) (code : List Insn) (file held : Option (List ℕ)) (fault : LineFault) → IsSafeProgram program code → HasLineNumber fault → ComesAfterGood file (line_of fault) (IsFaultAfter fault) → IsLineRefusal program file held held (Rt1 fault)
-refused_before program code file held fault is number before = (number, before, begins_with_nothing program code before.lines held is before.good)
-
-first_refused : (program : List ℕ) (code : List Insn) (file held : Option (List ℕ)) (failed new_failed : ℕ) (fault : LineFault) → IsSafeProgram program code → IsFirstFault file failed new_failed (segments_fault.Line fault) → IsLineRefusal program file held held (Rt1 fault)
-first_refused program code file held failed new_failed (line_fault.WrongLength line) is first = refused_before program code file held (line_fault.WrongLength line) is first.1 first.2
-first_refused program code file held failed new_failed (line_fault.WrongType line) is first = refused_before program code file held (line_fault.WrongType line) is first.1 first.2
-first_refused program code file held failed new_failed (line_fault.BadTlid line) is first = refused_before program code file held (line_fault.BadTlid line) is first.1 first.2
-first_refused program code file held failed new_failed (line_fault.Read line) is first = refused_before program code file held (line_fault.Read line) is tt first.1
-first_refused program code file held failed new_failed (line_fault.TooManyLines line) is first = refused_before program code file held (line_fault.TooManyLines line) is first.1 first.2
-
-pub line_refusal : (program : List ℕ) (code : List Insn) (file held : Option (List ℕ)) (failed new_failed : ℕ) (fault : SegmentsFault) (given : ExtractFault) → given ≡ of_segments fault → IsSafeProgram program code → IsFirstFault file failed new_failed fault → IsLineRefusal program file held held given
-line_refusal program code file held failed new_failed (segments_fault.Line fault) given e is first =
-    subst (λ (given : ExtractFault). IsLineRefusal program file held held given) (sym e)
-    (first_refused program code file held failed new_failed fault is first)
-line_refusal program code file held failed new_failed segments_fault.Memory given e is first =
-    subst (λ (given : ExtractFault). IsLineRefusal program file held held given) (sym e) tt
 
 -- the first lines of good lines
 first_are_good : (count : ℕ) (lines : List (List ℕ)) → AllByRecursion IsGoodLine lines → AllByRecursion IsGoodLine (take count lines)
@@ -104,28 +85,33 @@ first_known : (count : ℕ) (file : Option (List ℕ)) (lines : List (List ℕ))
 first_known count None lines known = tt
 first_known count (Some file) lines known = first_of_file count file lines [] known
 
--- writing stops within the extract of good lines
-stops_within : (program : List ℕ) (code : List Insn) (file held new_held : Option (List ℕ)) (segments : List Contents) (count : ℕ) (text : List ℕ) (rows : ℕ) → IsSafeProgram program code → AreSegmentsOf file segments → IsExtract code (take count segments) text rows → AppendsBeginning held new_held text → StopsWithin program file held new_held
-stops_within program code file held new_held segments count text rows is are extract written =
-    let first : take count segments ≡ segments_of (take count are.lines) = ap (λ (s : List Contents). take count s) are.same ∙ take-map (λ (line : List ℕ). let s : Contents = record { bytes = line } in s) count are.lines in (
-      take count are.lines,
-      All-from_recursion IsGoodLine (take count are.lines) (first_are_good count are.lines (recursion_from_All IsGoodLine are.lines are.good)),
-      first_known count file are.lines are.known,
-      record {
+-- the outcome where the file is refused
+pub load_outcome : (program : List ℕ) (code : List Insn) (fault : LoadFault) (rt1 rt1' : Reader) (out : Writer) → IsSafeProgram program code → IsLoadFault fault rt1 rt1' → IsOutcome program (Err (of_load fault)) rt1 rt1' out out
+load_outcome program code (load_fault.Line file line) rt1 rt1' out is refused = record {
+  line = line;
+  is_line = ap (λ (file : CountyFile). load_fault.Line file line) refused.0;
+  first = refused.1;
+  begun = begins_with_nothing program code refused.1.lines out is refused.1.good;
+  counts = refl;
+}
+load_outcome program code load_fault.Memory rt1 rt1' out is refused =
+    record { written = inl (Appends-refl out.held); counts = refl; reads = refused }
+
+-- the outcome where the writer fails
+pub write_outcome : (program : List ℕ) (code : List Insn) (segments written : List Contents) (fault : WriteFault) (rt1 rt1' : Reader) (out out' : Writer) → IsSafeProgram program code → LoadsSegments segments rt1 rt1' → written ≡ segments → WritesExtract code written (Err fault) out out' → IsOutcome program (Err (Write fault)) rt1 rt1' out out'
+write_outcome program code segments written fault rt1 rt1' out out' is loads same writes =
+    let first : take writes.0 written ≡ segments_of (take writes.0 loads.lines) = ap (λ (s : List Contents). take writes.0 s) (same ∙ loads.same) ∙ take-map (λ (line : List ℕ). let s : Contents = record { bytes = line } in s) writes.0 loads.lines in record {
+      lines = take writes.0 loads.lines;
+      good = All-from_recursion IsGoodLine (take writes.0 loads.lines) (first_are_good writes.0 loads.lines (recursion_from_All IsGoodLine loads.lines loads.good));
+      known = first_known writes.0 rt1.left loads.lines loads.known;
+      begun = record {
         code = code;
         is_program = is;
-        text = text;
-        rows = rows;
-        is_extract = subst (λ (s : List Contents). IsExtract code s text rows) first extract;
-        written = written;
-      },
-    )
-
--- a refusal of the writer
-pub write_refusal : (program : List ℕ) (code : List Insn) (file held new_held : Option (List ℕ)) (write_failed new_write_failed empty new_empty : ℕ) (segments written : List Contents) (fault : WriteFault) (given : ExtractFault) → given ≡ of_write fault → IsSafeProgram program code → AreSegmentsOf file segments → written ≡ segments → WritesExtract code written (Err fault) held new_held write_failed new_write_failed empty new_empty → IsWriteRefusal program file held new_held given
-write_refusal program code file held new_held write_failed new_write_failed empty new_empty segments written write_fault.Write given e is are same writes =
-    subst (λ (given : ExtractFault). IsWriteRefusal program file held new_held given) (sym e)
-    (stops_within program code file held new_held written writes.0 writes.1 writes.2 is (subst (λ (s : List Contents). AreSegmentsOf file s) (sym same) are) writes.3 writes.4)
-write_refusal program code file held new_held write_failed new_write_failed empty new_empty segments written write_fault.WriteZero given e is are same writes =
-    subst (λ (given : ExtractFault). IsWriteRefusal program file held new_held given) (sym e)
-    (stops_within program code file held new_held written writes.0 writes.1 writes.2 is (subst (λ (s : List Contents). AreSegmentsOf file s) (sym same) are) writes.3 writes.4)
+        text = writes.1;
+        rows = writes.2;
+        is_extract = subst (λ (s : List Contents). IsExtract code s writes.1 writes.2) first writes.3;
+        written = writes.4;
+      };
+      counts = writes.5;
+      reads = loads.reads;
+    }

@@ -3,23 +3,24 @@ use Rattle.std.proofs.Common.{◌≡◌, ◌≢◌, ℕ, ◌≤◌, inl, inr, Li
 use Rattle.std.proofs.lemmas.List.{append-nil}
 use Rattle.std.proofs.lemmas.List.Elements.{All-nil, All-push}
 use Rattle.std.specs.Io.KnownBytes.{Consumes, IsAtEnd}
+use Rattle.tl_fields.specs.Device.{Reader}
 use Rattle.tl_fields.proofs.KnownBytesLemmas.{Consumes-refl, Consumes-append}
 use Rattle.extract.specs.Lines.{HasNoLineFeed, missing, WhereKnown, IsNextLine, BeginsTooLong, FailsWithin, IsWithoutReturn}
 use Rattle.extract.proofs.LineLemmas.{ended_by_lf}
 
 -- the bytes of a line that were read so far
-pub record IsSoFar (content : List ℕ) (bytes left : Option (List ℕ)) (failures failures' : ℕ) : Type 0 where
-  pub same : failures' ≡ failures
+pub record IsSoFar (content : List ℕ) (old new : Reader) : Type 0 where
+  pub same : new.failed ≡ old.failed
   pub no_line_feed : HasNoLineFeed content
   pub short : length content ≤ 230
-  pub taken : Consumes bytes left content
+  pub taken : Consumes old.left new.left content
 
-pub none_so_far : (content : List ℕ) (bytes : Option (List ℕ)) (failures : ℕ) → content ≡ [] → IsSoFar content bytes bytes failures failures
-none_so_far content bytes failures e = rw e (record {
+pub none_so_far : (content : List ℕ) (input : Reader) → content ≡ [] → IsSoFar content input input
+none_so_far content input e = rw e (record {
   same = refl;
   no_line_feed = All-nil (λ b. b ≢ 10);
   short = omega arith;
-  taken = Consumes-refl bytes;
+  taken = Consumes-refl input.left;
 })
 
 -- one byte more that is no line feed

@@ -1,22 +1,18 @@
--- How written pieces and rows join.
-use Rattle.std.proofs.Common.{◌≡◌, ℕ, ◌+◌, ◌≤◌, ◌<◌, List, [], ◌∷◌, ◌++◌, length, take, drop, get_or, Option, refl, sym, ap, ◌∙◌, subst, arith}
+-- How written rows join.
+use Rattle.std.proofs.Common.{◌≡◌, ℕ, ◌+◌, ◌≤◌, ◌<◌, List, [], ◌∷◌, ◌++◌, length, take, get_or, Option, refl, sym, ap, ◌∙◌, subst, arith}
 use Rattle.std.proofs.lemmas.List.{append_assoc, append-nil, take_more}
 use Rattle.std.proofs.lemmas.Bool.Decides.{nat_tests}
-use Rattle.std.proofs.Math.Seq.{take-add, take-append-add}
+use Rattle.std.proofs.Math.Seq.{take-append-add}
 use Rattle.std.specs.Io.KnownBytes.{Appends}
 use Rattle.tl_fields.proofs.KnownBytesLemmas.{Appends-append}
 use Rattle.bpf_insn.specs.declared.instruction.Insn.{Insn}
 use Rattle.bpf_meaning.specs.Segment.{Contents}
 use Rattle.bpf_meaning.specs.Run.{Answers}
-use Rattle.extract.specs.Rows.{AppendsBeginning, CountsWriteFault}
-use Rattle.extract.specs.declared.rows.WriteFault.{WriteFault}
+use Rattle.tl_fields.specs.Counted.{CountsFault}
+use Rattle.tl_fields.specs.Device.{WriteCounts}
+use Rattle.tl_fields.specs.Writing.{AppendsBeginning}
+use Rattle.tl_fields.specs.declared.writing.WriteFault.{WriteFault}
 use Rattle.bpf_meaning.specs.Extract.{IsExtract, row_if_chosen, chosen_count}
-
--- a further piece was written
-pub appends_further : (old now new : Option (List ℕ)) (text rest : List ℕ) (count more : ℕ) → rest ≡ drop count text → Appends old now (take count text) → Appends now new (take more rest) → Appends old new (take (count + more) text)
-appends_further old now new text rest count more is so_far next =
-    let piece : Appends now new (take more (drop count text)) = subst (λ (xs : List ℕ). Appends now new (take more xs)) is next in
-    rw take-add (Appends-append old now new (take count text) (take more (drop count text)) so_far piece)
 
 -- a beginning of a further text was written
 pub appends_beginning_further : (old now new : Option (List ℕ)) (text more : List ℕ) → Appends old now text → AppendsBeginning now new more → AppendsBeginning old new (text ++ more)
@@ -45,10 +41,8 @@ pub chosen_count-le : (answer : ℕ) → chosen_count answer ≤ 1
 chosen_count-le answer = grind (arith, nat_tests)
 
 -- a fault after a time in which nothing failed
-pub counts_since : (fault : WriteFault) (failed failed_now new_failed empty empty_now new_empty : ℕ) → failed_now ≡ failed → empty_now ≡ empty → CountsWriteFault fault failed_now new_failed empty_now new_empty → CountsWriteFault fault failed new_failed empty new_empty
-counts_since fault failed failed_now new_failed empty empty_now new_empty same same_empty counts =
-    subst (λ (n : ℕ). CountsWriteFault fault n new_failed empty new_empty) same
-    (subst (λ (n : ℕ). CountsWriteFault fault failed_now new_failed n new_empty) same_empty counts)
+pub counts_since : (fault : WriteFault) (counts counts_now new_counts : WriteCounts) → counts_now ≡ counts → CountsFault fault counts_now new_counts → CountsFault fault counts new_counts
+counts_since fault counts counts_now new_counts same counted = subst (λ (c : WriteCounts). CountsFault fault c new_counts) same counted
 
 -- the extract of the segments so far with the next one
 pub extract_next : (code : List Insn) (segments : List Contents) (index : ℕ) (segment : Contents) (text : List ℕ) (rows more answer score : ℕ) → index < length segments → segment ≡ get_or segments index segment → more ≡ chosen_count answer → IsExtract code (take index segments) text rows → Answers code segment answer score → IsExtract code (take (index + 1) segments) (text ++ row_if_chosen answer score segment) (rows + more)

@@ -1,14 +1,15 @@
 -- Reading the segments of a file line by line, where the reader's bytes are known and where they aren't.
-use Rattle.std.proofs.Common.{◌≡◌, ◌≢◌, ℕ, ◌<◌, ◌≤◌, ◌^◌, List, [], ◌∷◌, ◌++◌, length, All, Option, Some, None, IfSome, Ok, Err, refl, sym, ap, ◌∙◌, subst, length-append, arith}
+use Rattle.std.proofs.Common.{◌≡◌, ◌≢◌, ℕ, ◌+◌, ◌<◌, ◌≤◌, ◌^◌, List, [], ◌∷◌, ◌++◌, length, All, Option, Some, None, IfSome, Ok, Err, refl, sym, ap, ◌∙◌, subst, length-append, arith}
 use Rattle.std.proofs.lemmas.List.{map-append}
 use Rattle.std.proofs.lemmas.Bool.Decides.{nat_tests}
 use Rattle.std.proofs.lemmas.List.Elements.{All-nil, All-head, All-tail, All-push}
+use Rattle.tl_fields.specs.Device.{Reader}
 use Rattle.bpf_meaning.specs.Segment.{Contents}
-use Rattle.extract.specs.Lines.{LineParts, HasNoLineFeed, IsEnded, by_lf, by_cr_lf, missing, IsFirstLine, AreFirstLines, AreLines, LineFlaw, OtherLength, OtherType, NoTlid, type1_fault, IsGoodLine, IsFaultOf, WhereKnown, IsNextLine, BeginsTooLong, FailsWithin, most_bytes, HasOneMore, IsLineRead}
-use Rattle.extract.specs.Segments.{segments_of, AreSegmentsOf, HasFlawAfter, HasMoreAfter, BeginsWith, ComesAfterGood, IsFirstFault}
-use Rattle.extract.specs.declared.lines.LineFault.{LineFault}
-use Rattle.extract.specs.declared.lines.LineFault.TheVariants.{WrongLength, WrongType, BadTlid, Read, TooManyLines}
-use Rattle.extract.specs.declared.segments.SegmentsFault.TheVariants.{Line}
+use Rattle.extract.specs.Lines.{LineParts, HasNoLineFeed, IsEnded, by_lf, by_cr_lf, missing, IsFirstLine, AreFirstLines, AreLines, type1_flaw, IsGoodLine, WhereKnown, IsNextLine, BeginsTooLong, FailsWithin, most_bytes, HasOneMore, IsLineRead, IsUnreadLine}
+use Rattle.extract.specs.Segments.{segments_of, LoadsSegments, HasFlawAfter, HasMoreAfter, BeginsWith, ComesAfter, IsFirstFault}
+use Rattle.extract.specs.declared.load.fault.LineFault.{LineFault}
+use Rattle.extract.specs.declared.load.fault.LineFlaw.{LineFlaw}
+use Rattle.extract.specs.declared.load.fault.LineFlaw.TheVariants.{WrongLength, WrongType, BadTlid, Read, TooManyLines}
 use Rattle.extract.proofs.LineLemmas.{cr_lf, has_first_line}
 
 -- what two calls say of known bytes, one after the other, says this of those before both
@@ -47,14 +48,20 @@ long_line file line rest taken after p e long (by_cr_lf f) =
 long_line file line rest taken after p e long (missing f g n) =
     omega (arith, length-append taken after, ap length (sym f ∙ e))
 
-pub other_length : (line : List ℕ) → 230 ≤ length line → type1_fault line ≡ Some OtherLength
-other_length line long = grind (arith, nat_tests)
+pub wrong_length : (line : List ℕ) → 230 ≤ length line → type1_flaw line ≡ Some WrongLength
+wrong_length line long = grind (arith, nat_tests)
+
+not_read : (line : List ℕ) → type1_flaw line ≡ Some Read → ⊥
+not_read line e = grind (arith, nat_tests, e)
+
+not_too_many : (line : List ℕ) → type1_flaw line ≡ Some TooManyLines → ⊥
+not_too_many line e = grind (arith, nat_tests, e)
 
 not_empty : (file taken rest : List ℕ) → file ≡ taken ++ rest → length taken ≡ 231 → file ≢ []
 not_empty file taken rest e long none = omega (arith, length-append taken rest, ap length (sym none ∙ e))
 
 -- a file that begins with 231 bytes without a line feed has a first line that is too long for its type
-pub too_long_after : (file mid rest : List ℕ) (lines : List (List ℕ)) → AreFirstLines file lines mid → BeginsTooLong mid rest → HasFlawAfter file lines OtherLength
+pub too_long_after : (file mid rest : List ℕ) (lines : List (List ℕ)) → AreFirstLines file lines mid → BeginsTooLong mid rest → HasFlawAfter WrongLength file lines
 too_long_after file mid rest lines before (taken, e, p, long) =
     let first = has_first_line mid (not_empty mid taken rest e long) in
     record {
@@ -63,117 +70,116 @@ too_long_after file mid rest lines before (taken, e, p, long) =
       rest = first.rest;
       before = before;
       first = first.first;
-      flawed = other_length first.line (long_line mid first.line first.rest taken rest p e long first.first.ended);
+      flawed = wrong_length first.line (long_line mid first.line first.rest taken rest p e long first.first.ended);
     }
 
 one_more_not_empty : (file rest : List ℕ) → HasOneMore file rest → file ≢ []
 one_more_not_empty file rest (byte, e) none = cc
 
 -- the lines that were read so far, all good, and their segments
-pub record IsReadSoFar (segments : List Contents) (line : LineParts) (bytes left : Option (List ℕ)) (failures failures' : ℕ) : Type 0 where
+pub record IsReadSoFar (segments : List Contents) (line : LineParts) (old new : Reader) : Type 0 where
   pub lines : List (List ℕ)
   pub good : All IsGoodLine lines
   pub same : segments ≡ segments_of lines
   pub counted : line.number ≡ length lines
   pub small : line.number < 2 ^ 32
-  pub unfailed : failures' ≡ failures
-  pub known : WhereKnown bytes left (λ file rest. AreFirstLines file lines rest)
+  pub unfailed : new.failed ≡ old.failed
+  pub known : WhereKnown old.left new.left (λ file rest. AreFirstLines file lines rest)
 
 known_start : (bytes : Option (List ℕ)) → WhereKnown bytes bytes (λ file rest. AreFirstLines file [] rest)
 known_start None = tt
 known_start (Some file) = refl
 
-pub none_read : (segments : List Contents) (line : LineParts) (bytes : Option (List ℕ)) (failures : ℕ) → segments ≡ [] → line.number ≡ 0 → IsReadSoFar segments line bytes bytes failures failures
-none_read segments line bytes failures none zeroth = record {
+pub none_read : (segments : List Contents) (line : LineParts) (input : Reader) → segments ≡ [] → line.number ≡ 0 → IsReadSoFar segments line input input
+none_read segments line input none zeroth = record {
   lines = [];
   good = All-nil IsGoodLine;
   same = none;
   counted = zeroth;
   small = omega arith;
   unfailed = refl;
-  known = known_start bytes;
+  known = known_start input.left;
 }
 
-module _ (segments : List Contents) (line new : LineParts) (bytes now left : Option (List ℕ)) (failures so_far failures' : ℕ) (read : IsReadSoFar segments line bytes now failures so_far) where
+module _ (segments : List Contents) (line new_line : LineParts) (old now new : Reader) (read : IsReadSoFar segments line old now) where
   -- a good line more
-  pub one_line_more : (segments' : List Contents) (done : Unit {0}) → IsLineRead line new now left so_far failures' (Ok (Some done)) → IsGoodLine new.bytes → segments' ≡ segments ++ record { bytes = new.bytes } ∷ [] → IsReadSoFar segments' new bytes left failures failures'
+  pub one_line_more : (segments' : List Contents) (done : Unit {0}) → IsLineRead line new_line now new (Ok (Some done)) → IsGoodLine new_line.bytes → segments' ≡ segments ++ record { bytes = new_line.bytes } ∷ [] → IsReadSoFar segments' new_line old new
   one_line_more segments' done next good pushed = record {
-    lines = read.lines ++ new.bytes ∷ [];
-    good = All-push IsGoodLine read.lines new.bytes read.good good;
-    same = pushed ∙ ap (λ s. s ++ record { bytes = new.bytes } ∷ []) read.same ∙ sym (map-append (λ (line : List ℕ). record { bytes = line }) read.lines (new.bytes ∷ []));
-    counted = omega (arith, next.2, read.counted, length-append read.lines (new.bytes ∷ []));
+    lines = read.lines ++ new_line.bytes ∷ [];
+    good = All-push IsGoodLine read.lines new_line.bytes read.good good;
+    same = pushed ∙ ap (λ s. s ++ record { bytes = new_line.bytes } ∷ []) read.same ∙ sym (map-append (λ (line : List ℕ). record { bytes = line }) read.lines (new_line.bytes ∷ []));
+    counted = omega (arith, next.2, read.counted, length-append read.lines (new_line.bytes ∷ []));
     small = omega (arith, next.1, next.2);
     unfailed = next.0 ∙ read.unfailed;
-    known = known_both bytes now left (λ file rest. AreFirstLines file read.lines rest) (IsNextLine new.bytes) (λ file rest. AreFirstLines file (read.lines ++ new.bytes ∷ []) rest) (λ file mid rest a b. AreFirstLines-push read.lines file mid new.bytes rest a b.0) read.known next.3;
+    known = known_both old.left now.left new.left (λ file rest. AreFirstLines file read.lines rest) (IsNextLine new_line.bytes) (λ file rest. AreFirstLines file (read.lines ++ new_line.bytes ∷ []) rest) (λ file mid rest a b. AreFirstLines-push read.lines file mid new_line.bytes rest a b.0) read.known next.3;
   }
 
   -- the input ended
-  pub all_read : IsLineRead line new now left so_far failures' (Ok None) → AreSegmentsOf bytes segments
+  pub all_read : IsLineRead line new_line now new (Ok None) → LoadsSegments segments old new
   all_read next = record {
     lines = read.lines;
     good = read.good;
     few = omega (arith, read.counted, read.small);
     same = read.same;
-    known = known_then bytes now left (λ file rest. AreFirstLines file read.lines rest) (λ file rest. file ≡ []) (λ file. AreLines file read.lines) (λ file mid rest a b. subst (λ rest. AreFirstLines file read.lines rest) b a) read.known next.3;
+    known = known_then old.left now.left new.left (λ file rest. AreFirstLines file read.lines rest) (λ file rest. file ≡ []) (λ file. AreLines file read.lines) (λ file mid rest a b. subst (λ rest. AreFirstLines file read.lines rest) b a) read.known next.3;
+    at_end = next.2;
+    reads = next.0 ∙ read.unfailed;
   }
 
-  flawed_after : (flaw : LineFlaw) (place : ℕ) (done : Unit {0}) → IsLineRead line new now left so_far failures' (Ok (Some done)) → place ≡ new.number → type1_fault new.bytes ≡ Some flaw → (failures' ≡ failures) × (place < 2 ^ 32) × ComesAfterGood bytes place (λ file lines. HasFlawAfter file lines flaw)
-  flawed_after flaw place done next at flawed = (
-    next.0 ∙ read.unfailed,
+  -- a line with a flaw
+  flaw_after : (flaw : LineFlaw) (number : ℕ) (done : Unit {0}) → IsLineRead line new_line now new (Ok (Some done)) → number ≡ new_line.number → type1_flaw new_line.bytes ≡ Some flaw → (number < 2 ^ 32) × IfSome old.left (λ file. HasFlawAfter flaw file read.lines) × (new.failed ≡ old.failed)
+  flaw_after flaw number done next at flawed = (
     omega (arith, at, next.1, next.2),
-    record {
-      lines = read.lines;
-      good = read.good;
-      counted = omega (arith, at, next.2, read.counted);
-      known = known_then bytes now left (λ file rest. AreFirstLines file read.lines rest) (IsNextLine new.bytes) (λ file. HasFlawAfter file read.lines flaw) (λ file mid rest a b. record {
-        after = mid;
-        line = new.bytes;
-        rest = rest;
-        before = a;
-        first = b.0;
-        flawed = flawed;
-      }) read.known next.3;
-    },
+    known_then old.left now.left new.left (λ file rest. AreFirstLines file read.lines rest) (IsNextLine new_line.bytes) (λ file. HasFlawAfter flaw file read.lines) (λ file mid rest a b. record {
+      after = mid;
+      line = new_line.bytes;
+      rest = rest;
+      before = a;
+      first = b.0;
+      flawed = flawed;
+    }) read.known next.3,
+    next.0 ∙ read.unfailed,
   )
 
-  -- a line with a flaw
-  pub at_flaw : (fault : LineFault) (done : Unit {0}) → IsLineRead line new now left so_far failures' (Ok (Some done)) → IsFaultOf new fault → IsFirstFault bytes failures failures' (Line fault)
-  at_flaw (WrongLength place) done next of = flawed_after OtherLength place done next of.0 of.1
-  at_flaw (WrongType place) done next of = flawed_after OtherType place done next of.0 of.1
-  at_flaw (BadTlid place) done next of = flawed_after NoTlid place done next of.0 of.1
-  at_flaw (Read place) done next of = absurd of
-  at_flaw (TooManyLines place) done next of = absurd of
+  flaw_comes : (flaw : LineFlaw) (number : ℕ) (done : Unit {0}) → IsLineRead line new_line now new (Ok (Some done)) → number ≡ new_line.number → type1_flaw new_line.bytes ≡ Some flaw → ComesAfter flaw number read.lines old new
+  flaw_comes WrongLength number done next at flawed = flaw_after WrongLength number done next at flawed
+  flaw_comes WrongType number done next at flawed = flaw_after WrongType number done next at flawed
+  flaw_comes BadTlid number done next at flawed = flaw_after BadTlid number done next at flawed
+  flaw_comes Read number done next at flawed = absurd (not_read new_line.bytes flawed)
+  flaw_comes TooManyLines number done next at flawed = absurd (not_too_many new_line.bytes flawed)
+
+  pub at_flaw : (fault : LineFault) (done : Unit {0}) → IsLineRead line new_line now new (Ok (Some done)) → fault.line ≡ new_line.number → type1_flaw new_line.bytes ≡ Some fault.flaw → IsFirstFault fault old new
+  at_flaw fault done next at flawed = record {
+    lines = read.lines;
+    good = read.good;
+    counted = omega (arith, at, next.2, read.counted);
+    follows = flaw_comes fault.flaw fault.line done next at flawed;
+  }
 
   -- a line that couldn't be read
-  pub at_fault : (fault : LineFault) → IsLineRead line new now left so_far failures' (Err fault) → IsFirstFault bytes failures failures' (Line fault)
-  at_fault (WrongLength place) next = (
-    next.0 ∙ read.unfailed,
-    omega (arith, next.2, next.3),
-    record {
-      lines = read.lines;
-      good = read.good;
-      counted = omega (arith, next.3, read.counted);
-      known = known_then bytes now left (λ file rest. AreFirstLines file read.lines rest) BeginsTooLong (λ file. HasFlawAfter file read.lines OtherLength) (λ file mid rest a b. too_long_after file mid rest read.lines a b) read.known next.4;
-    },
+  unread_comes : (flaw : LineFlaw) (number : ℕ) → number ≡ line.number + 1 → IsUnreadLine line.number flaw now new → ComesAfter flaw number read.lines old new
+  unread_comes WrongLength number at unread = (
+    omega (arith, at, unread.1),
+    known_then old.left now.left new.left (λ file rest. AreFirstLines file read.lines rest) BeginsTooLong (λ file. HasFlawAfter WrongLength file read.lines) (λ file mid rest a b. too_long_after file mid rest read.lines a b) read.known unread.2,
+    unread.0 ∙ read.unfailed,
   )
-  at_fault (Read place) next = (
-    λ e. next.0 (e ∙ sym read.unfailed),
-    record {
-      lines = read.lines;
-      good = read.good;
-      counted = omega (arith, next.2, read.counted);
-      known = known_then bytes now left (λ file rest. AreFirstLines file read.lines rest) (FailsWithin (most_bytes line.number)) (λ file. BeginsWith file read.lines) (λ file mid rest a b. (mid, a)) read.known next.3;
-    },
+  unread_comes Read number at unread = (
+    omega (arith, at, read.small),
+    known_then old.left now.left new.left (λ file rest. AreFirstLines file read.lines rest) (FailsWithin (most_bytes line.number)) (λ file. BeginsWith file read.lines) (λ file mid rest a b. (mid, a)) read.known unread.1,
+    λ e. unread.0 (e ∙ sym read.unfailed),
   )
-  at_fault (TooManyLines place) next = (
-    next.0 ∙ read.unfailed,
-    next.3,
-    record {
-      lines = read.lines;
-      good = read.good;
-      counted = omega (arith, next.2, next.3, read.counted);
-      known = known_then bytes now left (λ file rest. AreFirstLines file read.lines rest) HasOneMore (λ file. HasMoreAfter file read.lines) (λ file mid rest a b. (mid, a, λ none. one_more_not_empty mid rest b none)) read.known next.4;
-    },
+  unread_comes TooManyLines number at unread = (
+    omega (arith, at, unread.1),
+    known_then old.left now.left new.left (λ file rest. AreFirstLines file read.lines rest) HasOneMore (λ file. HasMoreAfter file read.lines) (λ file mid rest a b. (mid, a, λ none. one_more_not_empty mid rest b none)) read.known unread.2,
+    unread.0 ∙ read.unfailed,
   )
-  at_fault (WrongType place) next = absurd next
-  at_fault (BadTlid place) next = absurd next
+  unread_comes WrongType number at unread = absurd unread
+  unread_comes BadTlid number at unread = absurd unread
+
+  pub at_fault : (fault : LineFault) → IsLineRead line new_line now new (Err fault) → IsFirstFault fault old new
+  at_fault fault next = record {
+    lines = read.lines;
+    good = read.good;
+    counted = omega (arith, next.1, read.counted);
+    follows = unread_comes fault.flaw fault.line next.1 next.2;
+  }

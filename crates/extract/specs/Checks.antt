@@ -20,7 +20,7 @@ use Rattle.bpf_insn.specs.declared.value.Pointer.{Pointer as PointerParts}
 use Rattle.bpf_insn.specs.declared.value.Value.{Value}
 use Rattle.bpf_insn.specs.declared.value.Value.TheVariants as value
 use Rattle.bpf_meaning.specs.State.{register_value}
-use Rattle.bpf_meaning.specs.Step.{is_offset, load_length, lie_within}
+use Rattle.bpf_meaning.specs.Effect.{is_offset, load_length, lie_within, ◌>>=◌}
 use Rattle.bpf_meaning.specs.declared.cause.Cause.{Cause}
 use Rattle.bpf_meaning.specs.declared.cause.Cause.TheVariants.{OutOfProgram, ReadsNothing, PointerArithmetic, LeavesArea, NotPointer, OutOfBounds, UnwrittenFrame, ExitNotNumber}
 use Rattle.bpf_meaning.specs.declared.segment.TheConstants.{RECORD_LENGTH}
@@ -65,27 +65,27 @@ pub record AdmitsState (kinds : Kinds) (state : State) : Type 0 where
 abbrev pub entry : Kinds
 entry = record {
   registers = Nothing ∷ Pointer (record { area = Record; offset = pos 0 }) ∷ Nothing ∷ Nothing ∷ Nothing ∷ Nothing ∷ Nothing ∷ Nothing
-      ∷ Nothing ∷ Nothing ∷ Pointer (record { area = Frame; offset = pos 512 }) ∷ [];
+      ∷ Nothing ∷ Nothing ∷ Pointer (record { area = Frame; offset = pos FRAME_LENGTH }) ∷ [];
 }
 
 -- a pointer moved by a number of bytes, read as two's complement
-abbrev pub moved_kind : PointerParts → ℕ → Result Kind Cause
-moved_kind pointer distance =
+abbrev pub move_kind : PointerParts → ℕ → Result Kind Cause
+move_kind pointer distance =
     if is_offset (cast_signed w64 distance)
     then (if is_offset (pointer.offset +ℤ cast_signed w64 distance)
     then Ok (Pointer (record { area = pointer.area; offset = pointer.offset +ℤ cast_signed w64 distance }))
     else Err LeavesArea)
     else Err PointerArithmetic
 
--- a register of a kind with a number added
-abbrev pub added : ℕ → Kind → ℕ → Result Kind Cause
-added register Nothing number = Err (ReadsNothing register)
-added register Number number = Ok Number
-added register (Pointer pointer) number = moved_kind pointer number
+-- a register of a kind with a number add_kind
+abbrev pub add_kind : ℕ → Kind → ℕ → Result Kind Cause
+add_kind register Nothing number = Err (ReadsNothing register)
+add_kind register Number number = Ok Number
+add_kind register (Pointer pointer) number = move_kind pointer number
 
 -- what an arithmetic instruction gives, of those that are taken
 abbrev pub operation_kind : Operation → Width → ℕ → Kind → Source → Result Kind Cause
-operation_kind Add Bits64 register kind (Immediate value) = added register kind (extended value)
+operation_kind Add Bits64 register kind (Immediate value) = add_kind register kind (extended value)
 operation_kind Move Bits64 register kind (Immediate value) = Ok Number
 operation_kind operation width register kind source = Err PointerArithmetic
 
@@ -100,24 +100,23 @@ within_kind Record = Ok Number
 within_kind Frame = Err UnwrittenFrame
 
 -- a load from an area, from an offset on
-abbrev pub loaded_kind : LoadFormat → Area → ℤ → Result Kind Cause
-loaded_kind format area start =
+abbrev pub load_from : LoadFormat → Area → ℤ → Result Kind Cause
+load_from format area start =
     if lie_within start (load_length format) (area_length area) then within_kind area else Err OutOfBounds
 
 -- a load through a register of a kind
 abbrev pub load_kind : ℕ → Kind → LoadFormat → ℤ → Result Kind Cause
 load_kind register Nothing format offset = Err (ReadsNothing register)
 load_kind register Number format offset = Err NotPointer
-load_kind register (Pointer pointer) format offset = loaded_kind format pointer.area (pointer.offset +ℤ offset)
+load_kind register (Pointer pointer) format offset = load_from format pointer.area (pointer.offset +ℤ offset)
 
 -- the same with a register's kind written
 abbrev pub with_kind : Kinds → ℕ → Kind → Kinds
 with_kind kinds register kind = record { registers = slice_set kinds.registers register kind }
 
--- behind an instruction whose result goes into a register
-abbrev pub next_edge : Kinds → ℕ → Result Kind Cause → Result Edge Cause
-next_edge kinds destination (Ok kind) = Ok (Next (with_kind kinds destination kind))
-next_edge kinds destination (Err cause) = Err cause
+-- on to the next instruction with a register's kind written
+abbrev pub next_with : Kinds → ℕ → Kind → Result Edge Cause
+next_with kinds register kind = Ok (Next (with_kind kinds register kind))
 
 -- the end, with a register of this kind as the answer
 abbrev pub exit_edge : Kind → Result Edge Cause
@@ -128,9 +127,9 @@ exit_edge (Pointer pointer) = Err ExitNotNumber
 -- the first check of an instruction that fails, or where the instruction leads; one that isn't taken leads nowhere
 abbrev pub edge : Kinds → Insn → Result Edge Cause
 edge kinds (Alu operation width destination source) =
-    next_edge kinds destination.number (operation_kind operation width destination.number (kind_of kinds destination.number) source)
+    operation_kind operation width destination.number (kind_of kinds destination.number) source >>= next_with kinds destination.number
 edge kinds (Load format destination base offset) =
-    next_edge kinds destination.number (load_kind base.number (kind_of kinds base.number) format offset)
+    load_kind base.number (kind_of kinds base.number) format offset >>= next_with kinds destination.number
 edge kinds Exit = exit_edge (kind_of kinds 0)
 edge kinds insn = Err OutOfProgram
 

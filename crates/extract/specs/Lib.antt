@@ -1,7 +1,12 @@
+pub mod CheckFault
 pub mod Checks
+pub mod CountyFile
+pub mod ExtractFault
 pub mod Extracting
-pub mod FaultLine
-pub mod Faults
+pub mod LineFlaw
 pub mod Lines
+pub mod LoadFault
+pub mod Program
+pub mod ProgramFault
 pub mod Rows
 pub mod Segments

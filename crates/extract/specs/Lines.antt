@@ -1,12 +1,14 @@
 -- Lines of a file (TIGER/Line 2006, record layouts: a record is a line), and the faults of a line of record type 1.
 use Rattle.std.specs.Prelude.{◌≡◌, ◌≢◌, ℕ, ◌+◌, ◌-◌, ◌^◌, ◌<◌, ◌≤◌, ◌⊎◌, ◌==◌, if◌then◌else◌, List, [], ◌∷◌, ◌++◌, length, slice_index, All, Option, Some, None, is_some, Result, Ok, Err}
 use Rattle.std.specs.Io.KnownBytes.{Consumes, IsAtEnd}
+use Rattle.tl_fields.specs.Device.{Reader}
 use Rattle.tl_fields.specs.Field.{field_of}
 use Rattle.tl_fields.specs.Number.{number_of}
-use Rattle.extract.specs.declared.lines.LineFault.{LineFault}
-use Rattle.extract.specs.declared.lines.LineFault.TheVariants.{WrongLength, WrongType, BadTlid, Read, TooManyLines}
-use Rattle.extract.specs.declared.lines.Stop.{Stop}
-use Rattle.extract.specs.declared.lines.Stop.TheVariants.{LineFeed, EndOfInput, TooLong, ReadFailed}
+use Rattle.extract.specs.declared.load.fault.LineFault.{LineFault}
+use Rattle.extract.specs.declared.load.fault.LineFlaw.{LineFlaw}
+use Rattle.extract.specs.declared.load.fault.LineFlaw.TheVariants.{WrongLength, WrongType, BadTlid, Read, TooManyLines}
+use Rattle.extract.specs.declared.load.lines.Stop.{Stop}
+use Rattle.extract.specs.declared.load.lines.Stop.TheVariants.{LineFeed, EndOfInput, TooLong, ReadFailed}
 
 -- a line without its end, and its number, counted from 1
 pub record LineParts : Type 0 where
@@ -45,33 +47,20 @@ AreFirstLines file (line ∷ lines) rest = (after : List ℕ) × IsFirstLine fil
 abbrev pub AreLines : List ℕ → List (List ℕ) → Type 0
 AreLines file lines = AreFirstLines file lines []
 
--- why a line is no record of type 1: it hasn't 228 bytes, it begins with another byte than `1`, or its TLID has no number
-pub data LineFlaw : Type 0 where
-  OtherLength : LineFlaw
-  OtherType : LineFlaw
-  NoTlid : LineFlaw
-
--- the first flaw of a line of record type 1 (places RT 1 and TLID 6 to 15), if it has one
-abbrev pub type1_fault : List ℕ → Option LineFlaw
-type1_fault line =
+-- the first flaw of a line of record type 1, if it has one: it hasn't 228 bytes, it begins with another byte than `1`, or its TLID (places
+-- 6 to 15) has no number
+abbrev pub type1_flaw : List ℕ → Option LineFlaw
+type1_flaw line =
     if length line == 228
     then (if slice_index line 0 == 49
-    then (if is_some (number_of (field_of line 6 15)) then None else Some NoTlid)
-    else Some OtherType)
-    else Some OtherLength
+    then (if is_some (number_of (field_of line 6 15)) then None else Some BadTlid)
+    else Some WrongType)
+    else Some WrongLength
 
 -- a record of type 1: bytes without a flaw
 pub record IsGoodLine (line : List ℕ) : Type 0 where
-  pub no_flaw : type1_fault line ≡ None
+  pub no_flaw : type1_flaw line ≡ None
   pub are_bytes : (i : ℕ) → slice_index line i < 2 ^ 8
-
--- a fault names the line and its first flaw
-abbrev pub IsFaultOf : LineParts → LineFault → Type 0
-IsFaultOf line (WrongLength number) = (number ≡ line.number) × (type1_fault line.bytes ≡ Some OtherLength)
-IsFaultOf line (WrongType number) = (number ≡ line.number) × (type1_fault line.bytes ≡ Some OtherType)
-IsFaultOf line (BadTlid number) = (number ≡ line.number) × (type1_fault line.bytes ≡ Some NoTlid)
-IsFaultOf line (Read number) = ⊥
-IsFaultOf line (TooManyLines number) = ⊥
 
 -- what is said of a reader's bytes before and after a call, where they are known
 abbrev pub WhereKnown : Option (List ℕ) → Option (List ℕ) → (List ℕ → List ℕ → Type 0) → Type 0
@@ -99,37 +88,38 @@ FailsWithin most file rest = (taken : List ℕ) × (file ≡ taken ++ rest) × H
 abbrev pub HasOneMore : List ℕ → List ℕ → Type 0
 HasOneMore file rest = (byte : ℕ) × (file ≡ byte ∷ rest)
 
--- what reading the next line does to the line, the reader's bytes and its failures
-abbrev pub IsLineRead : LineParts → LineParts → Option (List ℕ) → Option (List ℕ) → ℕ → ℕ → Result (Option (Unit {0})) LineFault → Type 0
-IsLineRead line new bytes left failures failures' (Ok (Some done)) =
-    (failures' ≡ failures) × (line.number < 2 ^ 32 - 1) × (new.number ≡ line.number + 1) × WhereKnown bytes left (IsNextLine new.bytes)
-IsLineRead line new bytes left failures failures' (Ok None) =
-    (failures' ≡ failures) × (new ≡ emptied line) × IsAtEnd left × WhereKnown bytes left (λ file rest. file ≡ [])
-IsLineRead line new bytes left failures failures' (Err (WrongLength number)) =
-    (failures' ≡ failures) × (new ≡ emptied line) × (line.number < 2 ^ 32 - 1) × (number ≡ line.number + 1) × WhereKnown bytes left BeginsTooLong
-IsLineRead line new bytes left failures failures' (Err (Read number)) =
-    (failures' ≢ failures) × (new ≡ emptied line) × (number ≡ line.number + 1) × WhereKnown bytes left (FailsWithin (most_bytes line.number))
-IsLineRead line new bytes left failures failures' (Err (TooManyLines number)) =
-    (failures' ≡ failures) × (new ≡ emptied line) × (line.number ≡ 2 ^ 32 - 1) × (number ≡ 2 ^ 32) × WhereKnown bytes left HasOneMore
-IsLineRead line new bytes left failures failures' (Err (WrongType number)) = ⊥
-IsLineRead line new bytes left failures failures' (Err (BadTlid number)) = ⊥
+-- why the line after this number can't be read: it's too long, a read failed, or it would be line 2^32
+abbrev pub IsUnreadLine : ℕ → LineFlaw → Reader → Reader → Type 0
+IsUnreadLine number WrongLength old new = (new.failed ≡ old.failed) × (number < 2 ^ 32 - 1) × WhereKnown old.left new.left BeginsTooLong
+IsUnreadLine number Read old new = (new.failed ≢ old.failed) × WhereKnown old.left new.left (FailsWithin (most_bytes number))
+IsUnreadLine number TooManyLines old new = (new.failed ≡ old.failed) × (number ≡ 2 ^ 32 - 1) × WhereKnown old.left new.left HasOneMore
+IsUnreadLine number flaw old new = ⊥
 
--- what one read of one byte does to the reader's bytes and its failures
-abbrev pub IsByteRead : {E : Type 0} → Option (List ℕ) → Option (List ℕ) → ℕ → ℕ → Result (Option ℕ) E → Type 0
-IsByteRead bytes left failures failures' (Ok (Some byte)) = (failures' ≡ failures) × Consumes bytes left (byte ∷ [])
-IsByteRead bytes left failures failures' (Ok None) = (failures' ≡ failures) × Consumes bytes left [] × IsAtEnd left
-IsByteRead bytes left failures failures' (Err error) = (failures' ≢ failures) × Consumes bytes left []
+-- what reading the next line does to the line and the reader
+abbrev pub IsLineRead : LineParts → LineParts → Reader → Reader → Result (Option (Unit {0})) LineFault → Type 0
+IsLineRead line new_line old new (Ok (Some done)) =
+    (new.failed ≡ old.failed) × (line.number < 2 ^ 32 - 1) × (new_line.number ≡ line.number + 1) × WhereKnown old.left new.left (IsNextLine new_line.bytes)
+IsLineRead line new_line old new (Ok None) =
+    (new.failed ≡ old.failed) × (new_line ≡ emptied line) × IsAtEnd new.left × WhereKnown old.left new.left (λ file rest. file ≡ [])
+IsLineRead line new_line old new (Err fault) =
+    (new_line ≡ emptied line) × (fault.line ≡ line.number + 1) × IsUnreadLine line.number fault.flaw old new
 
--- what reading up to a line feed leaves of the reader's bytes and its failures, and why it stopped
-abbrev pub IsContentRead : List ℕ → Option (List ℕ) → Option (List ℕ) → ℕ → ℕ → Stop → Type 0
-IsContentRead content bytes left failures failures' LineFeed =
-    (failures' ≡ failures) × HasNoLineFeed content × (length content ≤ 230) × Consumes bytes left (content ++ 10 ∷ [])
-IsContentRead content bytes left failures failures' EndOfInput =
-    (failures' ≡ failures) × HasNoLineFeed content × (length content ≤ 230) × Consumes bytes left content × IsAtEnd left
-IsContentRead content bytes left failures failures' TooLong =
-    (failures' ≡ failures) × (taken : List ℕ) × HasNoLineFeed taken × (length taken ≡ 231) × Consumes bytes left taken
-IsContentRead content bytes left failures failures' ReadFailed =
-    (failures' ≢ failures) × HasNoLineFeed content × (length content ≤ 230) × Consumes bytes left content
+-- what one read of one byte does to the reader
+abbrev pub IsByteRead : {E : Type 0} → Reader → Reader → Result (Option ℕ) E → Type 0
+IsByteRead old new (Ok (Some byte)) = (new.failed ≡ old.failed) × Consumes old.left new.left (byte ∷ [])
+IsByteRead old new (Ok None) = (new.failed ≡ old.failed) × Consumes old.left new.left [] × IsAtEnd new.left
+IsByteRead old new (Err error) = (new.failed ≢ old.failed) × Consumes old.left new.left []
+
+-- what reading up to a line feed does to the reader, and why it stopped
+abbrev pub IsContentRead : List ℕ → Reader → Reader → Stop → Type 0
+IsContentRead content old new LineFeed =
+    (new.failed ≡ old.failed) × HasNoLineFeed content × (length content ≤ 230) × Consumes old.left new.left (content ++ 10 ∷ [])
+IsContentRead content old new EndOfInput =
+    (new.failed ≡ old.failed) × HasNoLineFeed content × (length content ≤ 230) × Consumes old.left new.left content × IsAtEnd new.left
+IsContentRead content old new TooLong =
+    (new.failed ≡ old.failed) × (taken : List ℕ) × HasNoLineFeed taken × (length taken ≡ 231) × Consumes old.left new.left taken
+IsContentRead content old new ReadFailed =
+    (new.failed ≢ old.failed) × HasNoLineFeed content × (length content ≤ 230) × Consumes old.left new.left content
 
 -- a line's bytes without the carriage return at their end, if they have one
 abbrev pub IsWithoutReturn : List ℕ → List ℕ → Type 0

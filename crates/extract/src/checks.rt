@@ -1,11 +1,14 @@
-ghost use Rattle.std.specs.Prelude.{◌≡◌, ◌≤◌, ◌+ℤ◌, IsTrue, OnOk, IfErr};
+//! Checks of a code before it's run, by what is known of each register.
+ghost use Rattle.std.specs.Prelude.{◌≡◌, ◌≤◌, ◌+ℤ◌, length, IsTrue, OnOk, IfErr};
 ghost use Rattle.bpf_insn.specs.Code.{word_count};
 ghost use Rattle.bpf_meaning.specs.Run.{IsSafe};
-ghost use Rattle.extract.specs.Checks.{is_taken, AreTaken, entry, kind_of, moved_kind, added, operation_kind, loaded_kind, load_kind, next_edge, exit_edge, edge, EndsInExit, Passes, IsCheckFault};
+ghost use Rattle.extract.specs.CheckFault as check_fault;
+ghost use Rattle.extract.specs.Checks.{is_taken, AreTaken, entry, kind_of, move_kind, add_kind, operation_kind, load_from, load_kind, with_kind, exit_edge, edge, EndsInExit, Passes, IsCheckFault};
 
+use arrayvec::ArrayString;
 use bpf_insn::{
     Area, Code, Insn, LoadFormat, Operation, Pointer, Register, Source, WORD_LIMIT, Width,
-    WritableRegister, sign_extended,
+    WritableRegister, place_line, sign_extended,
 };
 use bpf_meaning::{Cause, FRAME_LENGTH, RECORD_LENGTH, REGISTERS};
 use std::alloc::Allocator;
@@ -13,13 +16,48 @@ use thiserror::Error;
 
 /// Why a code is refused. Places count words from 0.
 #[derive(Clone, Copy, Debug, PartialEq, Eq, Error)]
-pub(crate) enum CheckFault {
+pub enum CheckFault {
     #[error("the instruction at place {place} isn't taken yet")]
     NotYet { place: usize },
     #[error("the last instruction, at place {place}, is no exit")]
     LastNotExit { place: usize },
     #[error("the instruction at place {place} may be stuck: {cause:?}")]
     Refused { place: usize, cause: Cause },
+}
+
+impl CheckFault {
+    pub fn number(&self) -> u8
+        ensures { result ≡ check_fault.number self.now }
+    {
+        match *self {
+            CheckFault::NotYet { .. } => 34,
+            CheckFault::LastNotExit { .. } => 33,
+            CheckFault::Refused { cause, .. } => cause.number(),
+        }
+    }
+
+    pub fn name(&self) -> &'static str
+        ensures value { result.now ≡ check_fault.name self.now }
+        ensures short { length result.now ≤ 17 }
+    {
+        match *self {
+            CheckFault::NotYet { .. } => "NotYet",
+            CheckFault::LastNotExit { .. } => "LastNotExit",
+            CheckFault::Refused { cause, .. } => cause.name(),
+        }
+    }
+
+    /// The refusal's line of text, as `refused 40 place 2 ReadsNothing(3)`, without an end of line. It takes no memory.
+    pub fn line(&self) -> ArrayString<64>
+        ensures { result.bytes ≡ check_fault.line self.now }
+    {
+        match *self {
+            CheckFault::Refused { place, cause } => cause.line(place),
+            CheckFault::NotYet { place } | CheckFault::LastNotExit { place } => {
+                place_line(self.number(), place, self.name(), None)
+            }
+        }
+    }
 }
 
 /// What is known of a register's value.
@@ -160,8 +198,8 @@ fn visit(kinds: &Kinds, insn: Insn) -> Result<Edge, Cause>
             destination,
             source,
         } => {
-            let kind = kinds.operation(operation, width, destination, source);
-            kinds.next(destination, kind)
+            let kind = kinds.operation_kind(operation, width, destination, source)?;
+            Ok(Edge::Next(kinds.with_kind(destination, kind)))
         }
         Insn::Load {
             format,
@@ -169,10 +207,10 @@ fn visit(kinds: &Kinds, insn: Insn) -> Result<Edge, Cause>
             base,
             offset,
         } => {
-            let kind = kinds.load(format, base, offset);
-            kinds.next(destination, kind)
+            let kind = kinds.load_kind(format, base, offset)?;
+            Ok(Edge::Next(kinds.with_kind(destination, kind)))
         }
-        Insn::Exit => kinds.exit(),
+        Insn::Exit => kinds.exit_edge(),
         _ => unreachable!(),
     }
 }
@@ -189,13 +227,13 @@ impl Kinds {
         });
         registers[10] = Kind::Pointer(Pointer {
             area: Area::Frame,
-            offset: 512,
+            offset: FRAME_LENGTH as i16,
         });
         Kinds { registers }
     }
 
     /// What an arithmetic instruction gives.
-    fn operation(
+    fn operation_kind(
         &self,
         operation: Operation,
         width: Width,
@@ -211,14 +249,14 @@ impl Kinds {
             unreachable!()
         };
         match (operation, width) {
-            (Operation::Add, Width::Bits64) => add(number, kind, sign_extended(immediate)),
+            (Operation::Add, Width::Bits64) => add_kind(number, kind, sign_extended(immediate)),
             (Operation::Move, Width::Bits64) => Ok(Kind::Number),
             _ => unreachable!(),
         }
     }
 
     /// What a load gives.
-    fn load(&self, format: LoadFormat, base: Register, offset: i16) -> Result<Kind, Cause>
+    fn load_kind(&self, format: LoadFormat, base: Register, offset: i16) -> Result<Kind, Cause>
         requires { format ≡ LoadFormat.Byte }
         ensures { result ≡ load_kind base.number (kind_of self.now base.number) format offset }
     {
@@ -227,22 +265,22 @@ impl Kinds {
             Kind::Number => Err(Cause::NotPointer),
             Kind::Pointer(pointer) => {
                 let start = i32::from(pointer.offset) + i32::from(offset);
-                load_from(pointer.area, format, start)
+                load_from(format, pointer.area, start)
             }
         }
     }
 
-    /// What is known behind an instruction whose result goes into a register.
-    fn next(&self, destination: WritableRegister, kind: Result<Kind, Cause>) -> Result<Edge, Cause>
-        ensures { result ≡ next_edge self.now destination.number kind }
+    /// The same with a register's kind written.
+    fn with_kind(&self, register: WritableRegister, kind: Kind) -> Self
+        ensures { result ≡ with_kind self.now register.number kind }
     {
         let mut registers = self.registers;
-        registers[usize::from(destination.number)] = kind?;
-        Ok(Edge::Next(Kinds { registers }))
+        registers[usize::from(register.number)] = kind;
+        Kinds { registers }
     }
 
     /// The end, with register 0 as the answer.
-    fn exit(&self) -> Result<Edge, Cause>
+    fn exit_edge(&self) -> Result<Edge, Cause>
         ensures { result ≡ exit_edge (kind_of self.now 0) }
     {
         match self.registers[0] {
@@ -254,19 +292,19 @@ impl Kinds {
 }
 
 /// A register of this kind with a number added.
-fn add(register: u8, kind: Kind, number: u64) -> Result<Kind, Cause>
-    ensures { result ≡ added register kind number }
+fn add_kind(register: u8, kind: Kind, number: u64) -> Result<Kind, Cause>
+    ensures { result ≡ add_kind register kind number }
 {
     match kind {
         Kind::Nothing => Err(Cause::ReadsNothing(register)),
         Kind::Number => Ok(Kind::Number),
-        Kind::Pointer(pointer) => moved(pointer, number),
+        Kind::Pointer(pointer) => move_kind(pointer, number),
     }
 }
 
 /// A pointer moved by a number of bytes, read as two's complement.
-fn moved(pointer: Pointer, distance: u64) -> Result<Kind, Cause>
-    ensures { result ≡ moved_kind pointer distance }
+fn move_kind(pointer: Pointer, distance: u64) -> Result<Kind, Cause>
+    ensures { result ≡ move_kind pointer distance }
 {
     let Ok(distance) = i16::try_from(distance.cast_signed()) else {
         return Err(Cause::PointerArithmetic);
@@ -279,9 +317,9 @@ fn moved(pointer: Pointer, distance: u64) -> Result<Kind, Cause>
 }
 
 /// A load from an area, from an offset on.
-fn load_from(area: Area, format: LoadFormat, start: i32) -> Result<Kind, Cause>
+fn load_from(format: LoadFormat, area: Area, start: i32) -> Result<Kind, Cause>
     requires { format ≡ LoadFormat.Byte }
-    ensures { result ≡ loaded_kind format area start }
+    ensures { result ≡ load_from format area start }
 {
     let LoadFormat::Byte = format else {
         unreachable!()
@@ -298,106 +336,49 @@ fn load_from(area: Area, format: LoadFormat, start: i32) -> Result<Kind, Cause>
 
 #[cfg(test)]
 mod tests {
-    use super::{CheckFault, check};
+    use super::check;
     use bpf_insn::decode;
-    use bpf_meaning::Cause;
     use std::test::Fail;
 
-    // Words as their eight bytes stand in the program.
-    const EXIT: u64 = 0x9500_0000_0000_0000;
-
-    const MOVE_1_TO_R0: u64 = 0xb700_0000_0100_0000;
-
-    const LOAD_R0_FROM_R1: u64 = 0x7110_0000_0000_0000;
-
-    const LOAD_R0_FROM_R9: u64 = 0x7190_0000_0000_0000;
-
-    fn refused(place: usize, cause: Cause) -> Result<(), CheckFault> {
-        Err(CheckFault::Refused { place, cause })
-    }
-
-    fn last_not_exit(place: usize) -> Result<(), CheckFault> {
-        Err(CheckFault::LastNotExit { place })
-    }
+    // A program, its words, and `ok` or the refusal. Offset 227 is the record's last byte, 55 that of the class's first letter, and what
+    // stands behind the first EXIT that is reached isn't checked.
+    const VERDICTS: &str = "\
+mov r0, 1 | exit; b700000001000000 9500000000000000; ok
+exit; 9500000000000000; refused 40 place 0 ReadsNothing(0)
+mov r0, 1; b700000001000000; refused 33 place 0 LastNotExit
+ldxb r0, [r1+227] | exit; 7110e30000000000 9500000000000000; ok
+ldxb r0, [r1+228] | exit; 7110e40000000000 9500000000000000; refused 44 place 0 OutOfBounds
+ldxb r0, [r1+55] | add r0, -65 | exit; 7110370000000000 07000000bfffffff 9500000000000000; ok
+add r1, 228 | ldxb r0, [r1+0] | exit; 07010000e4000000 7110000000000000 9500000000000000; refused 44 place 1 OutOfBounds
+add r1, 227 | ldxb r0, [r1+0] | exit; 07010000e3000000 7110000000000000 9500000000000000; ok
+add r1, -1 | ldxb r0, [r1+0] | exit; 07010000ffffffff 7110000000000000 9500000000000000; refused 44 place 1 OutOfBounds
+add r1, -1 | ldxb r0, [r1+228] | exit; 07010000ffffffff 7110e40000000000 9500000000000000; ok
+mov r2, 5 | ldxb r0, [r2+0] | exit; b702000005000000 7120000000000000 9500000000000000; refused 43 place 1 NotPointer
+ldxb r0, [r10-8] | exit; 71a0f8ff00000000 9500000000000000; refused 45 place 0 UnwrittenFrame
+ldxb r0, [r10+0] | exit; 71a0000000000000 9500000000000000; refused 44 place 0 OutOfBounds
+ldxb r0, [r10-513] | exit; 71a0fffd00000000 9500000000000000; refused 44 place 0 OutOfBounds
+add r1, 32768 | exit; 0701000000800000 9500000000000000; refused 41 place 0 PointerArithmetic
+add r1, 32767 | add r1, 1 | exit; 07010000ff7f0000 0701000001000000 9500000000000000; refused 42 place 1 LeavesArea
+add r2, 1 | exit; 0702000001000000 9500000000000000; refused 40 place 0 ReadsNothing(2)
+ldxb r0, [r9+0] | exit; 7190000000000000 9500000000000000; refused 40 place 0 ReadsNothing(9)
+mov r0, 1 | exit | ldxb r0, [r9+0] | exit; b700000001000000 9500000000000000 7190000000000000 9500000000000000; ok
+mov r0, 1 | exit | ldxb r0, [r9+0]; b700000001000000 9500000000000000 7190000000000000; refused 33 place 2 LastNotExit
+exit | mov r0, 1 | exit; 9500000000000000 b700000001000000 9500000000000000; refused 40 place 0 ReadsNothing(0)";
 
     #[test]
     fn verdicts(rt: HostRuntime) -> Result<(), Fail> {
-        let rows: [(&[u64], Result<(), CheckFault>); 21] = [
-            (&[MOVE_1_TO_R0, EXIT], Ok(())),
-            (&[EXIT], refused(0, Cause::ReadsNothing(0))),
-            (&[MOVE_1_TO_R0], last_not_exit(0)),
-            // the record's last byte, and one behind it
-            (&[0x7110_e300_0000_0000, EXIT], Ok(())),
-            (
-                &[0x7110_e400_0000_0000, EXIT],
-                refused(0, Cause::OutOfBounds),
-            ),
-            // the class's first letter, less 65
-            (
-                &[0x7110_3700_0000_0000, 0x0700_0000_bfff_ffff, EXIT],
-                Ok(()),
-            ),
-            (
-                &[0x0701_0000_e400_0000, LOAD_R0_FROM_R1, EXIT],
-                refused(1, Cause::OutOfBounds),
-            ),
-            (&[0x0701_0000_e300_0000, LOAD_R0_FROM_R1, EXIT], Ok(())),
-            // one byte before the record, and back into it
-            (
-                &[0x0701_0000_ffff_ffff, LOAD_R0_FROM_R1, EXIT],
-                refused(1, Cause::OutOfBounds),
-            ),
-            (
-                &[0x0701_0000_ffff_ffff, 0x7110_e400_0000_0000, EXIT],
-                Ok(()),
-            ),
-            // a number as the base
-            (
-                &[0xb702_0000_0500_0000, 0x7120_0000_0000_0000, EXIT],
-                refused(1, Cause::NotPointer),
-            ),
-            // the frame: within, at its end, before its start
-            (
-                &[0x71a0_f8ff_0000_0000, EXIT],
-                refused(0, Cause::UnwrittenFrame),
-            ),
-            (
-                &[0x71a0_0000_0000_0000, EXIT],
-                refused(0, Cause::OutOfBounds),
-            ),
-            (
-                &[0x71a0_fffd_0000_0000, EXIT],
-                refused(0, Cause::OutOfBounds),
-            ),
-            // 32768 is no near number, and 32767 and 1 leave the range of offsets
-            (
-                &[0x0701_0000_0080_0000, EXIT],
-                refused(0, Cause::PointerArithmetic),
-            ),
-            (
-                &[0x0701_0000_ff7f_0000, 0x0701_0000_0100_0000, EXIT],
-                refused(1, Cause::LeavesArea),
-            ),
-            (
-                &[0x0702_0000_0100_0000, EXIT],
-                refused(0, Cause::ReadsNothing(2)),
-            ),
-            (&[LOAD_R0_FROM_R9, EXIT], refused(0, Cause::ReadsNothing(9))),
-            // what stands behind the first EXIT
-            (&[MOVE_1_TO_R0, EXIT, LOAD_R0_FROM_R9, EXIT], Ok(())),
-            (&[MOVE_1_TO_R0, EXIT, LOAD_R0_FROM_R9], last_not_exit(2)),
-            (
-                &[EXIT, MOVE_1_TO_R0, EXIT],
-                refused(0, Cause::ReadsNothing(0)),
-            ),
-        ];
-        for (words, verdict) in rows {
+        for row in VERDICTS.lines() {
+            let mut columns = row.split("; ").skip(1);
             let mut program = Vec::new(rt.alloc());
-            for word in words {
-                program.extend_from_slice(&word.to_be_bytes())?;
+            for word in columns.next().unwrap_or("").split_whitespace() {
+                program.extend_from_slice(&u64::from_str_radix(word, 16)?.to_be_bytes())?;
             }
+            let expected = columns.next().unwrap_or("");
             let code = decode(rt.alloc(), &program)?;
-            assert_eq!(rt; check(&code), verdict, "{program:?}");
+            match check(&code) {
+                Ok(()) => assert_eq!(rt; "ok", expected, "{row}"),
+                Err(fault) => assert_eq!(rt; fault.line().as_str(), expected, "{row}"),
+            }
         }
         Ok(())
     }

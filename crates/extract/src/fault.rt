@@ -1,83 +1,92 @@
+//! Why there is no extract, or no whole one.
 ghost use Rattle.std.specs.Prelude.{◌≡◌};
-ghost use Rattle.extract.specs.Faults.{of_code, of_check, of_segments, of_write};
+ghost use Rattle.extract.specs.ExtractFault as extract_fault;
+ghost use Rattle.extract.specs.ExtractFault.{of_program, of_load};
+ghost use Rattle.extract.specs.declared.fault.ExtractFault.TheVariants.{Write};
 
-use crate::checks::CheckFault;
-use crate::lines::LineFault;
-use crate::rows::WriteFault;
-use crate::segments::SegmentsFault;
-use bpf_insn::CodeFault;
-use bpf_meaning::Cause;
+use crate::load::LoadFault;
+use crate::program::ProgramFault;
+use arrayvec::ArrayString;
+use bpf_insn::refusal_line;
 use thiserror::Error;
+use tl_fields::WriteFault;
 
-/// Why there is no extract, or no whole one. Places count words from 0, lines from 1.
+/// Why there is no extract, or no whole one: each branch is the fault of one part of the work, and none is want of memory.
 #[derive(Clone, Copy, Debug, PartialEq, Eq, Error)]
 pub enum ExtractFault {
-    /// The bytes are no program.
     #[error("{0}")]
-    Code(CodeFault),
-    /// This instruction's form isn't taken yet. It's the first such one.
-    #[error("the instruction at place {place} isn't taken yet")]
-    NotYet { place: usize },
-    /// The last instruction isn't an exit.
-    #[error("the last instruction, at place {place}, isn't an exit")]
-    LastNotExit { place: usize },
-    /// An instruction's operands were refused.
-    #[error("the instruction at place {place} is refused")]
-    Refused { place: usize, cause: Cause },
-    /// A line of the type 1 file can't be read or is no type 1 record.
-    #[error("type 1 file: {0}")]
-    Rt1(LineFault),
-    /// The writer failed.
-    #[error("a write failed")]
-    Write,
-    /// The writer took no byte.
-    #[error("a write took no byte")]
-    WriteZero,
+    Program(ProgramFault),
+    #[error("{0}")]
+    Load(LoadFault),
+    #[error("{0}")]
+    Write(WriteFault),
     #[error("out of memory")]
     Memory,
 }
 
-impl From<CodeFault> for ExtractFault {
-    ghost from_gives = { λ fault given. given ≡ of_code fault };
+impl From<ProgramFault> for ExtractFault {
+    ghost from_gives = { λ fault given. given ≡ of_program fault };
 
-    fn from(fault: CodeFault) -> ExtractFault {
+    fn from(fault: ProgramFault) -> ExtractFault {
         match fault {
-            CodeFault::Memory => ExtractFault::Memory,
-            fault => ExtractFault::Code(fault),
+            ProgramFault::Memory => ExtractFault::Memory,
+            fault => ExtractFault::Program(fault),
         }
     }
 }
 
-impl From<CheckFault> for ExtractFault {
-    ghost from_gives = { λ fault given. given ≡ of_check fault };
+impl From<LoadFault> for ExtractFault {
+    ghost from_gives = { λ fault given. given ≡ of_load fault };
 
-    fn from(fault: CheckFault) -> ExtractFault {
+    fn from(fault: LoadFault) -> ExtractFault {
         match fault {
-            CheckFault::NotYet { place } => ExtractFault::NotYet { place },
-            CheckFault::LastNotExit { place } => ExtractFault::LastNotExit { place },
-            CheckFault::Refused { place, cause } => ExtractFault::Refused { place, cause },
-        }
-    }
-}
-
-impl From<SegmentsFault> for ExtractFault {
-    ghost from_gives = { λ fault given. given ≡ of_segments fault };
-
-    fn from(fault: SegmentsFault) -> ExtractFault {
-        match fault {
-            SegmentsFault::Line(fault) => ExtractFault::Rt1(fault),
-            SegmentsFault::Memory => ExtractFault::Memory,
+            LoadFault::Memory => ExtractFault::Memory,
+            fault => ExtractFault::Load(fault),
         }
     }
 }
 
 impl From<WriteFault> for ExtractFault {
-    ghost from_gives = { λ fault given. given ≡ of_write fault };
+    ghost from_gives = { λ fault given. given ≡ Write fault };
 
     fn from(fault: WriteFault) -> ExtractFault {
-        match fault {
-            WriteFault::Write => ExtractFault::Write,
-            WriteFault::WriteZero => ExtractFault::WriteZero,
+        ExtractFault::Write(fault)
+    }
+}
+
+impl ExtractFault {
+    /// None for want of memory.
+    pub fn number(&self) -> Option<u8>
+        ensures { result ≡ extract_fault.number self.now }
+    {
+        match *self {
+            ExtractFault::Program(fault) => fault.number(),
+            ExtractFault::Load(fault) => fault.number(),
+            ExtractFault::Write(fault) => Some(fault.number()),
+            ExtractFault::Memory => None,
+        }
+    }
+
+    pub fn name(&self) -> &'static str
+        ensures { result.now ≡ extract_fault.name self.now }
+    {
+        match *self {
+            ExtractFault::Program(fault) => fault.name(),
+            ExtractFault::Load(fault) => fault.name(),
+            ExtractFault::Write(fault) => fault.name(),
+            ExtractFault::Memory => "memory",
+        }
+    }
+
+    /// The refusal's line of text, without an end of line. It takes no memory.
+    pub fn line(&self) -> ArrayString<64>
+        ensures { result.bytes ≡ extract_fault.line self.now }
+    {
+        match *self {
+            ExtractFault::Program(fault) => fault.line(),
+            ExtractFault::Load(fault) => fault.line(),
+            ExtractFault::Write(fault) => refusal_line(Some(fault.number()), fault.name()),
+            ExtractFault::Memory => refusal_line(None, "memory"),
         }
     }
 }

@@ -4,15 +4,16 @@
 mod checks;
 mod extractor;
 mod fault;
-mod fault_line;
 pub mod laws;
-mod lines;
+mod load;
 mod machine;
+mod program;
 mod rows;
-mod segments;
 #[cfg(test)]
 mod tests;
 
+pub use checks::CheckFault;
 pub use extractor::extract;
 pub use fault::ExtractFault;
-pub use lines::LineFault;
+pub use load::{CountyFile, LineFault, LineFlaw, LoadFault};
+pub use program::ProgramFault;

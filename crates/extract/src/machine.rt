@@ -1,3 +1,4 @@
+//! Runs of a code that is safe.
 ghost use Rattle.bpf_meaning.specs.Segment.{IsSegment};
 ghost use Rattle.bpf_meaning.specs.Run.{Answers, IsSafe};
 

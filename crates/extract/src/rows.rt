@@ -1,8 +1,9 @@
 //! Rows, and how they are written.
 ghost use Rattle.std.specs.Prelude.{◌≡◌, length};
+ghost use Rattle.tl_fields.specs.Device.{writer};
 ghost use Rattle.bpf_meaning.specs.Extract.{row_of};
 ghost use Rattle.bpf_meaning.specs.Run.{IsSafe};
-ghost use Rattle.extract.specs.Rows.{WritesText, WritesRow, WritesExtract};
+ghost use Rattle.extract.specs.Rows.{WritesRow, WritesExtract};
 
 use crate::machine::run;
 use arrayvec::ArrayVec;
@@ -10,22 +11,13 @@ use bpf_insn::Code;
 use bpf_meaning::{RECORD_LENGTH, Segment};
 use itoa::Buffer;
 use std::alloc::Allocator;
-use tl_fields::CountedWrite;
+use tl_fields::{CountedWrite, WriteFault, write_whole};
 
 /// How long a row is at most: a score of 20 digits, a tab, the record, a line feed.
 const LONGEST_ROW: usize = 250;
 
-/// Why the rows weren't written whole.
-#[derive(Clone, Copy, Debug, PartialEq, Eq)]
-pub enum WriteFault {
-    /// A write failed.
-    Write,
-    /// A write took no byte.
-    WriteZero,
-}
-
 /// A row: the score in decimal, a tab, the record, a line feed.
-fn row_text(score: u64, record_bytes: &[u8]) -> ArrayVec<u8, LONGEST_ROW>
+fn row_of(score: u64, record_bytes: &[u8]) -> ArrayVec<u8, LONGEST_ROW>
     requires { length record_bytes.now ≡ RECORD_LENGTH }
     ensures { result.items ≡ row_of score (record { bytes = record_bytes.now }) }
 {
@@ -39,23 +31,6 @@ fn row_text(score: u64, record_bytes: &[u8]) -> ArrayVec<u8, LONGEST_ROW>
     row
 }
 
-/// Writes the text, and tries nothing again.
-fn write_text<W: CountedWrite>(out: &mut W, text: &[u8]) -> Result<(), WriteFault>
-    ensures writes { WritesText text.now result (W.contents out.old) (W.contents out.new)
-        (W.failed_writes out.old) (W.failed_writes out.new) (W.empty_writes out.old) (W.empty_writes out.new) }
-    ensures unflushed { W.flushes out.new ≡ W.flushes out.old }
-{
-    let mut rest = text;
-    while !rest.is_empty() {
-        match out.write_counted(rest) {
-            Ok(0) => return Err(WriteFault::WriteZero),
-            Ok(count) => rest = &rest[count..],
-            Err(_) => return Err(WriteFault::Write),
-        }
-    }
-    Ok(())
-}
-
 /// Writes the row of a segment if the code chooses it, and answers how many rows that were.
 fn write_row_if_chosen<A: Allocator, W: CountedWrite>(
     code: &Code<A>,
@@ -63,16 +38,15 @@ fn write_row_if_chosen<A: Allocator, W: CountedWrite>(
     out: &mut W,
 ) -> Result<u64, WriteFault>
     requires { IsSafe code.now }
-    ensures writes { WritesRow code.now segment.now result (W.contents out.old) (W.contents out.new)
-        (W.failed_writes out.old) (W.failed_writes out.new) (W.empty_writes out.old) (W.empty_writes out.new) }
-    ensures unflushed { W.flushes out.new ≡ W.flushes out.old }
+    ensures { WritesRow code.now segment.now result
+        (writer W.contents W.counts out.old) (writer W.contents W.counts out.new) }
 {
     let record_bytes = segment.bytes();
     let answer = run(code, segment);
     if answer.answer == 0 {
         return Ok(0);
     }
-    match write_text(out, row_text(answer.score, record_bytes).as_slice()) {
+    match write_whole(out, row_of(answer.score, record_bytes).as_slice()) {
         Ok(()) => Ok(1),
         Err(fault) => Err(fault),
     }
@@ -85,9 +59,8 @@ pub(crate) fn write_rows<A: Allocator, W: CountedWrite>(
     out: &mut W,
 ) -> Result<u64, WriteFault>
     requires { IsSafe code.now }
-    ensures writes { WritesExtract code.now segments.now result (W.contents out.old) (W.contents out.new)
-        (W.failed_writes out.old) (W.failed_writes out.new) (W.empty_writes out.old) (W.empty_writes out.new) }
-    ensures unflushed { W.flushes out.new ≡ W.flushes out.old }
+    ensures { WritesExtract code.now segments.now result
+        (writer W.contents W.counts out.old) (writer W.contents W.counts out.new) }
 {
     let mut rows = 0;
     for segment in segments {

@@ -1,45 +1,36 @@
--- What failed where a run or a command says so.
-use Rattle.std.proofs.Common.{◌≡◌, ℕ, List, Option, Result, Ok, Err, IfErr, Bool, true, false, inl, inr, ◌⊎◌, sym, ◌∙◌}
-use Rattle.std.proofs.KnownBytes.{Keeps-refl}
-use Rattle.extract.specs.Extracting.{CountsReads}
-use Rattle.extract.specs.declared.fault.ExtractFault.{ExtractFault}
-use Rattle.extract.specs.declared.fault.ExtractFault.TheVariants.{Code, NotYet, LastNotExit, Refused, Rt1, Write, WriteZero, Memory}
-use Rattle.extract.specs.declared.lines.LineFault.TheVariants as line_fault
-use Rattle.extractd.specs.Command.{flushed_status_of, CountsFlush}
-use Rattle.extractd.specs.Failures.{WhereReadFailed, HasInputFailed, HasOutputFailed, HasFailedFlush}
-use Rattle.extractd.specs.Reading.{HasFailedRead}
-use Rattle.extractd.specs.Words.{Asked}
+-- The exit statuses of failures.
+use Rattle.std.proofs.Common.{◌≡◌, ◌⊎◌, ℕ, List, Bool, true, false, Option, Some, None, Err, inl, inr, refl, arith}
+use Rattle.std.specs.Prelude.{◌==◌, ◌||◌, if◌then◌else◌}
+use Rattle.std.specs.Io.KnownBytes.{Keeps}
+use Rattle.tl_fields.specs.Device.{Writer}
+use Rattle.extractd.specs.Command.{IsCarriedOut, IsRefusal}
+use Rattle.extractd.specs.Failure.{Says, refusal_status, status}
+use Rattle.extractd.specs.declared.commands.Request.{Request}
+use Rattle.extractd.specs.declared.failure.Failure.{Failure}
+use Rattle.extractd.specs.declared.failure.Failure.TheVariants.{Refusal, File, Rt1, NotUtf8, Output}
 
--- a refusal for a failed read, where the reader's count changed
-pub read_failed : {R : Type 0} → (remaining : R → Option (List ℕ)) (failed_reads : R → ℕ) (opened stopped : R) (result : Result ℕ ExtractFault) → CountsReads result (failed_reads opened) (failed_reads stopped) → IfErr result (λ fault. WhereReadFailed fault (HasFailedRead remaining failed_reads (remaining opened)))
-read_failed remaining failed_reads opened stopped (Ok rows) counts = tt
-read_failed remaining failed_reads opened stopped (Err (Rt1 (line_fault.Read line))) counts = record {
-  opened = opened;
-  is_file = Keeps-refl (remaining opened);
-  stopped = stopped;
-  fails = counts;
-}
-read_failed remaining failed_reads opened stopped (Err (Rt1 (line_fault.WrongLength line))) counts = tt
-read_failed remaining failed_reads opened stopped (Err (Rt1 (line_fault.WrongType line))) counts = tt
-read_failed remaining failed_reads opened stopped (Err (Rt1 (line_fault.BadTlid line))) counts = tt
-read_failed remaining failed_reads opened stopped (Err (Rt1 (line_fault.TooManyLines line))) counts = tt
-read_failed remaining failed_reads opened stopped (Err (Code fault)) counts = tt
-read_failed remaining failed_reads opened stopped (Err (NotYet place)) counts = tt
-read_failed remaining failed_reads opened stopped (Err (LastNotExit place)) counts = tt
-read_failed remaining failed_reads opened stopped (Err (Refused place cause)) counts = tt
-read_failed remaining failed_reads opened stopped (Err Write) counts = tt
-read_failed remaining failed_reads opened stopped (Err WriteZero) counts = tt
-read_failed remaining failed_reads opened stopped (Err Memory) counts = tt
+refusal_statuses : (number : Option ℕ) → (refusal_status number ≡ 1) ⊎ (refusal_status number ≡ 3) ⊎ (refusal_status number ≡ 4)
+refusal_statuses None = inr (inr refl)
+refusal_statuses (Some number) = by_test (number == 5 || number == 60 || number == 61) _ refl
+  where
+    by_test : (b : Bool) (n : ℕ) → n ≡ (if b then 3 else 1) → (n ≡ 1) ⊎ (n ≡ 3) ⊎ (n ≡ 4)
+    by_test true n is = inr (inl is)
+    by_test false n is = inl is
 
--- a write failed before a time in which nothing failed
-pub output_failed_before : (failed failed_then new_failed empty empty_then new_empty : ℕ) → new_failed ≡ failed_then → new_empty ≡ empty_then → HasOutputFailed failed failed_then empty empty_then → HasOutputFailed failed new_failed empty new_empty
-output_failed_before failed failed_then new_failed empty empty_then new_empty same same_empty is =
-    elim is [ inl fails ↦ inl (λ back. fails (sym same ∙ back)) | inr fails ↦ inr (λ back. fails (sym same_empty ∙ back)) ]
+pub statuses : (failure : Failure) → (status failure ≡ 1) ⊎ (status failure ≡ 3) ⊎ (status failure ≡ 4)
+statuses (Refusal number line) = refusal_statuses number
+statuses (File name error) = inr (inl refl)
+statuses (Rt1 folder code error) = inr (inl refl)
+statuses (NotUtf8 name) = inr (inl refl)
+statuses (Output error) = inr (inl refl)
 
--- what failed where the status after the flush is 3
-pub unusable_after_flush : {R W : Type 0} → (remaining : R → Option (List ℕ)) (failed_reads : R → ℕ) (known : List ℕ → Option (List ℕ)) (asked : Asked) (opens new_opens : ℕ) (failed_writes empty_writes flushes : W → ℕ) (out ran new_out : W) (status after : ℕ) (flushed : Bool) → (status ≡ 3 → HasInputFailed remaining failed_reads known asked opens new_opens ⊎ HasOutputFailed (failed_writes out) (failed_writes ran) (empty_writes out) (empty_writes ran)) → flushes ran ≡ flushes out → after ≡ flushed_status_of status flushed → CountsFlush flushed (failed_writes ran) (failed_writes new_out) (flushes ran) (flushes new_out) → empty_writes new_out ≡ empty_writes ran → after ≡ 3
-    → HasInputFailed remaining failed_reads known asked opens new_opens ⊎ HasOutputFailed (failed_writes out) (failed_writes new_out) (empty_writes out) (empty_writes new_out) ⊎ HasFailedFlush failed_writes flushes out new_out
-unusable_after_flush remaining failed_reads known asked opens new_opens failed_writes empty_writes flushes out ran new_out status after true cause unflushed is counts empty three =
-    elim (cause (sym is ∙ three)) [ inl input ↦ inl input | inr output ↦ inr (inl (output_failed_before _ _ _ _ _ _ counts.0 empty output)) ]
-unusable_after_flush remaining failed_reads known asked opens new_opens failed_writes empty_writes flushes out ran new_out status after false cause unflushed is counts empty three =
-    inr (inr (record { before = ran; fails = counts.0; unflushed = counts.1 ∙ unflushed }))
+-- a library's refusal, whose line was said
+pub refusal_said : (request : Request) (known : List ℕ → Option (List ℕ)) (failure : Failure) (out unflushed out' errors errors' : Writer)
+    → IsCarriedOut request known (Err failure) out unflushed → Keeps unflushed.held out'.held → Says failure errors errors' → status failure ≡ 1
+    → IsRefusal request known out out' errors errors'
+refusal_said request known (Refusal number line) out unflushed out' errors errors' is kept said one =
+    record { number = number; is_number = one; line = line.bytes; unflushed = unflushed; refused = is one; kept = kept; said = said }
+refusal_said request known (File name error) out unflushed out' errors errors' is kept said one = absurd (omega arith)
+refusal_said request known (Rt1 folder code error) out unflushed out' errors errors' is kept said one = absurd (omega arith)
+refusal_said request known (NotUtf8 name) out unflushed out' errors errors' is kept said one = absurd (omega arith)
+refusal_said request known (Output error) out unflushed out' errors errors' is kept said one = absurd (omega arith)

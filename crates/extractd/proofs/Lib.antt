@@ -1,6 +1,1 @@
-mod CommandLemmas
-mod ReadLemmas
-mod RunLemmas
 mod FailureLemmas
-mod WordLemmas
-mod ConvertLemmas

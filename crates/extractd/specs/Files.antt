@@ -1,24 +1,23 @@
--- What opening a file gives, where the bytes of files are known, and what an input has left.
-use Rattle.std.specs.Prelude.{◌≡◌, ◌≢◌, ℕ, List, [], Option, Some, None, ⊤}
-use Rattle.std.specs.Io.KnownBytes.{Keeps}
-use Rattle.extractd.specs.declared.files.Opened.{Opened}
-use Rattle.extractd.specs.declared.files.Opened.TheVariants.{Reader, Missing, Unusable, OutOfMemory}
+-- The files that a command reads: what opening one counts, and what an input has left.
+use Rattle.std.specs.Prelude.{◌≡◌, ◌≢◌, ℕ, List, [], Option, Some, ⊤, Result, Ok, Err}
+use Rattle.std.specs.IoError.{error_kind}
+use Rattle.std.specs.declared.io.Error.{Error}
+use Rattle.std.specs.declared.io.ErrorKind.TheVariants.{OutOfMemory}
+use Rattle.extractd.specs.declared.files.FileFault.{FileFault}
+use Rattle.extractd.specs.declared.files.FileFault.TheVariants.{Unusable}
 use Rattle.extractd.specs.declared.files.Input.{Input}
 use Rattle.extractd.specs.declared.files.Input.TheVariants as input
 
--- a reader gives the file's known bytes, and a file of known bytes is neither missing nor unusable
-abbrev pub OpensKnown : {R : Type 0} → (R → Option (List ℕ)) → Option (List ℕ) → Opened R → Type 0
-OpensKnown remaining known (Reader reader) = Keeps known (remaining reader)
-OpensKnown remaining known Missing = known ≡ None
-OpensKnown remaining known Unusable = known ≡ None
-OpensKnown remaining known OutOfMemory = ⊤
+-- an open that fails changes the count, but for want of memory, and any other leaves it
+abbrev pub CountsOpen : {R : Type 0} → Result R Error → ℕ → ℕ → Type 0
+CountsOpen (Ok reader) failed failed' = failed' ≡ failed
+CountsOpen (Err error) failed failed' =
+    (error_kind error ≡ OutOfMemory → failed' ≡ failed) × (error_kind error ≢ OutOfMemory → failed' ≢ failed)
 
--- an open that finds a file missing or unusable changes the count, and any other leaves it
-abbrev pub CountsFailedOpen : {R : Type 0} → Opened R → ℕ → ℕ → Type 0
-CountsFailedOpen (Reader reader) failed new_failed = new_failed ≡ failed
-CountsFailedOpen Missing failed new_failed = new_failed ≢ failed
-CountsFailedOpen Unusable failed new_failed = new_failed ≢ failed
-CountsFailedOpen OutOfMemory failed new_failed = new_failed ≡ failed
+-- no open has failed, but where the file can't be used
+abbrev pub TellsOpens : {T : Type 0} → Result T FileFault → ℕ → ℕ → Type 0
+TellsOpens (Err (Unusable error)) failed failed' = ⊤
+TellsOpens result failed failed' = failed' ≡ failed
 
 -- the bytes that an input has left, where they are known
 abbrev pub input_remaining : {R : Type 0} → (R → Option (List ℕ)) → Input R → Option (List ℕ)

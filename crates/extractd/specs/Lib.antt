@@ -1,9 +1,6 @@
 pub mod Files
-pub mod Reading
-pub mod Output
-pub mod Words
-pub mod Reports
-pub mod Convert
+pub mod Failure
 pub mod Run
-pub mod Failures
+pub mod Assemble
+pub mod Disassemble
 pub mod Command

@@ -2,7 +2,10 @@
 ghost use Rattle.std.specs.Prelude.{◌≡◌, ◌∷◌, [], OnSome};
 ghost use Rattle.std.specs.Io.{ReadsAtMost};
 ghost use Rattle.std.specs.Io.KnownBytes.{ReadConsumes};
-ghost use Rattle.tl_fields.specs.Counted.{CountsFailure, CountsOneFailure};
+ghost use Rattle.tl_fields.specs.Counted.{AddsFailure, CountsFailure};
+
+#[cfg(test)]
+mod tests;
 
 use std::io;
 use std::io::{BufRead, Read};
@@ -32,7 +35,7 @@ impl<B: BufRead> ByByte<B> {
         ensures bound { ReadsAtMost result (byte.new ∷ []) }
         ensures bytes { OnSome (B.remaining self.old.reader)
             (ReadConsumes (B.remaining self.old.reader) (B.remaining self.new.reader) result (byte.new ∷ [])) }
-        ensures failures { CountsOneFailure result self.old.failed_reads self.new.failed_reads }
+        ensures failures { AddsFailure result self.old.failed_reads self.new.failed_reads }
     {
         let front = match self.reader.fill_buf() {
             Ok(front) => front,
@@ -53,7 +56,7 @@ impl<B: BufRead> ByByte<B> {
     fn read_slice(&mut self, buf: &mut [u8]) -> io::Result<usize>
         ensures bound { ReadsAtMost result buf.new }
         ensures bytes { ReadConsumes (B.remaining self.old.reader) (B.remaining self.new.reader) result buf.new }
-        ensures failures { CountsOneFailure result self.old.failed_reads self.new.failed_reads }
+        ensures failures { AddsFailure result self.old.failed_reads self.new.failed_reads }
     {
         let result = self.reader.read(buf);
         if result.is_err() {
@@ -69,7 +72,7 @@ impl<B: BufRead> Read for ByByte<B> {
         ensures bound { ReadsAtMost result buf.new }
         ensures taken { OnSome (B.remaining self.old.reader)
             (ReadConsumes (B.remaining self.old.reader) (B.remaining self.new.reader) result buf.new) }
-        ensures failures { CountsOneFailure result self.old.failed_reads self.new.failed_reads }
+        ensures failures { AddsFailure result self.old.failed_reads self.new.failed_reads }
     {
         match buf {
             [byte] => self.read_byte(byte),
@@ -87,7 +90,7 @@ impl<B: BufRead> CountedRead for ByByte<B> {
         ensures taken { OnSome (B.remaining self.old.reader)
             (ReadConsumes (B.remaining self.old.reader) (B.remaining self.new.reader) result buf.new) }
         ensures failures { CountsFailure result self.old.failed_reads self.new.failed_reads }
-        ensures failed_reads { CountsOneFailure result self.old.failed_reads self.new.failed_reads }
+        ensures failed_reads { AddsFailure result self.old.failed_reads self.new.failed_reads }
     {
         self.read(buf)
     }

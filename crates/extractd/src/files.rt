@@ -1,46 +1,51 @@
-//! The files that a command reads.
-ghost use Rattle.std.specs.Prelude.{◌≡◌, ◌≢◌, ℕ, List, Option, None, Ok};
+//! The files that a command reads, by name.
+ghost use Rattle.std.specs.Prelude.{◌≡◌, ℕ, List, Option, IfOk, None, Ok, Some};
 ghost use Rattle.std.specs.Io.{ReadsAtMost};
-ghost use Rattle.std.specs.Io.KnownBytes.{ReadConsumes};
-ghost use Rattle.std.specs.IoError.{error_kind};
+ghost use Rattle.std.specs.Io.KnownBytes.{Keeps, ReadConsumes};
 ghost use Rattle.tl_fields.specs.Counted.{CountsFailure};
+ghost use Rattle.extractd.specs.Files.{TellsOpens};
+ghost use Rattle.extractd.specs.declared.files.FileFault.TheVariants.{Memory};
 
 use crate::by_byte::ByByte;
-use std::alloc::Global;
+use std::alloc::{AllocError, Global};
 use std::fs::File;
 use std::io::{BufReader, ErrorKind, Read};
 use std::{io, rt};
 use tl_fields::{CountedRead, count_one};
 
-/// What came of opening a file.
-#[derive(Drop)]
-pub enum Opened<R> {
-    /// A reader that stands at the file's first byte.
-    Reader(R),
-    /// There is no file of that name.
-    Missing,
-    /// There is one, and it can't be opened.
-    Unusable,
-    OutOfMemory,
+/// Why a file's bytes aren't there.
+#[derive(Clone, Copy)]
+pub enum FileFault {
+    /// It can't be opened or read.
+    Unusable(io::Error),
+    Memory,
+}
+
+impl From<AllocError> for FileFault {
+    ghost from_gives = { λ _ fault. fault ≡ Memory };
+
+    fn from(_error: AllocError) -> FileFault {
+        FileFault::Memory
+    }
 }
 
 /// The files, by name.
 pub trait Files {
-    ghost use Rattle.extractd.specs.Files.{OpensKnown, CountsFailedOpen};
+    ghost use Rattle.extractd.specs.Files.{CountsOpen};
 
     type Reader: CountedRead + Drop;
 
     // The bytes of the file of a name, where they are known.
     ghost bytes: { Self → List ℕ → Option (List ℕ) } = { λ _ _. None };
 
-    // How many opens found a file missing or unusable, modulo 2^64.
+    // How many opens failed, but for want of memory, modulo 2^64.
     ghost failed_opens: { Self → ℕ };
 
     /// Opens a file for reading. The reader that it gives has a buffer of its own.
-    fn open(&mut self, name: &str) -> Opened<Self::Reader>
-        ensures known { OpensKnown Self.Reader.remaining (bytes self.old name.now) result }
+    fn open(&mut self, name: &str) -> io::Result<Self::Reader>
+        ensures known { IfOk result (λ reader. Keeps (bytes self.old name.now) (Self.Reader.remaining reader)) }
         ensures stay { (other : List ℕ) → bytes self.new other ≡ bytes self.old other }
-        ensures failures { CountsFailedOpen result (failed_opens self.old) (failed_opens self.new) };
+        ensures failures { CountsOpen result (failed_opens self.old) (failed_opens self.new) };
 }
 
 /// The files of the system.
@@ -51,11 +56,9 @@ pub struct SystemFiles<'a, R> {
 }
 
 // A reader fetches as many bytes at once.
-const INPUT_BUFFER: usize = 65536;
+pub const INPUT_BUFFER: usize = 65536;
 
 impl<'a, R> SystemFiles<'a, R> {
-    ghost use Rattle.extractd.specs.Files.{CountsFailedOpen};
-
     pub fn new(runtime: &'a R) -> Self
         ensures { result.failed_opens ≡ 0 }
     {
@@ -64,23 +67,6 @@ impl<'a, R> SystemFiles<'a, R> {
             failed_opens: 0,
         }
     }
-
-    /// What an open comes to that failed with this error.
-    fn unopened<T>(&mut self, error: &io::Error) -> Opened<T>
-        ensures missing { error_kind error.now ≡ ErrorKind.NotFound → result ≡ Opened.Missing }
-        ensures memory { error_kind error.now ≡ ErrorKind.OutOfMemory → result ≡ Opened.OutOfMemory }
-        ensures other { error_kind error.now ≢ ErrorKind.NotFound → error_kind error.now ≢ ErrorKind.OutOfMemory
-            → result ≡ Opened.Unusable }
-        ensures failures { CountsFailedOpen result self.old.failed_opens self.new.failed_opens }
-    {
-        let opened = match error.kind() {
-            ErrorKind::OutOfMemory => return Opened::OutOfMemory,
-            ErrorKind::NotFound => Opened::Missing,
-            _ => Opened::Unusable,
-        };
-        count_one(&mut self.failed_opens);
-        opened
-    }
 }
 
 impl<R: rt::Files + AllocGlobal> Files for SystemFiles<'_, R> {
@@ -88,10 +74,15 @@ impl<R: rt::Files + AllocGlobal> Files for SystemFiles<'_, R> {
 
     ghost failed_opens = { λ files. files.failed_opens };
 
-    fn open(&mut self, name: &str) -> Opened<ByByte<BufReader<R::File>>> {
+    fn open(&mut self, name: &str) -> io::Result<ByByte<BufReader<R::File>>> {
         match buffered(self.runtime, name) {
-            Ok(reader) => Opened::Reader(reader),
-            Err(error) => self.unopened(&error),
+            Ok(reader) => Ok(reader),
+            Err(error) => {
+                if error.kind() != ErrorKind::OutOfMemory {
+                    count_one(&mut self.failed_opens);
+                }
+                Err(error)
+            }
         }
     }
 }
@@ -103,6 +94,50 @@ fn buffered<R: rt::Files + AllocGlobal>(
     let file = File::open(runtime, name)?;
     let reader = BufReader::with_capacity(runtime.alloc(), INPUT_BUFFER, file)?;
     Ok(ByByte::new(reader))
+}
+
+/// Opens a file.
+pub fn open<F: Files>(files: &mut F, name: &str) -> Result<F::Reader, FileFault>
+    ensures known { IfOk result (λ reader. Keeps (F.bytes files.old name.now) (F.Reader.remaining reader)) }
+    ensures stay { (other : List ℕ) → F.bytes files.new other ≡ F.bytes files.old other }
+    ensures opens { TellsOpens result (F.failed_opens files.old) (F.failed_opens files.new) }
+{
+    match files.open(name) {
+        Ok(reader) => Ok(reader),
+        Err(error) if error.kind() == ErrorKind::OutOfMemory => Err(FileFault::Memory),
+        Err(error) => Err(FileFault::Unusable(error)),
+    }
+}
+
+// A file is read in pieces of this size.
+const PIECE: usize = 4096;
+
+/// The bytes from where the reader stands to its end. No read is tried again.
+pub fn read_to_end<R: CountedRead>(alloc: Global, reader: &mut R) -> Result<Vec<u8>, FileFault>
+    ensures { IfOk result (λ bytes. Keeps (R.remaining reader.old) (Some bytes.items)) }
+{
+    let mut bytes = Vec::new(alloc);
+    for _ in 0..u64::MAX {
+        let mut piece = [0; PIECE];
+        match reader.read_counted(&mut piece) {
+            Ok(0) => return Ok(bytes),
+            Ok(count) => bytes.extend_from_slice(&piece[..count])?,
+            Err(error) => return Err(FileFault::Unusable(error)),
+        }
+    }
+    // More bytes than there is memory.
+    Err(FileFault::Memory)
+}
+
+/// Opens a file and reads it to its end.
+pub fn read_file<F: Files>(alloc: Global, files: &mut F, name: &str) -> Result<Vec<u8>, FileFault>
+    ensures known { IfOk result (λ bytes. Keeps (F.bytes files.old name.now) (Some bytes.items)) }
+    ensures opens { TellsOpens result (F.failed_opens files.old) (F.failed_opens files.new) }
+{
+    match open(files, name) {
+        Ok(mut reader) => read_to_end(alloc, &mut reader),
+        Err(fault) => Err(fault),
+    }
 }
 
 /// An opened reader, or an empty input.

@@ -1,7 +1,6 @@
 //! Commands over files in memory. Expected rows, lines and statuses were worked by hand.
+mod arguments;
 mod conversions;
 mod devices;
 mod fixtures;
-mod programs;
-mod records;
-mod usage;
+mod runs;

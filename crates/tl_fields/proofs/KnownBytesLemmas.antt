@@ -1,7 +1,9 @@
 -- What several reads, or several writes, do to known bytes one after the other.
-use Rattle.std.proofs.Common.{ℕ, List, [], ◌++◌, Option, None, Some, sym, ◌∙◌, ap, append_assoc, refl}
+use Rattle.std.proofs.Common.{◌≡◌, ℕ, ◌+◌, List, [], ◌++◌, length, take, drop, Option, None, Some, sym, subst, ◌∙◌, ap, append_assoc, refl}
+use Rattle.std.proofs.Math.Seq.{take-add, take-append-add}
 use Rattle.std.proofs.lemmas.List.{append-nil}
 use Rattle.std.specs.Io.KnownBytes.{Appends, Consumes, Keeps}
+use Rattle.tl_fields.specs.Writing.{AppendsBeginning}
 
 -- where nothing was written, no byte was added
 pub Appends-refl : (known : Option (List ℕ)) → Appends known known []
@@ -40,3 +42,16 @@ pub Consumes-from_keeps : (a b : Option (List ℕ)) → Keeps a b → Consumes a
 Consumes-from_keeps None b kept = tt
 Consumes-from_keeps (Some us) None kept = absurd kept
 Consumes-from_keeps (Some us) (Some vs) kept = sym kept
+
+-- a further piece of a text was written
+pub Appends-further : (old now new : Option (List ℕ)) (text rest : List ℕ) (count more : ℕ) → rest ≡ drop count text → Appends old now (take count text) → Appends now new (take more rest) → Appends old new (take (count + more) text)
+Appends-further old now new text rest count more is so_far next =
+    let piece : Appends now new (take more (drop count text)) = subst (λ (xs : List ℕ). Appends now new (take more xs)) is next in
+    rw take-add (Appends-append old now new (take count text) (take more (drop count text)) so_far piece)
+
+-- a beginning of a further text was written
+pub AppendsBeginning-further : (old now new : Option (List ℕ)) (text more : List ℕ) → Appends old now text → AppendsBeginning now new more → AppendsBeginning old new (text ++ more)
+AppendsBeginning-further old now new text more so_far next = record {
+  count = length text + next.count;
+  appends = rw take-append-add (Appends-append old now new text (take next.count more) so_far next.appends);
+}

@@ -1,47 +1,62 @@
--- What readers and writers that count the calls which went wrong say of their counts.
-use Rattle.std.specs.Prelude.{◌≡◌, ◌≢◌, ℕ, ◌+◌, ◌%◌, ◌^◌, ◌<◌, List, length, refl, Result, MatchResult}
+-- What calls of readers and writers do to the counts of those that went wrong.
+use Rattle.std.specs.Prelude.{◌≡◌, ◌≢◌, ℕ, ◌+◌, ◌%◌, ◌^◌, ◌<◌, List, length, refl, Result, Ok, Err, MatchResult}
 use Rattle.std.specs.Coded.{Coded, code_by, coded×, coded_ℕ}
+use Rattle.tl_fields.specs.Device.{WriteCounts}
+use Rattle.tl_fields.specs.declared.writing.WriteFault.{WriteFault}
+use Rattle.tl_fields.specs.declared.writing.WriteFault.TheVariants.{Write, WriteZero}
 
--- a call that fails changes the count, and any other leaves it
+-- a read that fails changes the count, and any other leaves it
 abbrev pub CountsFailure : {V E : Type 0} → Result V E → ℕ → ℕ → Type 0
 CountsFailure result old new = MatchResult result (λ _. new ≡ old) (λ _. new ≢ old)
 
--- a write that is handed bytes and takes none changes the count, and any other leaves it
-abbrev pub CountsEmptyWrite : {E : Type 0} → Result ℕ E → List ℕ → ℕ → ℕ → Type 0
-CountsEmptyWrite result bytes old new =
-    MatchResult result (λ taken. (taken ≡ 0 → 0 < length bytes → new ≢ old) × (0 < taken → new ≡ old) × (length bytes ≡ 0 → new ≡ old)) (λ _. new ≡ old)
+-- a fault of a writer changes its own count, and leaves the others
+abbrev pub CountsFault : WriteFault → WriteCounts → WriteCounts → Type 0
+CountsFault Write old new = (new.failed ≢ old.failed) × (new.empty ≡ old.empty) × (new.flushes ≡ old.flushes)
+CountsFault WriteZero old new = (new.failed ≡ old.failed) × (new.empty ≢ old.empty) × (new.flushes ≡ old.flushes)
 
--- a call that succeeds changes the count, and any other leaves it
-abbrev pub CountsSuccess : {V E : Type 0} → Result V E → ℕ → ℕ → Type 0
-CountsSuccess result old new = MatchResult result (λ _. new ≢ old) (λ _. new ≡ old)
+-- a write that fails counts as that fault, one that is handed bytes and takes none as the other, and any other write counts as nothing
+abbrev pub CountsWrite : {E : Type 0} → Result ℕ E → List ℕ → WriteCounts → WriteCounts → Type 0
+CountsWrite (Ok taken) bytes old new =
+    (0 < taken → new ≡ old) × (length bytes ≡ 0 → new ≡ old) × (taken ≡ 0 → 0 < length bytes → CountsFault WriteZero old new)
+CountsWrite (Err error) bytes old new = CountsFault Write old new
+
+-- a flush that succeeds changes the count of flushes, and one that fails counts as a fault
+abbrev pub CountsFlush : {V E : Type 0} → Result V E → WriteCounts → WriteCounts → Type 0
+CountsFlush (Ok done) old new = (new.failed ≡ old.failed) × (new.empty ≡ old.empty) × (new.flushes ≢ old.flushes)
+CountsFlush (Err error) old new = CountsFault Write old new
 
 -- one more, where a count that is full goes back to 0
 abbrev pub next_count : ℕ → ℕ
 next_count count = (count + 1) % 2 ^ 64
 
--- a call that fails counts one, and any other leaves the count
-abbrev pub CountsOneFailure : {V E : Type 0} → Result V E → ℕ → ℕ → Type 0
-CountsOneFailure result old new =
-    MatchResult result (λ _. new ≡ old) (λ _. new ≡ next_count old)
+-- a read that fails counts one, and any other leaves the count
+abbrev pub AddsFailure : {V E : Type 0} → Result V E → ℕ → ℕ → Type 0
+AddsFailure result old new = MatchResult result (λ _. new ≡ old) (λ _. new ≡ next_count old)
 
--- a call that succeeds counts one, and any other leaves the count
-abbrev pub CountsOneSuccess : {V E : Type 0} → Result V E → ℕ → ℕ → Type 0
-CountsOneSuccess result old new =
-    MatchResult result (λ _. new ≡ next_count old) (λ _. new ≡ old)
+-- the counts with one fault more, and with one flush more
+abbrev pub with_fault : WriteFault → WriteCounts → WriteCounts
+with_fault Write counts = record counts { failed = next_count counts.failed }
+with_fault WriteZero counts = record counts { empty = next_count counts.empty }
 
--- a write that is handed bytes and takes none counts one, and any other leaves the count
-abbrev pub CountsOneEmptyWrite : {E : Type 0} → Result ℕ E → List ℕ → ℕ → ℕ → Type 0
-CountsOneEmptyWrite result bytes old new =
-    MatchResult result (λ taken. (taken ≡ 0 → 0 < length bytes → new ≡ next_count old) × (0 < taken → new ≡ old) × (length bytes ≡ 0 → new ≡ old)) (λ _. new ≡ old)
+abbrev pub with_flush : WriteCounts → WriteCounts
+with_flush counts = record counts { flushes = next_count counts.flushes }
+
+-- the same as above of writes and flushes, each fault and each flush counted as one
+abbrev pub AddsWrite : {E : Type 0} → Result ℕ E → List ℕ → WriteCounts → WriteCounts → Type 0
+AddsWrite (Ok taken) bytes old new =
+    (0 < taken → new ≡ old) × (length bytes ≡ 0 → new ≡ old) × (taken ≡ 0 → 0 < length bytes → new ≡ with_fault WriteZero old)
+AddsWrite (Err error) bytes old new = new ≡ with_fault Write old
+
+abbrev pub AddsFlush : {V E : Type 0} → Result V E → WriteCounts → WriteCounts → Type 0
+AddsFlush (Ok done) old new = new ≡ with_flush old
+AddsFlush (Err error) old new = new ≡ with_fault Write old
 
 -- a reader or a writer, and its counts
 pub record Counted (T : Type 0) : Type 0 where
   pub inner : T
   pub failed_reads : ℕ
-  pub failed_writes : ℕ
-  pub empty_writes : ℕ
-  pub flushes : ℕ
+  pub counts : WriteCounts
 
 abbrev pub counted_code : {T : Type 0} → Coded T → Coded (Counted T)
 counted_code {T} code =
-    code_by (T × (ℕ × (ℕ × (ℕ × ℕ)))) (coded× code (coded× coded_ℕ (coded× coded_ℕ (coded× coded_ℕ coded_ℕ)))) (λ c. (c.inner, (c.failed_reads, (c.failed_writes, (c.empty_writes, c.flushes))))) (λ p. record { inner = p.0; failed_reads = p.1.0; failed_writes = p.1.1.0; empty_writes = p.1.1.1.0; flushes = p.1.1.1.1 }) (λ _. refl)
+    code_by (T × (ℕ × (ℕ × (ℕ × ℕ)))) (coded× code (coded× coded_ℕ (coded× coded_ℕ (coded× coded_ℕ coded_ℕ)))) (λ c. (c.inner, (c.failed_reads, (c.counts.failed, (c.counts.empty, c.counts.flushes))))) (λ p. record { inner = p.0; failed_reads = p.1.0; counts = record { failed = p.1.1.0; empty = p.1.1.1.0; flushes = p.1.1.1.1 } }) (λ _. refl)

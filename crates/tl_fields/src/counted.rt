@@ -2,7 +2,8 @@
 ghost use Rattle.std.specs.Prelude.{◌≡◌, ℕ};
 ghost use Rattle.std.specs.Io.{ReadsAtMost, WritesAtMost};
 ghost use Rattle.std.specs.Io.KnownBytes.{Keeps, ReadConsumes, WriteAppends};
-ghost use Rattle.tl_fields.specs.Counted.{CountsFailure, CountsEmptyWrite, CountsSuccess, CountsOneFailure, CountsOneEmptyWrite, CountsOneSuccess, next_count};
+ghost use Rattle.tl_fields.specs.Counted.{AddsFailure, AddsFlush, AddsWrite, CountsFailure, CountsFlush, CountsWrite, next_count};
+ghost use Rattle.tl_fields.specs.Device.{WriteCounts};
 
 use std::io;
 use std::io::{Read, Write};
@@ -28,29 +29,19 @@ pub trait CountedRead: Read {
 ///
 /// It serves the writing side as [`CountedRead`] does the reading side.
 pub trait CountedWrite: Write {
-    // How many writes and flushes failed, modulo 2^64.
-    ghost failed_writes: { Self → ℕ };
-
-    // How many writes were handed bytes and took none, modulo 2^64.
-    ghost empty_writes: { Self → ℕ };
-
-    // How many flushes succeeded, modulo 2^64.
-    ghost flushes: { Self → ℕ };
+    // How many writes and flushes failed, writes took none of their bytes, and flushes succeeded, each modulo 2^64.
+    ghost counts: { Self → WriteCounts };
 
     /// One write, with what `write` of [`Write`] says of its bytes.
     fn write_counted(&mut self, buf: &[u8]) -> io::Result<usize>
         ensures bound { WritesAtMost result buf.now }
         ensures bytes { WriteAppends (Self.contents self.old) (Self.contents self.new) result buf.now }
-        ensures failures { CountsFailure result (failed_writes self.old) (failed_writes self.new) }
-        ensures empty { CountsEmptyWrite result buf.now (empty_writes self.old) (empty_writes self.new) }
-        ensures flushes { flushes self.new ≡ flushes self.old };
+        ensures counts { CountsWrite result buf.now (counts self.old) (counts self.new) };
 
     /// One flush, with what `flush` of [`Write`] says of the bytes.
     fn flush_counted(&mut self) -> io::Result<()>
         ensures bytes { Keeps (Self.contents self.old) (Self.contents self.new) }
-        ensures failures { CountsFailure result (failed_writes self.old) (failed_writes self.new) }
-        ensures empty { empty_writes self.new ≡ empty_writes self.old }
-        ensures flushes { CountsSuccess result (flushes self.old) (flushes self.new) };
+        ensures counts { CountsFlush result (counts self.old) (counts self.new) };
 }
 
 /// Any reader or writer, with its counts.
@@ -76,16 +67,14 @@ impl<T> Model for Counting<T> {
     ghost view = { λ c. record {
       inner = c.inner;
       failed_reads = c.failed_reads;
-      failed_writes = c.failed_writes;
-      empty_writes = c.empty_writes;
-      flushes = c.flushes;
+      counts = record { failed = c.failed_writes; empty = c.empty_writes; flushes = c.flushes };
     } };
 }
 
 impl<T> Counting<T> {
     /// Takes the reader or writer as it stands, with every count at 0.
     pub fn new(inner: T) -> Self
-        ensures { result ≡ record { inner = inner; failed_reads = 0; failed_writes = 0; empty_writes = 0; flushes = 0 } }
+        ensures { result ≡ record { inner = inner; failed_reads = 0; counts = record { failed = 0; empty = 0; flushes = 0 } } }
     {
         Counting {
             inner,
@@ -119,21 +108,21 @@ impl<T> Counting<T> {
 
     /// How many writes and flushes failed, modulo 2^64.
     pub fn failed_writes(&self) -> u64
-        ensures { result ≡ self.now.failed_writes }
+        ensures { result ≡ self.now.counts.failed }
     {
         self.failed_writes
     }
 
     /// How many writes were handed bytes and took none, modulo 2^64.
     pub fn empty_writes(&self) -> u64
-        ensures { result ≡ self.now.empty_writes }
+        ensures { result ≡ self.now.counts.empty }
     {
         self.empty_writes
     }
 
     /// How many flushes succeeded, modulo 2^64.
     pub fn flushes(&self) -> u64
-        ensures { result ≡ self.now.flushes }
+        ensures { result ≡ self.now.counts.flushes }
     {
         self.flushes
     }
@@ -154,10 +143,8 @@ impl<T: Read> Read for Counting<T> {
     fn read(&mut self, buf: &mut [u8]) -> io::Result<usize>
         ensures bound { ReadsAtMost result buf.new }
         ensures bytes { ReadConsumes (T.remaining self.old.inner) (T.remaining self.new.inner) result buf.new }
-        ensures failed_reads { CountsOneFailure result self.old.failed_reads self.new.failed_reads }
-        ensures failed_writes { self.new.failed_writes ≡ self.old.failed_writes }
-        ensures empty_writes { self.new.empty_writes ≡ self.old.empty_writes }
-        ensures flushes { self.new.flushes ≡ self.old.flushes }
+        ensures exact { AddsFailure result self.old.failed_reads self.new.failed_reads }
+        ensures counts { self.new.counts ≡ self.old.counts }
     {
         let result = self.inner.read(buf);
         if result.is_err() {
@@ -175,9 +162,7 @@ impl<T: Write> Write for Counting<T> {
         ensures bound { WritesAtMost result buf.now }
         ensures bytes { WriteAppends (T.contents self.old.inner) (T.contents self.new.inner) result buf.now }
         ensures failed_reads { self.new.failed_reads ≡ self.old.failed_reads }
-        ensures failed_writes { CountsOneFailure result self.old.failed_writes self.new.failed_writes }
-        ensures empty_writes { CountsOneEmptyWrite result buf.now self.old.empty_writes self.new.empty_writes }
-        ensures flushes { self.new.flushes ≡ self.old.flushes }
+        ensures exact { AddsWrite result buf.now self.old.counts self.new.counts }
     {
         let result = self.inner.write(buf);
         match result {
@@ -191,9 +176,7 @@ impl<T: Write> Write for Counting<T> {
     fn flush(&mut self) -> io::Result<()>
         ensures bytes { Keeps (T.contents self.old.inner) (T.contents self.new.inner) }
         ensures failed_reads { self.new.failed_reads ≡ self.old.failed_reads }
-        ensures failed_writes { CountsOneFailure result self.old.failed_writes self.new.failed_writes }
-        ensures empty_writes { self.new.empty_writes ≡ self.old.empty_writes }
-        ensures flushes { CountsOneSuccess result self.old.flushes self.new.flushes }
+        ensures exact { AddsFlush result self.old.counts self.new.counts }
     {
         match self.inner.flush() {
             Ok(()) => {
@@ -216,44 +199,32 @@ impl<T: Read> CountedRead for Counting<T> {
         ensures bound { ReadsAtMost result buf.new }
         ensures bytes { ReadConsumes (T.remaining self.old.inner) (T.remaining self.new.inner) result buf.new }
         ensures failures { CountsFailure result self.old.failed_reads self.new.failed_reads }
-        ensures failed_reads { CountsOneFailure result self.old.failed_reads self.new.failed_reads }
-        ensures failed_writes { self.new.failed_writes ≡ self.old.failed_writes }
-        ensures empty_writes { self.new.empty_writes ≡ self.old.empty_writes }
-        ensures flushes { self.new.flushes ≡ self.old.flushes }
+        ensures exact { AddsFailure result self.old.failed_reads self.new.failed_reads }
+        ensures counts { self.new.counts ≡ self.old.counts }
     {
         self.read(buf)
     }
 }
 
 impl<T: Write> CountedWrite for Counting<T> {
-    ghost failed_writes = { λ c. c.failed_writes };
-
-    ghost empty_writes = { λ c. c.empty_writes };
-
-    ghost flushes = { λ c. c.flushes };
+    ghost counts = { λ c. c.counts };
 
     #[inline]
     fn write_counted(&mut self, buf: &[u8]) -> io::Result<usize>
         ensures bound { WritesAtMost result buf.now }
         ensures bytes { WriteAppends (T.contents self.old.inner) (T.contents self.new.inner) result buf.now }
-        ensures failures { CountsFailure result self.old.failed_writes self.new.failed_writes }
-        ensures empty { CountsEmptyWrite result buf.now self.old.empty_writes self.new.empty_writes }
+        ensures counts { CountsWrite result buf.now self.old.counts self.new.counts }
         ensures failed_reads { self.new.failed_reads ≡ self.old.failed_reads }
-        ensures failed_writes { CountsOneFailure result self.old.failed_writes self.new.failed_writes }
-        ensures empty_writes { CountsOneEmptyWrite result buf.now self.old.empty_writes self.new.empty_writes }
-        ensures flushes { self.new.flushes ≡ self.old.flushes }
+        ensures exact { AddsWrite result buf.now self.old.counts self.new.counts }
     {
         self.write(buf)
     }
 
     fn flush_counted(&mut self) -> io::Result<()>
         ensures bytes { Keeps (T.contents self.old.inner) (T.contents self.new.inner) }
-        ensures failures { CountsFailure result self.old.failed_writes self.new.failed_writes }
-        ensures empty { self.new.empty_writes ≡ self.old.empty_writes }
-        ensures flushed { CountsSuccess result self.old.flushes self.new.flushes }
+        ensures counts { CountsFlush result self.old.counts self.new.counts }
         ensures failed_reads { self.new.failed_reads ≡ self.old.failed_reads }
-        ensures failed_writes { CountsOneFailure result self.old.failed_writes self.new.failed_writes }
-        ensures flushes { CountsOneSuccess result self.old.flushes self.new.flushes }
+        ensures exact { AddsFlush result self.old.counts self.new.counts }
     {
         self.flush()
     }

@@ -3,10 +3,14 @@
 
 mod counted;
 mod fields;
+mod fuse;
 mod numbers;
 #[cfg(test)]
 mod tests;
+mod writing;
 
 pub use counted::{CountedRead, CountedWrite, Counting, count_one};
 pub use fields::field;
+pub use fuse::{Burst, Fuse};
 pub use numbers::number;
+pub use writing::{WriteFault, write_whole};

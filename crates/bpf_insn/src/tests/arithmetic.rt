@@ -1,297 +1,26 @@
 //! Results of the arithmetic at the ends of its ranges, worked out with whole numbers elsewhere.
+use super::cut;
 use crate::{
     ByteOrder, Condition, LoadFormat, Operation, SignExtension, SwapWidth, Width, negate,
     sign_extended, wide_number,
 };
+use std::test::Fail;
 
-const ONES: u64 = 0xffff_ffff_ffff_ffff;
-
-const LEAST: u64 = 0x8000_0000_0000_0000;
-
-const GREATEST: u64 = 0x7fff_ffff_ffff_ffff;
-
-const ONES_32: u64 = 0xffff_ffff;
-
-const LEAST_32: u64 = 0x8000_0000;
-
-const GREATEST_32: u64 = 0x7fff_ffff;
-
-/// Upper halves, which 32-bit instructions don't look at.
-const UPPER: u64 = 0x8765_4321_0000_0000;
-
-/// Operands of 64 bits.
-const OPERANDS_64: [(u64, u64); 10] = [
-    (1, 0),
-    (0, ONES),
-    (ONES, 1),
-    (ONES, ONES),
-    (LEAST, ONES),
-    (LEAST, GREATEST),
-    (GREATEST, LEAST),
-    (0xffff_ffff_ffff_fff3, 3),
-    (13, 0xffff_ffff_ffff_fffd),
-    (13, 65),
-];
-
-/// What each operation gives at these operands.
-const RESULTS_64: [(Operation, [u64; 10]); 14] = [
-    (
-        Operation::Add,
-        [
-            1,
-            ONES,
-            0,
-            0xffff_ffff_ffff_fffe,
-            GREATEST,
-            ONES,
-            ONES,
-            0xffff_ffff_ffff_fff6,
-            10,
-            78,
-        ],
-    ),
-    (
-        Operation::Subtract,
-        [
-            1,
-            1,
-            0xffff_ffff_ffff_fffe,
-            0,
-            0x8000_0000_0000_0001,
-            1,
-            ONES,
-            0xffff_ffff_ffff_fff0,
-            16,
-            0xffff_ffff_ffff_ffcc,
-        ],
-    ),
-    (
-        Operation::Multiply,
-        [
-            0,
-            0,
-            ONES,
-            1,
-            LEAST,
-            LEAST,
-            LEAST,
-            0xffff_ffff_ffff_ffd9,
-            0xffff_ffff_ffff_ffd9,
-            0x34d,
-        ],
-    ),
-    (
-        Operation::Divide,
-        [0, 0, ONES, 1, 0, 1, 0, 0x5555_5555_5555_5551, 0, 0],
-    ),
-    (
-        Operation::SignedDivide,
-        [
-            0,
-            0,
-            ONES,
-            1,
-            LEAST,
-            ONES,
-            0,
-            0xffff_ffff_ffff_fffc,
-            0xffff_ffff_ffff_fffc,
-            0,
-        ],
-    ),
-    (
-        Operation::Or,
-        [
-            1,
-            ONES,
-            ONES,
-            ONES,
-            ONES,
-            ONES,
-            ONES,
-            0xffff_ffff_ffff_fff3,
-            0xffff_ffff_ffff_fffd,
-            77,
-        ],
-    ),
-    (Operation::And, [0, 0, 1, ONES, LEAST, 0, 0, 3, 13, 1]),
-    (
-        Operation::ShiftLeft,
-        [
-            1,
-            0,
-            0xffff_ffff_ffff_fffe,
-            LEAST,
-            0,
-            0,
-            GREATEST,
-            0xffff_ffff_ffff_ff98,
-            0xa000_0000_0000_0000,
-            26,
-        ],
-    ),
-    (
-        Operation::ShiftRight,
-        [
-            1,
-            0,
-            GREATEST,
-            1,
-            1,
-            1,
-            GREATEST,
-            0x1fff_ffff_ffff_fffe,
-            0,
-            6,
-        ],
-    ),
-    (
-        Operation::Modulo,
-        [1, 0, 0, 0, LEAST, 1, GREATEST, 0, 13, 13],
-    ),
-    (
-        Operation::SignedModulo,
-        [1, 0, 0, 0, 0, ONES, GREATEST, ONES, 1, 13],
-    ),
-    (
-        Operation::ExclusiveOr,
-        [
-            1,
-            ONES,
-            0xffff_ffff_ffff_fffe,
-            0,
-            GREATEST,
-            ONES,
-            ONES,
-            0xffff_ffff_ffff_fff0,
-            0xffff_ffff_ffff_fff0,
-            76,
-        ],
-    ),
-    (
-        Operation::Move,
-        [
-            0,
-            ONES,
-            1,
-            ONES,
-            ONES,
-            GREATEST,
-            LEAST,
-            3,
-            0xffff_ffff_ffff_fffd,
-            65,
-        ],
-    ),
-    (
-        Operation::ArithmeticShiftRight,
-        [
-            1,
-            0,
-            ONES,
-            ONES,
-            ONES,
-            ONES,
-            GREATEST,
-            0xffff_ffff_ffff_fffe,
-            0,
-            6,
-        ],
-    ),
-];
-
-/// Operands of 32 bits.
-const OPERANDS_32: [(u64, u64); 10] = [
-    (1, 0),
-    (0, ONES_32),
-    (ONES_32, 1),
-    (ONES_32, ONES_32),
-    (LEAST_32, ONES_32),
-    (LEAST_32, GREATEST_32),
-    (GREATEST_32, LEAST_32),
-    (0xffff_fff3, 3),
-    (13, 0xffff_fffd),
-    (13, 33),
-];
-
-/// What each operation gives at these operands.
-const RESULTS_32: [(Operation, [u64; 10]); 14] = [
-    (
-        Operation::Add,
-        [
-            1, 0xffffffff, 0, 0xfffffffe, 0x7fffffff, 0xffffffff, 0xffffffff, 0xfffffff6, 10, 46,
-        ],
-    ),
-    (
-        Operation::Subtract,
-        [
-            1, 1, 0xfffffffe, 0, 0x80000001, 1, 0xffffffff, 0xfffffff0, 16, 0xffffffec,
-        ],
-    ),
-    (
-        Operation::Multiply,
-        [
-            0, 0, 0xffffffff, 1, 0x80000000, 0x80000000, 0x80000000, 0xffffffd9, 0xffffffd9, 0x1ad,
-        ],
-    ),
-    (
-        Operation::Divide,
-        [0, 0, 0xffffffff, 1, 0, 1, 0, 0x55555551, 0, 0],
-    ),
-    (
-        Operation::SignedDivide,
-        [
-            0, 0, 0xffffffff, 1, 0x80000000, 0xffffffff, 0, 0xfffffffc, 0xfffffffc, 0,
-        ],
-    ),
-    (
-        Operation::Or,
-        [
-            1, 0xffffffff, 0xffffffff, 0xffffffff, 0xffffffff, 0xffffffff, 0xffffffff, 0xfffffff3,
-            0xfffffffd, 45,
-        ],
-    ),
-    (
-        Operation::And,
-        [0, 0, 1, 0xffffffff, 0x80000000, 0, 0, 3, 13, 1],
-    ),
-    (
-        Operation::ShiftLeft,
-        [
-            1, 0, 0xfffffffe, 0x80000000, 0, 0, 0x7fffffff, 0xffffff98, 0xa0000000, 26,
-        ],
-    ),
-    (
-        Operation::ShiftRight,
-        [1, 0, 0x7fffffff, 1, 1, 1, 0x7fffffff, 0x1ffffffe, 0, 6],
-    ),
-    (
-        Operation::Modulo,
-        [1, 0, 0, 0, 0x80000000, 1, 0x7fffffff, 0, 13, 13],
-    ),
-    (
-        Operation::SignedModulo,
-        [1, 0, 0, 0, 0, 0xffffffff, 0x7fffffff, 0xffffffff, 1, 13],
-    ),
-    (
-        Operation::ExclusiveOr,
-        [
-            1, 0xffffffff, 0xfffffffe, 0, 0x7fffffff, 0xffffffff, 0xffffffff, 0xfffffff0,
-            0xfffffff0, 44,
-        ],
-    ),
-    (
-        Operation::Move,
-        [
-            0, 0xffffffff, 1, 0xffffffff, 0xffffffff, 0x7fffffff, 0x80000000, 3, 0xfffffffd, 33,
-        ],
-    ),
-    (
-        Operation::ArithmeticShiftRight,
-        [
-            1, 0, 0xffffffff, 0xffffffff, 0xffffffff, 0xffffffff, 0x7fffffff, 0xfffffffe, 0, 6,
-        ],
-    ),
+const OPERATIONS: [Operation; 14] = [
+    Operation::Add,
+    Operation::Subtract,
+    Operation::Multiply,
+    Operation::Divide,
+    Operation::SignedDivide,
+    Operation::Or,
+    Operation::And,
+    Operation::ShiftLeft,
+    Operation::ShiftRight,
+    Operation::Modulo,
+    Operation::SignedModulo,
+    Operation::ExclusiveOr,
+    Operation::Move,
+    Operation::ArithmeticShiftRight,
 ];
 
 /// The conditions in the order of the answers below.
@@ -309,410 +38,236 @@ const CONDITIONS: [Condition; 11] = [
     Condition::SignedLessOrEqual,
 ];
 
-/// Two operands of 64 bits, and the answer of each condition.
-const COMPARISONS_64: [(u64, u64, [bool; 11]); 11] = [
-    (
-        0,
-        0,
-        [
-            true, false, true, false, false, false, true, false, true, false, true,
-        ],
-    ),
-    (
-        0,
-        1,
-        [
-            false, false, false, false, true, false, false, true, true, true, true,
-        ],
-    ),
-    (
-        1,
-        0,
-        [
-            false, true, true, false, true, true, true, false, false, false, false,
-        ],
-    ),
-    (
-        1,
-        ONES,
-        [
-            false, false, false, true, true, true, true, true, true, false, false,
-        ],
-    ),
-    (
-        ONES,
-        1,
-        [
-            false, true, true, true, true, false, false, false, false, true, true,
-        ],
-    ),
-    (
-        ONES,
-        ONES,
-        [
-            true, false, true, true, false, false, true, false, true, false, true,
-        ],
-    ),
-    (
-        LEAST,
-        GREATEST,
-        [
-            false, true, true, false, true, false, false, false, false, true, true,
-        ],
-    ),
-    (
-        GREATEST,
-        LEAST,
-        [
-            false, false, false, false, true, true, true, true, true, false, false,
-        ],
-    ),
-    (
-        LEAST,
-        0,
-        [
-            false, true, true, false, true, false, false, false, false, true, true,
-        ],
-    ),
-    (
-        LEAST,
-        ONES,
-        [
-            false, false, false, true, true, false, false, true, true, true, true,
-        ],
-    ),
-    (
-        GREATEST,
-        ONES,
-        [
-            false, false, false, true, true, true, true, true, true, false, false,
-        ],
-    ),
-];
+// Operands, and what each operation gives at them. With 32 bits the upper halves aren't looked at.
+const OPERANDS_64: &str =
+    "1,0 0,ffffffffffffffff ffffffffffffffff,1 ffffffffffffffff,ffffffffffffffff 8000000000000000,ffffffffffffffff 8000000000000000,7fffffffffffffff 7fffffffffffffff,8000000000000000 fffffffffffffff3,3 d,fffffffffffffffd d,41";
 
-/// Two operands of 32 bits, and the answer of each condition.
-const COMPARISONS_32: [(u64, u64, [bool; 11]); 11] = [
-    (
-        0,
-        0,
-        [
-            true, false, true, false, false, false, true, false, true, false, true,
-        ],
-    ),
-    (
-        0,
-        1,
-        [
-            false, false, false, false, true, false, false, true, true, true, true,
-        ],
-    ),
-    (
-        1,
-        0,
-        [
-            false, true, true, false, true, true, true, false, false, false, false,
-        ],
-    ),
-    (
-        1,
-        ONES_32,
-        [
-            false, false, false, true, true, true, true, true, true, false, false,
-        ],
-    ),
-    (
-        ONES_32,
-        1,
-        [
-            false, true, true, true, true, false, false, false, false, true, true,
-        ],
-    ),
-    (
-        ONES_32,
-        ONES_32,
-        [
-            true, false, true, true, false, false, true, false, true, false, true,
-        ],
-    ),
-    (
-        LEAST_32,
-        GREATEST_32,
-        [
-            false, true, true, false, true, false, false, false, false, true, true,
-        ],
-    ),
-    (
-        GREATEST_32,
-        LEAST_32,
-        [
-            false, false, false, false, true, true, true, true, true, false, false,
-        ],
-    ),
-    (
-        LEAST_32,
-        0,
-        [
-            false, true, true, false, true, false, false, false, false, true, true,
-        ],
-    ),
-    (
-        LEAST_32,
-        ONES_32,
-        [
-            false, false, false, true, true, false, false, true, true, true, true,
-        ],
-    ),
-    (
-        GREATEST_32,
-        ONES_32,
-        [
-            false, false, false, true, true, true, true, true, true, false, false,
-        ],
-    ),
-];
+const RESULTS_64: &str =
+    "Add 1 ffffffffffffffff 0 fffffffffffffffe 7fffffffffffffff ffffffffffffffff ffffffffffffffff fffffffffffffff6 a 4e
+Subtract 1 1 fffffffffffffffe 0 8000000000000001 1 ffffffffffffffff fffffffffffffff0 10 ffffffffffffffcc
+Multiply 0 0 ffffffffffffffff 1 8000000000000000 8000000000000000 8000000000000000 ffffffffffffffd9 ffffffffffffffd9 34d
+Divide 0 0 ffffffffffffffff 1 0 1 0 5555555555555551 0 0
+SignedDivide 0 0 ffffffffffffffff 1 8000000000000000 ffffffffffffffff 0 fffffffffffffffc fffffffffffffffc 0
+Or 1 ffffffffffffffff ffffffffffffffff ffffffffffffffff ffffffffffffffff ffffffffffffffff ffffffffffffffff fffffffffffffff3 fffffffffffffffd 4d
+And 0 0 1 ffffffffffffffff 8000000000000000 0 0 3 d 1
+ShiftLeft 1 0 fffffffffffffffe 8000000000000000 0 0 7fffffffffffffff ffffffffffffff98 a000000000000000 1a
+ShiftRight 1 0 7fffffffffffffff 1 1 1 7fffffffffffffff 1ffffffffffffffe 0 6
+Modulo 1 0 0 0 8000000000000000 1 7fffffffffffffff 0 d d
+SignedModulo 1 0 0 0 0 ffffffffffffffff 7fffffffffffffff ffffffffffffffff 1 d
+ExclusiveOr 1 ffffffffffffffff fffffffffffffffe 0 7fffffffffffffff ffffffffffffffff ffffffffffffffff fffffffffffffff0 fffffffffffffff0 4c
+Move 0 ffffffffffffffff 1 ffffffffffffffff ffffffffffffffff 7fffffffffffffff 8000000000000000 3 fffffffffffffffd 41
+ArithmeticShiftRight 1 0 ffffffffffffffff ffffffffffffffff ffffffffffffffff ffffffffffffffff 7fffffffffffffff fffffffffffffffe 0 6";
 
-const EXTENSIONS: [(SignExtension, u64, u64); 20] = [
-    (SignExtension::Bits8To32, 127, 127),
-    (SignExtension::Bits8To32, 128, 0xffff_ff80),
-    (SignExtension::Bits8To32, 0x1234_5678_0000_0180, 0xffff_ff80),
-    (SignExtension::Bits8To32, 0xffff_ffff_ffff_ff7f, 127),
-    (SignExtension::Bits16To32, 0x7fff, 0x7fff),
-    (SignExtension::Bits16To32, 0x8000, 0xffff_8000),
-    (
-        SignExtension::Bits16To32,
-        0x1234_5678_0001_8000,
-        0xffff_8000,
-    ),
-    (SignExtension::Bits16To32, 0xffff_ffff_ffff_7fff, 0x7fff),
-    (SignExtension::Bits8To64, 127, 127),
-    (SignExtension::Bits8To64, 128, 0xffff_ffff_ffff_ff80),
-    (
-        SignExtension::Bits8To64,
-        0x1234_5678_0000_0180,
-        0xffff_ffff_ffff_ff80,
-    ),
-    (SignExtension::Bits8To64, 0xffff_ffff_ffff_ff7f, 127),
-    (SignExtension::Bits16To64, 0x7fff, 0x7fff),
-    (SignExtension::Bits16To64, 0x8000, 0xffff_ffff_ffff_8000),
-    (
-        SignExtension::Bits16To64,
-        0x1234_5678_0001_8000,
-        0xffff_ffff_ffff_8000,
-    ),
-    (SignExtension::Bits16To64, 0xffff_ffff_ffff_7fff, 0x7fff),
-    (SignExtension::Bits32To64, 0x7fff_ffff, 0x7fff_ffff),
-    (
-        SignExtension::Bits32To64,
-        0x8000_0000,
-        0xffff_ffff_8000_0000,
-    ),
-    (
-        SignExtension::Bits32To64,
-        0x1234_5678_8000_0000,
-        0xffff_ffff_8000_0000,
-    ),
-    (
-        SignExtension::Bits32To64,
-        0xffff_ffff_7fff_ffff,
-        0x7fff_ffff,
-    ),
-];
+const OPERANDS_32: &str =
+    "8765432100000001,8765432100000000 8765432100000000,87654321ffffffff 87654321ffffffff,8765432100000001 87654321ffffffff,87654321ffffffff 8765432180000000,87654321ffffffff 8765432180000000,876543217fffffff 876543217fffffff,8765432180000000 87654321fffffff3,8765432100000003 876543210000000d,87654321fffffffd 876543210000000d,8765432100000021";
 
-const NEGATIONS: [(Width, u64, u64); 12] = [
-    (Width::Bits64, 0, 0),
-    (Width::Bits64, 1, ONES),
-    (Width::Bits64, ONES, 1),
-    (Width::Bits64, LEAST, LEAST),
-    (Width::Bits64, GREATEST, 0x8000_0000_0000_0001),
-    (Width::Bits32, 0, 0),
-    (Width::Bits32, 1, 0xffff_ffff),
-    (Width::Bits32, 0xffff_ffff, 1),
-    (Width::Bits32, 0x8000_0000, 0x8000_0000),
-    (Width::Bits32, 0x7fff_ffff, 0x8000_0001),
-    (Width::Bits32, ONES, 1),
-    (Width::Bits32, 0x8765_4321_0000_0000, 0),
-];
+const RESULTS_32: &str = "Add 1 ffffffff 0 fffffffe 7fffffff ffffffff ffffffff fffffff6 a 2e
+Subtract 1 1 fffffffe 0 80000001 1 ffffffff fffffff0 10 ffffffec
+Multiply 0 0 ffffffff 1 80000000 80000000 80000000 ffffffd9 ffffffd9 1ad
+Divide 0 0 ffffffff 1 0 1 0 55555551 0 0
+SignedDivide 0 0 ffffffff 1 80000000 ffffffff 0 fffffffc fffffffc 0
+Or 1 ffffffff ffffffff ffffffff ffffffff ffffffff ffffffff fffffff3 fffffffd 2d
+And 0 0 1 ffffffff 80000000 0 0 3 d 1
+ShiftLeft 1 0 fffffffe 80000000 0 0 7fffffff ffffff98 a0000000 1a
+ShiftRight 1 0 7fffffff 1 1 1 7fffffff 1ffffffe 0 6
+Modulo 1 0 0 0 80000000 1 7fffffff 0 d d
+SignedModulo 1 0 0 0 0 ffffffff 7fffffff ffffffff 1 d
+ExclusiveOr 1 ffffffff fffffffe 0 7fffffff ffffffff ffffffff fffffff0 fffffff0 2c
+Move 0 ffffffff 1 ffffffff ffffffff 7fffffff 80000000 3 fffffffd 21
+ArithmeticShiftRight 1 0 ffffffff ffffffff ffffffff ffffffff 7fffffff fffffffe 0 6";
 
-const ORDERS: [(ByteOrder, SwapWidth, u64, u64); 18] = [
-    (ByteOrder::LittleEndian, SwapWidth::Bits16, 1, 1),
-    (
-        ByteOrder::LittleEndian,
-        SwapWidth::Bits16,
-        0x102_0304_0506_0788,
-        0x788,
-    ),
-    (ByteOrder::LittleEndian, SwapWidth::Bits32, 1, 1),
-    (
-        ByteOrder::LittleEndian,
-        SwapWidth::Bits32,
-        0x102_0304_0506_0788,
-        0x506_0788,
-    ),
-    (ByteOrder::LittleEndian, SwapWidth::Bits64, 1, 1),
-    (
-        ByteOrder::LittleEndian,
-        SwapWidth::Bits64,
-        0x102_0304_0506_0788,
-        0x102_0304_0506_0788,
-    ),
-    (ByteOrder::BigEndian, SwapWidth::Bits16, 1, 0x100),
-    (
-        ByteOrder::BigEndian,
-        SwapWidth::Bits16,
-        0x102_0304_0506_0788,
-        0x8807,
-    ),
-    (ByteOrder::BigEndian, SwapWidth::Bits32, 1, 0x100_0000),
-    (
-        ByteOrder::BigEndian,
-        SwapWidth::Bits32,
-        0x102_0304_0506_0788,
-        0x8807_0605,
-    ),
-    (
-        ByteOrder::BigEndian,
-        SwapWidth::Bits64,
-        1,
-        0x100_0000_0000_0000,
-    ),
-    (
-        ByteOrder::BigEndian,
-        SwapWidth::Bits64,
-        0x102_0304_0506_0788,
-        0x8807_0605_0403_0201,
-    ),
-    (ByteOrder::Swapped, SwapWidth::Bits16, 1, 0x100),
-    (
-        ByteOrder::Swapped,
-        SwapWidth::Bits16,
-        0x102_0304_0506_0788,
-        0x8807,
-    ),
-    (ByteOrder::Swapped, SwapWidth::Bits32, 1, 0x100_0000),
-    (
-        ByteOrder::Swapped,
-        SwapWidth::Bits32,
-        0x102_0304_0506_0788,
-        0x8807_0605,
-    ),
-    (
-        ByteOrder::Swapped,
-        SwapWidth::Bits64,
-        1,
-        0x100_0000_0000_0000,
-    ),
-    (
-        ByteOrder::Swapped,
-        SwapWidth::Bits64,
-        0x102_0304_0506_0788,
-        0x8807_0605_0403_0201,
-    ),
-];
+// Two operands, and the answer of each condition.
+const COMPARISONS_64: &str = "0,0 10100010101
+0,1 00001001111
+1,0 01101110000
+1,ffffffffffffffff 00011111100
+ffffffffffffffff,1 01111000011
+ffffffffffffffff,ffffffffffffffff 10110010101
+8000000000000000,7fffffffffffffff 01101000011
+7fffffffffffffff,8000000000000000 00001111100
+8000000000000000,0 01101000011
+8000000000000000,ffffffffffffffff 00011001111
+7fffffffffffffff,ffffffffffffffff 00011111100";
 
-const LOADS: [(LoadFormat, u64, u64); 14] = [
-    (LoadFormat::Byte, 127, 127),
-    (LoadFormat::Byte, 128, 128),
-    (LoadFormat::HalfWord, 0x7fff, 0x7fff),
-    (LoadFormat::HalfWord, 0x8000, 0x8000),
-    (LoadFormat::Word, 0x7fff_ffff, 0x7fff_ffff),
-    (LoadFormat::Word, 0x8000_0000, 0x8000_0000),
-    (LoadFormat::DoubleWord, GREATEST, GREATEST),
-    (LoadFormat::DoubleWord, LEAST, LEAST),
-    (LoadFormat::SignedByte, 127, 127),
-    (LoadFormat::SignedByte, 128, 0xffff_ffff_ffff_ff80),
-    (LoadFormat::SignedHalfWord, 0x7fff, 0x7fff),
-    (LoadFormat::SignedHalfWord, 0x8000, 0xffff_ffff_ffff_8000),
-    (LoadFormat::SignedWord, 0x7fff_ffff, 0x7fff_ffff),
-    (LoadFormat::SignedWord, 0x8000_0000, 0xffff_ffff_8000_0000),
-];
+const COMPARISONS_32: &str = "0,8765432100000000 10100010101
+0,8765432100000001 00001001111
+1,8765432100000000 01101110000
+1,87654321ffffffff 00011111100
+ffffffff,8765432100000001 01111000011
+ffffffff,87654321ffffffff 10110010101
+80000000,876543217fffffff 01101000011
+7fffffff,8765432180000000 00001111100
+80000000,8765432100000000 01101000011
+80000000,87654321ffffffff 00011001111
+7fffffff,87654321ffffffff 00011111100";
 
-const IMMEDIATES: [(i32, u64); 4] = [
-    (1, 1),
-    (-1, ONES),
-    (i32::MIN, 0xffff_ffff_8000_0000),
-    (i32::MAX, 0x7fff_ffff),
-];
+/// What changes one number.
+#[derive(Clone, Copy, Debug)]
+enum Case {
+    Negation(Width),
+    Extension(SignExtension),
+    Load(LoadFormat),
+    Order(ByteOrder, SwapWidth),
+}
 
-/// The immediates of a wide load's two words, and its number.
-const WIDE_NUMBERS: [(i32, i32, u64); 6] = [
-    (1, 0, 1),
-    (0, 1, 0x1_0000_0000),
-    (-1, 0, 0xffff_ffff),
-    (0, -1, 0xffff_ffff_0000_0000),
-    (i32::MIN, i32::MAX, 0x7fff_ffff_8000_0000),
-    (0x1234_5678, 0x7abc_def0, 0x7abc_def0_1234_5678),
-];
-
-#[test]
-fn operations(rt: HostRuntime) {
-    for (operation, wants) in RESULTS_64 {
-        let results = OPERANDS_64.map(|(x, y)| operation.apply(Width::Bits64, x, y));
-        assert_eq!(rt; results, wants, "{operation:?}");
+impl Case {
+    fn apply(self, x: u64) -> u64 {
+        match self {
+            Case::Negation(width) => negate(width, x),
+            Case::Extension(extension) => extension.apply(x),
+            Case::Load(format) => format.extend(x),
+            Case::Order(order, width) => order.apply(width, x),
+        }
     }
 }
 
-#[test]
-fn operations_of_32_bits(rt: HostRuntime) {
-    for (operation, wants) in RESULTS_32 {
-        let results = OPERANDS_32.map(|(x, y)| operation.apply(
-            Width::Bits32,
-            x | UPPER,
-            y | UPPER,
-        ));
-        assert_eq!(rt; results, wants, "{operation:?}");
-    }
+const CASES: [Case; 23] = [
+    Case::Negation(Width::Bits64),
+    Case::Negation(Width::Bits32),
+    Case::Extension(SignExtension::Bits8To32),
+    Case::Extension(SignExtension::Bits16To32),
+    Case::Extension(SignExtension::Bits8To64),
+    Case::Extension(SignExtension::Bits16To64),
+    Case::Extension(SignExtension::Bits32To64),
+    Case::Load(LoadFormat::Byte),
+    Case::Load(LoadFormat::HalfWord),
+    Case::Load(LoadFormat::Word),
+    Case::Load(LoadFormat::DoubleWord),
+    Case::Load(LoadFormat::SignedByte),
+    Case::Load(LoadFormat::SignedHalfWord),
+    Case::Load(LoadFormat::SignedWord),
+    Case::Order(ByteOrder::LittleEndian, SwapWidth::Bits16),
+    Case::Order(ByteOrder::LittleEndian, SwapWidth::Bits32),
+    Case::Order(ByteOrder::LittleEndian, SwapWidth::Bits64),
+    Case::Order(ByteOrder::BigEndian, SwapWidth::Bits16),
+    Case::Order(ByteOrder::BigEndian, SwapWidth::Bits32),
+    Case::Order(ByteOrder::BigEndian, SwapWidth::Bits64),
+    Case::Order(ByteOrder::Swapped, SwapWidth::Bits16),
+    Case::Order(ByteOrder::Swapped, SwapWidth::Bits32),
+    Case::Order(ByteOrder::Swapped, SwapWidth::Bits64),
+];
+
+// Numbers, and what each case makes of them.
+const NUMBERS: &str =
+    "Negation(Bits64): 0=0 1=ffffffffffffffff ffffffffffffffff=1 8000000000000000=8000000000000000 7fffffffffffffff=8000000000000001
+Negation(Bits32): 0=0 1=ffffffff ffffffff=1 80000000=80000000 7fffffff=80000001 ffffffffffffffff=1 8765432100000000=0
+Extension(Bits8To32): 7f=7f 80=ffffff80 1234567800000180=ffffff80 ffffffffffffff7f=7f
+Extension(Bits16To32): 7fff=7fff 8000=ffff8000 1234567800018000=ffff8000 ffffffffffff7fff=7fff
+Extension(Bits8To64): 7f=7f 80=ffffffffffffff80 1234567800000180=ffffffffffffff80 ffffffffffffff7f=7f
+Extension(Bits16To64): 7fff=7fff 8000=ffffffffffff8000 1234567800018000=ffffffffffff8000 ffffffffffff7fff=7fff
+Extension(Bits32To64): 7fffffff=7fffffff 80000000=ffffffff80000000 1234567880000000=ffffffff80000000 ffffffff7fffffff=7fffffff
+Load(Byte): 7f=7f 80=80
+Load(HalfWord): 7fff=7fff 8000=8000
+Load(Word): 7fffffff=7fffffff 80000000=80000000
+Load(DoubleWord): 7fffffffffffffff=7fffffffffffffff 8000000000000000=8000000000000000
+Load(SignedByte): 7f=7f 80=ffffffffffffff80
+Load(SignedHalfWord): 7fff=7fff 8000=ffffffffffff8000
+Load(SignedWord): 7fffffff=7fffffff 80000000=ffffffff80000000
+Order(LittleEndian, Bits16): 1=1 102030405060788=788
+Order(LittleEndian, Bits32): 1=1 102030405060788=5060788
+Order(LittleEndian, Bits64): 1=1 102030405060788=102030405060788
+Order(BigEndian, Bits16): 1=100 102030405060788=8807
+Order(BigEndian, Bits32): 1=1000000 102030405060788=88070605
+Order(BigEndian, Bits64): 1=100000000000000 102030405060788=8807060504030201
+Order(Swapped, Bits16): 1=100 102030405060788=8807
+Order(Swapped, Bits32): 1=1000000 102030405060788=88070605
+Order(Swapped, Bits64): 1=100000000000000 102030405060788=8807060504030201";
+
+// Immediates, and the operands that they make.
+const IMMEDIATES: &str = "1=1
+-1=ffffffffffffffff
+-2147483648=ffffffff80000000
+2147483647=7fffffff";
+
+// The immediates of a wide load's two words, and its number.
+const WIDE_NUMBERS: &str = "1,0=1
+0,1=100000000
+-1,0=ffffffff
+0,-1=ffffffff00000000
+-2147483648,2147483647=7fffffff80000000
+305419896,2059198192=7abcdef012345678";
+
+fn number(text: &str) -> Result<u64, Fail> {
+    Ok(u64::from_str_radix(text, 16)?)
 }
 
 #[test]
-fn conditions(rt: HostRuntime) {
-    for (x, y, wants) in COMPARISONS_64 {
-        let answers = CONDITIONS.map(|condition| condition.holds(Width::Bits64, x, y));
-        assert_eq!(rt; answers, wants, "{x} {y}");
+fn operations(rt: HostRuntime) -> Result<(), Fail> {
+    let tables = [
+        (Width::Bits64, OPERANDS_64, RESULTS_64),
+        (Width::Bits32, OPERANDS_32, RESULTS_32),
+    ];
+    for (width, operands, results) in tables {
+        let mut rows = results.lines();
+        for operation in OPERATIONS {
+            let mut found = format!(in rt.alloc(); "{operation:?}")?;
+            for pair in operands.split_whitespace() {
+                let (x, y) = cut(&rt, pair, ",");
+                let result = operation.apply(width, number(x)?, number(y)?);
+                write!(found, " {result:x}")?;
+            }
+            assert_eq!(rt; Some(found.as_str()), rows.next());
+        }
+        assert_eq!(rt; rows.next(), None);
     }
+    Ok(())
 }
 
 #[test]
-fn conditions_of_32_bits(rt: HostRuntime) {
-    for (x, y, wants) in COMPARISONS_32 {
-        let answers = CONDITIONS.map(|condition| condition.holds(Width::Bits32, x, y | UPPER));
-        assert_eq!(rt; answers, wants, "{x} {y}");
+fn conditions(rt: HostRuntime) -> Result<(), Fail> {
+    let tables = [
+        (Width::Bits64, COMPARISONS_64),
+        (Width::Bits32, COMPARISONS_32),
+    ];
+    for (width, rows) in tables {
+        for row in rows.lines() {
+            let (operands, want) = cut(&rt, row, " ");
+            let (x, y) = cut(&rt, operands, ",");
+            let (x, y) = (number(x)?, number(y)?);
+            let mut found = String::new(rt.alloc());
+            for condition in CONDITIONS {
+                found.push(if condition.holds(width, x, y) {
+                    '1'
+                } else {
+                    '0'
+                })?;
+            }
+            assert_eq!(rt; found.as_str(), want, "{row}");
+        }
     }
+    Ok(())
 }
 
 #[test]
-fn negations(rt: HostRuntime) {
-    for (width, x, want) in NEGATIONS {
-        assert_eq!(rt; negate(width, x), want, "{width:?} {x}");
+fn numbers(rt: HostRuntime) -> Result<(), Fail> {
+    let mut rows = NUMBERS.lines();
+    for case in CASES {
+        let (name, pairs) = cut(&rt, rows.next().unwrap_or(""), ": ");
+        assert_eq!(rt; format!(in rt.alloc(); "{case:?}")?.as_str(), name);
+        for pair in pairs.split_whitespace() {
+            let (x, want) = cut(&rt, pair, "=");
+            assert_eq!(rt; case.apply(number(x)?), number(want)?, "{name} {pair}");
+        }
     }
+    assert_eq!(rt; rows.next(), None);
+    Ok(())
 }
 
 #[test]
-fn sign_extensions(rt: HostRuntime) {
-    for (extension, x, want) in EXTENSIONS {
-        assert_eq!(rt; extension.apply(x), want, "{extension:?} {x}");
+fn immediates(rt: HostRuntime) -> Result<(), Fail> {
+    for row in IMMEDIATES.lines() {
+        let (immediate, want) = cut(&rt, row, "=");
+        assert_eq!(rt;
+            sign_extended(immediate.parse::<i32>()?),
+            number(want)?,
+            "{row}"
+        );
     }
-}
-
-#[test]
-fn byte_orders(rt: HostRuntime) {
-    for (order, width, x, want) in ORDERS {
-        assert_eq!(rt; order.apply(width, x), want, "{order:?} {width:?} {x}");
+    for row in WIDE_NUMBERS.lines() {
+        let (immediates, want) = cut(&rt, row, "=");
+        let (first, next) = cut(&rt, immediates, ",");
+        let found = wide_number(first.parse::<i32>()?, next.parse::<i32>()?);
+        assert_eq!(rt; found, number(want)?, "{row}");
     }
-}
-
-#[test]
-fn loads(rt: HostRuntime) {
-    for (format, number, want) in LOADS {
-        assert_eq!(rt; format.extend(number), want, "{format:?} {number}");
-    }
-}
-
-#[test]
-fn immediates(rt: HostRuntime) {
-    for (immediate, want) in IMMEDIATES {
-        assert_eq!(rt; sign_extended(immediate), want);
-    }
-    for (immediate, next_immediate, want) in WIDE_NUMBERS {
-        assert_eq!(rt; wide_number(immediate, next_immediate), want);
-    }
+    Ok(())
 }

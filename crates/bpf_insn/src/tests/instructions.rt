@@ -1,352 +1,255 @@
 //! Each opcode of the instruction table, with its bytes written out and the instruction that they are.
-use super::EXIT;
-use crate::ByteOrder::{BigEndian, LittleEndian, Swapped};
-use crate::Condition::{
-    Equal, Greater, GreaterOrEqual, Less, LessOrEqual, NotEqual, SharesBit, SignedGreater,
-    SignedGreaterOrEqual, SignedLess, SignedLessOrEqual,
-};
-use crate::JumpDistance::{Long, Short};
-use crate::Operation::{
-    Add, And, ArithmeticShiftRight, Divide, ExclusiveOr, Modulo, Move, Multiply, Or, ShiftLeft,
-    ShiftRight, SignedDivide, SignedModulo, Subtract,
-};
-use crate::SignExtension::{Bits8To32, Bits8To64, Bits16To32, Bits16To64, Bits32To64};
-use crate::Width::{Bits32, Bits64};
-use crate::{
-    ByteOrder, Code, Condition, Insn, JumpDistance, LoadFormat, Operation, SignExtension, Source,
-    StoreSize, SwapWidth, Width, decode, encode,
-};
-use Operand::{Immediate, Numbered};
-use Parts::{
-    Alu, ByteSwap, Call, Exit, Jump, JumpIf, Load, MoveSignExtended, Negate, Store, StoreImmediate,
-    WideLoad,
-};
+use super::{EXIT, bytes_of, cut};
+use crate::{Code, Insn, decode, encode};
 use std::alloc::Allocator;
 use std::process::Abort;
 use std::test::Fail;
 
-/// An instruction with its registers as plain numbers, which a constant can hold. Its parts stand in
-/// the order of the fields of `Insn`.
-#[derive(Clone, Copy, Debug, PartialEq, Eq)]
-enum Parts {
-    Alu(Operation, Width, u8, Operand),
-    MoveSignExtended(SignExtension, u8, u8),
-    Negate(Width, u8),
-    ByteSwap(ByteOrder, SwapWidth, u8),
-    JumpIf(Condition, Width, u8, Operand, i16),
-    Jump(JumpDistance),
-    Call(i32),
-    Exit,
-    Load(LoadFormat, u8, u8, i16),
-    StoreImmediate(StoreSize, u8, i16, i32),
-    Store(StoreSize, u8, i16, u8),
-    WideLoad(u8, i32, i32),
-}
-
-#[derive(Clone, Copy, Debug, PartialEq, Eq)]
-enum Operand {
-    Immediate(i32),
-    /// A register by its number.
-    Numbered(u8),
-}
-
-/// Rows of bytes and parts.
-macro_rules! rows {
-    ($($bytes:literal => $parts:expr),+ $(,)?) => { &[$(($bytes, $parts)),+] };
-}
-
-const INSTRUCTIONS: &[(&[u8], Parts)] = rows! {
-    // ALU: operations on an immediate (K), then on a register (X).
-    b"\x04\0\0\0\x01\0\0\0" => Alu(Add, Bits32, 0, Immediate(1)),
-    b"\x14\x01\0\0\xff\xff\xff\xff" => Alu(Subtract, Bits32, 1, Immediate(-1)),
-    b"\x24\x02\0\0\xff\xff\xff\x7f" => Alu(Multiply, Bits32, 2, Immediate(i32::MAX)),
-    b"\x34\x03\0\0\0\0\0\x80" => Alu(Divide, Bits32, 3, Immediate(i32::MIN)),
-    b"\x34\x04\x01\0\xf3\xff\xff\xff" => Alu(SignedDivide, Bits32, 4, Immediate(-13)),
-    b"\x44\x05\0\0\x01\x02\x03\x04" => Alu(Or, Bits32, 5, Immediate(0x0403_0201)),
-    b"\x54\x06\0\0\xff\0\0\0" => Alu(And, Bits32, 6, Immediate(255)),
-    b"\x64\x07\0\0\x1f\0\0\0" => Alu(ShiftLeft, Bits32, 7, Immediate(31)),
-    b"\x74\x08\0\0\xe0\xff\xff\xff" => Alu(ShiftRight, Bits32, 8, Immediate(-32)),
-    b"\x94\x09\0\0\x0a\0\0\0" => Alu(Modulo, Bits32, 9, Immediate(10)),
-    b"\x94\0\x01\0\xfd\xff\xff\xff" => Alu(SignedModulo, Bits32, 0, Immediate(-3)),
-    b"\xa4\x01\0\0\0\0\xff\xff" => Alu(ExclusiveOr, Bits32, 1, Immediate(-0x1_0000)),
-    b"\xb4\x02\0\0\0\0\0\0" => Alu(Move, Bits32, 2, Immediate(0)),
-    b"\xc4\x03\0\0\x05\0\0\0" => Alu(ArithmeticShiftRight, Bits32, 3, Immediate(5)),
-    b"\x0c\x09\0\0\0\0\0\0" => Alu(Add, Bits32, 9, Numbered(0)),
-    b"\x1c\x18\0\0\0\0\0\0" => Alu(Subtract, Bits32, 8, Numbered(1)),
-    b"\x2c\x27\0\0\0\0\0\0" => Alu(Multiply, Bits32, 7, Numbered(2)),
-    b"\x3c\x36\0\0\0\0\0\0" => Alu(Divide, Bits32, 6, Numbered(3)),
-    b"\x3c\x45\x01\0\0\0\0\0" => Alu(SignedDivide, Bits32, 5, Numbered(4)),
-    b"\x4c\x54\0\0\0\0\0\0" => Alu(Or, Bits32, 4, Numbered(5)),
-    b"\x5c\x63\0\0\0\0\0\0" => Alu(And, Bits32, 3, Numbered(6)),
-    b"\x6c\x72\0\0\0\0\0\0" => Alu(ShiftLeft, Bits32, 2, Numbered(7)),
-    b"\x7c\x81\0\0\0\0\0\0" => Alu(ShiftRight, Bits32, 1, Numbered(8)),
-    b"\x9c\x90\0\0\0\0\0\0" => Alu(Modulo, Bits32, 0, Numbered(9)),
-    b"\x9c\xa9\x01\0\0\0\0\0" => Alu(SignedModulo, Bits32, 9, Numbered(10)),
-    b"\xac\x08\0\0\0\0\0\0" => Alu(ExclusiveOr, Bits32, 8, Numbered(0)),
-    b"\xbc\x17\0\0\0\0\0\0" => Alu(Move, Bits32, 7, Numbered(1)),
-    b"\xcc\x26\0\0\0\0\0\0" => Alu(ArithmeticShiftRight, Bits32, 6, Numbered(2)),
-    // ALU64: operations on an immediate (K), then on a register (X).
-    b"\x07\x03\0\0\xfe\xff\xff\xff" => Alu(Add, Bits64, 3, Immediate(-2)),
-    b"\x17\x04\0\0\x7f\0\0\0" => Alu(Subtract, Bits64, 4, Immediate(127)),
-    b"\x27\x05\0\0\0\0\0\x80" => Alu(Multiply, Bits64, 5, Immediate(i32::MIN)),
-    b"\x37\x06\0\0\xff\xff\xff\x7f" => Alu(Divide, Bits64, 6, Immediate(i32::MAX)),
-    b"\x37\x07\x01\0\x07\0\0\0" => Alu(SignedDivide, Bits64, 7, Immediate(7)),
-    b"\x47\x08\0\0\0\xff\xff\xff" => Alu(Or, Bits64, 8, Immediate(-256)),
-    b"\x57\x09\0\0\x04\x03\x02\x01" => Alu(And, Bits64, 9, Immediate(0x0102_0304)),
-    b"\x67\0\0\0\x3f\0\0\0" => Alu(ShiftLeft, Bits64, 0, Immediate(63)),
-    b"\x77\x01\0\0\x40\0\0\0" => Alu(ShiftRight, Bits64, 1, Immediate(64)),
-    b"\x97\x02\0\0\xe8\x03\0\0" => Alu(Modulo, Bits64, 2, Immediate(1000)),
-    b"\x97\x03\x01\0\x18\xfc\xff\xff" => Alu(SignedModulo, Bits64, 3, Immediate(-1000)),
-    b"\xa7\x04\0\0\x5a\x5a\x5a\x5a" => Alu(ExclusiveOr, Bits64, 4, Immediate(0x5a5a_5a5a)),
-    b"\xb7\x05\0\0\xff\xff\xff\xff" => Alu(Move, Bits64, 5, Immediate(-1)),
-    b"\xc7\x06\0\0\x0c\0\0\0" => Alu(ArithmeticShiftRight, Bits64, 6, Immediate(12)),
-    b"\x0f\x53\0\0\0\0\0\0" => Alu(Add, Bits64, 3, Numbered(5)),
-    b"\x1f\x62\0\0\0\0\0\0" => Alu(Subtract, Bits64, 2, Numbered(6)),
-    b"\x2f\x71\0\0\0\0\0\0" => Alu(Multiply, Bits64, 1, Numbered(7)),
-    b"\x3f\x80\0\0\0\0\0\0" => Alu(Divide, Bits64, 0, Numbered(8)),
-    b"\x3f\x99\x01\0\0\0\0\0" => Alu(SignedDivide, Bits64, 9, Numbered(9)),
-    b"\x4f\xa8\0\0\0\0\0\0" => Alu(Or, Bits64, 8, Numbered(10)),
-    b"\x5f\x07\0\0\0\0\0\0" => Alu(And, Bits64, 7, Numbered(0)),
-    b"\x6f\x16\0\0\0\0\0\0" => Alu(ShiftLeft, Bits64, 6, Numbered(1)),
-    b"\x7f\x25\0\0\0\0\0\0" => Alu(ShiftRight, Bits64, 5, Numbered(2)),
-    b"\x9f\x34\0\0\0\0\0\0" => Alu(Modulo, Bits64, 4, Numbered(3)),
-    b"\x9f\x43\x01\0\0\0\0\0" => Alu(SignedModulo, Bits64, 3, Numbered(4)),
-    b"\xaf\x52\0\0\0\0\0\0" => Alu(ExclusiveOr, Bits64, 2, Numbered(5)),
-    b"\xbf\x61\0\0\0\0\0\0" => Alu(Move, Bits64, 1, Numbered(6)),
-    b"\xcf\x70\0\0\0\0\0\0" => Alu(ArithmeticShiftRight, Bits64, 0, Numbered(7)),
-    // MOVSX, in ALU and ALU64.
-    b"\xbc\xa0\x08\0\0\0\0\0" => MoveSignExtended(Bits8To32, 0, 10),
-    b"\xbc\x19\x10\0\0\0\0\0" => MoveSignExtended(Bits16To32, 9, 1),
-    b"\xbf\x33\x08\0\0\0\0\0" => MoveSignExtended(Bits8To64, 3, 3),
-    b"\xbf\x91\x10\0\0\0\0\0" => MoveSignExtended(Bits16To64, 1, 9),
-    b"\xbf\xa8\x20\0\0\0\0\0" => MoveSignExtended(Bits32To64, 8, 10),
-    // NEG and END.
-    b"\x84\x09\0\0\0\0\0\0" => Negate(Bits32, 9),
-    b"\x87\0\0\0\0\0\0\0" => Negate(Bits64, 0),
-    b"\xd4\0\0\0\x10\0\0\0" => ByteSwap(LittleEndian, SwapWidth::Bits16, 0),
-    b"\xd4\x01\0\0\x20\0\0\0" => ByteSwap(LittleEndian, SwapWidth::Bits32, 1),
-    b"\xd4\x02\0\0\x40\0\0\0" => ByteSwap(LittleEndian, SwapWidth::Bits64, 2),
-    b"\xdc\x03\0\0\x10\0\0\0" => ByteSwap(BigEndian, SwapWidth::Bits16, 3),
-    b"\xdc\x04\0\0\x20\0\0\0" => ByteSwap(BigEndian, SwapWidth::Bits32, 4),
-    b"\xdc\x05\0\0\x40\0\0\0" => ByteSwap(BigEndian, SwapWidth::Bits64, 5),
-    b"\xd7\x06\0\0\x10\0\0\0" => ByteSwap(Swapped, SwapWidth::Bits16, 6),
-    b"\xd7\x07\0\0\x20\0\0\0" => ByteSwap(Swapped, SwapWidth::Bits32, 7),
-    b"\xd7\x08\0\0\x40\0\0\0" => ByteSwap(Swapped, SwapWidth::Bits64, 8),
-    // JA in JMP and JMP32, CALL and EXIT.
-    b"\x05\0\0\0\0\0\0\0" => Jump(Short(0)),
-    b"\x05\0\x01\0\0\0\0\0" => Jump(Short(1)),
-    b"\x05\0\xff\xff\0\0\0\0" => Jump(Short(-1)),
-    b"\x05\0\xff\x7f\0\0\0\0" => Jump(Short(i16::MAX)),
-    b"\x05\0\0\x80\0\0\0\0" => Jump(Short(i16::MIN)),
-    b"\x06\0\0\0\0\0\0\0" => Jump(Long(0)),
-    b"\x06\0\0\0\xfe\xff\xff\xff" => Jump(Long(-2)),
-    b"\x06\0\0\0\0\0\x01\0" => Jump(Long(65536)),
-    b"\x06\0\0\0\xff\xff\xff\x7f" => Jump(Long(i32::MAX)),
-    b"\x06\0\0\0\0\0\0\x80" => Jump(Long(i32::MIN)),
-    b"\x85\0\0\0\0\0\0\0" => Call(0),
-    b"\x85\0\0\0\x09\0\0\0" => Call(9),
-    b"\x85\0\0\0\xff\xff\xff\xff" => Call(-1),
-    b"\x85\0\0\0\xff\xff\xff\x7f" => Call(i32::MAX),
-    b"\x85\0\0\0\0\0\0\x80" => Call(i32::MIN),
-    b"\x95\0\0\0\0\0\0\0" => Exit,
-    // JMP: conditional jumps by an immediate (K), then by a register (X).
-    b"\x15\0\0\0\xff\xff\xff\xff" => JumpIf(Equal, Bits64, 0, Immediate(-1), 0),
-    b"\x25\x01\x01\0\x01\0\0\0" => JumpIf(Greater, Bits64, 1, Immediate(1), 1),
-    b"\x35\x02\xff\xff\0\0\0\x80" => JumpIf(GreaterOrEqual, Bits64, 2, Immediate(i32::MIN), -1),
-    b"\x45\x03\xff\x7f\xff\xff\xff\x7f" => JumpIf(SharesBit, Bits64, 3, Immediate(i32::MAX), i16::MAX),
-    b"\x55\x04\0\x80\0\0\0\0" => JumpIf(NotEqual, Bits64, 4, Immediate(0), i16::MIN),
-    b"\x65\x05\x01\x02\xf3\xff\xff\xff" => JumpIf(SignedGreater, Bits64, 5, Immediate(-13), 0x0201),
-    b"\x75\x06\0\xff\x01\x02\x03\x04" => JumpIf(SignedGreaterOrEqual, Bits64, 6, Immediate(0x0403_0201), -256),
-    b"\xa5\x07\xff\0\x64\0\0\0" => JumpIf(Less, Bits64, 7, Immediate(100), 255),
-    b"\xb5\x08\x10\0\x9c\xff\xff\xff" => JumpIf(LessOrEqual, Bits64, 8, Immediate(-100), 16),
-    b"\xc5\x09\xfe\xff\x02\0\0\0" => JumpIf(SignedLess, Bits64, 9, Immediate(2), -2),
-    b"\xd5\x0a\xff\x0f\xfe\xff\xff\xff" => JumpIf(SignedLessOrEqual, Bits64, 10, Immediate(-2), 4095),
-    b"\x1d\x1a\xff\x0f\0\0\0\0" => JumpIf(Equal, Bits64, 10, Numbered(1), 4095),
-    b"\x2d\x29\xfe\xff\0\0\0\0" => JumpIf(Greater, Bits64, 9, Numbered(2), -2),
-    b"\x3d\x38\x10\0\0\0\0\0" => JumpIf(GreaterOrEqual, Bits64, 8, Numbered(3), 16),
-    b"\x4d\x47\xff\0\0\0\0\0" => JumpIf(SharesBit, Bits64, 7, Numbered(4), 255),
-    b"\x5d\x56\0\xff\0\0\0\0" => JumpIf(NotEqual, Bits64, 6, Numbered(5), -256),
-    b"\x6d\x65\x01\x02\0\0\0\0" => JumpIf(SignedGreater, Bits64, 5, Numbered(6), 0x0201),
-    b"\x7d\x74\0\x80\0\0\0\0" => JumpIf(SignedGreaterOrEqual, Bits64, 4, Numbered(7), i16::MIN),
-    b"\xad\x83\xff\x7f\0\0\0\0" => JumpIf(Less, Bits64, 3, Numbered(8), i16::MAX),
-    b"\xbd\x92\xff\xff\0\0\0\0" => JumpIf(LessOrEqual, Bits64, 2, Numbered(9), -1),
-    b"\xcd\xa1\x01\0\0\0\0\0" => JumpIf(SignedLess, Bits64, 1, Numbered(10), 1),
-    b"\xdd\0\0\0\0\0\0\0" => JumpIf(SignedLessOrEqual, Bits64, 0, Numbered(0), 0),
-    // JMP32: conditional jumps by an immediate (K), then by a register (X).
-    b"\x16\x04\0\x80\xff\xff\xff\x7f" => JumpIf(Equal, Bits32, 4, Immediate(i32::MAX), i16::MIN),
-    b"\x26\x05\x01\x02\0\0\0\x80" => JumpIf(Greater, Bits32, 5, Immediate(i32::MIN), 0x0201),
-    b"\x36\x06\0\xff\0\0\0\0" => JumpIf(GreaterOrEqual, Bits32, 6, Immediate(0), -256),
-    b"\x46\x07\xff\0\xff\xff\xff\xff" => JumpIf(SharesBit, Bits32, 7, Immediate(-1), 255),
-    b"\x56\x08\x10\0\x01\0\0\0" => JumpIf(NotEqual, Bits32, 8, Immediate(1), 16),
-    b"\x66\x09\xfe\xff\x04\x03\x02\x01" => JumpIf(SignedGreater, Bits32, 9, Immediate(0x0102_0304), -2),
-    b"\x76\x0a\xff\x0f\xfc\xfc\xfd\xfe" => JumpIf(SignedGreaterOrEqual, Bits32, 10, Immediate(-0x0102_0304), 4095),
-    b"\xa6\0\0\0\x0a\0\0\0" => JumpIf(Less, Bits32, 0, Immediate(10), 0),
-    b"\xb6\x01\x01\0\xf6\xff\xff\xff" => JumpIf(LessOrEqual, Bits32, 1, Immediate(-10), 1),
-    b"\xc6\x02\xff\xff\xff\xff\0\0" => JumpIf(SignedLess, Bits32, 2, Immediate(65535), -1),
-    b"\xd6\x03\xff\x7f\0\0\xff\xff" => JumpIf(SignedLessOrEqual, Bits32, 3, Immediate(-0x1_0000), i16::MAX),
-    b"\x1e\x93\xff\x7f\0\0\0\0" => JumpIf(Equal, Bits32, 3, Numbered(9), i16::MAX),
-    b"\x2e\xa2\xff\xff\0\0\0\0" => JumpIf(Greater, Bits32, 2, Numbered(10), -1),
-    b"\x3e\x01\x01\0\0\0\0\0" => JumpIf(GreaterOrEqual, Bits32, 1, Numbered(0), 1),
-    b"\x4e\x10\0\0\0\0\0\0" => JumpIf(SharesBit, Bits32, 0, Numbered(1), 0),
-    b"\x5e\x2a\xff\x0f\0\0\0\0" => JumpIf(NotEqual, Bits32, 10, Numbered(2), 4095),
-    b"\x6e\x39\xfe\xff\0\0\0\0" => JumpIf(SignedGreater, Bits32, 9, Numbered(3), -2),
-    b"\x7e\x48\x10\0\0\0\0\0" => JumpIf(SignedGreaterOrEqual, Bits32, 8, Numbered(4), 16),
-    b"\xae\x57\xff\0\0\0\0\0" => JumpIf(Less, Bits32, 7, Numbered(5), 255),
-    b"\xbe\x66\0\xff\0\0\0\0" => JumpIf(LessOrEqual, Bits32, 6, Numbered(6), -256),
-    b"\xce\x75\x01\x02\0\0\0\0" => JumpIf(SignedLess, Bits32, 5, Numbered(7), 0x0201),
-    b"\xde\x84\0\x80\0\0\0\0" => JumpIf(SignedLessOrEqual, Bits32, 4, Numbered(8), i16::MIN),
-    // LDX: MEM, then MEMSX.
-    b"\x61\x10\0\0\0\0\0\0" => Load(LoadFormat::Word, 0, 1, 0),
-    b"\x69\xa9\xfe\xff\0\0\0\0" => Load(LoadFormat::HalfWord, 9, 10, -2),
-    b"\x71\x10\xe3\0\0\0\0\0" => Load(LoadFormat::Byte, 0, 1, 227),
-    b"\x71\xa9\xff\xff\0\0\0\0" => Load(LoadFormat::Byte, 9, 10, -1),
-    b"\x71\x04\x01\x02\0\0\0\0" => Load(LoadFormat::Byte, 4, 0, 0x0201),
-    b"\x71\x95\0\x80\0\0\0\0" => Load(LoadFormat::Byte, 5, 9, i16::MIN),
-    b"\x79\xa7\0\xfe\0\0\0\0" => Load(LoadFormat::DoubleWord, 7, 10, -512),
-    b"\x81\x23\xff\x7f\0\0\0\0" => Load(LoadFormat::SignedWord, 3, 2, i16::MAX),
-    b"\x89\x11\x64\0\0\0\0\0" => Load(LoadFormat::SignedHalfWord, 1, 1, 100),
-    b"\x91\xa8\0\x80\0\0\0\0" => Load(LoadFormat::SignedByte, 8, 10, i16::MIN),
-    // ST and STX.
-    b"\x62\x0a\xfc\xff\xff\xff\xff\xff" => StoreImmediate(StoreSize::Word, 10, -4, -1),
-    b"\x6a\0\0\0\xff\xff\xff\x7f" => StoreImmediate(StoreSize::HalfWord, 0, 0, i32::MAX),
-    b"\x72\x09\xff\x7f\0\0\0\x80" => StoreImmediate(StoreSize::Byte, 9, i16::MAX, i32::MIN),
-    b"\x7a\x0a\0\x80\x01\x02\x03\x04" => StoreImmediate(StoreSize::DoubleWord, 10, i16::MIN, 0x0403_0201),
-    b"\x63\x0a\0\xfe\0\0\0\0" => Store(StoreSize::Word, 10, -512, 0),
-    b"\x6b\xa1\xff\x7f\0\0\0\0" => Store(StoreSize::HalfWord, 1, i16::MAX, 10),
-    b"\x73\x90\0\x80\0\0\0\0" => Store(StoreSize::Byte, 0, i16::MIN, 9),
-    b"\x7b\xaa\xf8\xff\0\0\0\0" => Store(StoreSize::DoubleWord, 10, -8, 10),
-    // The wide load, in two words.
-    b"\x18\0\0\0\0\0\0\0\0\0\0\0\0\0\0\0" => WideLoad(0, 0, 0),
-    b"\x18\x01\0\0\x01\0\0\0\0\0\0\0\x02\0\0\0" => WideLoad(1, 1, 2),
-    b"\x18\x09\0\0\xff\xff\xff\xff\0\0\0\0\0\0\0\0" => WideLoad(9, -1, 0),
-    b"\x18\x05\0\0\0\0\0\x80\0\0\0\0\xff\xff\xff\x7f" => WideLoad(5, i32::MIN, i32::MAX),
-    b"\x18\x07\0\0\x01\x02\x03\x04\0\0\0\0\xfe\xff\xff\xff" => WideLoad(7, 0x0403_0201, -2),
-    b"\x18\x03\0\0\xff\xff\xff\x7f\0\0\0\0\0\0\0\x80" => WideLoad(3, i32::MAX, i32::MIN),
-};
+// Bytes, and the instruction.
+const INSTRUCTIONS: &str = "# ALU: operations on an immediate (K), then on a register (X).
+04 0 0 0 01 0 0 0 | Alu { operation: Add, width: Bits32, destination: WritableRegister { number: 0 }, source: Immediate(1) }
+14 01 0 0 ff ff ff ff | Alu { operation: Subtract, width: Bits32, destination: WritableRegister { number: 1 }, source: Immediate(-1) }
+24 02 0 0 ff ff ff 7f | Alu { operation: Multiply, width: Bits32, destination: WritableRegister { number: 2 }, source: Immediate(2147483647) }
+34 03 0 0 0 0 0 80 | Alu { operation: Divide, width: Bits32, destination: WritableRegister { number: 3 }, source: Immediate(-2147483648) }
+34 04 01 0 f3 ff ff ff | Alu { operation: SignedDivide, width: Bits32, destination: WritableRegister { number: 4 }, source: Immediate(-13) }
+44 05 0 0 01 02 03 04 | Alu { operation: Or, width: Bits32, destination: WritableRegister { number: 5 }, source: Immediate(67305985) }
+54 06 0 0 ff 0 0 0 | Alu { operation: And, width: Bits32, destination: WritableRegister { number: 6 }, source: Immediate(255) }
+64 07 0 0 1f 0 0 0 | Alu { operation: ShiftLeft, width: Bits32, destination: WritableRegister { number: 7 }, source: Immediate(31) }
+74 08 0 0 e0 ff ff ff | Alu { operation: ShiftRight, width: Bits32, destination: WritableRegister { number: 8 }, source: Immediate(-32) }
+94 09 0 0 0a 0 0 0 | Alu { operation: Modulo, width: Bits32, destination: WritableRegister { number: 9 }, source: Immediate(10) }
+94 0 01 0 fd ff ff ff | Alu { operation: SignedModulo, width: Bits32, destination: WritableRegister { number: 0 }, source: Immediate(-3) }
+a4 01 0 0 0 0 ff ff | Alu { operation: ExclusiveOr, width: Bits32, destination: WritableRegister { number: 1 }, source: Immediate(-65536) }
+b4 02 0 0 0 0 0 0 | Alu { operation: Move, width: Bits32, destination: WritableRegister { number: 2 }, source: Immediate(0) }
+c4 03 0 0 05 0 0 0 | Alu { operation: ArithmeticShiftRight, width: Bits32, destination: WritableRegister { number: 3 }, source: Immediate(5) }
+0c 09 0 0 0 0 0 0 | Alu { operation: Add, width: Bits32, destination: WritableRegister { number: 9 }, source: Register(Register { number: 0 }) }
+1c 18 0 0 0 0 0 0 | Alu { operation: Subtract, width: Bits32, destination: WritableRegister { number: 8 }, source: Register(Register { number: 1 }) }
+2c 27 0 0 0 0 0 0 | Alu { operation: Multiply, width: Bits32, destination: WritableRegister { number: 7 }, source: Register(Register { number: 2 }) }
+3c 36 0 0 0 0 0 0 | Alu { operation: Divide, width: Bits32, destination: WritableRegister { number: 6 }, source: Register(Register { number: 3 }) }
+3c 45 01 0 0 0 0 0 | Alu { operation: SignedDivide, width: Bits32, destination: WritableRegister { number: 5 }, source: Register(Register { number: 4 }) }
+4c 54 0 0 0 0 0 0 | Alu { operation: Or, width: Bits32, destination: WritableRegister { number: 4 }, source: Register(Register { number: 5 }) }
+5c 63 0 0 0 0 0 0 | Alu { operation: And, width: Bits32, destination: WritableRegister { number: 3 }, source: Register(Register { number: 6 }) }
+6c 72 0 0 0 0 0 0 | Alu { operation: ShiftLeft, width: Bits32, destination: WritableRegister { number: 2 }, source: Register(Register { number: 7 }) }
+7c 81 0 0 0 0 0 0 | Alu { operation: ShiftRight, width: Bits32, destination: WritableRegister { number: 1 }, source: Register(Register { number: 8 }) }
+9c 90 0 0 0 0 0 0 | Alu { operation: Modulo, width: Bits32, destination: WritableRegister { number: 0 }, source: Register(Register { number: 9 }) }
+9c a9 01 0 0 0 0 0 | Alu { operation: SignedModulo, width: Bits32, destination: WritableRegister { number: 9 }, source: Register(Register { number: 10 }) }
+ac 08 0 0 0 0 0 0 | Alu { operation: ExclusiveOr, width: Bits32, destination: WritableRegister { number: 8 }, source: Register(Register { number: 0 }) }
+bc 17 0 0 0 0 0 0 | Alu { operation: Move, width: Bits32, destination: WritableRegister { number: 7 }, source: Register(Register { number: 1 }) }
+cc 26 0 0 0 0 0 0 | Alu { operation: ArithmeticShiftRight, width: Bits32, destination: WritableRegister { number: 6 }, source: Register(Register { number: 2 }) }
+# ALU64: operations on an immediate (K), then on a register (X).
+07 03 0 0 fe ff ff ff | Alu { operation: Add, width: Bits64, destination: WritableRegister { number: 3 }, source: Immediate(-2) }
+17 04 0 0 7f 0 0 0 | Alu { operation: Subtract, width: Bits64, destination: WritableRegister { number: 4 }, source: Immediate(127) }
+27 05 0 0 0 0 0 80 | Alu { operation: Multiply, width: Bits64, destination: WritableRegister { number: 5 }, source: Immediate(-2147483648) }
+37 06 0 0 ff ff ff 7f | Alu { operation: Divide, width: Bits64, destination: WritableRegister { number: 6 }, source: Immediate(2147483647) }
+37 07 01 0 07 0 0 0 | Alu { operation: SignedDivide, width: Bits64, destination: WritableRegister { number: 7 }, source: Immediate(7) }
+47 08 0 0 0 ff ff ff | Alu { operation: Or, width: Bits64, destination: WritableRegister { number: 8 }, source: Immediate(-256) }
+57 09 0 0 04 03 02 01 | Alu { operation: And, width: Bits64, destination: WritableRegister { number: 9 }, source: Immediate(16909060) }
+67 0 0 0 3f 0 0 0 | Alu { operation: ShiftLeft, width: Bits64, destination: WritableRegister { number: 0 }, source: Immediate(63) }
+77 01 0 0 40 0 0 0 | Alu { operation: ShiftRight, width: Bits64, destination: WritableRegister { number: 1 }, source: Immediate(64) }
+97 02 0 0 e8 03 0 0 | Alu { operation: Modulo, width: Bits64, destination: WritableRegister { number: 2 }, source: Immediate(1000) }
+97 03 01 0 18 fc ff ff | Alu { operation: SignedModulo, width: Bits64, destination: WritableRegister { number: 3 }, source: Immediate(-1000) }
+a7 04 0 0 5a 5a 5a 5a | Alu { operation: ExclusiveOr, width: Bits64, destination: WritableRegister { number: 4 }, source: Immediate(1515870810) }
+b7 05 0 0 ff ff ff ff | Alu { operation: Move, width: Bits64, destination: WritableRegister { number: 5 }, source: Immediate(-1) }
+c7 06 0 0 0c 0 0 0 | Alu { operation: ArithmeticShiftRight, width: Bits64, destination: WritableRegister { number: 6 }, source: Immediate(12) }
+0f 53 0 0 0 0 0 0 | Alu { operation: Add, width: Bits64, destination: WritableRegister { number: 3 }, source: Register(Register { number: 5 }) }
+1f 62 0 0 0 0 0 0 | Alu { operation: Subtract, width: Bits64, destination: WritableRegister { number: 2 }, source: Register(Register { number: 6 }) }
+2f 71 0 0 0 0 0 0 | Alu { operation: Multiply, width: Bits64, destination: WritableRegister { number: 1 }, source: Register(Register { number: 7 }) }
+3f 80 0 0 0 0 0 0 | Alu { operation: Divide, width: Bits64, destination: WritableRegister { number: 0 }, source: Register(Register { number: 8 }) }
+3f 99 01 0 0 0 0 0 | Alu { operation: SignedDivide, width: Bits64, destination: WritableRegister { number: 9 }, source: Register(Register { number: 9 }) }
+4f a8 0 0 0 0 0 0 | Alu { operation: Or, width: Bits64, destination: WritableRegister { number: 8 }, source: Register(Register { number: 10 }) }
+5f 07 0 0 0 0 0 0 | Alu { operation: And, width: Bits64, destination: WritableRegister { number: 7 }, source: Register(Register { number: 0 }) }
+6f 16 0 0 0 0 0 0 | Alu { operation: ShiftLeft, width: Bits64, destination: WritableRegister { number: 6 }, source: Register(Register { number: 1 }) }
+7f 25 0 0 0 0 0 0 | Alu { operation: ShiftRight, width: Bits64, destination: WritableRegister { number: 5 }, source: Register(Register { number: 2 }) }
+9f 34 0 0 0 0 0 0 | Alu { operation: Modulo, width: Bits64, destination: WritableRegister { number: 4 }, source: Register(Register { number: 3 }) }
+9f 43 01 0 0 0 0 0 | Alu { operation: SignedModulo, width: Bits64, destination: WritableRegister { number: 3 }, source: Register(Register { number: 4 }) }
+af 52 0 0 0 0 0 0 | Alu { operation: ExclusiveOr, width: Bits64, destination: WritableRegister { number: 2 }, source: Register(Register { number: 5 }) }
+bf 61 0 0 0 0 0 0 | Alu { operation: Move, width: Bits64, destination: WritableRegister { number: 1 }, source: Register(Register { number: 6 }) }
+cf 70 0 0 0 0 0 0 | Alu { operation: ArithmeticShiftRight, width: Bits64, destination: WritableRegister { number: 0 }, source: Register(Register { number: 7 }) }
+# MOVSX, in ALU and ALU64.
+bc a0 08 0 0 0 0 0 | MoveSignExtended { extension: Bits8To32, destination: WritableRegister { number: 0 }, source: Register { number: 10 } }
+bc 19 10 0 0 0 0 0 | MoveSignExtended { extension: Bits16To32, destination: WritableRegister { number: 9 }, source: Register { number: 1 } }
+bf 33 08 0 0 0 0 0 | MoveSignExtended { extension: Bits8To64, destination: WritableRegister { number: 3 }, source: Register { number: 3 } }
+bf 91 10 0 0 0 0 0 | MoveSignExtended { extension: Bits16To64, destination: WritableRegister { number: 1 }, source: Register { number: 9 } }
+bf a8 20 0 0 0 0 0 | MoveSignExtended { extension: Bits32To64, destination: WritableRegister { number: 8 }, source: Register { number: 10 } }
+# NEG and END.
+84 09 0 0 0 0 0 0 | Negate { width: Bits32, destination: WritableRegister { number: 9 } }
+87 0 0 0 0 0 0 0 | Negate { width: Bits64, destination: WritableRegister { number: 0 } }
+d4 0 0 0 10 0 0 0 | ByteSwap { order: LittleEndian, width: Bits16, destination: WritableRegister { number: 0 } }
+d4 01 0 0 20 0 0 0 | ByteSwap { order: LittleEndian, width: Bits32, destination: WritableRegister { number: 1 } }
+d4 02 0 0 40 0 0 0 | ByteSwap { order: LittleEndian, width: Bits64, destination: WritableRegister { number: 2 } }
+dc 03 0 0 10 0 0 0 | ByteSwap { order: BigEndian, width: Bits16, destination: WritableRegister { number: 3 } }
+dc 04 0 0 20 0 0 0 | ByteSwap { order: BigEndian, width: Bits32, destination: WritableRegister { number: 4 } }
+dc 05 0 0 40 0 0 0 | ByteSwap { order: BigEndian, width: Bits64, destination: WritableRegister { number: 5 } }
+d7 06 0 0 10 0 0 0 | ByteSwap { order: Swapped, width: Bits16, destination: WritableRegister { number: 6 } }
+d7 07 0 0 20 0 0 0 | ByteSwap { order: Swapped, width: Bits32, destination: WritableRegister { number: 7 } }
+d7 08 0 0 40 0 0 0 | ByteSwap { order: Swapped, width: Bits64, destination: WritableRegister { number: 8 } }
+# JA in JMP and JMP32, CALL and EXIT.
+05 0 0 0 0 0 0 0 | Jump(Short(0))
+05 0 01 0 0 0 0 0 | Jump(Short(1))
+05 0 ff ff 0 0 0 0 | Jump(Short(-1))
+05 0 ff 7f 0 0 0 0 | Jump(Short(32767))
+05 0 0 80 0 0 0 0 | Jump(Short(-32768))
+06 0 0 0 0 0 0 0 | Jump(Long(0))
+06 0 0 0 fe ff ff ff | Jump(Long(-2))
+06 0 0 0 0 0 01 0 | Jump(Long(65536))
+06 0 0 0 ff ff ff 7f | Jump(Long(2147483647))
+06 0 0 0 0 0 0 80 | Jump(Long(-2147483648))
+85 0 0 0 0 0 0 0 | Call { immediate: 0 }
+85 0 0 0 09 0 0 0 | Call { immediate: 9 }
+85 0 0 0 ff ff ff ff | Call { immediate: -1 }
+85 0 0 0 ff ff ff 7f | Call { immediate: 2147483647 }
+85 0 0 0 0 0 0 80 | Call { immediate: -2147483648 }
+95 0 0 0 0 0 0 0 | Exit
+# JMP: conditional jumps by an immediate (K), then by a register (X).
+15 0 0 0 ff ff ff ff | JumpIf { condition: Equal, width: Bits64, left: Register { number: 0 }, right: Immediate(-1), offset: 0 }
+25 01 01 0 01 0 0 0 | JumpIf { condition: Greater, width: Bits64, left: Register { number: 1 }, right: Immediate(1), offset: 1 }
+35 02 ff ff 0 0 0 80 | JumpIf { condition: GreaterOrEqual, width: Bits64, left: Register { number: 2 }, right: Immediate(-2147483648), offset: -1 }
+45 03 ff 7f ff ff ff 7f | JumpIf { condition: SharesBit, width: Bits64, left: Register { number: 3 }, right: Immediate(2147483647), offset: 32767 }
+55 04 0 80 0 0 0 0 | JumpIf { condition: NotEqual, width: Bits64, left: Register { number: 4 }, right: Immediate(0), offset: -32768 }
+65 05 01 02 f3 ff ff ff | JumpIf { condition: SignedGreater, width: Bits64, left: Register { number: 5 }, right: Immediate(-13), offset: 513 }
+75 06 0 ff 01 02 03 04 | JumpIf { condition: SignedGreaterOrEqual, width: Bits64, left: Register { number: 6 }, right: Immediate(67305985), offset: -256 }
+a5 07 ff 0 64 0 0 0 | JumpIf { condition: Less, width: Bits64, left: Register { number: 7 }, right: Immediate(100), offset: 255 }
+b5 08 10 0 9c ff ff ff | JumpIf { condition: LessOrEqual, width: Bits64, left: Register { number: 8 }, right: Immediate(-100), offset: 16 }
+c5 09 fe ff 02 0 0 0 | JumpIf { condition: SignedLess, width: Bits64, left: Register { number: 9 }, right: Immediate(2), offset: -2 }
+d5 0a ff 0f fe ff ff ff | JumpIf { condition: SignedLessOrEqual, width: Bits64, left: Register { number: 10 }, right: Immediate(-2), offset: 4095 }
+1d 1a ff 0f 0 0 0 0 | JumpIf { condition: Equal, width: Bits64, left: Register { number: 10 }, right: Register(Register { number: 1 }), offset: 4095 }
+2d 29 fe ff 0 0 0 0 | JumpIf { condition: Greater, width: Bits64, left: Register { number: 9 }, right: Register(Register { number: 2 }), offset: -2 }
+3d 38 10 0 0 0 0 0 | JumpIf { condition: GreaterOrEqual, width: Bits64, left: Register { number: 8 }, right: Register(Register { number: 3 }), offset: 16 }
+4d 47 ff 0 0 0 0 0 | JumpIf { condition: SharesBit, width: Bits64, left: Register { number: 7 }, right: Register(Register { number: 4 }), offset: 255 }
+5d 56 0 ff 0 0 0 0 | JumpIf { condition: NotEqual, width: Bits64, left: Register { number: 6 }, right: Register(Register { number: 5 }), offset: -256 }
+6d 65 01 02 0 0 0 0 | JumpIf { condition: SignedGreater, width: Bits64, left: Register { number: 5 }, right: Register(Register { number: 6 }), offset: 513 }
+7d 74 0 80 0 0 0 0 | JumpIf { condition: SignedGreaterOrEqual, width: Bits64, left: Register { number: 4 }, right: Register(Register { number: 7 }), offset: -32768 }
+ad 83 ff 7f 0 0 0 0 | JumpIf { condition: Less, width: Bits64, left: Register { number: 3 }, right: Register(Register { number: 8 }), offset: 32767 }
+bd 92 ff ff 0 0 0 0 | JumpIf { condition: LessOrEqual, width: Bits64, left: Register { number: 2 }, right: Register(Register { number: 9 }), offset: -1 }
+cd a1 01 0 0 0 0 0 | JumpIf { condition: SignedLess, width: Bits64, left: Register { number: 1 }, right: Register(Register { number: 10 }), offset: 1 }
+dd 0 0 0 0 0 0 0 | JumpIf { condition: SignedLessOrEqual, width: Bits64, left: Register { number: 0 }, right: Register(Register { number: 0 }), offset: 0 }
+# JMP32: conditional jumps by an immediate (K), then by a register (X).
+16 04 0 80 ff ff ff 7f | JumpIf { condition: Equal, width: Bits32, left: Register { number: 4 }, right: Immediate(2147483647), offset: -32768 }
+26 05 01 02 0 0 0 80 | JumpIf { condition: Greater, width: Bits32, left: Register { number: 5 }, right: Immediate(-2147483648), offset: 513 }
+36 06 0 ff 0 0 0 0 | JumpIf { condition: GreaterOrEqual, width: Bits32, left: Register { number: 6 }, right: Immediate(0), offset: -256 }
+46 07 ff 0 ff ff ff ff | JumpIf { condition: SharesBit, width: Bits32, left: Register { number: 7 }, right: Immediate(-1), offset: 255 }
+56 08 10 0 01 0 0 0 | JumpIf { condition: NotEqual, width: Bits32, left: Register { number: 8 }, right: Immediate(1), offset: 16 }
+66 09 fe ff 04 03 02 01 | JumpIf { condition: SignedGreater, width: Bits32, left: Register { number: 9 }, right: Immediate(16909060), offset: -2 }
+76 0a ff 0f fc fc fd fe | JumpIf { condition: SignedGreaterOrEqual, width: Bits32, left: Register { number: 10 }, right: Immediate(-16909060), offset: 4095 }
+a6 0 0 0 0a 0 0 0 | JumpIf { condition: Less, width: Bits32, left: Register { number: 0 }, right: Immediate(10), offset: 0 }
+b6 01 01 0 f6 ff ff ff | JumpIf { condition: LessOrEqual, width: Bits32, left: Register { number: 1 }, right: Immediate(-10), offset: 1 }
+c6 02 ff ff ff ff 0 0 | JumpIf { condition: SignedLess, width: Bits32, left: Register { number: 2 }, right: Immediate(65535), offset: -1 }
+d6 03 ff 7f 0 0 ff ff | JumpIf { condition: SignedLessOrEqual, width: Bits32, left: Register { number: 3 }, right: Immediate(-65536), offset: 32767 }
+1e 93 ff 7f 0 0 0 0 | JumpIf { condition: Equal, width: Bits32, left: Register { number: 3 }, right: Register(Register { number: 9 }), offset: 32767 }
+2e a2 ff ff 0 0 0 0 | JumpIf { condition: Greater, width: Bits32, left: Register { number: 2 }, right: Register(Register { number: 10 }), offset: -1 }
+3e 01 01 0 0 0 0 0 | JumpIf { condition: GreaterOrEqual, width: Bits32, left: Register { number: 1 }, right: Register(Register { number: 0 }), offset: 1 }
+4e 10 0 0 0 0 0 0 | JumpIf { condition: SharesBit, width: Bits32, left: Register { number: 0 }, right: Register(Register { number: 1 }), offset: 0 }
+5e 2a ff 0f 0 0 0 0 | JumpIf { condition: NotEqual, width: Bits32, left: Register { number: 10 }, right: Register(Register { number: 2 }), offset: 4095 }
+6e 39 fe ff 0 0 0 0 | JumpIf { condition: SignedGreater, width: Bits32, left: Register { number: 9 }, right: Register(Register { number: 3 }), offset: -2 }
+7e 48 10 0 0 0 0 0 | JumpIf { condition: SignedGreaterOrEqual, width: Bits32, left: Register { number: 8 }, right: Register(Register { number: 4 }), offset: 16 }
+ae 57 ff 0 0 0 0 0 | JumpIf { condition: Less, width: Bits32, left: Register { number: 7 }, right: Register(Register { number: 5 }), offset: 255 }
+be 66 0 ff 0 0 0 0 | JumpIf { condition: LessOrEqual, width: Bits32, left: Register { number: 6 }, right: Register(Register { number: 6 }), offset: -256 }
+ce 75 01 02 0 0 0 0 | JumpIf { condition: SignedLess, width: Bits32, left: Register { number: 5 }, right: Register(Register { number: 7 }), offset: 513 }
+de 84 0 80 0 0 0 0 | JumpIf { condition: SignedLessOrEqual, width: Bits32, left: Register { number: 4 }, right: Register(Register { number: 8 }), offset: -32768 }
+# LDX: MEM, then MEMSX.
+61 10 0 0 0 0 0 0 | Load { format: Word, destination: WritableRegister { number: 0 }, base: Register { number: 1 }, offset: 0 }
+69 a9 fe ff 0 0 0 0 | Load { format: HalfWord, destination: WritableRegister { number: 9 }, base: Register { number: 10 }, offset: -2 }
+71 10 e3 0 0 0 0 0 | Load { format: Byte, destination: WritableRegister { number: 0 }, base: Register { number: 1 }, offset: 227 }
+71 a9 ff ff 0 0 0 0 | Load { format: Byte, destination: WritableRegister { number: 9 }, base: Register { number: 10 }, offset: -1 }
+71 04 01 02 0 0 0 0 | Load { format: Byte, destination: WritableRegister { number: 4 }, base: Register { number: 0 }, offset: 513 }
+71 95 0 80 0 0 0 0 | Load { format: Byte, destination: WritableRegister { number: 5 }, base: Register { number: 9 }, offset: -32768 }
+79 a7 0 fe 0 0 0 0 | Load { format: DoubleWord, destination: WritableRegister { number: 7 }, base: Register { number: 10 }, offset: -512 }
+81 23 ff 7f 0 0 0 0 | Load { format: SignedWord, destination: WritableRegister { number: 3 }, base: Register { number: 2 }, offset: 32767 }
+89 11 64 0 0 0 0 0 | Load { format: SignedHalfWord, destination: WritableRegister { number: 1 }, base: Register { number: 1 }, offset: 100 }
+91 a8 0 80 0 0 0 0 | Load { format: SignedByte, destination: WritableRegister { number: 8 }, base: Register { number: 10 }, offset: -32768 }
+# ST and STX.
+62 0a fc ff ff ff ff ff | StoreImmediate { size: Word, base: Register { number: 10 }, offset: -4, immediate: -1 }
+6a 0 0 0 ff ff ff 7f | StoreImmediate { size: HalfWord, base: Register { number: 0 }, offset: 0, immediate: 2147483647 }
+72 09 ff 7f 0 0 0 80 | StoreImmediate { size: Byte, base: Register { number: 9 }, offset: 32767, immediate: -2147483648 }
+7a 0a 0 80 01 02 03 04 | StoreImmediate { size: DoubleWord, base: Register { number: 10 }, offset: -32768, immediate: 67305985 }
+63 0a 0 fe 0 0 0 0 | Store { size: Word, base: Register { number: 10 }, offset: -512, source: Register { number: 0 } }
+6b a1 ff 7f 0 0 0 0 | Store { size: HalfWord, base: Register { number: 1 }, offset: 32767, source: Register { number: 10 } }
+73 90 0 80 0 0 0 0 | Store { size: Byte, base: Register { number: 0 }, offset: -32768, source: Register { number: 9 } }
+7b aa f8 ff 0 0 0 0 | Store { size: DoubleWord, base: Register { number: 10 }, offset: -8, source: Register { number: 10 } }
+# The wide load, in two words.
+18 0 0 0 0 0 0 0 0 0 0 0 0 0 0 0 | WideLoad { destination: WritableRegister { number: 0 }, immediate: 0, next_immediate: 0 }
+18 01 0 0 01 0 0 0 0 0 0 0 02 0 0 0 | WideLoad { destination: WritableRegister { number: 1 }, immediate: 1, next_immediate: 2 }
+18 09 0 0 ff ff ff ff 0 0 0 0 0 0 0 0 | WideLoad { destination: WritableRegister { number: 9 }, immediate: -1, next_immediate: 0 }
+18 05 0 0 0 0 0 80 0 0 0 0 ff ff ff 7f | WideLoad { destination: WritableRegister { number: 5 }, immediate: -2147483648, next_immediate: 2147483647 }
+18 07 0 0 01 02 03 04 0 0 0 0 fe ff ff ff | WideLoad { destination: WritableRegister { number: 7 }, immediate: 67305985, next_immediate: -2 }
+18 03 0 0 ff ff ff 7f 0 0 0 0 0 0 0 80 | WideLoad { destination: WritableRegister { number: 3 }, immediate: 2147483647, next_immediate: -2147483648 }";
 
 #[test]
 fn instructions(rt: HostRuntime) -> Result<(), Fail> {
-    for &(words, want) in INSTRUCTIONS {
-        let mut bytes = Vec::new(rt.alloc());
-        bytes.extend_from_slice(words)?;
+    for row in INSTRUCTIONS.lines() {
+        if row.starts_with('#') {
+            continue;
+        }
+        let (words, want) = cut(&rt, row, " | ");
+        let mut bytes = bytes_of(rt.alloc(), words)?;
+        let count = bytes.len() / 8;
         bytes.extend_from_slice(EXIT)?;
         let code = decode(rt.alloc(), &bytes)?;
-        assert_eq!(rt; code.instructions().len(), 2, "{bytes:?}");
-        assert_eq!(rt; parts_of(code.instructions()[0]), Some(want), "{bytes:?}");
-        assert_eq!(rt; code.instructions()[1], Insn::Exit, "{bytes:?}");
-        assert_eq!(rt; encode(rt.alloc(), &code)?.as_slice(), bytes.as_slice());
-        answers_by_place(&rt, &code, words.len() / 8, bytes.len() / 8);
+        assert_eq!(rt; code.instructions().len(), 2, "{row}");
+        let found = format!(in rt.alloc(); "{:?}", code.instructions()[0])?;
+        assert_eq!(rt; found.as_str(), want);
+        assert_eq!(rt;
+            encode(rt.alloc(), &code)?.as_slice(),
+            bytes.as_slice(),
+            "{row}"
+        );
+        answers_by_place(&rt, &code, count, row);
     }
     Ok(())
 }
 
 /// Looks at an instruction of so many words, and an exit behind it up to the end.
-fn answers_by_place<A: Allocator>(rt: &impl Abort, code: &Code<A>, count: usize, end: usize) {
-    assert_eq!(rt; code.instructions().len(), 2);
+fn answers_by_place<A: Allocator>(rt: &impl Abort, code: &Code<A>, count: usize, row: &str) {
+    assert_eq!(rt; code.instructions().len(), 2, "{row}");
     let instruction = code.instructions()[0];
-    assert_eq!(rt; instruction.words(), count, "{instruction:?}");
-    assert_eq!(rt; code.words(), end, "{instruction:?}");
-    assert_eq!(rt;
-        (code.place(0), code.place(1)),
-        (0, count),
-        "{instruction:?}"
-    );
-    let cases = [
-        (0, Some(0), Some(instruction)),
-        (count, Some(1), Some(Insn::Exit)),
-        (end, None, None),
-        (usize::MAX, None, None),
-    ];
-    for (place, index, found) in cases {
-        assert_eq!(rt; code.index_at(place), index, "{instruction:?} at {place}");
-        assert_eq!(rt; code.at(place), found, "{instruction:?} at {place}");
-    }
-    if count == 2 {
-        assert_eq!(rt;
-            (code.index_at(1), code.at(1)),
-            (None, None),
-            "{instruction:?}"
-        );
+    assert_eq!(rt; instruction.words(), count, "{row}");
+    assert_eq!(rt; code.words(), count + 1, "{row}");
+    assert_eq!(rt; (code.place(0), code.place(1)), (0, count), "{row}");
+    for place in [0, 1, count, count + 1, usize::MAX] {
+        let (index, found) = match place {
+            0 => (Some(0), Some(instruction)),
+            _ if place == count => (Some(1), Some(Insn::Exit)),
+            _ => (None, None),
+        };
+        assert_eq!(rt; code.index_at(place), index, "{row} at {place}");
+        assert_eq!(rt; code.at(place), found, "{row} at {place}");
     }
 }
 
-fn parts_of(instruction: Insn) -> Option<Parts> {
-    arithmetic_parts(instruction)
-        .or(jump_parts(instruction))
-        .or(memory_parts(instruction))
-}
+// The opcodes of the instruction table, class by class.
+const OPCODES: &str = "18
+61 69 71 79 81 89 91
+62 6a 72 7a
+63 6b 73 7b
+04 0c 14 1c 24 2c 34 3c 44 4c 54 5c 64 6c 74 7c 84 94 9c a4 ac b4 bc c4 cc d4 dc
+05 15 1d 25 2d 35 3d 45 4d 55 5d 65 6d 75 7d 85 95 a5 ad b5 bd c5 cd d5 dd
+06 16 1e 26 2e 36 3e 46 4e 56 5e 66 6e 76 7e a6 ae b6 be c6 ce d6 de
+07 0f 17 1f 27 2f 37 3f 47 4f 57 5f 67 6f 77 7f 87 97 9f a7 af b7 bf c7 cf d7";
 
-fn arithmetic_parts(instruction: Insn) -> Option<Parts> {
-    match instruction {
-        Insn::Alu {
-            operation,
-            width,
-            destination,
-            source,
-        } => Some(Alu(operation, width, destination.number, operand_of(source))),
-        Insn::MoveSignExtended {
-            extension,
-            destination,
-            source,
-        } => Some(MoveSignExtended(extension, destination.number, source.number)),
-        Insn::Negate { width, destination } => Some(Negate(width, destination.number)),
-        Insn::ByteSwap {
-            order,
-            width,
-            destination,
-        } => Some(ByteSwap(order, width, destination.number)),
-        _ => None,
+#[test]
+fn opcodes(rt: HostRuntime) -> Result<(), Fail> {
+    let known = bytes_of(rt.alloc(), OPCODES)?;
+    for opcode in 0..=u8::MAX {
+        // Bits to keep, which a byte swap needs.
+        let immediate = if matches!(opcode, 0xd4 | 0xd7 | 0xdc) {
+            16
+        } else {
+            0
+        };
+        let mut bytes = vec![in rt.alloc(); opcode, 0, 0, 0, immediate, 0, 0, 0]?;
+        if opcode == 0x18 {
+            bytes.extend_from_slice(&[0; 8])?;
+        }
+        match decode(rt.alloc(), &bytes) {
+            Ok(code) => {
+                assert!(rt; known.contains(&opcode), "{opcode}");
+                assert_eq!(rt; code.instructions().len(), 1);
+                assert_eq!(rt; encode(rt.alloc(), &code)?.as_slice(), bytes.as_slice());
+            }
+            Err(fault) => {
+                assert!(rt; !known.contains(&opcode), "{opcode}");
+                assert_eq!(rt; fault.line().as_str(), "refused 13 place 0 UnknownOpcode");
+            }
+        }
     }
-}
-
-fn jump_parts(instruction: Insn) -> Option<Parts> {
-    match instruction {
-        Insn::JumpIf {
-            condition,
-            width,
-            left,
-            right,
-            offset,
-        } => Some(JumpIf(condition, width, left.number, operand_of(right), offset)),
-        Insn::Jump(distance) => Some(Jump(distance)),
-        Insn::Call { immediate } => Some(Call(immediate)),
-        Insn::Exit => Some(Exit),
-        _ => None,
-    }
-}
-
-fn memory_parts(instruction: Insn) -> Option<Parts> {
-    match instruction {
-        Insn::Load {
-            format,
-            destination,
-            base,
-            offset,
-        } => Some(Load(format, destination.number, base.number, offset)),
-        Insn::StoreImmediate {
-            size,
-            base,
-            offset,
-            immediate,
-        } => Some(StoreImmediate(size, base.number, offset, immediate)),
-        Insn::Store {
-            size,
-            base,
-            offset,
-            source,
-        } => Some(Store(size, base.number, offset, source.number)),
-        Insn::WideLoad {
-            destination,
-            immediate,
-            next_immediate,
-        } => Some(WideLoad(destination.number, immediate, next_immediate)),
-        _ => None,
-    }
-}
-
-fn operand_of(source: Source) -> Operand {
-    match source {
-        Source::Immediate(value) => Immediate(value),
-        Source::Register(register) => Numbered(register.number),
-    }
+    Ok(())
 }

@@ -1,52 +1,98 @@
-//! How many words a program may have.
-use super::EXIT;
-use crate::decode;
-use std::alloc::{AllocError, Allocator};
+//! How many words a program may have, and codes that are built and not read.
+use super::{bytes_of, cut};
+use crate::{CodeBuilder, CodeFault, Insn, WORD_LIMIT, WritableRegister, decode, encode};
+use std::alloc::Allocator;
 use std::test::Fail;
 
-const WIDE_LOAD: &[u8] = b"\x18\0\0\0\0\0\0\0\0\0\0\0\0\0\0\0";
-
-const CUT_WIDE_LOAD: &[u8] = b"\x18\0\0\0\0\0\0\0";
-
-/// How many instructions and words a program has.
-type Counts = (usize, usize);
-
-/// Words, how often they are repeated, what stands behind them, and what it gives.
-const SIZES: &[(&[u8], usize, &[u8], Result<Counts, &str>)] = &[
-    (EXIT, 1, b"", Ok((1, 1))),
-    (EXIT, 4_095, b"", Ok((4_095, 4_095))),
-    (EXIT, 4_096, b"", Ok((4_096, 4_096))),
-    (EXIT, 4_096, b"\0", Err("refused 11 NotWhole")),
-    (EXIT, 4_096, EXIT, Err("refused 12 TooLong")),
-    (WIDE_LOAD, 1, b"", Ok((1, 2))),
-    (WIDE_LOAD, 2_048, b"", Ok((2_048, 4_096))),
-    (WIDE_LOAD, 2_047, EXIT, Ok((2_048, 4_095))),
-    (
-        WIDE_LOAD,
-        2_047,
-        CUT_WIDE_LOAD,
-        Err("refused 17 place 4094 CutWide"),
-    ),
-    (WIDE_LOAD, 2_048, EXIT, Err("refused 12 TooLong")),
-];
+// Words, how often they are repeated, what stands behind them, and what it gives: how many instructions and words, or a refusal.
+const SIZES: &str = "95 0 0 0 0 0 0 0 | 1 | | 1 1
+95 0 0 0 0 0 0 0 | 4095 | | 4095 4095
+95 0 0 0 0 0 0 0 | 4096 | | 4096 4096
+95 0 0 0 0 0 0 0 | 4096 | 0 | refused 11 NotWhole
+95 0 0 0 0 0 0 0 | 4096 | 95 0 0 0 0 0 0 0 | refused 12 TooLong
+18 0 0 0 0 0 0 0 0 0 0 0 0 0 0 0 | 1 | | 1 2
+18 0 0 0 0 0 0 0 0 0 0 0 0 0 0 0 | 2048 | | 2048 4096
+18 0 0 0 0 0 0 0 0 0 0 0 0 0 0 0 | 2047 | 95 0 0 0 0 0 0 0 | 2048 4095
+18 0 0 0 0 0 0 0 0 0 0 0 0 0 0 0 | 2047 | 18 0 0 0 0 0 0 0 | refused 17 place 4094 CutWide
+18 0 0 0 0 0 0 0 0 0 0 0 0 0 0 0 | 2048 | 95 0 0 0 0 0 0 0 | refused 12 TooLong";
 
 #[test]
 fn sizes(rt: HostRuntime) -> Result<(), Fail> {
-    for &(words, count, end, want) in SIZES {
-        let mut bytes = repeated(rt.alloc(), words, count)?;
-        bytes.extend_from_slice(end)?;
-        match decode(rt.alloc(), &bytes) {
-            Ok(code) => assert_eq!(rt; Ok((code.instructions().len(), code.words())), want),
-            Err(fault) => assert_eq!(rt; Err(fault.line().as_str()), want),
+    for row in SIZES.lines() {
+        let (words, row) = cut(&rt, row, " | ");
+        let (count, row) = cut(&rt, row, " | ");
+        let (end, want) = cut(&rt, row, "| ");
+        let words = bytes_of(rt.alloc(), words)?;
+        let mut bytes = Vec::new(rt.alloc());
+        for _ in 0..count.parse::<usize>()? {
+            bytes.extend_from_slice(&words)?;
         }
+        bytes.extend_from_slice(&bytes_of(rt.alloc(), end)?)?;
+        let found = match decode(rt.alloc(), &bytes) {
+            Ok(code) => format!(in rt.alloc(); "{} {}", code.instructions().len(), code.words())?,
+            Err(fault) => format!(in rt.alloc(); "{}", fault.line().as_str())?,
+        };
+        assert_eq!(rt; found.as_str(), want, "{row}");
     }
     Ok(())
 }
 
-fn repeated<A: Allocator>(alloc: A, words: &[u8], count: usize) -> Result<Vec<u8, A>, AllocError> {
-    let mut bytes = Vec::new(alloc);
+const WIDE: Insn = Insn::WideLoad {
+    destination: WritableRegister { number: 9 },
+    immediate: 1,
+    next_immediate: 2,
+};
+
+/// So many exits.
+fn exits<A: Allocator + Copy>(alloc: A, count: usize) -> Result<CodeBuilder<A>, CodeFault> {
+    let mut builder = CodeBuilder::new(alloc);
     for _ in 0..count {
-        bytes.extend_from_slice(words)?;
+        builder.push(Insn::Exit)?;
     }
-    Ok(bytes)
+    Ok(builder)
+}
+
+#[test]
+fn building(rt: HostRuntime) -> Result<(), Fail> {
+    let alloc = rt.alloc();
+    let mut builder = CodeBuilder::new(alloc);
+    assert_eq!(rt; builder.words(), 0);
+    builder.push(WIDE)?;
+    builder.push(Insn::Exit)?;
+    assert_eq!(rt; builder.words(), 3);
+    let code = builder.finish()?;
+    assert_eq!(rt; code.instructions(), [WIDE, Insn::Exit].as_slice());
+    let bytes = encode(alloc, &code)?;
+    assert_eq!(rt;
+        bytes.as_slice(),
+        b"\x18\x09\0\0\x01\0\0\0\0\0\0\0\x02\0\0\0\x95\0\0\0\0\0\0\0".as_slice()
+    );
+    let decoded = decode(alloc, &bytes)?;
+    assert_eq!(rt; decoded.instructions(), code.instructions());
+    Ok(())
+}
+
+#[test]
+fn limits(rt: HostRuntime) -> Result<(), Fail> {
+    let alloc = rt.alloc();
+    let empty = CodeBuilder::new(alloc).finish().err();
+    assert_eq!(rt; empty, Some(CodeFault::Empty));
+
+    // One word is left: a wide load has no room, and another instruction has.
+    let mut builder = exits(alloc, WORD_LIMIT - 1)?;
+    assert_eq!(rt; builder.push(WIDE).err(), Some(CodeFault::TooLong));
+    assert_eq!(rt; builder.words(), 4_095);
+    builder.push(Insn::Exit)?;
+    assert_eq!(rt; builder.push(Insn::Exit).err(), Some(CodeFault::TooLong));
+    assert_eq!(rt; builder.push(WIDE).err(), Some(CodeFault::TooLong));
+    assert_eq!(rt; builder.words(), 4_096);
+    let code = builder.finish()?;
+    assert_eq!(rt; code.words(), 4_096);
+    assert_eq!(rt; code.instructions().len(), 4_096);
+
+    let bytes = encode(alloc, &code)?;
+    assert_eq!(rt; bytes.len(), 32_768);
+    let decoded = decode(alloc, &bytes)?;
+    assert_eq!(rt; decoded.instructions(), code.instructions());
+    Ok(())
 }

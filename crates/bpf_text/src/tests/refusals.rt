@@ -1,127 +1,91 @@
-//! Texts that mean no code.
+//! Texts that mean no code, and the lines that say why.
+use super::{cut, is_row, text_of};
 use crate::{TextFault, assemble};
-use std::alloc::Global;
-use std::process::Abort;
 use std::test::Fail;
 
-// Texts, and the lines that they're refused with.
-const WORDS: &[(&str, &str)] = &[
-    ("", "refused 26 line 1 CodeFault(10)"),
-    ("; no instruction\na:\n", "refused 26 line 1 CodeFault(10)"),
-    ("frob r0", "refused 21 line 1 UnknownMnemonic"),
-    ("frob", "refused 21 line 1 UnknownMnemonic"),
-    ("exit\nexit2", "refused 21 line 2 UnknownMnemonic"),
-    ("mov r0", "refused 20 line 1 Syntax"),
-    ("mov r11, 1", "refused 20 line 1 Syntax"),
-    ("mov r01, 1", "refused 20 line 1 Syntax"),
-    ("mov r0, 1,", "refused 20 line 1 Syntax"),
-    ("mov , r0, 1", "refused 20 line 1 Syntax"),
-    ("mov r0, 1, 2", "refused 20 line 1 Syntax"),
-    ("mov r0 r1", "refused 20 line 1 Syntax"),
-    ("mov,r0, 1", "refused 20 line 1 Syntax"),
-    ("MOV r0, 1", "refused 20 line 1 Syntax"),
-    ("mov r0, 0X1", "refused 20 line 1 Syntax"),
-    ("mov r0, +0", "refused 20 line 1 Syntax"),
-    ("mov r0, -0x1", "refused 20 line 1 Syntax"),
-    ("mov r0, 0x", "refused 20 line 1 Syntax"),
-    ("mov r0, 0x123456789", "refused 20 line 1 Syntax"),
-    ("mov r0, 1g", "refused 20 line 1 Syntax"),
-    ("mov r0, 000000000000000000001", "refused 20 line 1 Syntax"),
-];
+// Texts, and the lines of their refusals.
+const REFUSALS: &str = "# Words.
+ | refused 26 line 1 CodeFault(10)
+; no instruction$a:$ | refused 26 line 1 CodeFault(10)
+frob r0 | refused 21 line 1 UnknownMnemonic
+frob | refused 21 line 1 UnknownMnemonic
+exit$exit2 | refused 21 line 2 UnknownMnemonic
+mov r0 | refused 20 line 1 Syntax
+mov r11, 1 | refused 20 line 1 Syntax
+mov r01, 1 | refused 20 line 1 Syntax
+mov r0, 1, | refused 20 line 1 Syntax
+mov , r0, 1 | refused 20 line 1 Syntax
+mov r0, 1, 2 | refused 20 line 1 Syntax
+mov r0 r1 | refused 20 line 1 Syntax
+mov,r0, 1 | refused 20 line 1 Syntax
+MOV r0, 1 | refused 20 line 1 Syntax
+mov r0, 0X1 | refused 20 line 1 Syntax
+mov r0, +0 | refused 20 line 1 Syntax
+mov r0, -0x1 | refused 20 line 1 Syntax
+mov r0, 0x | refused 20 line 1 Syntax
+mov r0, 0x123456789 | refused 20 line 1 Syntax
+mov r0, 1g | refused 20 line 1 Syntax
+mov r0, 000000000000000000001 | refused 20 line 1 Syntax
+# Numbers and fields.
+mov r0, 2147483648 | refused 22 line 1 NumberRange
+mov r0, -2147483649 | refused 22 line 1 NumberRange
+mov r0, 99999999999999999999 | refused 22 line 1 NumberRange
+mov r11, 2147483648 | refused 20 line 1 Syntax
+mov r10, 2147483648 | refused 22 line 1 NumberRange
+mov r10, 1 | refused 26 line 1 CodeFault(18)
+ldxb r10, [r1] | refused 26 line 1 CodeFault(18)
+lddw r10, 1 | refused 26 line 1 CodeFault(18)
+lddw r0, 18446744073709551616 | refused 22 line 1 NumberRange
+lddw r0, -1 | refused 20 line 1 Syntax
+lddw r0, 0x11223344556677889 | refused 20 line 1 Syntax
+neg r0, r1 | refused 20 line 1 Syntax
+exit 0 | refused 20 line 1 Syntax
+call | refused 20 line 1 Syntax
+ja 1 | refused 20 line 1 Syntax
+ja +1, +2 | refused 20 line 1 Syntax
+ja +32768 | refused 22 line 1 NumberRange
+ja -32769 | refused 22 line 1 NumberRange
+ja32 +2147483648 | refused 22 line 1 NumberRange
+ja32 -2147483649 | refused 22 line 1 NumberRange
+# Operands.
+jeq r1, 2147483648, 5 | refused 20 line 1 Syntax
+jeq r1, 2147483648, +5 | refused 22 line 1 NumberRange
+jeq r1, 2, +32768 | refused 22 line 1 NumberRange
+ldxb r0, [r1+32768] | refused 22 line 1 NumberRange
+ldxb r0, [r1-32769] | refused 22 line 1 NumberRange
+ldxb r0, [r1+] | refused 20 line 1 Syntax
+ldxb r0, [r1+0x1] | refused 20 line 1 Syntax
+ldxb r0, [r1 +1] | refused 20 line 1 Syntax
+ldxb r0, [ r1] | refused 20 line 1 Syntax
+ldxb r0, [r1 | refused 20 line 1 Syntax
+ldxb r0, r1 | refused 20 line 1 Syntax
+stxb [r1+2], 3 | refused 20 line 1 Syntax
+stb [r1+2], r3 | refused 20 line 1 Syntax
+# Labels and ends of lines.
+: | refused 20 line 1 Syntax
+a : | refused 20 line 1 Syntax
+1a: | refused 20 line 1 Syntax
+exit$mov r0: | refused 20 line 2 Syntax
+a23456789012345678901234567890123: | refused 20 line 1 Syntax
+ja a23456789012345678901234567890123 | refused 20 line 1 Syntax
+a:$a:$exit | refused 24 line 2 DoubleLabel
+a:$$a: ; again$frob | refused 24 line 3 DoubleLabel
+ja nowhere | refused 23 line 1 UnknownLabel
+a:$ja b$ja a$ja c | refused 23 line 2 UnknownLabel
+ja b$frob | refused 21 line 2 UnknownMnemonic
+exit\r | refused 20 line 1 Syntax
+exit\r\r$ | refused 20 line 1 Syntax
+\u{feff}exit | refused 20 line 1 Syntax
+\u{e4}:$ | refused 20 line 1 Syntax";
 
-const NUMBERS: &[(&str, &str)] = &[
-    ("mov r0, 2147483648", "refused 22 line 1 NumberRange"),
-    ("mov r0, -2147483649", "refused 22 line 1 NumberRange"),
-    (
-        "mov r0, 99999999999999999999",
-        "refused 22 line 1 NumberRange",
-    ),
-    ("mov r11, 2147483648", "refused 20 line 1 Syntax"),
-    ("mov r10, 2147483648", "refused 22 line 1 NumberRange"),
-    ("mov r10, 1", "refused 26 line 1 CodeFault(18)"),
-    ("ldxb r10, [r1]", "refused 26 line 1 CodeFault(18)"),
-    ("lddw r10, 1", "refused 26 line 1 CodeFault(18)"),
-    (
-        "lddw r0, 18446744073709551616",
-        "refused 22 line 1 NumberRange",
-    ),
-    ("lddw r0, -1", "refused 20 line 1 Syntax"),
-    ("lddw r0, 0x11223344556677889", "refused 20 line 1 Syntax"),
-    ("neg r0, r1", "refused 20 line 1 Syntax"),
-    ("exit 0", "refused 20 line 1 Syntax"),
-    ("call", "refused 20 line 1 Syntax"),
-    ("ja 1", "refused 20 line 1 Syntax"),
-    ("ja +1, +2", "refused 20 line 1 Syntax"),
-    ("ja +32768", "refused 22 line 1 NumberRange"),
-    ("ja -32769", "refused 22 line 1 NumberRange"),
-    ("ja32 +2147483648", "refused 22 line 1 NumberRange"),
-    ("ja32 -2147483649", "refused 22 line 1 NumberRange"),
-];
-
-const OPERANDS: &[(&str, &str)] = &[
-    ("jeq r1, 2147483648, 5", "refused 20 line 1 Syntax"),
-    ("jeq r1, 2147483648, +5", "refused 22 line 1 NumberRange"),
-    ("jeq r1, 2, +32768", "refused 22 line 1 NumberRange"),
-    ("ldxb r0, [r1+32768]", "refused 22 line 1 NumberRange"),
-    ("ldxb r0, [r1-32769]", "refused 22 line 1 NumberRange"),
-    ("ldxb r0, [r1+]", "refused 20 line 1 Syntax"),
-    ("ldxb r0, [r1+0x1]", "refused 20 line 1 Syntax"),
-    ("ldxb r0, [r1 +1]", "refused 20 line 1 Syntax"),
-    ("ldxb r0, [ r1]", "refused 20 line 1 Syntax"),
-    ("ldxb r0, [r1", "refused 20 line 1 Syntax"),
-    ("ldxb r0, r1", "refused 20 line 1 Syntax"),
-    ("stxb [r1+2], 3", "refused 20 line 1 Syntax"),
-    ("stb [r1+2], r3", "refused 20 line 1 Syntax"),
-];
-
-const LABELS: &[(&str, &str)] = &[
-    (":", "refused 20 line 1 Syntax"),
-    ("a :", "refused 20 line 1 Syntax"),
-    ("1a:", "refused 20 line 1 Syntax"),
-    ("exit\nmov r0:", "refused 20 line 2 Syntax"),
-    (
-        "a23456789012345678901234567890123:",
-        "refused 20 line 1 Syntax",
-    ),
-    (
-        "ja a23456789012345678901234567890123",
-        "refused 20 line 1 Syntax",
-    ),
-    ("a:\na:\nexit", "refused 24 line 2 DoubleLabel"),
-    ("a:\n\na: ; again\nfrob", "refused 24 line 3 DoubleLabel"),
-    ("ja nowhere", "refused 23 line 1 UnknownLabel"),
-    ("a:\nja b\nja a\nja c", "refused 23 line 2 UnknownLabel"),
-    ("ja b\nfrob", "refused 21 line 2 UnknownMnemonic"),
-    ("exit\r", "refused 20 line 1 Syntax"),
-    ("exit\r\r\n", "refused 20 line 1 Syntax"),
-    ("\u{feff}exit", "refused 20 line 1 Syntax"),
-    ("\u{e4}:\n", "refused 20 line 1 Syntax"),
-];
-
-fn refuses(rt: &impl Abort, alloc: Global, texts: &[(&str, &str)]) -> Result<(), Fail> {
-    for (text, line) in texts {
-        let refused = assemble(alloc, text).err().unwrap_or(TextFault::Memory);
-        assert_eq!(rt; refused.line().as_str(), *line, "{text}");
+#[test]
+fn refusals(rt: HostRuntime) -> Result<(), Fail> {
+    let alloc = rt.alloc();
+    for row in REFUSALS.lines().filter(|line| is_row(line)) {
+        let (text, line) = cut(&rt, row);
+        let refused = assemble(alloc, &text_of(alloc, text)?).err();
+        let refusal = refused.unwrap_or(TextFault::Memory).line();
+        assert_eq!(rt; refusal.as_str(), line, "{row}");
     }
     Ok(())
-}
-
-#[test]
-fn words(rt: HostRuntime) -> Result<(), Fail> {
-    refuses(&rt, rt.alloc(), WORDS)
-}
-
-#[test]
-fn numbers(rt: HostRuntime) -> Result<(), Fail> {
-    refuses(&rt, rt.alloc(), NUMBERS)
-}
-
-#[test]
-fn operands(rt: HostRuntime) -> Result<(), Fail> {
-    refuses(&rt, rt.alloc(), OPERANDS)
-}
-
-#[test]
-fn labels(rt: HostRuntime) -> Result<(), Fail> {
-    refuses(&rt, rt.alloc(), LABELS)
 }

@@ -1,157 +1,159 @@
-//! Files and outputs that fail.
-use super::fixtures::Content::{Bytes, FailsAfter, Missing, OutOfMemory, Unusable};
-use super::fixtures::Failing::{EmptyWrite, Flush, Nothing, Write};
-use super::fixtures::{Content, Failing, MemoryFiles, Output, Piece, RUN, bytes_of};
-use crate::command::command;
-use std::alloc::Global;
+//! Files and outputs that fail, and files past every buffer's and piece's length.
+use super::fixtures::{
+    MemoryFile, bytes_of, cell, line_of, output, repeated, run_command, status_of,
+};
+use std::alloc::{AllocError, Global};
+use std::io::ErrorKind;
 use std::test::Fail;
-use tl_fields::Counting;
+use tl_fields::{Burst, Fuse};
 
-// r0 = 1, so every segment is chosen.
-const ALL: &[u8] = b"\xb7\0\0\0\x01\0\0\0\x95\0\0\0\0\0\0\0";
+// The arguments, the file of the program or the source, the type 1 file, how the output fails, the status, and what is said.
+//
+// A file is missing where nothing is said of it; `closed KIND` can't be opened; `TOKENS ! N KIND` fails after N reads. The output fails
+// in one call behind so many. Reads of a program or a source take 4,096 bytes, those of a type 1 file one.
+const CASES: &str = r"
+run --program p.bpf --data d 01001 | missing | LINE \n | | 3 | error: p.bpf: not found
+run --program p.bpf --data d 01001 | closed denied | LINE \n | | 3 | error: p.bpf: permission denied
+run --program p.bpf --data d 01001 | ONE EXIT ! 1 pipe | LINE \n | | 3 | error: p.bpf: broken pipe
+run --program p.bpf --data d 01001 | ! 0 directory | LINE \n | | 3 | error: p.bpf: is a directory
+run --program p.bpf --data d 01001 | closed memory | LINE \n | | 4 | refused memory
+run --program p.bpf --data d 01001 | missing | closed memory | | 3 | error: p.bpf: not found
+run --program p.bpf --data d 01001 | ONE EXIT | missing | | 3 | error: d/TGR01001.RT1: not found
+run --program p.bpf --data d 01001 | ONE EXIT | closed denied | | 3 | error: d/TGR01001.RT1: permission denied
+run --program p.bpf --data d 01001 | ONE EXIT | closed file | | 3 | error: d/TGR01001.RT1: not a directory
+run --program p.bpf --data d 01001 | ONE EXIT | closed other | | 3 | error: d/TGR01001.RT1: too many links
+run --program p.bpf --data d 01001 | ONE EXIT | closed memory | | 4 | refused memory
+run --program p.bpf --data d 01001 | EXIT | missing | | 3 | error: d/TGR01001.RT1: not found
+run --program p.bpf --data d 01001 | EXIT | ! 0 pipe | | 1 | refused 40 place 0 ReadsNothing(0)
+run --program p.bpf --data d 01001 | ONE EXIT | ! 0 directory | | 3 | refused 5 rt1 line 1 Read
+run --program p.bpf --data d 01001 | ONE EXIT | 1000 ! 4 pipe | | 3 | refused 5 rt1 line 1 Read
+run --program p.bpf --data d 01001 | ONE EXIT | 1000\n ! 5 pipe | | 1 | refused 1 rt1 line 1 WrongLength
+run --program p.bpf --data d 01001 | ONE EXIT | LINE \n LINE ! 300 pipe | | 3 | refused 5 rt1 line 2 Read
+run --program p.bpf --data d 01001 | ONE EXIT | LINE \n | write 0 | 3 | refused 60 Write
+run --program p.bpf --data d 01001 | ONE EXIT | LINE \n | empty 0 | 3 | refused 61 WriteZero
+run --program p.bpf --data d 01001 | ONE EXIT | LINE \n | write 1 | 3 | error: the output can't be written: no space left
+run --program p.bpf --data d 01001 | EXIT | LINE \n | write 0 | 1 | refused 40 place 0 ReadsNothing(0)
+run --program p.bpf --data d 01001 | missing | LINE \n | write 0 | 3 | error: p.bpf: not found
+asm --source p.s | missing | | | 3 | error: p.s: not found
+asm --source p.s | closed denied | | | 3 | error: p.s: permission denied
+asm --source p.s | ! 0 directory | | | 3 | error: p.s: is a directory
+asm --source p.s | exit ! 1 pipe | | write 0 | 3 | error: p.s: broken pipe
+asm --source p.s | closed memory | | | 4 | refused memory
+asm --source p.s | ff | | | 3 | error: p.s: not UTF-8
+asm --source p.s | exit | | write 0 | 3 | refused 60 Write
+asm --source p.s | exit | | empty 0 | 3 | refused 61 WriteZero
+asm --source p.s | exit | | write 1 | 3 | error: the output can't be written: no space left
+dis --program p.bpf | missing | | | 3 | error: p.bpf: not found
+dis --program p.bpf | closed denied | | | 3 | error: p.bpf: permission denied
+dis --program p.bpf | ! 0 directory | | | 3 | error: p.bpf: is a directory
+dis --program p.bpf | EXIT ! 1 pipe | | write 0 | 3 | error: p.bpf: broken pipe
+dis --program p.bpf | closed memory | | | 4 | refused memory
+dis --program p.bpf | ff | | | 1 | refused 11 NotWhole
+dis --program p.bpf | EXIT | | write 0 | 3 | refused 60 Write
+dis --program p.bpf | EXIT | | empty 0 | 3 | refused 61 WriteZero
+dis --program p.bpf | EXIT | | write 1 | 3 | error: the output can't be written: no space left
+asm --source p.s | exit\n*4096 | | | 0 |
+asm --source p.s | exit\n*4097 | | | 1 | refused 26 line 4097 CodeFault(12)
+dis --program p.bpf | EXIT*4096 | | | 0 |
+dis --program p.bpf | EXIT*4097 | | | 1 | refused 12 TooLong
+dis --program p.bpf | EXIT*4096 ! 8 pipe | | | 3 | error: p.bpf: broken pipe
+";
 
-const EXIT: &[u8] = b"\x95\0\0\0\0\0\0\0";
+fn kind_of(word: &str) -> ErrorKind {
+    match word {
+        "memory" => ErrorKind::OutOfMemory,
+        "denied" => ErrorKind::PermissionDenied,
+        "directory" => ErrorKind::IsADirectory,
+        "file" => ErrorKind::NotADirectory,
+        "pipe" => ErrorKind::BrokenPipe,
+        _ => ErrorKind::TooManyLinks,
+    }
+}
 
-// How the files and the output fail, the status, and what is said. A reader of a type 1 file fails before its first line here.
-const CASES: &[(
-    Content<'static>,
-    Option<Content<'static>>,
-    Failing,
-    u8,
-    &str,
-)] = &[
-    (Missing, None, Nothing, 3, "error: p.bpf: not found\n"),
-    (Unusable, None, Nothing, 3, "error: p.bpf: can't be used\n"),
-    (
-        FailsAfter(ALL),
-        None,
-        Nothing,
-        3,
-        "error: p.bpf: can't be used\n",
-    ),
-    (OutOfMemory, None, Nothing, 4, "refused memory\n"),
-    (
-        Missing,
-        Some(OutOfMemory),
-        Nothing,
-        3,
-        "error: p.bpf: not found\n",
-    ),
-    (
-        Bytes(ALL),
-        Some(Missing),
-        Nothing,
-        3,
-        "error: d/TGR01001.RT1: not found\n",
-    ),
-    (
-        Bytes(ALL),
-        Some(Unusable),
-        Nothing,
-        3,
-        "error: d/TGR01001.RT1: can't be used\n",
-    ),
-    (
-        Bytes(ALL),
-        Some(OutOfMemory),
-        Nothing,
-        4,
-        "refused memory\n",
-    ),
-    (
-        Bytes(EXIT),
-        Some(Missing),
-        Nothing,
-        3,
-        "error: d/TGR01001.RT1: not found\n",
-    ),
-    (
-        Bytes(EXIT),
-        Some(FailsAfter(b"")),
-        Nothing,
-        1,
-        "refused 40 place 0 ReadsNothing(0)\n",
-    ),
-    (
-        Bytes(ALL),
-        Some(FailsAfter(b"")),
-        Nothing,
-        3,
-        "refused 5 rt1 line 1 Read\n",
-    ),
-    (
-        Bytes(ALL),
-        Some(FailsAfter(b"1000")),
-        Nothing,
-        3,
-        "refused 5 rt1 line 1 Read\n",
-    ),
-    (
-        Bytes(ALL),
-        Some(FailsAfter(b"1000\n")),
-        Nothing,
-        1,
-        "refused 1 rt1 line 1 WrongLength\n",
-    ),
-    (Bytes(ALL), None, Write, 3, "refused 60 Write\n"),
-    (Bytes(ALL), None, EmptyWrite, 3, "refused 61 WriteZero\n"),
-    (
-        Bytes(ALL),
-        None,
-        Flush,
-        3,
-        "error: the output can't be written\n",
-    ),
-    (
-        Bytes(EXIT),
-        None,
-        Flush,
-        1,
-        "refused 40 place 0 ReadsNothing(0)\n",
-    ),
-    (Missing, None, Flush, 3, "error: p.bpf: not found\n"),
-];
+/// The file that a cell describes, over these bytes of it.
+fn file_of<'a>(name: &'a str, cell: &str, bytes: &'a [u8]) -> MemoryFile<'a> {
+    let file = MemoryFile::new(name, bytes);
+    if cell == "missing" {
+        return MemoryFile::missing(name);
+    }
+    if let Some(word) = cell.strip_prefix("closed ") {
+        return MemoryFile {
+            closed: Some(kind_of(word)),
+            ..file
+        };
+    }
+    match cell.split_once('!') {
+        Some((_, reads)) => {
+            let (reads, word) = reads.trim().split_once(' ').unwrap_or(("", ""));
+            MemoryFile {
+                reads: reads.parse().unwrap_or(0),
+                burst: Burst::Fails(kind_of(word)),
+                ..file
+            }
+        }
+        None => file,
+    }
+}
 
-fn run_with(
-    alloc: Global,
-    program: Content<'_>,
-    rt1: Content<'_>,
-    out: &mut Output,
-    errors: &mut Output,
-) -> u8 {
-    let mut files = MemoryFiles::new(program, rt1);
-    command(
-        alloc,
-        RUN,
-        &mut files,
-        &mut Counting::new(out),
-        &mut Counting::new(errors),
-    )
+fn bytes_in(alloc: Global, cell: &str) -> Result<Vec<u8>, AllocError> {
+    if cell == "missing" || cell.starts_with("closed ") {
+        return Ok(Vec::new(alloc));
+    }
+    bytes_of(alloc, cell.split('!').next().unwrap_or(""))
+}
+
+fn output_of(alloc: Global, cell: &str) -> Fuse<Vec<u8>> {
+    match cell.split_once(' ') {
+        Some(("empty", calls)) => output(alloc, calls.parse().ok(), Burst::TakesNothing),
+        Some((_, calls)) => output(
+            alloc,
+            calls.parse().ok(),
+            Burst::Fails(ErrorKind::StorageFull),
+        ),
+        None => output(alloc, None, Burst::TakesNothing),
+    }
 }
 
 #[test]
 fn failing_devices(rt: HostRuntime) -> Result<(), Fail> {
-    let lines = bytes_of(rt.alloc(), &[Piece::Main, Piece::Bytes(b"\n")])?;
-    for (program, rt1, failing, status, said) in CASES {
-        let rt1 = rt1.unwrap_or(Bytes(lines.as_slice()));
-        let mut out = Output::new(rt.alloc(), *failing);
-        let mut errors = Output::new(rt.alloc(), Nothing);
-        assert_eq!(rt;
-            run_with(rt.alloc(), *program, rt1, &mut out, &mut errors),
-            *status,
-            "{said}"
-        );
-        assert_eq!(rt; errors.written.as_slice(), said.as_bytes(), "{said}");
+    for row in CASES.trim().lines() {
+        let line = cell(row, 0);
+        let (first, rt1, failing) = (cell(row, 1), cell(row, 2), cell(row, 3));
+        let (status, said) = (cell(row, 4), line_of(rt.alloc(), cell(row, 5))?);
+        let bytes = bytes_in(rt.alloc(), first)?;
+        let rt1_bytes = bytes_in(rt.alloc(), rt1)?;
+        let name = if line.starts_with("asm") {
+            "p.s"
+        } else {
+            "p.bpf"
+        };
+        let first = file_of(name, first, bytes.as_slice());
+        let rt1 = file_of("d/TGR01001.RT1", rt1, rt1_bytes.as_slice());
         // An error writer that fails changes nothing.
-        for failing_errors in [Write, EmptyWrite, Flush] {
-            let mut out = Output::new(rt.alloc(), *failing);
-            let mut errors = Output::new(rt.alloc(), failing_errors);
-            assert_eq!(rt;
-                run_with(rt.alloc(), *program, rt1, &mut out, &mut errors),
-                *status,
-                "{said}"
-            );
+        for (index, error_cell) in ["", "write 0", "empty 0", "write 1"].iter().enumerate() {
+            let mut out = output_of(rt.alloc(), failing);
+            let mut errors = output_of(rt.alloc(), error_cell);
+            let given = status_of(rt.alloc(), line, first, rt1, &mut out, &mut errors)?;
+            assert_eq!(rt; Ok(given), status.parse(), "{row}");
+            if index == 0 {
+                assert_eq!(rt; errors.inner, said, "{row}");
+            }
         }
     }
+    Ok(())
+}
+
+// A type 1 file of 600 lines has more bytes than twice the buffer that it is read through, and so have its rows.
+#[test]
+fn long_type_1_file(rt: HostRuntime) -> Result<(), Fail> {
+    let program = bytes_of(rt.alloc(), "ONE EXIT")?;
+    let file = repeated(rt.alloc(), r"LINE \n", 600)?;
+    let rows = repeated(rt.alloc(), r"0\t LINE \n", 600)?;
+    let program = MemoryFile::new("p.bpf", program.as_slice());
+    let rt1 = MemoryFile::new("d/TGR01001.RT1", file.as_slice());
+    let line = "run --program p.bpf --data d 01001";
+    let ending = run_command(rt.alloc(), line, program, rt1)?;
+    assert_eq!(rt; ending.status, 0);
+    assert_eq!(rt; ending.written, rows);
     Ok(())
 }

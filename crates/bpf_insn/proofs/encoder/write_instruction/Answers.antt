@@ -9,9 +9,9 @@ appended (Err e) new grown old is holds = tt
 
 pub returns-in-None : goal.returns-in-None
 returns-in-None g c =
-    writes_one c.args.instruction _ _ c.args.bytes.now.items c.extend_from_slice.new.self.items c.bytes.result c.spelled-second.ensures.first c.spelled-second.ensures.further c.in-None.is c.bytes.ensures c.in_ok-extend_from_slice.ensures.items
+    writes_one c.args.instruction _ _ c.args.bytes.now.items c.extend_from_slice.new.self.items c.bytes.result c.spelling-second.ensures.first c.spelling-second.ensures.further c.in-None.is c.bytes.ensures c.in_ok-extend_from_slice.ensures.items
 
 pub returns-in-Some : goal.returns-in-Some
 returns-in-Some g c =
     appended c.extend_from_slice-in-Some.result c.extend_from_slice-in-Some.new.self.items (c.extend_from_slice.new.self.items ++ c.bytes-in-Some.result) c.extend_from_slice.new.self.items c.extend_from_slice-in-Some.ensures.items
-    (λ grown. writes_two c.args.instruction _ c.in-Some.second _ c.args.bytes.now.items c.extend_from_slice.new.self.items c.extend_from_slice-in-Some.new.self.items c.bytes.result c.bytes-in-Some.result c.spelled-second.ensures.first c.spelled-second.ensures.further c.in-Some.is c.bytes.ensures c.bytes-in-Some.ensures c.in_ok-extend_from_slice.ensures.items grown)
+    (λ grown. writes_two c.args.instruction _ c.in-Some.second _ c.args.bytes.now.items c.extend_from_slice.new.self.items c.extend_from_slice-in-Some.new.self.items c.bytes.result c.bytes-in-Some.result c.spelling-second.ensures.first c.spelling-second.ensures.further c.in-Some.is c.bytes.ensures c.bytes-in-Some.ensures c.in_ok-extend_from_slice.ensures.items grown)

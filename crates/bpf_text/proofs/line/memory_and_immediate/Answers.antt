@@ -7,4 +7,4 @@ use Rattle.bpf_text.proofs.line.memory_and_immediate.Goals as goal
 pub returns : goal.returns
 returns c =
     let split = two-split memory_in immediate_in c.args.operands.now c.in_ok-left.left.now c.in_ok-left.right.now c.in_ok-left.ensures in
-    rw (c.both.ensures, c.memory.ensures, c.immediate.ensures) (sym split)
+    rw (c.both.ensures, c.memory_in.ensures, c.immediate_in.ensures) (sym split)

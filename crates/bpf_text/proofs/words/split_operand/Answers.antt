@@ -5,7 +5,7 @@ use Rattle.bpf_text.proofs.words.split_operand.Goals as goal
 pub returns-in-Some : goal.returns-in-Some
 returns-in-Some c =
     let cut = cut-found c.args.operands.now c.in-Some.«end» c.in-Some.ensures.value in
-    rw (c.trimmed.ensures, c.trimmed-in-Some.ensures) (sym cut)
+    rw (c.trim.ensures, c.trim-in-Some.ensures) (sym cut)
 
 pub returns-in-None : goal.returns-in-None
 returns-in-None c = sym (cut-missing c.args.operands.now c.in-None.ensures.value)

@@ -4,8 +4,8 @@ use Rattle.extract.specs.Checks.{is_taken}
 use Rattle.extract.proofs.FormLemmas.{format_is, form_is}
 use Rattle.extract.proofs.checks.visit.Goals as goal
 
-pub load-kind-requires : goal.load-kind-requires
-load-kind-requires c =
+pub load_kind-requires : goal.load_kind-requires
+load_kind-requires c =
     format_is c.in-Load.format c.in-Load.destination c.in-Load.base c.in-Load.offset
     (subst (λ (i : Insn). IsTrue (is_taken i)) c.in-Load.is c.requires)
 

@@ -1,14 +1,13 @@
-use Rattle.extract.proofs.ExtractLemmas.{line_refusal, write_refusal}
+use Rattle.std.proofs.lemmas.Result.{err_from_is_err_and}
+use Rattle.extract.proofs.ExtractLemmas.{load_outcome, write_outcome}
 use Rattle.extract.proofs.extractor.extract.Goals as goal
 
-pub returns-in-Err-read_segments-clause-line : goal.returns-in-Err-read_segments-clause-line
-returns-in-Err-read_segments-clause-line g c =
-    line_refusal c.args.program.now c.in-Ok.code _ _ (g.R.CountedRead.failed_reads c.args.rt1.now) (g.R.CountedRead.failed_reads c.read_segments.new.reader)
-    c.in-Err-read_segments.fault c.from.result c.from.ensures c.in-Ok.ensures.ok c.in-Err-read_segments.ensures.err
+pub returns-in_err-segments-clause-outcome : goal.returns-in_err-segments-clause-outcome
+returns-in_err-segments-clause-outcome g c =
+    let given = err_from_is_err_and c.from_residual-in_err-segments.result c.from_residual-in_err-segments.ensures.1 in
+    rw (given.1, given.2) (load_outcome _ c.in_ok-code.code _ _ _ _ c.in_ok-code.ensures.ok c.in_err-segments.ensures.err)
 
-pub returns-clause-write : goal.returns-clause-write
-returns-clause-write g c =
-    write_refusal c.args.program.now c.in-Ok.code _ _ _
-    (g.W.CountedWrite.failed_writes c.args.out.now) (g.W.CountedWrite.failed_writes c.write_rows.new.out) (g.W.CountedWrite.empty_writes c.args.out.now) (g.W.CountedWrite.empty_writes c.write_rows.new.out)
-    c.in-Ok-read_segments.segments.items c.as_slice.result.now c.in-Err-write_rows.fault c.from-in-Err-write_rows.result
-    c.from-in-Err-write_rows.ensures c.in-Ok.ensures.ok c.in-Ok-read_segments.ensures.ok c.as_slice.ensures.value c.in-Err-write_rows.ensures.writes
+pub returns-in_err-rows-clause-outcome : goal.returns-in_err-rows-clause-outcome
+returns-in_err-rows-clause-outcome g c =
+    let given = err_from_is_err_and c.from_residual-in_err-rows.result c.from_residual-in_err-rows.ensures.1 in
+    rw (given.1, given.2) (write_outcome _ c.in_ok-code.code c.in_ok-segments.segments.items _ _ _ _ _ _ c.in_ok-code.ensures.ok c.in_ok-segments.ensures.ok c.as_slice.ensures.value c.in_err-rows.ensures)

@@ -8,7 +8,5 @@ abbrev pub invariant-loop-segment : goal.invariant-loop-segment
 invariant-loop-segment g l =
     (text : List ℕ) × IsExtract l.code (take l.segment-index l.segments) text l.rows
     × Appends (g.W.Write.contents l.initial.out) (g.W.Write.contents l.out) text
-    × (g.W.CountedWrite.failed_writes l.out ≡ g.W.CountedWrite.failed_writes l.initial.out)
-    × (g.W.CountedWrite.empty_writes l.out ≡ g.W.CountedWrite.empty_writes l.initial.out)
+    × (g.W.CountedWrite.counts l.out ≡ g.W.CountedWrite.counts l.initial.out)
     × (l.rows ≤ l.segment-index)
-    × (g.W.CountedWrite.flushes l.out ≡ g.W.CountedWrite.flushes l.initial.out)

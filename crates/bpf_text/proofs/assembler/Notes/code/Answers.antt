@@ -1,4 +1,4 @@
-use Rattle.std.proofs.Common.{◌≡◌, ◌<◌, List, length, get_or, Result, Err, inl, inr, sym, ap, ◌∙◌, subst}
+use Rattle.std.proofs.Common.{◌≡◌, ◌<◌, List, length, get_or, Result, Err, rules, inl, inr, sym, ap, ◌∙◌, subst}
 use Rattle.bpf_insn.specs.declared.instruction.Insn.{Insn}
 use Rattle.bpf_text.specs.declared.assembler.Item.{Item}
 use Rattle.bpf_text.specs.declared.fault.TextFault.{TextFault}
@@ -11,16 +11,17 @@ loop-item-preserved g c = λ statements notes.
     let i = c.loop-item.item-index in
     let inside : i < length items = subst (λ (xs : List Item). i < length xs) c.deref-item-items.ensures.value c.loop-item-test.true in
     let is : c.item-item.result ≡ get_or items i c.item-item.result = subst (λ (xs : List Item). c.item-item.result ≡ get_or xs i c.item-item.result) c.deref-item-items.ensures.value c.item-item.is in
-    let step = c.in_default.ensures statements notes.labels_are in
+    let step = c.in_ok-push.ensures statements notes.labels_are in
     code-more statements items i c.item-item.result c.loop-item.builder c.push.new.builder step.0 inside is step.1 step.2 ∙ c.loop-item.invariant statements notes
 
-pub returns-in-Err : goal.returns-in-Err
-returns-in-Err g c = λ statements notes.
+pub returns-in_err-push : goal.returns-in_err-push
+returns-in_err-push g c = λ statements notes.
     let items = c.args.self.now.items.items in
     let i = c.loop-item.item-index in
     let inside : i < length items = subst (λ (xs : List Item). i < length xs) c.deref-item-items.ensures.value c.loop-item-test.true in
     let is : c.item-item.result ≡ get_or items i c.item-item.result = subst (λ (xs : List Item). c.item-item.result ≡ get_or xs i c.item-item.result) c.deref-item-items.ensures.value c.item-item.is in
-    elim (c.in-Err.ensures statements notes.labels_are) [
+    let given : c.from_residual.result ≡ Err c.in_err-push.field-0.0 = search rules in
+    rw given (elim (c.in_err-push.ensures statements notes.labels_are) [
       | inl memory ↦ inl memory
       | inr why ↦ inr (sym (c.loop-item.invariant statements notes) ∙ code-fault statements items i c.item-item.result c.loop-item.builder why.0 inside is why.1 ∙ ap (λ (f : TextFault). let r : Result (List Insn) TextFault = Err f in r) (sym why.2))
-    ]
+    ])

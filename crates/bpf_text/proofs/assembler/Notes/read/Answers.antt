@@ -1,4 +1,4 @@
-use Rattle.std.proofs.Common.{sym, arith}
+use Rattle.std.proofs.Common.{◌≡◌, Err, sym, rules, arith}
 use Rattle.bpf_text.specs.Notes.{places_in}
 use Rattle.bpf_text.proofs.NoteLemmas.{read-none, read-more, reads-fault, read-all, read-counted, noted-new}
 use Rattle.bpf_text.proofs.assembler.Notes.read.Goals as goal
@@ -14,18 +14,19 @@ pub loop-rest-preserved : goal.loop-rest-preserved
 loop-rest-preserved g c =
     let before = c.loop-rest.invariant.read in
     let number = read-counted c.args.text.now c.loop-rest.rest.now c.loop-rest.number _ _ _ before in
-    let step = c.in_default.ensures.noted before.statements before.noted number in
+    let step = c.in_ok-add.ensures.noted before.statements before.noted number in
     record {
       read = read-more c.args.text.now c.loop-rest.rest.now c.first_line.result.1.now c.first_line.result.0.now c.loop-rest.number _ _ _ _ _ _ step.0 before c.first_line.ensures.cut step.1 step.2 step.3;
       few = omega (arith, c.loop-rest.invariant.few, c.first_line.ensures.shorter);
-      within = c.in_default.ensures.within;
+      within = c.in_ok-add.ensures.within;
     }
 
-pub returns-in-Err-clause-err : goal.returns-in-Err-clause-err
-returns-in-Err-clause-err g c =
+pub returns-in_err-add-clause-err : goal.returns-in_err-add-clause-err
+returns-in_err-add-clause-err g c =
     let before = c.loop-rest.invariant.read in
     let number = read-counted c.args.text.now c.loop-rest.rest.now c.loop-rest.number _ _ _ before in
-    reads-fault c.args.text.now c.loop-rest.rest.now c.first_line.result.1.now c.first_line.result.0.now c.loop-rest.number _ _ _ c.in-Err.fault before c.first_line.ensures.cut (c.in-Err.ensures.noted before.statements before.noted number)
+    let given : c.from_residual.result ≡ Err c.in_err-add.field-0.0 = search rules in
+    rw given (reads-fault c.args.text.now c.loop-rest.rest.now c.first_line.result.1.now c.first_line.result.0.now c.loop-rest.number _ _ _ c.in_err-add.field-0.0 before c.first_line.ensures.cut (c.in_err-add.ensures.noted before.statements before.noted number))
 
 pub returns-clause-notes : goal.returns-clause-notes
 returns-clause-notes g c = read-all c.args.text.now c.loop-rest.rest.now c.loop-rest.number _ _ _ c.loop-rest.invariant.read (sym c.loop-rest-test.ensures)

@@ -1,0 +1,122 @@
+//! Which fields a row of the instruction table uses, and how (RFC 9669, section 3.1).
+ghost use Rattle.std.specs.Prelude.{◌≡◌};
+ghost use Rattle.bpf_insn.specs.Row.{uses, is_used, is_bad_width, is_out_of_use, has_bad_width, has_unused_field, fault};
+
+use crate::fault::WordFault;
+use crate::instruction::Width;
+use crate::word::Word;
+
+/// What an instruction does with the register of the destination's field.
+#[derive(Clone, Copy, Debug, PartialEq, Eq)]
+pub(crate) enum Destination {
+    /// There is none: the field is zero.
+    Nothing,
+    Read,
+    Written,
+}
+
+/// The use that a row has for the offset or the immediate.
+#[derive(Clone, Copy, Debug, PartialEq, Eq)]
+pub(crate) enum Use {
+    /// None: it's zero.
+    Unused,
+    Any,
+    ZeroOrOne,
+    /// How many bits a move to so many takes of a register; 0 stands for all of them.
+    MoveBits(Width),
+    /// How many bits a byte swap keeps.
+    SwapBits,
+}
+
+#[derive(Clone, Copy, Debug, PartialEq, Eq)]
+pub(crate) struct Row {
+    pub destination: Destination,
+    pub uses_source: bool,
+    pub offset: Use,
+    pub immediate: Use,
+}
+
+impl Destination {
+    fn is_used(self) -> bool
+        ensures { result ≡ is_used self }
+    {
+        !matches!(self, Destination::Nothing)
+    }
+}
+
+impl Use {
+    /// Whether it's a number of bits that the row doesn't have.
+    fn is_bad_width(self, number: i32) -> bool
+        ensures { result ≡ is_bad_width self number }
+    {
+        match self {
+            Use::MoveBits(Width::Bits32) => !matches!(number, 0 | 8 | 16),
+            Use::MoveBits(Width::Bits64) => !matches!(number, 0 | 8 | 16 | 32),
+            Use::SwapBits => !matches!(number, 16 | 32 | 64),
+            _ => false,
+        }
+    }
+
+    /// Whether it's another number than the few that belong there.
+    fn is_out_of_use(self, number: i32) -> bool
+        ensures { result ≡ is_out_of_use self number }
+    {
+        match self {
+            Use::Unused => number != 0,
+            Use::ZeroOrOne => !matches!(number, 0 | 1),
+            _ => false,
+        }
+    }
+}
+
+/// A row by its uses.
+pub(crate) fn uses(destination: Destination, uses_source: bool, offset: Use, immediate: Use) -> Row
+    ensures { result ≡ uses destination uses_source offset immediate }
+{
+    Row {
+        destination,
+        uses_source,
+        offset,
+        immediate,
+    }
+}
+
+impl Row {
+    /// The first fault of a word whose opcode has this row: registers, then the frame pointer, then
+    /// widths, then what isn't used.
+    pub(crate) fn fault(self, word: Word) -> Option<WordFault>
+        ensures { result ≡ fault self word }
+    {
+        if (self.destination.is_used() && word.destination > 10)
+            || (self.uses_source && word.source > 10)
+        {
+            return Some(WordFault::BadRegister);
+        }
+        if self.destination == Destination::Written && word.destination == 10 {
+            return Some(WordFault::WritesFramePointer);
+        }
+        if self.has_bad_width(word) {
+            return Some(WordFault::BadWidth);
+        }
+        if self.has_unused_field(word) {
+            return Some(WordFault::UnusedNotZero);
+        }
+        None
+    }
+
+    fn has_bad_width(self, word: Word) -> bool
+        ensures { result ≡ has_bad_width self word }
+    {
+        self.offset.is_bad_width(i32::from(word.offset))
+            || self.immediate.is_bad_width(word.immediate)
+    }
+
+    fn has_unused_field(self, word: Word) -> bool
+        ensures { result ≡ has_unused_field self word }
+    {
+        (!self.destination.is_used() && word.destination != 0)
+            || (!self.uses_source && word.source != 0)
+            || self.offset.is_out_of_use(i32::from(word.offset))
+            || self.immediate.is_out_of_use(word.immediate)
+    }
+}

@@ -1,0 +1,260 @@
+-- The effects of instructions (RFC 9669, sections 4 and 5). What is checked before one is carried out, in which order, is this
+-- project's own.
+use Rattle.std.specs.Prelude.{ℕ, ◌+◌, ◌≤◌, ℤ, pos, negsuc, ◌+ℤ◌, ◌-ℤ◌, ◌&&◌, Bool, List, map, take, drop, length, unsigned_abs, int_le, nat_lt, Option, Some, None, Result, Ok, Err, is_some, if◌then◌else◌}
+use Rattle.std.specs.Int.{cast_signed, w32, w64}
+use Rattle.bpf_insn.specs.Arithmetic.{result_of, negation_of, extension_of, ordered_bytes, low_bits, is_met, extended, wide_number_of, loaded_number}
+use Rattle.bpf_insn.specs.Code.{instruction_at, spelling, word_count}
+use Rattle.bpf_insn.specs.declared.instruction.Insn.{Insn}
+use Rattle.bpf_insn.specs.declared.instruction.Insn.TheVariants.{Alu, MoveSignExtended, Negate, ByteSwap, JumpIf, Jump, Call, Exit, Load, StoreImmediate, Store, WideLoad}
+use Rattle.bpf_insn.specs.declared.instruction.Operation.{Operation}
+use Rattle.bpf_insn.specs.declared.instruction.Operation.TheVariants.{Add, Subtract, Move}
+use Rattle.bpf_insn.specs.declared.instruction.Width.{Width}
+use Rattle.bpf_insn.specs.declared.instruction.Width.TheVariants.{Bits32, Bits64}
+use Rattle.bpf_insn.specs.declared.instruction.Source.{Source}
+use Rattle.bpf_insn.specs.declared.instruction.Source.TheVariants.{Immediate, Register}
+use Rattle.bpf_insn.specs.declared.instruction.Condition.{Condition}
+use Rattle.bpf_insn.specs.declared.instruction.JumpDistance.{JumpDistance}
+use Rattle.bpf_insn.specs.declared.instruction.JumpDistance.TheVariants.{Short, Long}
+use Rattle.bpf_insn.specs.declared.instruction.LoadFormat.{LoadFormat}
+use Rattle.bpf_insn.specs.declared.instruction.LoadFormat.TheVariants.{Byte, HalfWord, Word, DoubleWord, SignedByte, SignedHalfWord, SignedWord}
+use Rattle.bpf_insn.specs.declared.instruction.StoreSize.{StoreSize}
+use Rattle.bpf_insn.specs.declared.instruction.StoreSize.TheVariants as store_size
+use Rattle.bpf_insn.specs.declared.register.WritableRegister.{WritableRegister}
+use Rattle.bpf_insn.specs.declared.value.Area.{Area}
+use Rattle.bpf_insn.specs.declared.value.Area.TheVariants.{Record, Frame}
+use Rattle.bpf_insn.specs.declared.value.Pointer.{Pointer as PointerParts}
+use Rattle.bpf_insn.specs.declared.value.Value.{Value}
+use Rattle.bpf_insn.specs.declared.value.Value.TheVariants.{Empty, Number, Pointer}
+use Rattle.bpf_meaning.specs.Segment.{Contents}
+use Rattle.bpf_meaning.specs.Memory as memory
+use Rattle.bpf_meaning.specs.Memory.{FrameByte, number_of}
+use Rattle.bpf_meaning.specs.State.{register_value}
+use Rattle.bpf_meaning.specs.declared.cause.Cause.{Cause}
+use Rattle.bpf_meaning.specs.declared.cause.Cause.TheVariants.{OutOfProgram, IntoWide, ReadsNothing, PointerArithmetic, LeavesArea, NotPointer, OutOfBounds, UnwrittenFrame, WritesRecord, StoresPointer, ComparesPointer, UnknownHelper, ExitNotNumber}
+use Rattle.bpf_meaning.specs.declared.effect.Change.{Change}
+use Rattle.bpf_meaning.specs.declared.effect.Change.TheVariants.{Nothing, SetRegister, StoreBytes}
+use Rattle.bpf_meaning.specs.declared.effect.Effect.{Effect}
+use Rattle.bpf_meaning.specs.declared.effect.Effect.TheVariants.{GoOn, End}
+use Rattle.bpf_meaning.specs.declared.frame.TheConstants.{FRAME_LENGTH}
+use Rattle.bpf_meaning.specs.declared.state.State.{State}
+
+-- one check after the other: the first that fails gives the cause
+infixl 10 ◌>>=◌
+abbrev pub ◌>>=◌ : {A B : Type 0} → Result A Cause → (A → Result B Cause) → Result B Cause
+(Ok x) >>= f = f x
+(Err cause) >>= f = Err cause
+
+-- a value that is read from a register
+abbrev pub read_value : ℕ → Value → Result Value Cause
+read_value register Empty = Err (ReadsNothing register)
+read_value register (Number n) = Ok (Number n)
+read_value register (Pointer pointer) = Ok (Pointer pointer)
+
+-- what a register that is read holds
+abbrev pub read : State → ℕ → Result Value Cause
+read state register = read_value register (register_value state register)
+
+-- the number that a value is, or the cause where it's none
+abbrev pub number_or : Cause → Value → Result ℕ Cause
+number_or cause (Number n) = Ok n
+number_or cause value = Err cause
+
+-- the number in a register, of which an instruction makes another; nothing is made so of a pointer
+abbrev pub number_in : State → ℕ → Result ℕ Cause
+number_in state register = read state register >>= number_or PointerArithmetic
+
+-- the second operand
+abbrev pub operand : State → Source → Result Value Cause
+operand state (Immediate value) = Ok (Number (extended value))
+operand state (Register register) = read state register.number
+
+-- a pointer's offset goes from -32768 to 32767
+abbrev pub is_offset : ℤ → Bool
+is_offset z = int_le (negsuc 32767) z && int_le z (pos 32767)
+
+-- the pointer into an area at an offset, which must lie in the range of offsets
+abbrev pub pointer_to : Area → ℤ → Result Value Cause
+pointer_to area offset = if is_offset offset then Ok (Pointer (record { area = area; offset = offset })) else Err LeavesArea
+
+-- a number that a pointer may be moved by, read as two's complement: it must lie in the range of offsets, too
+abbrev pub near_distance : ℕ → Result ℤ Cause
+near_distance number = if is_offset (cast_signed w64 number) then Ok (cast_signed w64 number) else Err PointerArithmetic
+
+-- a pointer moved by a number of bytes, forwards and backwards
+abbrev pub move_pointer : PointerParts → ℕ → Result Value Cause
+move_pointer pointer number = near_distance number >>= λ distance. pointer_to pointer.area (pointer.offset +ℤ distance)
+
+abbrev pub move_pointer_back : PointerParts → ℕ → Result Value Cause
+move_pointer_back pointer number = near_distance number >>= λ distance. pointer_to pointer.area (pointer.offset -ℤ distance)
+
+-- an operation of 64 bits on a pointer and a number
+abbrev pub operate_on_pointer : Operation → PointerParts → ℕ → Result Value Cause
+operate_on_pointer Add pointer y = move_pointer pointer y
+operate_on_pointer Subtract pointer y = move_pointer_back pointer y
+operate_on_pointer operation pointer y = Err PointerArithmetic
+
+-- an operation of 64 bits on a number and a pointer
+abbrev pub operate_with_pointer : Operation → ℕ → PointerParts → Result Value Cause
+operate_with_pointer Add x pointer = move_pointer pointer x
+operate_with_pointer operation x pointer = Err PointerArithmetic
+
+-- An operation on two values. With 64 bits a number may be added to a pointer, in either order, and taken from one; nothing else may be
+-- done with one.
+abbrev pub operate : Operation → Width → Value → Value → Result Value Cause
+operate operation width (Number x) (Number y) = Ok (Number (result_of operation width x y))
+operate operation Bits64 (Pointer pointer) (Number y) = operate_on_pointer operation pointer y
+operate operation Bits64 (Number x) (Pointer pointer) = operate_with_pointer operation x pointer
+operate operation width x y = Err PointerArithmetic
+
+-- a move copies any value with 64 bits, and with 32 the low half of a number (section 4.1: MOV)
+abbrev pub move_value : Width → Value → Result Value Cause
+move_value Bits64 value = Ok value
+move_value Bits32 (Number n) = Ok (Number (low_bits w32 n))
+move_value Bits32 value = Err PointerArithmetic
+
+-- what an arithmetic instruction gives; a move doesn't read its destination
+abbrev pub operation_value : State → Operation → Width → ℕ → Source → Result Value Cause
+operation_value state Move width destination source = operand state source >>= move_value width
+operation_value state operation width destination source = read state destination >>= λ x. operand state source >>= λ y. operate operation width x y
+
+-- whether a conditional jump is taken
+abbrev pub compare : Condition → Width → Value → Value → Result Bool Cause
+compare condition width (Number x) (Number y) = Ok (is_met condition width x y)
+compare condition width x y = Err ComparesPointer
+
+abbrev pub comparison : State → Condition → Width → ℕ → Source → Result Bool Cause
+comparison state condition width left right = read state left >>= λ x. operand state right >>= λ y. compare condition width x y
+
+-- the pointer in a register that is the base of a load or a store
+abbrev pub only_pointer : Value → Result PointerParts Cause
+only_pointer (Pointer pointer) = Ok pointer
+only_pointer value = Err NotPointer
+
+abbrev pub pointer_in : State → ℕ → Result PointerParts Cause
+pointer_in state register = read state register >>= only_pointer
+
+-- so many bytes from an offset on lie within the first ones, so many, of an area
+abbrev pub lie_within : ℤ → ℕ → ℕ → Bool
+lie_within offset count bytes = int_le (pos 0) offset && int_le (offset +ℤ pos count) (pos bytes)
+
+-- the bytes of an area; those of the record are all written
+abbrev pub area_bytes : Contents → State → Area → List FrameByte
+area_bytes segment state Record = map memory.Byte segment.bytes
+area_bytes segment state Frame = state.frame.bytes
+
+-- how many bytes a load reads (section 5.1)
+abbrev pub load_length : LoadFormat → ℕ
+load_length Byte = 1
+load_length HalfWord = 2
+load_length Word = 4
+load_length DoubleWord = 8
+load_length SignedByte = 1
+load_length SignedHalfWord = 2
+load_length SignedWord = 4
+
+-- what a load gives for the bytes' number, if they are all written
+abbrev pub load_number : LoadFormat → Option ℕ → Result Value Cause
+load_number format None = Err UnwrittenFrame
+load_number format (Some n) = Ok (Number (loaded_number format n))
+
+-- a load of bytes of an area from an offset on: they must lie within it, and be written
+abbrev pub load_bytes : LoadFormat → List FrameByte → ℤ → Result Value Cause
+load_bytes format bytes offset =
+    if lie_within offset (load_length format) (length bytes)
+    then load_number format (number_of (take (load_length format) (drop (unsigned_abs offset) bytes)))
+    else Err OutOfBounds
+
+-- what a load gives: it begins where its base points, plus an offset
+abbrev pub load_value : Contents → State → LoadFormat → ℕ → ℤ → Result Value Cause
+load_value segment state format base offset =
+    pointer_in state base >>= λ pointer. load_bytes format (area_bytes segment state pointer.area) (pointer.offset +ℤ offset)
+
+-- how many bytes a store writes (section 5.1)
+abbrev pub store_length : StoreSize → ℕ
+store_length store_size.Byte = 1
+store_length store_size.HalfWord = 2
+store_length store_size.Word = 4
+store_length store_size.DoubleWord = 8
+
+-- an offset into the frame: the record is read-only
+abbrev pub frame_offset : Area → ℤ → Result ℤ Cause
+frame_offset Frame offset = Ok offset
+frame_offset Record offset = Err WritesRecord
+
+-- a number stored in the frame from an offset on: the bytes must lie within it
+abbrev pub store_at : ℤ → StoreSize → ℕ → Result Change Cause
+store_at offset size number =
+    if lie_within offset (store_length size) FRAME_LENGTH then Ok (StoreBytes (unsigned_abs offset) size number) else Err OutOfBounds
+
+-- the bytes of the frame that a store changes: it begins where its base points, plus an offset
+abbrev pub store_change : State → StoreSize → ℕ → ℤ → Source → Result Change Cause
+store_change state size base offset source =
+    pointer_in state base >>= λ pointer. frame_offset pointer.area (pointer.offset +ℤ offset) >>= λ from.
+    operand state source >>= number_or StoresPointer >>= λ number. store_at from size number
+
+-- The program goes on at a place, with a change, if an instruction begins there. A place within the code where none begins is a wide
+-- load's second word.
+abbrev pub go_on : List Insn → ℕ → Change → Result Effect Cause
+go_on code place change =
+    if is_some (instruction_at code place) then Ok (GoOn change place) else (if nat_lt place (word_count code) then Err IntoWide else Err OutOfProgram)
+
+-- the same with a register written
+abbrev pub set_register : List Insn → ℕ → WritableRegister → Value → Result Effect Cause
+set_register code place register value = go_on code place (SetRegister register value)
+
+-- the same with no change, where the place may lie before the code
+abbrev pub go_to : List Insn → ℤ → Result Effect Cause
+go_to code (pos place) = go_on code place Nothing
+go_to code (negsuc before) = Err OutOfProgram
+
+-- a jump from a place, whose distance counts words from the word after it (section 4.3)
+abbrev pub jump : List Insn → ℕ → ℤ → Result Effect Cause
+jump code place distance = go_to code (pos (place + 1) +ℤ distance)
+
+-- a jump's distance (section 4.3): the offset in the class JMP, the immediate in JMP32
+abbrev pub distance_of : JumpDistance → ℤ
+distance_of (Short distance) = distance
+distance_of (Long distance) = distance
+
+-- the effect of an instruction behind which the next one begins at this place. No helper function is known.
+abbrev pub instruction_effect : List Insn → Contents → State → ℕ → Insn → Result Effect Cause
+instruction_effect code segment state next (Alu operation width destination source) =
+    operation_value state operation width destination.number source >>= set_register code next destination
+instruction_effect code segment state next (MoveSignExtended extension destination source) =
+    number_in state source.number >>= λ x. set_register code next destination (Number (extension_of extension x))
+instruction_effect code segment state next (Negate width destination) =
+    number_in state destination.number >>= λ x. set_register code next destination (Number (negation_of width x))
+instruction_effect code segment state next (ByteSwap order width destination) =
+    number_in state destination.number >>= λ x. set_register code next destination (Number (ordered_bytes order width x))
+instruction_effect code segment state next (JumpIf condition width left right offset) =
+    comparison state condition width left.number right >>= λ taken. if taken then jump code state.place offset else go_on code next Nothing
+instruction_effect code segment state next (Jump distance) = jump code state.place (distance_of distance)
+instruction_effect code segment state next (Call immediate) = Err UnknownHelper
+instruction_effect code segment state next Exit = read state 0 >>= number_or ExitNotNumber >>= λ answer. Ok (End answer)
+instruction_effect code segment state next (Load format destination base offset) =
+    load_value segment state format base.number offset >>= set_register code next destination
+instruction_effect code segment state next (StoreImmediate size base offset immediate) =
+    store_change state size base.number offset (Immediate immediate) >>= go_on code next
+instruction_effect code segment state next (Store size base offset source) =
+    store_change state size base.number offset (Register source) >>= go_on code next
+instruction_effect code segment state next (WideLoad destination immediate next_immediate) =
+    set_register code next destination (Number (wide_number_of immediate next_immediate))
+
+-- the effect by what stands at the place
+abbrev pub effect_of : List Insn → Contents → State → Option Insn → Result Effect Cause
+effect_of code segment state None = Err OutOfProgram
+effect_of code segment state (Some insn) = instruction_effect code segment state (state.place + length (spelling insn)) insn
+
+-- the effect of the instruction at the state's place, or the first check that fails
+abbrev pub effect : List Insn → Contents → State → Result Effect Cause
+effect code segment state = effect_of code segment state (instruction_at code state.place)
+
+-- bytes that are stored lie within the frame
+abbrev pub LiesInFrame : Change → Type 0
+LiesInFrame Nothing = Unit {0}
+LiesInFrame (SetRegister register value) = Unit {0}
+LiesInFrame (StoreBytes at size number) = at + store_length size ≤ FRAME_LENGTH
+
+abbrev pub WritesInFrame : Effect → Type 0
+WritesInFrame (GoOn change place) = LiesInFrame change
+WritesInFrame (End answer) = Unit {0}

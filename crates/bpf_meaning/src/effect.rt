@@ -1,0 +1,29 @@
+//! What an instruction does once its checks have passed, as plain data.
+
+use bpf_insn::{StoreSize, Value, WritableRegister};
+
+/// What an instruction does to a state.
+#[derive(Clone, Copy, Debug, PartialEq, Eq)]
+pub enum Effect {
+    /// The program goes on at a place, with a change.
+    GoOn { change: Change, place: usize },
+    /// The program ends with an answer.
+    End { answer: u64 },
+}
+
+/// What an instruction changes besides the place.
+#[derive(Clone, Copy, Debug, PartialEq, Eq)]
+pub enum Change {
+    Nothing,
+    /// A register holds a value.
+    SetRegister {
+        register: WritableRegister,
+        value: Value,
+    },
+    /// A number's low bytes stand in the frame, from an offset on.
+    StoreBytes {
+        at: usize,
+        size: StoreSize,
+        number: u64,
+    },
+}

@@ -1,0 +1,136 @@
+//! The instruction table: the checks of each instruction in their order, and its effect.
+ghost use Rattle.std.specs.Prelude.{◌≡◌, ◌<◌};
+ghost use Rattle.bpf_insn.specs.declared.code.TheConstants.{WORD_LIMIT};
+ghost use Rattle.bpf_meaning.specs.Effect.{effect, instruction_effect};
+
+use crate::cause::Cause;
+use crate::effect::{Change, Effect};
+use crate::memory::{load_value, store_change};
+use crate::operands::{comparison, number_in, number_or, operation_value};
+use crate::progress::{distance_of, go_on, jump, set_register};
+use crate::segment::Segment;
+use crate::state::State;
+use bpf_insn::{Code, Insn, Source, Value, negate, wide_number};
+use std::alloc::Allocator;
+
+/// The effect of the instruction at the state's place, or the first check that fails. Nothing is carried out.
+#[inline]
+pub(crate) fn effect<A: Allocator>(
+    code: &Code<A>,
+    segment: &Segment,
+    state: &State,
+) -> Result<Effect, Cause>
+    ensures { result ≡ effect code.now segment.now state.now }
+{
+    match code.at(state.place) {
+        Some(insn) => {
+            let next = state.place + insn.words();
+            instruction_effect(code, segment, state, next, insn)
+        }
+        None => Err(Cause::OutOfProgram),
+    }
+}
+
+/// The effect of an instruction behind which the next one begins at this place: one arm a row.
+#[inline]
+fn instruction_effect<A: Allocator>(
+    code: &Code<A>,
+    segment: &Segment,
+    state: &State,
+    next: usize,
+    insn: Insn,
+) -> Result<Effect, Cause>
+    requires { state.now.place < WORD_LIMIT }
+    ensures { result ≡ instruction_effect code.now segment.now state.now next insn }
+{
+    match insn {
+        Insn::Alu {
+            operation,
+            width,
+            destination,
+            source,
+        } => {
+            let value = operation_value(state, operation, width, destination, source)?;
+            set_register(code, next, destination, value)
+        }
+        Insn::MoveSignExtended {
+            extension,
+            destination,
+            source,
+        } => {
+            let x = number_in(state, source.number)?;
+            set_register(code, next, destination, Value::Number(extension.apply(x)))
+        }
+        Insn::Negate { width, destination } => {
+            let x = number_in(state, destination.number)?;
+            set_register(code, next, destination, Value::Number(negate(width, x)))
+        }
+        Insn::ByteSwap {
+            order,
+            width,
+            destination,
+        } => {
+            let x = number_in(state, destination.number)?;
+            set_register(
+                code,
+                next,
+                destination,
+                Value::Number(order.apply(width, x)),
+            )
+        }
+        Insn::JumpIf {
+            condition,
+            width,
+            left,
+            right,
+            offset,
+        } => {
+            if comparison(state, condition, width, left, right)? {
+                jump(code, state.place, i32::from(offset))
+            } else {
+                go_on(code, next, Change::Nothing)
+            }
+        }
+        Insn::Jump(distance) => jump(code, state.place, distance_of(distance)),
+        Insn::Call { .. } => Err(Cause::UnknownHelper),
+        Insn::Exit => {
+            let answer = number_or(Cause::ExitNotNumber, state.read(0)?)?;
+            Ok(Effect::End { answer })
+        }
+        Insn::Load {
+            format,
+            destination,
+            base,
+            offset,
+        } => {
+            let value = load_value(segment, state, format, base, offset)?;
+            set_register(code, next, destination, value)
+        }
+        Insn::StoreImmediate {
+            size,
+            base,
+            offset,
+            immediate,
+        } => {
+            let change = store_change(state, size, base, offset, Source::Immediate(immediate))?;
+            go_on(code, next, change)
+        }
+        Insn::Store {
+            size,
+            base,
+            offset,
+            source,
+        } => {
+            let change = store_change(state, size, base, offset, Source::Register(source))?;
+            go_on(code, next, change)
+        }
+        Insn::WideLoad {
+            destination,
+            immediate,
+            next_immediate,
+        } => {
+            let value = Value::Number(wide_number(immediate, next_immediate));
+            set_register(code, next, destination, value)
+        }
+    }
+}

@@ -1,0 +1,117 @@
+//! The commands: their arguments, and what one is asked for.
+ghost use Rattle.tl_fields.specs.Device.{writer};
+ghost use Rattle.extractd.specs.Command.{IsCarriedOut};
+ghost use Rattle.extractd.specs.Failure.{TellsOpens};
+
+// How a help ends, behind its examples.
+macro_rules! help_end {
+    ($examples:literal) => {
+        concat!(
+            $examples,
+            "\n\nExit status:\n",
+            "  0  done, also where no row was chosen\n",
+            "  1  refused\n",
+            "  2  usage\n",
+            "  3  a file or output that can't be used\n",
+            "  4  out of memory\n\n",
+            "extractd 0.1.0",
+        )
+    };
+}
+
+mod assemble;
+mod disassemble;
+mod run;
+
+use crate::arguments::ArgumentsFault;
+use crate::commands::assemble::Assemble;
+use crate::commands::disassemble::Disassemble;
+use crate::commands::run::Run;
+use crate::failure::Failure;
+use crate::files::Files;
+use clap::{Arg, ArgAction, ArgMatches, Command};
+use std::alloc::{AllocError, Global};
+use tl_fields::CountedWrite;
+
+/// What the arguments ask for.
+#[derive(Clone, Copy, Debug)]
+pub enum Request<'a> {
+    Run(Run<'a>),
+    Assemble(Assemble<'a>),
+    Disassemble(Disassemble<'a>),
+}
+
+impl<'a> Request<'a> {
+    /// What the command of this name is asked for.
+    fn of_command(name: &str, matches: &ArgMatches<'a>) -> Result<Request<'a>, ArgumentsFault<'a>> {
+        match name {
+            "run" => Ok(Request::Run(Run::from_matches(matches)?)),
+            "asm" => Ok(Request::Assemble(Assemble::from_matches(matches)?)),
+            "dis" => Ok(Request::Disassemble(Disassemble::from_matches(matches)?)),
+            _ => Err(ArgumentsFault::Missing("COMMAND")),
+        }
+    }
+
+    /// What the arguments that were matched ask for.
+    pub fn from_matches(matches: &ArgMatches<'a>) -> Result<Request<'a>, ArgumentsFault<'a>> {
+        match matches.subcommand() {
+            Some((name, matches)) => Request::of_command(name, matches),
+            None => Err(ArgumentsFault::Missing("COMMAND")),
+        }
+    }
+
+    /// Reads the files that are asked for, and writes what comes of them.
+    pub fn carry_out<F: Files, W: CountedWrite>(
+        self,
+        alloc: Global,
+        files: &mut F,
+        out: &mut W,
+    ) -> Result<(), Failure<'a>>
+        ensures outcome { IsCarriedOut self.entry (F.bytes files.old) result
+            (writer W.contents W.counts out.old) (writer W.contents W.counts out.new) }
+        ensures opens { TellsOpens result (F.failed_opens files.old) (F.failed_opens files.new) }
+    {
+        match self {
+            Request::Run(run) => run.carry_out(alloc, files, out),
+            Request::Assemble(assemble) => assemble.carry_out(alloc, files, out),
+            Request::Disassemble(disassemble) => disassemble.carry_out(alloc, files, out),
+        }
+    }
+}
+
+/// The program and its commands, for the parser of arguments.
+pub fn program_command<'a>(alloc: Global) -> Result<Command<'a>, AllocError> {
+    Command::new(alloc, "extractd")
+        .bin_name("extractd")?
+        .about(
+            "Extracts the TIGER/Line street segments that a BPF program chooses, and converts programs",
+        )
+        .version("0.1.0")
+        .after_help(help_end!(
+            "Examples:
+  extractd run --program street.bpf --data tiger 01001 > rows.tsv
+  extractd asm --source street.s > street.bpf
+  extractd dis --program street.bpf"
+        ))
+        .no_binary_name(true)
+        .disable_help_subcommand(true)
+        .subcommand_required(true)
+        .subcommand(run::command(alloc)?)?
+        .subcommand(assemble::command(alloc)?)?
+        .subcommand(disassemble::command(alloc)?)
+}
+
+/// The option `--name VALUE`, which has to be given.
+fn option<'a>(alloc: Global, name: &'a str, value: &'a str, help: &'a str) -> Arg<'a> {
+    Arg::new(alloc, name)
+        .long(name)
+        .value_name(value)
+        .help(help)
+        .required(true)
+        .action(ArgAction::Set)
+}
+
+/// The value of an argument that has to be given.
+fn value<'a>(matches: &ArgMatches<'a>, name: &'static str) -> Result<&'a str, ArgumentsFault<'a>> {
+    matches.get_str(name).ok_or(ArgumentsFault::Missing(name))
+}

@@ -1,0 +1,94 @@
+//! Arguments that ask for nothing: usage faults, and calls for help.
+use super::fixtures::{MemoryFile, cell, run_command};
+use std::io::ErrorKind;
+use std::test::Fail;
+
+// The arguments, and how the text for the user begins.
+const FAULTS: &str = r#"
+| error: 'extractd' requires a subcommand
+run | error:
+run --program p.bpf 01001 | error:
+run --data d 01001 | error:
+run --program p.bpf --data d | error:
+run --program p.bpf --data | error:
+run --program p.bpf --program p.bpf --data d 01001 | error:
+run --program p.bpf --data d --data d 01001 | error:
+run --program p.bpf --data d 01001 01001 | error:
+run --program p.bpf --data d --limit 1 01001 | error:
+run --program p.bpf --data d 0100 | error: CODE is five digits, and "0100" isn't
+run --program p.bpf --data d 010010 | error: CODE is five digits, and "010010" isn't
+run --program p.bpf --data d 0100a | error: CODE is five digits, and "0100a" isn't
+run --program p.bpf --data d 0100١ | error: CODE is five digits, and "0100١" isn't
+run --program p.bpf --data d '' | error: CODE is five digits, and "" isn't
+frob | error:
+verify --program p.bpf | error:
+asm | error:
+asm --source | error:
+asm p.s | error:
+asm --program p.bpf | error:
+asm --source p.s p.s | error:
+asm --source p.s --source p.s | error:
+dis | error:
+dis --program | error:
+dis p.bpf | error:
+dis --source p.s | error:
+dis --program p.bpf 01001 | error:
+dis --program p.bpf --program p.bpf | error:
+trace --program p.bpf --data d --line 1 --limit 1 01001 | error:
+geocode --data d --number 1 --name Main 01001 | error:
+serve --data d --port 8080 01001 | error:
+help | error:
+--help | Extracts the TIGER/Line street segments
+run --help | Writes the rows
+asm --help | Writes the BPF
+dis --help | Writes a program
+--version | extractd 0.1.0
+"#;
+
+#[test]
+fn usage_faults(rt: HostRuntime) -> Result<(), Fail> {
+    // Nothing is opened: the arguments come first.
+    let closed = MemoryFile {
+        closed: Some(ErrorKind::OutOfMemory),
+        ..MemoryFile::new("p.bpf", b"")
+    };
+    for row in FAULTS.trim().lines() {
+        let ending = run_command(rt.alloc(), cell(row, 0), closed, closed)?;
+        let front = cell(row, 1);
+        assert_eq!(rt; (ending.status, ending.written.len()), (2, 0), "{row}");
+        assert!(rt;
+            ending.said.as_slice().starts_with(front.as_bytes()),
+            "{row}"
+        );
+        assert!(rt; ending.said.ends_with(b"\n"), "{row}");
+    }
+    Ok(())
+}
+
+// What a text for the user has somewhere in it: the program's name in a usage line, its version, an example of each command.
+const PARTS: &str = r#"
+run | Usage: extractd run --program <FILE> --data <DIR> <CODE>
+asm | Usage: extractd asm --source <FILE>
+dis | Usage: extractd dis --program <FILE>
+frob | Usage: extractd <COMMAND>
+--help | extractd run --program street.bpf --data tiger 01001 > rows.tsv
+--help | extractd asm --source street.s > street.bpf
+--help | extractd dis --program street.bpf
+--help | extractd 0.1.0
+--help | 4  out of memory
+run --help | extractd run --program street.bpf --data tiger 01001 > rows.tsv
+asm --help | extractd asm --source street.s > street.bpf
+dis --help | extractd dis --program street.bpf
+"#;
+
+#[test]
+fn usage_texts(rt: HostRuntime) -> Result<(), Fail> {
+    for row in PARTS.trim().lines() {
+        let missing = MemoryFile::missing("p.bpf");
+        let ending = run_command(rt.alloc(), cell(row, 0), missing, missing)?;
+        let said = str::from_utf8(ending.said.as_slice()).unwrap_or("");
+        assert_eq!(rt; ending.status, 2, "{row}");
+        assert!(rt; said.contains(cell(row, 1)), "{row}");
+    }
+    Ok(())
+}

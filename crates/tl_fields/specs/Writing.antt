@@ -1,0 +1,26 @@
+-- What writing a text whole does to a writer.
+use Rattle.std.specs.Prelude.{◌≡◌, ℕ, List, take, codes, Option, Result, Ok, Err}
+use Rattle.std.specs.Io.KnownBytes.{Appends}
+use Rattle.tl_fields.specs.Counted.{CountsFault}
+use Rattle.tl_fields.specs.Device.{Writer}
+use Rattle.tl_fields.specs.declared.writing.WriteFault.{WriteFault}
+use Rattle.tl_fields.specs.declared.writing.WriteFault.TheVariants.{Write, WriteZero}
+
+-- the number and the name of a writer's fault in a refusal
+abbrev pub number : WriteFault → ℕ
+number Write = 60
+number WriteZero = 61
+
+abbrev pub name : WriteFault → List ℕ
+name Write = codes "Write"
+name WriteZero = codes "WriteZero"
+
+-- known bytes grow by a beginning of the text
+pub record AppendsBeginning (old new : Option (List ℕ)) (text : List ℕ) : Type 0 where
+  pub count : ℕ
+  pub appends : Appends old new (take count text)
+
+-- the text was written whole, or a beginning of it up to the fault
+abbrev pub WritesText : List ℕ → Result (Unit {0}) WriteFault → Writer → Writer → Type 0
+WritesText text (Ok done) old new = Appends old.held new.held text × (new.counts ≡ old.counts)
+WritesText text (Err fault) old new = AppendsBeginning old.held new.held text × CountsFault fault old.counts new.counts

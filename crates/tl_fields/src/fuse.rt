@@ -1,0 +1,142 @@
+//! Readers and writers that go wrong once, to try what stands on them.
+ghost use Rattle.std.specs.Prelude.{◌≡◌, ◌+◌, true, false, length, IsErr, IfOk};
+ghost use Rattle.std.specs.Io.{ReadsAtMost, WritesAtMost};
+ghost use Rattle.std.specs.Io.KnownBytes.{Keeps, ReadConsumes, WriteAppends};
+
+use crate::counted::count_one;
+use std::io;
+use std::io::{ErrorKind, Read, Write};
+
+/// How a fuse blows.
+#[derive(Clone, Copy, Debug, PartialEq, Eq)]
+pub enum Burst {
+    /// The call fails.
+    Fails(ErrorKind),
+    /// The write takes none of its bytes. A read or a flush fails in its place, as `WriteZero`.
+    TakesNothing,
+}
+
+/// A reader or writer that passes so many calls, or takes so many bytes, then goes wrong in one call,
+/// and passes all after it.
+///
+/// It counts its calls, so that a caller who tries a failed one again is seen.
+#[derive(Drop)]
+pub struct Fuse<T> {
+    pub inner: T,
+    /// How many calls still pass.
+    pub calls_left: u64,
+    /// How many bytes writes still take.
+    pub bytes_left: usize,
+    pub burst: Burst,
+    pub is_blown: bool,
+    /// How many calls there were, modulo 2^64.
+    pub calls: u64,
+}
+
+impl<T> Fuse<T> {
+    ghost use Rattle.tl_fields.specs.Fuse.{after_call, is_due};
+
+    /// Passes so many calls, and then goes wrong.
+    pub fn after_calls(inner: T, calls: u64, burst: Burst) -> Self
+        ensures { result ≡ record { inner = inner; calls_left = calls; bytes_left = usize.MAX; burst = burst; is_blown = false; calls = 0 } }
+    {
+        Fuse {
+            inner,
+            calls_left: calls,
+            bytes_left: usize::MAX,
+            burst,
+            is_blown: false,
+            calls: 0,
+        }
+    }
+
+    /// Takes so many bytes, and then goes wrong.
+    pub fn after_bytes(inner: T, bytes: usize, burst: Burst) -> Self
+        ensures { result ≡ record { inner = inner; calls_left = u64.MAX; bytes_left = bytes; burst = burst; is_blown = false; calls = 0 } }
+    {
+        Fuse {
+            inner,
+            calls_left: u64::MAX,
+            bytes_left: bytes,
+            burst,
+            is_blown: false,
+            calls: 0,
+        }
+    }
+
+    /// Counts a call that hands over so many bytes, and tells whether it goes wrong.
+    fn blows(&mut self, bytes: usize) -> bool
+        ensures value { result ≡ is_due self.old bytes }
+        ensures counted { self.new ≡ after_call self.old bytes }
+    {
+        let is_spent = self.calls_left == 0 || (self.bytes_left == 0 && bytes > 0);
+        let is_due = !self.is_blown && is_spent;
+        self.is_blown = self.is_blown || is_due;
+        self.calls_left = self.calls_left.saturating_sub(1);
+        count_one(&mut self.calls);
+        is_due
+    }
+
+    fn error(&self) -> io::Error {
+        match self.burst {
+            Burst::Fails(kind) => io::Error::from(kind),
+            Burst::TakesNothing => io::Error::from(ErrorKind::WriteZero),
+        }
+    }
+}
+
+impl<T: Read> Read for Fuse<T> {
+    ghost use Rattle.tl_fields.specs.Fuse.{after_call, is_due};
+
+    ghost remaining = { λ fuse. T.remaining fuse.inner };
+
+    fn read(&mut self, buf: &mut [u8]) -> io::Result<usize>
+        ensures bound { ReadsAtMost result buf.new }
+        ensures bytes { ReadConsumes (T.remaining self.old.inner) (T.remaining self.new.inner) result buf.new }
+        ensures due { is_due self.old 0 ≡ true → IsErr result × (self.new ≡ after_call self.old 0) }
+        ensures counted { self.new ≡ record (after_call self.old 0) { inner = self.new.inner } }
+    {
+        if self.blows(0) {
+            return Err(self.error());
+        }
+        self.inner.read(buf)
+    }
+}
+
+impl<T: Write> Write for Fuse<T> {
+    ghost use Rattle.tl_fields.specs.Fuse.{GoesWrong, after_call, is_due};
+
+    ghost contents = { λ fuse. T.contents fuse.inner };
+
+    fn write(&mut self, buf: &[u8]) -> io::Result<usize>
+        ensures bound { WritesAtMost result buf.now }
+        ensures bytes { WriteAppends (T.contents self.old.inner) (T.contents self.new.inner) result buf.now }
+        ensures due { is_due self.old (length buf.now) ≡ true
+            → GoesWrong self.old.burst result × (self.new ≡ after_call self.old (length buf.now)) }
+        ensures room { self.old.is_blown ≡ false → IfOk result (λ taken. self.new.bytes_left + taken ≡ self.old.bytes_left) }
+    {
+        if self.blows(buf.len()) {
+            return match self.burst {
+                Burst::TakesNothing => Ok(0),
+                Burst::Fails(_) => Err(self.error()),
+            };
+        }
+        if self.is_blown {
+            return self.inner.write(buf);
+        }
+        let taken = self.inner.write(&buf[..buf.len().min(self.bytes_left)])?;
+        self.bytes_left -= taken;
+        Ok(taken)
+    }
+
+    fn flush(&mut self) -> io::Result<()>
+        ensures bytes { Keeps (T.contents self.old.inner) (T.contents self.new.inner) }
+        ensures due { is_due self.old 0 ≡ true → IsErr result × (self.new ≡ after_call self.old 0) }
+        ensures counted { self.new ≡ record (after_call self.old 0) { inner = self.new.inner } }
+    {
+        if self.blows(0) {
+            return Err(self.error());
+        }
+        self.inner.flush()
+    }
+}
