@@ -1,0 +1,250 @@
+#!/usr/bin/env bash
+# Tries a built program: examples/try.sh PATH_TO_extractd
+#
+# First the documents: README.md, docs/*.md and examples/README.md.
+# - A block ```console is what a terminal shows. Each command in it, `$ ` with further lines behind `> `, runs in a copy of the documents and
+#   the examples, and what it writes has to be what stands below it. Words behind `console` name commands that the block needs
+#   beside coreutils: where one isn't there, the block is left out, and said to be. `rt` is played: `rt try -- ..` and `rt run -- ..`
+#   run the program that is tried, and `rt ci` does nothing.
+# - A block ```asm that a block ```hex follows is a program and its words: `asm` makes these of it, and of what `dis` writes of them.
+# - A row of a table with bytes in its first cell and a refusal in its second is a program that `run` refuses so; one with a place, an
+#   instruction and its bytes is a program of one instruction, and is tried as above.
+#
+# Then the program over files and outputs that are missing, faulty or full: each text of an error has to stand in docs/refusals.md.
+#
+# Prints what failed, and ends with 0 where nothing did, else with 1. It needs bash and coreutils, and takes a few seconds.
+
+set -u
+export LC_ALL=C
+
+if [ $# -ne 1 ] || [ ! -x "$1" ] || [ -d "$1" ]; then
+    echo "usage: ${0##*/} PATH_TO_extractd" >&2
+    exit 1
+fi
+program=$(realpath "$1")
+top=$(realpath "$(dirname "$0")/..")
+tried=0 failed=0
+
+pass() { tried=$((tried + 1)); }
+fail() { failed=$((failed + 1)); printf 'FAILED: '; printf '%s\n' "$@"; }
+skip() { printf 'left out: %s\n' "$1"; }
+
+scratch=$(mktemp -d) || exit 1
+trap 'chmod -R u+rwx "$scratch"; rm -rf "$scratch"' EXIT
+chmod 755 "$scratch"
+mkdir "$scratch/bin" "$scratch/home"
+cp "$program" "$scratch/bin/extractd"
+cat > "$scratch/bin/rt" <<'END'
+#!/bin/sh
+# Stands in for the toolchain's command.
+case "$1 ${2-}" in "try --" | "run --") shift 2 && exec extractd "$@" ;; esac
+END
+chmod 755 "$scratch/bin/extractd" "$scratch/bin/rt"
+export PATH="$scratch/bin:$PATH" HOME="$scratch/home"
+
+# The documents' commands run in a folder that looks as a clone does once it was built.
+clone() {
+    mkdir -p "$1/crates/extractd/out"
+    cp -R "$top/README.md" "$top/docs" "$top/examples" "$1"
+    cp "$program" "$1/crates/extractd/out/extractd"
+}
+
+# try_console NAME NEEDED TEXT
+try_console() {
+    local needed line command="" shown="" script=$'last=0\n' wrote
+    for needed in $2; do
+        command -v "$needed" > /dev/null || { skip "$1 (there is no $needed here)"; return; }
+    done
+    add() {
+        [ -z "$shown" ] && return
+        script+="printf %s $(printf %q "$shown")"$'\n(exit $last)\n'"$command"$'last=$?\n'
+    }
+    while IFS= read -r line; do
+        case $line in
+        '$ '*) add; shown=$line$'\n' command=${line#'$ '}$'\n' ;;
+        '> '*) shown+=$line$'\n' command+=${line#'> '}$'\n' ;;
+        esac
+    done <<< "$3"
+    add
+    wrote=$(timeout 60 bash -c "$script" 2>&1 < /dev/null)
+    if [ "$wrote" = "$3" ]; then pass; else fail "$1 shows" "$3" "and it is" "$wrote"; fi
+}
+
+words() { od -An -v -tx1 -w8 "$1"; }
+
+# try_conversion NAME TEXT WORDS
+try_conversion() {
+    local wanted=" ${3//$'\n'/$'\n' }"
+    printf '%s\n' "$2" > try.s
+    extractd asm --source try.s > try.bpf && extractd dis --program try.bpf > again.s && extractd asm --source again.s > again.bpf
+    if [ "$(words try.bpf)" = "$wanted" ] && [ "$(words again.bpf)" = "$wanted" ]; then pass; else
+        fail "$1 shows the words" "$wanted" "and asm writes" "$(words try.bpf)" "and of what dis writes" "$(words again.bpf)"
+    fi
+}
+
+# try_refusal NAME BYTES LINE
+try_refusal() {
+    local byte bytes=""
+    for byte in $2; do bytes+="\\x$byte"; done
+    printf "$bytes" > try.bpf
+    wrote=$(extractd run --program try.bpf --data examples 01001 2>&1)
+    if [ "$?: $wrote" = "1: $3" ]; then pass; else fail "$1 shows" "$3" "and it is" "$wrote"; fi
+}
+
+# try_document FILE: all that it shows.
+try_document() {
+    local line number=0 kind="" needed="" text="" asm="" begin=0 cell
+    local refusal='^\| ((`[0-9a-f ]+`(, )?)+) \| `(refused [^`]*)` \|$' instruction='^\| [0-9]+ \| `([^`]+)` \| `([0-9a-f ]+)` \|$'
+    clone "$scratch/$1"
+    cd "$scratch/$1" || exit 1
+    while IFS= read -r line; do
+        number=$((number + 1))
+        if [ -z "$kind" ]; then
+            if [[ $line == '```'* ]]; then
+                read -r kind needed <<< "${line#'```'} "
+                kind=${kind:-none} text="" begin=$number
+            elif [[ $line =~ $refusal ]]; then
+                cell=${BASH_REMATCH[1]//[\`,]/}
+                try_refusal "$1, line $number" "$cell" "${BASH_REMATCH[4]}"
+            elif [[ $line =~ $instruction ]]; then
+                try_conversion "$1, line $number" "${BASH_REMATCH[1]}" "${BASH_REMATCH[2]}"
+            fi
+        elif [ "$line" = '```' ]; then
+            text=${text%$'\n'}
+            case $kind in
+            console) try_console "$1, line $begin" "$needed" "$text" ;;
+            asm) asm=$text ;;
+            hex) try_conversion "$1, line $begin" "$asm" "$text" ;;
+            esac
+            kind=""
+        else
+            text+=$line$'\n'
+        fi
+    done < "$top/$1"
+    cd "$top" || exit 1
+}
+
+# try_case STATUS SIZE TEXT COMMAND: the exit status, how many bytes are written, and what stands on standard error. The text of status 3 and that of a
+# wrong argument has to stand in docs/refusals.md, with FILE for a file's name. `*` stands for any size or any text.
+try_case() {
+    local status size text
+    : > out; : > err
+    eval "{ $4; } > out 2> err < /dev/null"
+    status=$? size=$(stat -c %s out) text=$(cat err)
+    if [ "$status" = "$1" ] && [[ $size == $2 ]] && [[ $text == $3 ]]; then pass; else
+        fail "$4" "should give status $1, $2 bytes and: $3" "and gives status $status, $size bytes and: $text"
+    fi
+}
+
+try_shown() {
+    case $(cat "$top/docs/refusals.md") in
+    *"\`$1\`"*) pass ;;
+    *) fail "docs/refusals.md doesn't show: $1" ;;
+    esac
+}
+
+# As root no file is forbidden, so the program then runs as nobody, where that can be done.
+unprivileged() {
+    if [ "$(id -u)" = 0 ]; then chroot --userspec=65534:65534 / "$scratch/bin/extractd" "$@"; else extractd "$@"; fi
+}
+
+try_cases() {
+    mkdir "$scratch/cases" && cd "$scratch/cases" || exit 1
+    local county=$top/examples all=$top/examples/all.bpf rows=92400 here=$PWD
+    mkdir folder 'a county' empty folders closed
+    cp "$all" 'a program.bpf'
+    cp "$top/examples/TGR01001.RT1" 'a county'
+    : > nothing
+    : > empty/TGR01001.RT1
+    mkdir folders/TGR01001.RT1
+    cp "$all" closed/all.bpf
+    chmod 000 closed/all.bpf
+    printf 'exit ; \377\n' > latin.s
+
+    # What is well: all.bpf gives each line as a row, byte for byte.
+    local wanted=$(paste <(printf '0%.0s\n' {1..400}) <(tr -d '\r' < "$county/TGR01001.RT1") | sha256sum)
+    if [ "$(extractd run --program "$all" --data "$county" 01001 | sha256sum)" = "$wanted" ]; then pass; else
+        fail "the rows of examples/all.bpf are the lines of TGR01001.RT1, each behind a score of 0 and a tab"
+    fi
+    try_case 0 $rows '' 'extractd run --program "$all" --data "$county" 01001'
+    try_case 0 $rows '' 'extractd run --data "$county" 01001 --program "$all"'
+    try_case 0 $rows '' 'extractd run --program "a program.bpf" --data "a county" 01001'
+    try_case 0 0 '' 'extractd run --program "$all" --data empty 01001'
+    try_case 0 16 '' 'extractd asm --source <(extractd dis --program "$all")'
+
+    # Refusals, by way of real files.
+    try_case 1 0 'refused 10 Empty' 'extractd run --program nothing --data "$county" 01001'
+    try_case 1 0 'refused 10 Empty' 'extractd dis --program nothing'
+    try_case 1 0 'refused 26 line 1 CodeFault(10)' 'extractd asm --source nothing'
+
+    # The command line.
+    while IFS='|' read -r arguments front usage; do
+        try_case 2 0 "$front*$usage*" "extractd $arguments"
+        try_shown "$front"
+    done <<'END'
+|error: 'extractd' requires a subcommand but one was not provided|Usage: extractd <COMMAND>
+frob|error: unrecognized subcommand 'frob'|Usage: extractd <COMMAND>
+run --program p|error: the following required arguments were not provided:|Usage: extractd run --program <FILE> --data <DIR> <CODE>
+run --program p --data|error: a value is required for '--data <DIR>' but none was supplied|--help
+run --program p --program q --data d 01001|error: the argument '--program <FILE>' cannot be used multiple times|Usage: extractd run
+run --program p --data d 01001 01001|error: unexpected argument '01001' found|Usage: extractd run
+run --help=1|error: unexpected value '1' for '--help' found; no more were expected|Usage: extractd run
+run --program p --data d 1001|error: CODE is five digits, and "1001" isn't|
+dis --program $'\377'|error: an argument isn't UTF-8|
+--version|extractd 0.1.0|
+END
+    try_case 2 0 "*Usage: extractd <COMMAND>*Examples:*Exit status:*extractd 0.1.0" 'extractd --help'
+    for command in run asm dis; do
+        try_case 2 0 "*Usage: extractd $command *Example:*extractd $command *Exit status:*extractd 0.1.0" "extractd $command --help"
+    done
+
+    # Files that can't be used.
+    try_case 3 0 'error: missing.bpf: not found' 'extractd run --program missing.bpf --data "$county" 01001'
+    try_case 3 0 "error: $county/TGR99999.RT1: not found" 'extractd run --program "$all" --data "$county" 99999'
+    try_case 3 0 'error: missing.bpf: not found' 'extractd dis --program missing.bpf'
+    try_case 3 0 'error: missing.s: not found' 'extractd asm --source missing.s'
+    try_case 3 0 'error: : not found' 'extractd asm --source ""'
+    try_shown 'error: FILE: not found'
+    try_case 3 0 'error: folder: is a directory' 'extractd run --program folder --data "$county" 01001'
+    try_case 3 0 'error: folder: is a directory' 'extractd dis --program folder'
+    try_case 3 0 'error: folder: is a directory' 'extractd asm --source folder'
+    try_case 3 0 'refused 5 rt1 line 1 Read' 'extractd run --program "$all" --data folders 01001'
+    try_shown 'error: FILE: is a directory'
+    try_case 3 0 'error: nothing/all.bpf: not a directory' 'extractd dis --program nothing/all.bpf'
+    try_shown 'error: FILE: not a directory'
+    try_case 3 0 'error: latin.s: not UTF-8' 'extractd asm --source latin.s'
+    try_shown 'error: FILE: not UTF-8'
+    if unprivileged dis --program "$here/a program.bpf" > /dev/null 2>&1; then
+        try_case 3 0 "error: $here/closed/all.bpf: permission denied" 'unprivileged dis --program "$here/closed/all.bpf"'
+    else
+        skip 'a file without permission (as root, and chroot is refused)'
+    fi
+    try_shown 'error: FILE: permission denied'
+
+    # Outputs that can't be used.
+    if [ -w /dev/full ]; then
+        try_case 3 0 'refused 60 Write' 'extractd run --program "$all" --data "$county" 01001 > /dev/full'
+        try_case 3 0 'error: the output can'\''t be written: no space left' 'extractd dis --program "$all" > /dev/full'
+        try_case 1 0 'refused 10 Empty' 'extractd dis --program nothing > /dev/full'
+        try_case 2 0 '' 'extractd dis 2> /dev/full'
+    else
+        skip 'a full device (there is no /dev/full)'
+    fi
+    try_shown "error: the output can't be written: no space left"
+    # A pipe whose reader has ended.
+    exec 9> >(exec true)
+    wait $!
+    try_case 3 0 'refused 60 Write' 'extractd run --program "$all" --data "$county" 01001 >&9'
+    try_case 3 0 'error: the output can'\''t be written: broken pipe' 'extractd dis --program "$all" >&9'
+    exec 9>&-
+    try_shown "error: the output can't be written: broken pipe"
+    cd "$top" || exit 1
+}
+
+cd "$top" || exit 1
+for document in README.md docs/*.md examples/README.md; do
+    try_document "$document"
+done
+try_cases
+echo "$tried passed, $failed failed"
+[ $failed -eq 0 ]
