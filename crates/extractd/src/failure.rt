@@ -96,7 +96,7 @@ impl<'a> Failure<'a> {
     {
         let _ = match self {
             Failure::Refusal { line, .. } => {
-                let _ = write_whole(errors, ended(*line).as_slice());
+                let _ = write_whole(errors, with_line_end(*line).as_slice());
                 return;
             }
             Failure::File { name, error } => {
@@ -137,7 +137,7 @@ fn refusal_status(number: Option<u8>) -> u8
 }
 
 /// The line, with its end of line.
-fn ended(line: ArrayString<64>) -> ArrayVec<u8, 65>
+fn with_line_end(line: ArrayString<64>) -> ArrayVec<u8, 65>
     ensures { result.items ≡ line.bytes ++ 10 ∷ [] }
 {
     let mut text = ArrayVec::new();

@@ -75,7 +75,7 @@ impl<R: rt::Files + AllocGlobal> Files for SystemFiles<'_, R> {
     ghost failed_opens = { λ files. files.failed_opens };
 
     fn open(&mut self, name: &str) -> io::Result<ByByte<BufReader<R::File>>> {
-        match buffered(self.runtime, name) {
+        match open_buffered(self.runtime, name) {
             Ok(reader) => Ok(reader),
             Err(error) => {
                 if error.kind() != ErrorKind::OutOfMemory {
@@ -87,7 +87,7 @@ impl<R: rt::Files + AllocGlobal> Files for SystemFiles<'_, R> {
     }
 }
 
-fn buffered<R: rt::Files + AllocGlobal>(
+fn open_buffered<R: rt::Files + AllocGlobal>(
     runtime: &R,
     name: &str,
 ) -> io::Result<ByByte<BufReader<R::File>>> {

@@ -23,7 +23,7 @@ fn device(bytes: &[u8], passed: u64) -> Fuse<&[u8]> {
     Fuse::after_calls(bytes, passed, Burst::Fails(ErrorKind::Interrupted))
 }
 
-fn buffered(
+fn buffered_reader(
     alloc: Global,
     bytes: &[u8],
     passed: u64,
@@ -35,14 +35,14 @@ fn buffered(
 #[test]
 fn long_devices(rt: HostRuntime) -> Result<(), Fail> {
     let file = file(rt.alloc())?;
-    let mut reader = buffered(rt.alloc(), file.as_slice(), u64::MAX)?;
+    let mut reader = buffered_reader(rt.alloc(), file.as_slice(), u64::MAX)?;
     let mut read = [0];
     for byte in file.as_slice() {
         assert_eq!(rt; reader.read_counted(&mut read).ok(), Some(1));
         assert_eq!(rt; read[0], *byte);
     }
     assert_eq!(rt; reader.read_counted(&mut read).ok(), Some(0));
-    let mut reader = buffered(rt.alloc(), file.as_slice(), u64::MAX)?;
+    let mut reader = buffered_reader(rt.alloc(), file.as_slice(), u64::MAX)?;
     let bytes = read_to_end(rt.alloc(), &mut reader).unwrap_or_else(|_| Vec::new(rt.alloc()));
     assert_eq!(rt; bytes, file);
     Ok(())
@@ -68,12 +68,12 @@ fn failing_devices(rt: HostRuntime) -> Result<(), Fail> {
         assert!(rt; matches!(bytes, Err(FileFault::Unusable(_))));
         assert_eq!(rt; reader.get_ref().calls, passed + 1);
 
-        let mut reader = buffered(rt.alloc(), file.as_slice(), passed)?;
+        let mut reader = buffered_reader(rt.alloc(), file.as_slice(), passed)?;
         let bytes = read_to_end(rt.alloc(), &mut reader);
         assert!(rt; matches!(bytes, Err(FileFault::Unusable(_))));
         assert_eq!(rt; reader.reader.get_ref().calls, passed + 1);
 
-        let mut reader = buffered(rt.alloc(), file.as_slice(), passed)?;
+        let mut reader = buffered_reader(rt.alloc(), file.as_slice(), passed)?;
         let count = bytes_before_failure(&mut reader);
         assert_eq!(rt;
             (count, reader.reader.get_ref().calls),

@@ -1,6 +1,6 @@
 //! Files and outputs that fail, and files past every buffer's and piece's length.
 use super::fixtures::{
-    MemoryFile, bytes_of, cell, line_of, output, repeated, run_command, status_of,
+    MemoryFile, bytes_of, cell, line_of, output, repetition, run_command, status_of,
 };
 use std::alloc::{AllocError, Global};
 use std::io::ErrorKind;
@@ -147,8 +147,8 @@ fn failing_devices(rt: HostRuntime) -> Result<(), Fail> {
 #[test]
 fn long_type_1_file(rt: HostRuntime) -> Result<(), Fail> {
     let program = bytes_of(rt.alloc(), "ONE EXIT")?;
-    let file = repeated(rt.alloc(), r"LINE \n", 600)?;
-    let rows = repeated(rt.alloc(), r"0\t LINE \n", 600)?;
+    let file = repetition(rt.alloc(), r"LINE \n", 600)?;
+    let rows = repetition(rt.alloc(), r"0\t LINE \n", 600)?;
     let program = MemoryFile::new("p.bpf", program.as_slice());
     let rt1 = MemoryFile::new("d/TGR01001.RT1", file.as_slice());
     let line = "run --program p.bpf --data d 01001";

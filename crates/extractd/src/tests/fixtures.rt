@@ -219,7 +219,7 @@ fn push_line(alloc: Global, bytes: &mut Vec<u8>, change: &str) -> Result<(), All
 }
 
 /// The bytes of tokens, so many times.
-pub fn repeated(alloc: Global, tokens: &str, count: u32) -> Result<Vec<u8>, AllocError> {
+pub fn repetition(alloc: Global, tokens: &str, count: u32) -> Result<Vec<u8>, AllocError> {
     let once = bytes_of(alloc, tokens)?;
     let mut bytes = Vec::new(alloc);
     for _ in 0..count {
