@@ -1,6 +1,6 @@
 -- The definitions of arithmetic at worked examples: what they give is computed.
 use Rattle.std.proofs.Common.{◌≡◌, pos, negsuc, true, false, refl}
-use Rattle.bpf_insn.specs.Arithmetic.{result_of, negation_of, extension_of, ordered_bytes, is_met, wide_number_of, loaded_number}
+use Rattle.bpf_insn.specs.Arithmetic.{result_of, negate, extension_of, byte_swap, is_met, wide_number, load_extension}
 use Rattle.bpf_insn.specs.declared.instruction.Operation.TheVariants.{Subtract, Multiply, Divide, SignedDivide, ShiftLeft, ShiftRight, Modulo, SignedModulo, Move, ArithmeticShiftRight}
 use Rattle.bpf_insn.specs.declared.instruction.Width.TheVariants.{Bits32, Bits64}
 use Rattle.bpf_insn.specs.declared.instruction.SignExtension.TheVariants.{Bits8To32, Bits16To64}
@@ -55,10 +55,10 @@ with_sign = refl
 pub low_half : result_of Move Bits32 1 0x1234_5678_9abc_def0 ≡ 0x9abc_def0
 low_half = refl
 
-pub negation_of_least : negation_of Bits64 0x8000_0000_0000_0000 ≡ 0x8000_0000_0000_0000
+pub negation_of_least : negate Bits64 0x8000_0000_0000_0000 ≡ 0x8000_0000_0000_0000
 negation_of_least = refl
 
-pub negation_of_one : negation_of Bits32 1 ≡ 0xffff_ffff
+pub negation_of_one : negate Bits32 1 ≡ 0xffff_ffff
 negation_of_one = refl
 
 pub byte_to_32 : extension_of Bits8To32 0x1280 ≡ 0xffff_ff80
@@ -67,13 +67,13 @@ byte_to_32 = refl
 pub half_word_to_64 : extension_of Bits16To64 0x1_7fff ≡ 0x7fff
 half_word_to_64 = refl
 
-pub kept : ordered_bytes LittleEndian swap_width.Bits16 0x1_0203 ≡ 0x0203
+pub kept : byte_swap LittleEndian swap_width.Bits16 0x1_0203 ≡ 0x0203
 kept = refl
 
-pub reversed : ordered_bytes BigEndian swap_width.Bits32 0x9_0102_0304 ≡ 0x0403_0201
+pub reversed : byte_swap BigEndian swap_width.Bits32 0x9_0102_0304 ≡ 0x0403_0201
 reversed = refl
 
-pub swapped : ordered_bytes Swapped swap_width.Bits64 0x0102_0304_0506_0708 ≡ 0x0807_0605_0403_0201
+pub swapped : byte_swap Swapped swap_width.Bits64 0x0102_0304_0506_0708 ≡ 0x0807_0605_0403_0201
 swapped = refl
 
 -- -1 and 1: greater unsigned, less signed, and with a bit in common
@@ -86,11 +86,11 @@ not_signed_greater = refl
 pub shares_bit : is_met SharesBit Bits64 0xffff_ffff_ffff_ffff 1 ≡ true
 shares_bit = refl
 
-pub wide : wide_number_of (negsuc 0) (pos 2) ≡ 0x2_ffff_ffff
+pub wide : wide_number (negsuc 0) (pos 2) ≡ 0x2_ffff_ffff
 wide = refl
 
-pub zero_extended : loaded_number Byte 0x80 ≡ 0x80
+pub zero_extended : load_extension Byte 0x80 ≡ 0x80
 zero_extended = refl
 
-pub sign_extended : loaded_number SignedByte 0x80 ≡ 0xffff_ffff_ffff_ff80
+pub sign_extended : load_extension SignedByte 0x80 ≡ 0xffff_ffff_ffff_ff80
 sign_extended = refl

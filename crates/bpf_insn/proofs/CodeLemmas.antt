@@ -5,7 +5,7 @@ use Rattle.std.proofs.lemmas.Option.{none-some}
 use Rattle.bpf_insn.specs.Word.{words_of}
 use Rattle.bpf_insn.specs.Form.{first_word, further_words, spelling}
 use Rattle.bpf_insn.specs.Fault.{first_fault}
-use Rattle.bpf_insn.specs.Code.{spelled, word_count, IsCodeOf, IsFirstFault, HasFaultAt}
+use Rattle.bpf_insn.specs.Code.{code_words, word_count, IsCodeOf, IsFirstFault, HasFaultAt}
 use Rattle.bpf_insn.proofs.WordLemmas.{length-first_words}
 use Rattle.bpf_insn.proofs.FaultLemmas.{no_fault}
 use Rattle.bpf_insn.proofs.SpellingLemmas.{one_instruction, same_rest, same_first, same_others}
@@ -32,27 +32,27 @@ has_no_fault insn after rest first fault e h =
     none-some fault (sym (no_fault insn after) ∙ ap (λ (w : Word). first_fault w (further_words insn ++ after)) begins ∙ ap (first_fault first) goes_on ∙ h)
 
 -- words have at most one code
-pub one_code : (a b : List Insn) → spelled a ≡ spelled b → a ≡ b
+pub one_code : (a b : List Insn) → code_words a ≡ code_words b → a ≡ b
 one_code [] [] e = refl
-one_code [] (insn ∷ b) e = absurd (spelling_is_not_empty insn (spelled b) e)
-one_code (insn ∷ a) [] e = absurd (spelling_is_not_empty insn (spelled a) (sym e))
+one_code [] (insn ∷ b) e = absurd (spelling_is_not_empty insn (code_words b) e)
+one_code (insn ∷ a) [] e = absurd (spelling_is_not_empty insn (code_words a) (sym e))
 one_code (insn ∷ a) (other ∷ b) e =
-    let first = one_instruction insn other (spelled a) (spelled b) e in
-    let rest = one_code a b (same_rest insn other (spelled a) (spelled b) e) in
+    let first = one_instruction insn other (code_words a) (code_words b) e in
+    let rest = one_code a b (same_rest insn other (code_words a) (code_words b) e) in
     cc
 
 -- no word of a code has a fault
-pub no_fault_in_code : (code before : List Insn) (faulty : Word) (rest : List Word) (fault : WordFault) → spelled code ≡ spelled before ++ faulty ∷ rest → first_fault faulty rest ≡ Some fault → ⊥
+pub no_fault_in_code : (code before : List Insn) (faulty : Word) (rest : List Word) (fault : WordFault) → code_words code ≡ code_words before ++ faulty ∷ rest → first_fault faulty rest ≡ Some fault → ⊥
 no_fault_in_code [] [] faulty rest fault e h = cc
-no_fault_in_code (insn ∷ code) [] faulty rest fault e h = has_no_fault insn (spelled code) rest faulty fault e h
+no_fault_in_code (insn ∷ code) [] faulty rest fault e h = has_no_fault insn (code_words code) rest faulty fault e h
 no_fault_in_code [] (first ∷ before) faulty rest fault e h =
-    spelling_is_not_empty first (spelled before ++ faulty ∷ rest) (e ∙ append_assoc (spelling first) (spelled before) (faulty ∷ rest))
+    spelling_is_not_empty first (code_words before ++ faulty ∷ rest) (e ∙ append_assoc (spelling first) (code_words before) (faulty ∷ rest))
 no_fault_in_code (insn ∷ code) (first ∷ before) faulty rest fault e h =
-    let joined = e ∙ append_assoc (spelling first) (spelled before) (faulty ∷ rest) in
-    no_fault_in_code code before faulty rest fault (same_rest insn first (spelled code) (spelled before ++ faulty ∷ rest) joined) h
+    let joined = e ∙ append_assoc (spelling first) (code_words before) (faulty ∷ rest) in
+    no_fault_in_code code before faulty rest fault (same_rest insn first (code_words code) (code_words before ++ faulty ∷ rest) joined) h
 
 -- a code's words are those of its bytes
-pub word_count_of : (bytes : List ℕ) (code : List Insn) → words_of bytes ≡ spelled code → word_count code ≡ length bytes / 8
+pub word_count_of : (bytes : List ℕ) (code : List Insn) → words_of bytes ≡ code_words code → word_count code ≡ length bytes / 8
 word_count_of bytes code e = ap length (sym e) ∙ length-first_words (length bytes / 8) bytes
 
 -- bytes that have a code are refused for memory alone
@@ -70,16 +70,16 @@ gives_the_code bytes (Ok decoded) ok err code is = one_code decoded code (sym ok
 gives_the_code bytes (Err fault) ok err code is = memory_alone bytes code fault is err
 
 -- two fronts of instructions, each with a fault behind it, of the same words are the same
-same_front : (a b : List Insn) (f g : Word) (r s : List Word) (x y : WordFault) → spelled a ++ f ∷ r ≡ spelled b ++ g ∷ s → first_fault f r ≡ Some x → first_fault g s ≡ Some y → (a ≡ b) × ((f ≡ g) × (r ≡ s))
+same_front : (a b : List Insn) (f g : Word) (r s : List Word) (x y : WordFault) → code_words a ++ f ∷ r ≡ code_words b ++ g ∷ s → first_fault f r ≡ Some x → first_fault g s ≡ Some y → (a ≡ b) × ((f ≡ g) × (r ≡ s))
 same_front [] [] f g r s x y e h k = (refl, (same_first f g r s e, same_others f g r s e))
 same_front [] (insn ∷ b) f g r s x y e h k =
-    absurd (has_no_fault insn (spelled b ++ g ∷ s) r f x (sym (e ∙ append_assoc (spelling insn) (spelled b) (g ∷ s))) h)
+    absurd (has_no_fault insn (code_words b ++ g ∷ s) r f x (sym (e ∙ append_assoc (spelling insn) (code_words b) (g ∷ s))) h)
 same_front (insn ∷ a) [] f g r s x y e h k =
-    absurd (has_no_fault insn (spelled a ++ f ∷ r) s g y (sym (append_assoc (spelling insn) (spelled a) (f ∷ r)) ∙ e) k)
+    absurd (has_no_fault insn (code_words a ++ f ∷ r) s g y (sym (append_assoc (spelling insn) (code_words a) (f ∷ r)) ∙ e) k)
 same_front (insn ∷ a) (other ∷ b) f g r s x y e h k =
-    let joined = sym (append_assoc (spelling insn) (spelled a) (f ∷ r)) ∙ e ∙ append_assoc (spelling other) (spelled b) (g ∷ s) in
-    let first = one_instruction insn other (spelled a ++ f ∷ r) (spelled b ++ g ∷ s) joined in
-    let rest = same_front a b f g r s x y (same_rest insn other (spelled a ++ f ∷ r) (spelled b ++ g ∷ s) joined) h k in
+    let joined = sym (append_assoc (spelling insn) (code_words a) (f ∷ r)) ∙ e ∙ append_assoc (spelling other) (code_words b) (g ∷ s) in
+    let first = one_instruction insn other (code_words a ++ f ∷ r) (code_words b ++ g ∷ s) joined in
+    let rest = same_front a b f g r s x y (same_rest insn other (code_words a ++ f ∷ r) (code_words b ++ g ∷ s) joined) h k in
     (let front = rest.0 in cc, rest.1)
 
 same_fault : (x y : WordFault) (f g : Word) (r s : List Word) → f ≡ g → r ≡ s → first_fault f r ≡ Some x → first_fault g s ≡ Some y → x ≡ y
@@ -90,7 +90,7 @@ same_fault x y f g r s e k h i =
 has_words : (bytes : List ℕ) (p : ℕ) (x : WordFault) → HasFaultAt bytes p x → length bytes / 8 ≡ 0 → ⊥
 has_words bytes p x h none =
     let l = sym (length-first_words (length bytes / 8) bytes) ∙ ap length h.3 in
-    omega (arith, length-append (spelled h.0) (h.1 ∷ h.2))
+    omega (arith, length-append (code_words h.0) (h.1 ∷ h.2))
 
 same_place : (bytes : List ℕ) (p q : ℕ) (x y : WordFault) → HasFaultAt bytes p x → HasFaultAt bytes q y → code_fault.InWord p x ≡ code_fault.InWord q y
 same_place bytes p q x y one other =

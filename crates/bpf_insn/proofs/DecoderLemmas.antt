@@ -10,7 +10,7 @@ use Rattle.bpf_insn.specs.Fault.{first_fault, wide_fault, form_fault}
 use Rattle.bpf_insn.specs.declared.form.Form.{Form}
 use Rattle.bpf_insn.specs.declared.form.Form.TheVariants.{WideLoad}
 use Rattle.bpf_insn.specs.Reading.{Begins, BeginsAt, IsFaultAt}
-use Rattle.bpf_insn.specs.Code.{spelled, HasFaultAt, IsFirstFault, IsPushFault}
+use Rattle.bpf_insn.specs.Code.{code_words, HasFaultAt, IsFirstFault, IsPushFault}
 use Rattle.bpf_insn.specs.declared.code.TheConstants.{WORD_LIMIT}
 use Rattle.bpf_insn.specs.declared.fault.CodeFault.{CodeFault}
 use Rattle.bpf_insn.specs.declared.fault.CodeFault.TheVariants as code_fault
@@ -114,7 +114,7 @@ within bytes place insn below begins =
     omega arith
 
 -- the words so far, with an instruction more
-pub reads_one : (bytes : List ℕ) (place : ℕ) (code : List Insn) (insn : Insn) → place < length bytes / 8 → first_words place bytes ≡ spelled code → BeginsAt bytes place insn → first_words (place + length (spelling insn)) bytes ≡ spelled (code ++ insn ∷ [])
+pub reads_one : (bytes : List ℕ) (place : ℕ) (code : List Insn) (insn : Insn) → place < length bytes / 8 → first_words place bytes ≡ code_words code → BeginsAt bytes place insn → first_words (place + length (spelling insn)) bytes ≡ code_words (code ++ insn ∷ [])
 reads_one bytes place code insn below so_far begins =
     let words = length (spelling insn) in
     let fits = within bytes place insn below begins in
@@ -124,11 +124,11 @@ reads_one bytes place code insn below so_far begins =
     let both : first_words words here ++ first_words rest (drop (words * 8) here) ≡ spelling insn ++ begins.0 = sym (words_split words rest here) ∙ ap (λ n. first_words n here) (sym count) ∙ begins.1 in
     let long = length-first_words words here in
     words_split place words bytes ∙ ap (λ (ws : List Word). ws ++ first_words words here) so_far
-    ∙ ap (λ (ws : List Word). spelled code ++ ws) (same_front (first_words words here) (first_words rest (drop (words * 8) here)) (spelling insn) begins.0 both long)
+    ∙ ap (λ (ws : List Word). code_words code ++ ws) (same_front (first_words words here) (first_words rest (drop (words * 8) here)) (spelling insn) begins.0 both long)
     ∙ flat_map_more spelling [] code insn
 
 -- a fault behind the instructions so far
-pub finds_fault : (bytes : List ℕ) (place : ℕ) (code : List Insn) (fault : WordFault) → place < length bytes / 8 → first_words place bytes ≡ spelled code → IsFaultAt bytes place fault → HasFaultAt bytes place fault
+pub finds_fault : (bytes : List ℕ) (place : ℕ) (code : List Insn) (fault : WordFault) → place < length bytes / 8 → first_words place bytes ≡ code_words code → IsFaultAt bytes place fault → HasFaultAt bytes place fault
 finds_fault bytes place code fault below so_far (first, rest, words, wrong) =
     let count : length bytes / 8 ≡ place + (length bytes / 8 - place) = omega arith in (
       code,
@@ -136,7 +136,7 @@ finds_fault bytes place code fault below so_far (first, rest, words, wrong) =
       rest,
       ap (λ n. first_words n bytes) count ∙ words_split place (length bytes / 8 - place) bytes
           ∙ ap (λ (ws : List Word). ws ++ first_words (length bytes / 8 - place) (drop (place * 8) bytes)) so_far
-          ∙ ap (λ (ws : List Word). spelled code ++ ws) words,
+          ∙ ap (λ (ws : List Word). code_words code ++ ws) words,
       sym (length-first_words place bytes) ∙ ap length so_far,
       wrong,
     )
@@ -164,7 +164,7 @@ next_of bytes place (Some x) next below some (long, are) =
     inr (some ∙ ap Some (ap word_of (are ∙ eight) ∙ word_of-take (drop ((place + 1) * 8) bytes) size ∙ ap (λ n. word_of (drop n bytes)) same), omega arith)
 
 -- instructions of so few bytes fit, so only memory can be wanting
-pub push_fault : (bytes : List ℕ) (place : ℕ) (code : List Insn) (insn : Insn) (fault : CodeFault) → length bytes ≤ 8 * WORD_LIMIT → place < length bytes / 8 → first_words place bytes ≡ spelled code → BeginsAt bytes place insn → IsPushFault code insn fault → IsFirstFault bytes fault
+pub push_fault : (bytes : List ℕ) (place : ℕ) (code : List Insn) (insn : Insn) (fault : CodeFault) → length bytes ≤ 8 * WORD_LIMIT → place < length bytes / 8 → first_words place bytes ≡ code_words code → BeginsAt bytes place insn → IsPushFault code insn fault → IsFirstFault bytes fault
 push_fault bytes place code insn fault small below so_far begins (inl (late, long)) =
     let fits = within bytes place insn below begins in
     let counted = sym (length-first_words place bytes) ∙ ap length so_far in
@@ -172,8 +172,8 @@ push_fault bytes place code insn fault small below so_far begins (inl (late, lon
 push_fault bytes place code insn fault small below so_far begins (inr memory) = subst (IsFirstFault bytes) (sym memory) tt
 
 -- bytes that aren't empty have an instruction
-pub never_empty : (bytes : List ℕ) (code : List Insn) (result : Result (List Insn) CodeFault) → length bytes % 8 ≡ 0 → 0 < length bytes → words_of bytes ≡ spelled code → IfErr result (λ fault. (fault ≡ code_fault.Empty) × (code ≡ [])) → IfErr result (IsFirstFault bytes)
+pub never_empty : (bytes : List ℕ) (code : List Insn) (result : Result (List Insn) CodeFault) → length bytes % 8 ≡ 0 → 0 < length bytes → words_of bytes ≡ code_words code → IfErr result (λ fault. (fault ≡ code_fault.Empty) × (code ≡ [])) → IfErr result (IsFirstFault bytes)
 never_empty bytes code (Ok given) whole some words none = tt
 never_empty bytes code (Err fault) whole some words none =
-    let counted = sym (length-first_words (length bytes / 8) bytes) ∙ ap length words ∙ ap (λ (c : List Insn). length (spelled c)) none.1 in
+    let counted = sym (length-first_words (length bytes / 8) bytes) ∙ ap length words ∙ ap (λ (c : List Insn). length (code_words c)) none.1 in
     absurd (omega arith)

@@ -7,7 +7,7 @@ use Rattle.std.proofs.lemmas.List.{append_assoc, length-append, flat_map_more, t
 use Rattle.std.proofs.lemmas.List.Elements.{All-append}
 use Rattle.bpf_insn.specs.Word.{word_of, words_of, first_words, IsWritten, AreWords, AppendsWords}
 use Rattle.bpf_insn.specs.Form.{first_word, further_words, spelling}
-use Rattle.bpf_insn.specs.Code.{spelled, IsCodeOf}
+use Rattle.bpf_insn.specs.Code.{code_words, IsCodeOf}
 use Rattle.bpf_insn.proofs.WordLemmas.{length-first_words}
 use Rattle.bpf_insn.specs.declared.word.Word.{Word}
 use Rattle.bpf_insn.specs.declared.instruction.Insn.{Insn}
@@ -75,11 +75,11 @@ writes_two insn first word second old middle new eight more is further some writ
     )
 
 -- the words of a code so far, with an instruction more
-pub code_more : (code : List Insn) (i : ℕ) (insn : Insn) (old new : List ℕ) → i < length code → insn ≡ get_or code i insn → AreWords (spelled (take i code)) old → AppendsWords (spelling insn) old new → AreWords (spelled (take (i + 1) code)) new
+pub code_more : (code : List Insn) (i : ℕ) (insn : Insn) (old new : List ℕ) → i < length code → insn ≡ get_or code i insn → AreWords (code_words (take i code)) old → AppendsWords (spelling insn) old new → AreWords (code_words (take (i + 1) code)) new
 code_more code i insn old new within is are (more, also, grown) =
-    let next : spelled (take (i + 1) code) ≡ spelled (take i code) ++ spelling insn =
-    ap spelled (take_more code i insn within ∙ ap (λ (x : Insn). take i code ++ x ∷ []) (sym is)) ∙ sym (flat_map_more spelling [] (take i code) insn) in
-    subst (λ (ws : List Word). AreWords ws new) (sym next) (subst (AreWords (spelled (take i code) ++ spelling insn)) (sym grown) (words_more (spelled (take i code)) (spelling insn) old more are also))
+    let next : code_words (take (i + 1) code) ≡ code_words (take i code) ++ spelling insn =
+    ap code_words (take_more code i insn within ∙ ap (λ (x : Insn). take i code ++ x ∷ []) (sym is)) ∙ sym (flat_map_more spelling [] (take i code) insn) in
+    subst (λ (ws : List Word). AreWords ws new) (sym next) (subst (AreWords (code_words (take i code) ++ spelling insn)) (sym grown) (words_more (code_words (take i code)) (spelling insn) old more are also))
 
 -- bytes that are the words of a code
 pub are_code : (words : List Word) (bytes : List ℕ) → AreWords words bytes → (length bytes % 8 ≡ 0) × (words_of bytes ≡ words)
@@ -142,11 +142,11 @@ one_spelling a b code small little is also =
     (is.words ∙ sym also.words ∙ ap (λ k. first_words k b) (sym same))
 
 -- so whatever bytes have this code are the bytes that were written
-pub only_spelling : (code : List Insn) (written bytes : List ℕ) → AreWords (spelled code) written → All (λ byte. byte < 256) bytes → IsCodeOf bytes code → written ≡ bytes
+pub only_spelling : (code : List Insn) (written bytes : List ℕ) → AreWords (code_words code) written → All (λ byte. byte < 256) bytes → IsCodeOf bytes code → written ≡ bytes
 only_spelling code written bytes are small is =
-    let has = are_code (spelled code) written are in
+    let has = are_code (code_words code) written are in
     one_spelling written bytes code are.small small (record { whole = has.0; words = has.1; sized = is.sized }) is
 
 -- what was written has the code
-pub writes_code : (code items : List Insn) (count : ℕ) (bytes : List ℕ) → items ≡ code → length items ≤ count → AreWords (spelled (take count items)) bytes → AreWords (spelled code) bytes
-writes_code code items count bytes same late are = subst (λ (c : List Insn). AreWords (spelled c) bytes) (take_all count items late ∙ same) are
+pub writes_code : (code items : List Insn) (count : ℕ) (bytes : List ℕ) → items ≡ code → length items ≤ count → AreWords (code_words (take count items)) bytes → AreWords (code_words code) bytes
+writes_code code items count bytes same late are = subst (λ (c : List Insn). AreWords (code_words c) bytes) (take_all count items late ∙ same) are

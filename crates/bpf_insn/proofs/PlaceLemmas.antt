@@ -9,7 +9,7 @@ use Rattle.std.proofs.lemmas.List.{append_assoc, append-nil, length-append}
 use Rattle.std.proofs.lemmas.Grind.{flat_map-append}
 use Rattle.std.proofs.lemmas.List.{length-map}
 use Rattle.bpf_insn.specs.Form.{further_words, spelling}
-use Rattle.bpf_insn.specs.Code.{spelled, word_count, instruction_at, index_at, place_of}
+use Rattle.bpf_insn.specs.Code.{code_words, word_count, instruction_at, index_at, place_of}
 use Rattle.bpf_insn.specs.Table.{places_from, indexes_in, indexes_from}
 use Rattle.bpf_insn.specs.declared.word.Word.{Word}
 use Rattle.bpf_insn.specs.declared.code.TheConstants.{WORD_LIMIT}
@@ -18,10 +18,10 @@ use Rattle.bpf_insn.specs.declared.instruction.Insn.TheVariants.{WideLoad}
 
 -- how many words instructions take
 pub word_count-cons : (insn : Insn) (code : List Insn) → word_count (insn ∷ code) ≡ length (spelling insn) + word_count code
-word_count-cons insn code = length-append (spelling insn) (spelled code)
+word_count-cons insn code = length-append (spelling insn) (code_words code)
 
 pub word_count-append : (before after : List Insn) → word_count (before ++ after) ≡ word_count before + word_count after
-word_count-append before after = ap length (flat_map-append spelling before after) ∙ length-append (spelled before) (spelled after)
+word_count-append before after = ap length (flat_map-append spelling before after) ∙ length-append (code_words before) (code_words after)
 
 pub word_count-one : (insn : Insn) → word_count (insn ∷ []) ≡ length (spelling insn)
 word_count-one insn = word_count-cons insn [] ∙ (let none : word_count [] ≡ 0 = refl in omega arith)

@@ -53,8 +53,8 @@ abbrev pub result_of : Operation → Width → ℕ → ℕ → ℕ
 result_of operation width x y = operation_on operation (operand_bits width) (low_bits (operand_bits width) x) (low_bits (operand_bits width) y)
 
 -- the number that gives 0 when x is added to it, of so many bits (section 4.1: NEG)
-abbrev pub negation_of : Width → ℕ → ℕ
-negation_of width x = (2 ^ bits (operand_bits width) - low_bits (operand_bits width) x) % 2 ^ bits (operand_bits width)
+abbrev pub negate : Width → ℕ → ℕ
+negate width x = (2 ^ bits (operand_bits width) - low_bits (operand_bits width) x) % 2 ^ bits (operand_bits width)
 
 -- the low bits of x, `from` of them, as a signed number in `to` bits
 abbrev pub sign_extension : Bits → Bits → ℕ → ℕ
@@ -76,10 +76,10 @@ swap_bits swap_width.Bits64 = w64
 
 -- The low bits of x in another order of bytes, and zero above them (section 4.2). The machine is little-endian, so the order to
 -- little-endian leaves them as they are, and that to big-endian reverses them.
-abbrev pub ordered_bytes : ByteOrder → SwapWidth → ℕ → ℕ
-ordered_bytes LittleEndian width x = low_bits (swap_bits width) x
-ordered_bytes BigEndian width x = swap_bytes (swap_bits width) (low_bits (swap_bits width) x)
-ordered_bytes Swapped width x = swap_bytes (swap_bits width) (low_bits (swap_bits width) x)
+abbrev pub byte_swap : ByteOrder → SwapWidth → ℕ → ℕ
+byte_swap LittleEndian width x = low_bits (swap_bits width) x
+byte_swap BigEndian width x = swap_bytes (swap_bits width) (low_bits (swap_bits width) x)
+byte_swap Swapped width x = swap_bytes (swap_bits width) (low_bits (swap_bits width) x)
 
 -- whether numbers of w bits meet a condition (section 4.3)
 abbrev pub is_met_on : Condition → Bits → ℕ → ℕ → Bool
@@ -100,19 +100,19 @@ abbrev pub is_met : Condition → Width → ℕ → ℕ → Bool
 is_met condition width x y = is_met_on condition (operand_bits width) (low_bits (operand_bits width) x) (low_bits (operand_bits width) y)
 
 -- an immediate as a 64-bit operand: its sign is extended (section 4.1)
-abbrev pub extended : ℤ → ℕ
-extended immediate = cast_unsigned w64 immediate
+abbrev pub immediate_operand : ℤ → ℕ
+immediate_operand immediate = cast_unsigned w64 immediate
 
 -- the number of a wide load: the next word's immediate above the word's own, both unsigned (section 5.4)
-abbrev pub wide_number_of : ℤ → ℤ → ℕ
-wide_number_of immediate next_immediate = cast_unsigned w32 next_immediate * 2 ^ bits w32 + cast_unsigned w32 immediate
+abbrev pub wide_number : ℤ → ℤ → ℕ
+wide_number immediate next_immediate = cast_unsigned w32 next_immediate * 2 ^ bits w32 + cast_unsigned w32 immediate
 
 -- a register's number after a load, from the number that the bytes read are (sections 5.1 and 5.2)
-abbrev pub loaded_number : LoadFormat → ℕ → ℕ
-loaded_number Byte number = number
-loaded_number HalfWord number = number
-loaded_number Word number = number
-loaded_number DoubleWord number = number
-loaded_number SignedByte number = sign_extension w8 w64 number
-loaded_number SignedHalfWord number = sign_extension w16 w64 number
-loaded_number SignedWord number = sign_extension w32 w64 number
+abbrev pub load_extension : LoadFormat → ℕ → ℕ
+load_extension Byte number = number
+load_extension HalfWord number = number
+load_extension Word number = number
+load_extension DoubleWord number = number
+load_extension SignedByte number = sign_extension w8 w64 number
+load_extension SignedHalfWord number = sign_extension w16 w64 number
+load_extension SignedWord number = sign_extension w32 w64 number

@@ -12,12 +12,12 @@ use Rattle.bpf_insn.specs.declared.instruction.Insn.{Insn}
 use Rattle.bpf_insn.specs.declared.code.TheConstants.{WORD_LIMIT}
 
 -- the words of instructions that follow each other without gap
-abbrev pub spelled : List Insn → List Word
-spelled code = flat_map spelling code
+abbrev pub code_words : List Insn → List Word
+code_words code = flat_map spelling code
 
 -- how many words instructions take: the place of what follows them
 abbrev pub word_count : List Insn → ℕ
-word_count code = length (spelled code)
+word_count code = length (code_words code)
 
 -- a program has 1 to WORD_LIMIT words
 abbrev pub HasProgramSize : ℕ → Type 0
@@ -26,7 +26,7 @@ HasProgramSize words = (1 ≤ words) × (words ≤ WORD_LIMIT)
 -- the bytes are these instructions, one after the other without gap, and nothing else
 pub record IsCodeOf (bytes : List ℕ) (code : List Insn) : Type 0 where
   pub whole : length bytes % 8 ≡ 0
-  pub words : words_of bytes ≡ spelled code
+  pub words : words_of bytes ≡ code_words code
   pub sized : HasProgramSize (word_count code)
 
 -- the instruction that begins at a place, which counts words from 0
@@ -55,7 +55,7 @@ place_of code index = word_count (take index code)
 -- fault.
 abbrev pub HasFaultAt : List ℕ → ℕ → WordFault → Type 0
 HasFaultAt bytes place fault =
-    (code : List Insn) × (faulty : Word) × (rest : List Word) × (words_of bytes ≡ spelled code ++ faulty ∷ rest)
+    (code : List Insn) × (faulty : Word) × (rest : List Word) × (words_of bytes ≡ code_words code ++ faulty ∷ rest)
     × (place ≡ word_count code) × (first_fault faulty rest ≡ Some fault)
 
 -- The first fault of bytes: that of their length, or that of the first word that is no instruction.

@@ -1,6 +1,6 @@
 -- The number and the name of a program's fault, and its line of text. Want of memory has no number.
 use Rattle.std.specs.Prelude.{ℕ, List, Option, Some, None, codes}
-use Rattle.bpf_insn.specs.Refusal.{refusal_line, place_line}
+use Rattle.bpf_insn.specs.Refusal.{memory_name, refusal_line, place_line}
 use Rattle.bpf_insn.specs.WordFault as word_fault
 use Rattle.bpf_insn.specs.declared.fault.CodeFault.{CodeFault}
 use Rattle.bpf_insn.specs.declared.fault.CodeFault.TheVariants.{Empty, NotWhole, TooLong, InWord, Memory}
@@ -17,7 +17,7 @@ name Empty = codes "Empty"
 name NotWhole = codes "NotWhole"
 name TooLong = codes "TooLong"
 name (InWord place fault) = word_fault.name fault
-name Memory = codes "memory"
+name Memory = memory_name
 
 abbrev pub line : CodeFault → List ℕ
 line (InWord place fault) = place_line (word_fault.number fault) place (word_fault.name fault) None

@@ -5,6 +5,8 @@ pub mod Opcode
 pub mod Fault
 pub mod Reading
 pub mod Code
+pub mod Jump
+pub mod Pointer
 pub mod Table
 pub mod Arithmetic
 pub mod Refusal

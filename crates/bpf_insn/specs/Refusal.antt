@@ -2,6 +2,10 @@
 -- number.
 use Rattle.std.specs.Prelude.{ℕ, List, [], ◌++◌, Option, Some, None, codes, decimal}
 
+-- the name of want of memory
+abbrev pub memory_name : List ℕ
+memory_name = codes "memory"
+
 abbrev pub refusal_line : Option ℕ → List ℕ → List ℕ
 refusal_line None name = codes "refused " ++ name
 refusal_line (Some number) name = codes "refused " ++ decimal number ++ codes " " ++ name

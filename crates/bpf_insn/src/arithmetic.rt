@@ -2,7 +2,7 @@
 ghost use Rattle.std.specs.Prelude.{◌≡◌, ◌<◌, ◌%◌, ◌^◌};
 ghost use Rattle.std.specs.Int.{w8, w16, w32, w64, cast_signed, cast_unsigned, swap_bytes};
 ghost use mir.Val.{bits};
-ghost use Rattle.bpf_insn.specs.Arithmetic.{operand_bits, low_bits, result_of, negation_of, extension_of, swap_bits, ordered_bytes, is_met, extended, wide_number_of, loaded_number};
+ghost use Rattle.bpf_insn.specs.Arithmetic.{operand_bits, low_bits, result_of, negate, extension_of, swap_bits, byte_swap, is_met, immediate_operand, wide_number, load_extension};
 
 use crate::instruction::{
     ByteOrder, Condition, LoadFormat, Operation, SignExtension, SwapWidth, Width,
@@ -112,7 +112,7 @@ impl Width {
 
 /// The number that gives 0 when it's added to `x` (RFC 9669, section 4.1).
 pub fn negate(width: Width, x: u64) -> u64
-    ensures value { result ≡ negation_of width x }
+    ensures value { result ≡ negate width x }
     ensures fits { result < 2 ^ bits (operand_bits width) }
 {
     width.low_bits(0u64.wrapping_sub(x))
@@ -137,7 +137,7 @@ impl LoadFormat {
     /// What a register gets from the number that the bytes read are (RFC 9669, sections 5.1 and
     /// 5.2).
     pub fn extend(self, number: u64) -> u64
-        ensures { result ≡ loaded_number self number }
+        ensures { result ≡ load_extension self number }
     {
         match self {
             LoadFormat::Byte | LoadFormat::HalfWord | LoadFormat::Word | LoadFormat::DoubleWord =>
@@ -152,7 +152,7 @@ impl LoadFormat {
 impl ByteOrder {
     /// The low bytes in this order, and zeros above them (RFC 9669, section 4.2).
     pub fn apply(self, width: SwapWidth, x: u64) -> u64
-        ensures value { result ≡ ordered_bytes self width x }
+        ensures value { result ≡ byte_swap self width x }
         ensures fits { result < 2 ^ bits (swap_bits width) }
     {
         match self {
@@ -188,8 +188,8 @@ impl SwapWidth {
 }
 
 /// An immediate as a 64-bit operand: its sign is extended (RFC 9669, section 4.1).
-pub fn sign_extended(immediate: i32) -> u64
-    ensures { result ≡ extended immediate }
+pub fn immediate_operand(immediate: i32) -> u64
+    ensures { result ≡ immediate_operand immediate }
 {
     i64::from(immediate).cast_unsigned()
 }
@@ -197,7 +197,7 @@ pub fn sign_extended(immediate: i32) -> u64
 /// The number of a wide load: the next word's immediate above the word's own, both unsigned
 /// (RFC 9669, section 5.4).
 pub fn wide_number(immediate: i32, next_immediate: i32) -> u64
-    ensures { result ≡ wide_number_of immediate next_immediate }
+    ensures { result ≡ wide_number immediate next_immediate }
 {
     u64::from(next_immediate.cast_unsigned()) * (1 << 32) + u64::from(immediate.cast_unsigned())
 }

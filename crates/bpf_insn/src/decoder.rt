@@ -1,7 +1,7 @@
 //! The code of bytes.
 ghost use Rattle.std.specs.Prelude.{◌≡◌, ◌≢◌, ◌*◌, ◌/◌, ◌≤◌, ◌<◌, ◌%◌, List, length, IfOk, IfErr, ◌⊎◌, OnOk, MatchResult, IsErrAnd};
 ghost use Rattle.bpf_insn.specs.Word.{words_of};
-ghost use Rattle.bpf_insn.specs.Code.{IsCodeOf, IsFirstFault, spelled};
+ghost use Rattle.bpf_insn.specs.Code.{IsCodeOf, IsFirstFault, code_words};
 ghost use Rattle.bpf_insn.specs.Reading.{BeginsAt, IsFaultAt};
 ghost use Rattle.bpf_insn.specs.declared.fault.CodeFault.{CodeFault};
 ghost use Rattle.bpf_insn.specs.declared.instruction.Insn.{Insn};
@@ -61,7 +61,7 @@ fn read_instructions<A: Allocator + Copy>(
 ) -> Result<CodeBuilder<A>, CodeFault>
     requires whole { length bytes.now % 8 ≡ 0 }
     requires within { length bytes.now ≤ 8 * WORD_LIMIT }
-    ensures ok { IfOk result (λ code. words_of bytes.now ≡ spelled code) }
+    ensures ok { IfOk result (λ code. words_of bytes.now ≡ code_words code) }
     ensures err { IfErr result (IsFirstFault bytes.now) }
 {
     let count = bytes.len() / WORD_BYTES;

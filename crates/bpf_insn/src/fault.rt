@@ -4,7 +4,7 @@ ghost use Rattle.bpf_insn.specs.declared.fault.CodeFault.TheVariants.{Memory};
 ghost use Rattle.bpf_insn.specs.WordFault as word_fault;
 ghost use Rattle.bpf_insn.specs.CodeFault as code_fault;
 
-use crate::refusal::{place_line, refusal_line};
+use crate::refusal::{memory_name, place_line, refusal_line};
 use arrayvec::ArrayString;
 use std::alloc::{AllocError, AllocFailed};
 use thiserror::Error;
@@ -115,7 +115,7 @@ impl CodeFault {
             CodeFault::NotWhole => "NotWhole",
             CodeFault::TooLong => "TooLong",
             CodeFault::InWord { fault, .. } => fault.name(),
-            CodeFault::Memory => "memory",
+            CodeFault::Memory => memory_name(),
         }
     }
 

@@ -1,6 +1,7 @@
 //! Instructions, with an enum for each of their parts, and the words that they are written in.
 ghost use Rattle.std.specs.Prelude.{◌≡◌, ◌≤◌, ◌<◌, length, option_to_list};
 ghost use Rattle.bpf_insn.specs.Form.{spelling, first_word, further_words, opcode_of, source_bit, source_field, source_immediate};
+ghost use Rattle.bpf_insn.specs.Jump.{words, jump_distance};
 
 use crate::register::{Register, WritableRegister};
 use crate::word::Word;
@@ -44,7 +45,7 @@ pub enum Width {
 /// Where the second operand comes from (RFC 9669, section 4: the source bit).
 #[derive(Clone, Copy, Debug, PartialEq, Eq)]
 pub enum Source {
-    /// The word's immediate, which `sign_extended` makes an operand of.
+    /// The word's immediate, which `immediate_operand` makes an operand of.
     Immediate(i32),
     Register(Register),
 }
@@ -214,7 +215,31 @@ pub enum Insn {
     },
 }
 
+impl JumpDistance {
+    /// The distance in words.
+    pub fn words(self) -> i32
+        ensures { result ≡ words self }
+    {
+        match self {
+            JumpDistance::Short(distance) => i32::from(distance),
+            JumpDistance::Long(distance) => distance,
+        }
+    }
+}
+
 impl Insn {
+    /// By how many words the instruction jumps, if it's a jump, counted from the word after it. A
+    /// conditional one jumps so where it's taken (RFC 9669, section 4.3).
+    pub fn jump_distance(&self) -> Option<i32>
+        ensures { result ≡ jump_distance self.now }
+    {
+        match *self {
+            Insn::JumpIf { offset, .. } => Some(i32::from(offset)),
+            Insn::Jump(distance) => Some(distance.words()),
+            _ => None,
+        }
+    }
+
     /// How many words the instruction takes.
     pub fn words(&self) -> usize
         ensures { result ≡ length (spelling self.now) }

@@ -17,7 +17,7 @@ mod tests;
 mod value;
 mod word;
 
-pub use arithmetic::{negate, sign_extended, wide_number};
+pub use arithmetic::{negate, immediate_operand, wide_number};
 pub use code::{Code, CodeBuilder, WORD_LIMIT};
 pub use decoder::decode;
 pub use encoder::encode;
@@ -26,7 +26,7 @@ pub use instruction::{
     ByteOrder, Condition, Insn, JumpDistance, LoadFormat, Operation, SignExtension, Source,
     StoreSize, SwapWidth, Width,
 };
-pub use refusal::{place_line, refusal_line, refusal_line_at};
+pub use refusal::{memory_name, place_line, refusal_line, refusal_line_at};
 pub use register::{Register, WritableRegister};
 pub use value::{Area, Pointer, Value};
 pub use word::Word;

@@ -1,9 +1,17 @@
 //! The line of text that a refusal gets, without an end of line. No line takes memory.
 ghost use Rattle.std.specs.Prelude.{◌≡◌, ◌+◌, ◌≤◌, length};
-ghost use Rattle.bpf_insn.specs.Refusal.{refusal_line, refusal_line_at, place_line};
+ghost use Rattle.bpf_insn.specs.Refusal.{memory_name, refusal_line, refusal_line_at, place_line};
 
 use arrayvec::ArrayString;
 use itoa::Buffer;
+
+/// What want of memory is called in a refusal's line.
+pub fn memory_name() -> &'static str
+    ensures value { result.now ≡ memory_name }
+    ensures short { length result.now ≤ 6 }
+{
+    "memory"
+}
 
 /// The line of a refusal that has no place, as `refused 10 Empty`.
 pub fn refusal_line(number: Option<u8>, name: &str) -> ArrayString<64>

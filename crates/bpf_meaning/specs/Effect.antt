@@ -2,7 +2,9 @@
 -- project's own.
 use Rattle.std.specs.Prelude.{ℕ, ◌+◌, ◌≤◌, ℤ, pos, negsuc, ◌+ℤ◌, ◌-ℤ◌, ◌&&◌, Bool, List, map, take, drop, length, unsigned_abs, int_le, nat_lt, Option, Some, None, Result, Ok, Err, is_some, if◌then◌else◌}
 use Rattle.std.specs.Int.{cast_signed, w32, w64}
-use Rattle.bpf_insn.specs.Arithmetic.{result_of, negation_of, extension_of, ordered_bytes, low_bits, is_met, extended, wide_number_of, loaded_number}
+use Rattle.bpf_insn.specs.Arithmetic.{result_of, negate, extension_of, byte_swap, low_bits, is_met, immediate_operand, wide_number, load_extension}
+use Rattle.bpf_insn.specs.Jump.{words}
+use Rattle.bpf_insn.specs.Pointer.{is_offset}
 use Rattle.bpf_insn.specs.Code.{instruction_at, spelling, word_count}
 use Rattle.bpf_insn.specs.declared.instruction.Insn.{Insn}
 use Rattle.bpf_insn.specs.declared.instruction.Insn.TheVariants.{Alu, MoveSignExtended, Negate, ByteSwap, JumpIf, Jump, Call, Exit, Load, StoreImmediate, Store, WideLoad}
@@ -13,8 +15,6 @@ use Rattle.bpf_insn.specs.declared.instruction.Width.TheVariants.{Bits32, Bits64
 use Rattle.bpf_insn.specs.declared.instruction.Source.{Source}
 use Rattle.bpf_insn.specs.declared.instruction.Source.TheVariants.{Immediate, Register}
 use Rattle.bpf_insn.specs.declared.instruction.Condition.{Condition}
-use Rattle.bpf_insn.specs.declared.instruction.JumpDistance.{JumpDistance}
-use Rattle.bpf_insn.specs.declared.instruction.JumpDistance.TheVariants.{Short, Long}
 use Rattle.bpf_insn.specs.declared.instruction.LoadFormat.{LoadFormat}
 use Rattle.bpf_insn.specs.declared.instruction.LoadFormat.TheVariants.{Byte, HalfWord, Word, DoubleWord, SignedByte, SignedHalfWord, SignedWord}
 use Rattle.bpf_insn.specs.declared.instruction.StoreSize.{StoreSize}
@@ -65,12 +65,8 @@ number_in state register = read state register >>= number_or PointerArithmetic
 
 -- the second operand
 abbrev pub operand : State → Source → Result Value Cause
-operand state (Immediate value) = Ok (Number (extended value))
+operand state (Immediate value) = Ok (Number (immediate_operand value))
 operand state (Register register) = read state register.number
-
--- a pointer's offset goes from -32768 to 32767
-abbrev pub is_offset : ℤ → Bool
-is_offset z = int_le (negsuc 32767) z && int_le z (pos 32767)
 
 -- the pointer into an area at an offset, which must lie in the range of offsets
 abbrev pub pointer_to : Area → ℤ → Result Value Cause
@@ -155,7 +151,7 @@ load_length SignedWord = 4
 -- what a load gives for the bytes' number, if they are all written
 abbrev pub load_number : LoadFormat → Option ℕ → Result Value Cause
 load_number format None = Err UnwrittenFrame
-load_number format (Some n) = Ok (Number (loaded_number format n))
+load_number format (Some n) = Ok (Number (load_extension format n))
 
 -- a load of bytes of an area from an offset on: they must lie within it, and be written
 abbrev pub load_bytes : LoadFormat → List FrameByte → ℤ → Result Value Cause
@@ -211,11 +207,6 @@ go_to code (negsuc before) = Err OutOfProgram
 abbrev pub jump : List Insn → ℕ → ℤ → Result Effect Cause
 jump code place distance = go_to code (pos (place + 1) +ℤ distance)
 
--- a jump's distance (section 4.3): the offset in the class JMP, the immediate in JMP32
-abbrev pub distance_of : JumpDistance → ℤ
-distance_of (Short distance) = distance
-distance_of (Long distance) = distance
-
 -- the effect of an instruction behind which the next one begins at this place. No helper function is known.
 abbrev pub instruction_effect : List Insn → Contents → State → ℕ → Insn → Result Effect Cause
 instruction_effect code segment state next (Alu operation width destination source) =
@@ -223,12 +214,12 @@ instruction_effect code segment state next (Alu operation width destination sour
 instruction_effect code segment state next (MoveSignExtended extension destination source) =
     number_in state source.number >>= λ x. set_register code next destination (Number (extension_of extension x))
 instruction_effect code segment state next (Negate width destination) =
-    number_in state destination.number >>= λ x. set_register code next destination (Number (negation_of width x))
+    number_in state destination.number >>= λ x. set_register code next destination (Number (negate width x))
 instruction_effect code segment state next (ByteSwap order width destination) =
-    number_in state destination.number >>= λ x. set_register code next destination (Number (ordered_bytes order width x))
+    number_in state destination.number >>= λ x. set_register code next destination (Number (byte_swap order width x))
 instruction_effect code segment state next (JumpIf condition width left right offset) =
     comparison state condition width left.number right >>= λ taken. if taken then jump code state.place offset else go_on code next Nothing
-instruction_effect code segment state next (Jump distance) = jump code state.place (distance_of distance)
+instruction_effect code segment state next (Jump distance) = jump code state.place (words distance)
 instruction_effect code segment state next (Call immediate) = Err UnknownHelper
 instruction_effect code segment state next Exit = read state 0 >>= number_or ExitNotNumber >>= λ answer. Ok (End answer)
 instruction_effect code segment state next (Load format destination base offset) =
@@ -238,7 +229,7 @@ instruction_effect code segment state next (StoreImmediate size base offset imme
 instruction_effect code segment state next (Store size base offset source) =
     store_change state size base.number offset (Register source) >>= go_on code next
 instruction_effect code segment state next (WideLoad destination immediate next_immediate) =
-    set_register code next destination (Number (wide_number_of immediate next_immediate))
+    set_register code next destination (Number (wide_number immediate next_immediate))
 
 -- the effect by what stands at the place
 abbrev pub effect_of : List Insn → Contents → State → Option Insn → Result Effect Cause

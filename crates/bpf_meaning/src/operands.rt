@@ -6,7 +6,7 @@ use crate::cause::Cause;
 use crate::state::State;
 use bpf_insn::{
     Area, Condition, Operation, Pointer, Register, Source, Value, Width, WritableRegister,
-    sign_extended,
+    immediate_operand,
 };
 
 /// The number that a value is, or the cause where it's none.
@@ -32,7 +32,7 @@ pub(crate) fn operand(state: &State, source: Source) -> Result<Value, Cause>
     ensures { result ≡ operand state.now source }
 {
     match source {
-        Source::Immediate(immediate) => Ok(Value::Number(sign_extended(immediate))),
+        Source::Immediate(immediate) => Ok(Value::Number(immediate_operand(immediate))),
         Source::Register(register) => state.read(register.number),
     }
 }

@@ -1,11 +1,11 @@
 //! Where a program goes on.
 ghost use Rattle.std.specs.Prelude.{◌≡◌, ◌<◌};
 ghost use Rattle.bpf_insn.specs.declared.code.TheConstants.{WORD_LIMIT};
-ghost use Rattle.bpf_meaning.specs.Effect.{distance_of, go_on, jump, set_register};
+ghost use Rattle.bpf_meaning.specs.Effect.{go_on, jump, set_register};
 
 use crate::cause::Cause;
 use crate::effect::{Change, Effect};
-use bpf_insn::{Code, JumpDistance, Value, WritableRegister};
+use bpf_insn::{Code, Value, WritableRegister};
 use std::alloc::Allocator;
 
 /// Goes on at a place, with a change, if an instruction begins there.
@@ -51,15 +51,5 @@ pub(crate) fn jump<A: Allocator>(
     match usize::try_from(target) {
         Ok(target) => go_on(code, target, Change::Nothing),
         Err(_) => Err(Cause::OutOfProgram),
-    }
-}
-
-/// A jump's distance in words.
-pub(crate) fn distance_of(distance: JumpDistance) -> i32
-    ensures { result ≡ distance_of distance }
-{
-    match distance {
-        JumpDistance::Short(distance) => i32::from(distance),
-        JumpDistance::Long(distance) => distance,
     }
 }

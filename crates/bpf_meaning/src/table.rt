@@ -7,7 +7,7 @@ use crate::cause::Cause;
 use crate::effect::{Change, Effect};
 use crate::memory::{load_value, store_change};
 use crate::operands::{comparison, number_in, number_or, operation_value};
-use crate::progress::{distance_of, go_on, jump, set_register};
+use crate::progress::{go_on, jump, set_register};
 use crate::segment::Segment;
 use crate::state::State;
 use bpf_insn::{Code, Insn, Source, Value, negate, wide_number};
@@ -91,7 +91,7 @@ fn instruction_effect<A: Allocator>(
                 go_on(code, next, Change::Nothing)
             }
         }
-        Insn::Jump(distance) => jump(code, state.place, distance_of(distance)),
+        Insn::Jump(distance) => jump(code, state.place, distance.words()),
         Insn::Call { .. } => Err(Cause::UnknownHelper),
         Insn::Exit => {
             let answer = number_or(Cause::ExitNotNumber, state.read(0)?)?;

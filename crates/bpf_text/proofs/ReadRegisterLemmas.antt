@@ -26,22 +26,22 @@ pub record IsNamed (number : ℕ) : Type 0 where
   pub some : nat_le 1 (length (register_name number)) ≡ true
   pub found : register_number (register_name number) ≡ Some number
 
-row : (number : ℕ) → register_name number ≡ codes "r" ++ decimal number → list_all is_word_byte (register_name number) ≡ true → nat_le 1 (length (register_name number)) ≡ true → register_number (register_name number) ≡ Some number → IsNamed number
-row number named word some found = record { named = named; word = word; some = some; found = found }
+named_register : (number : ℕ) → register_name number ≡ codes "r" ++ decimal number → list_all is_word_byte (register_name number) ≡ true → nat_le 1 (length (register_name number)) ≡ true → register_number (register_name number) ≡ Some number → IsNamed number
+named_register number named word some found = record { named = named; word = word; some = some; found = found }
 
 pub register-name : (number : ℕ) → number ≤ 10 → IsNamed number
 unfolding digits
-register-name zero within = row 0 refl refl refl refl
-register-name (suc zero) within = row 1 refl refl refl refl
-register-name (suc (suc zero)) within = row 2 refl refl refl refl
-register-name (suc (suc (suc zero))) within = row 3 refl refl refl refl
-register-name (suc (suc (suc (suc zero)))) within = row 4 refl refl refl refl
-register-name (suc (suc (suc (suc (suc zero))))) within = row 5 refl refl refl refl
-register-name (suc (suc (suc (suc (suc (suc zero)))))) within = row 6 refl refl refl refl
-register-name (suc (suc (suc (suc (suc (suc (suc zero))))))) within = row 7 refl refl refl refl
-register-name (suc (suc (suc (suc (suc (suc (suc (suc zero)))))))) within = row 8 refl refl refl refl
-register-name (suc (suc (suc (suc (suc (suc (suc (suc (suc zero))))))))) within = row 9 refl refl refl refl
-register-name (suc (suc (suc (suc (suc (suc (suc (suc (suc (suc zero)))))))))) within = row 10 refl refl refl refl
+register-name zero within = named_register 0 refl refl refl refl
+register-name (suc zero) within = named_register 1 refl refl refl refl
+register-name (suc (suc zero)) within = named_register 2 refl refl refl refl
+register-name (suc (suc (suc zero))) within = named_register 3 refl refl refl refl
+register-name (suc (suc (suc (suc zero)))) within = named_register 4 refl refl refl refl
+register-name (suc (suc (suc (suc (suc zero))))) within = named_register 5 refl refl refl refl
+register-name (suc (suc (suc (suc (suc (suc zero)))))) within = named_register 6 refl refl refl refl
+register-name (suc (suc (suc (suc (suc (suc (suc zero))))))) within = named_register 7 refl refl refl refl
+register-name (suc (suc (suc (suc (suc (suc (suc (suc zero)))))))) within = named_register 8 refl refl refl refl
+register-name (suc (suc (suc (suc (suc (suc (suc (suc (suc zero))))))))) within = named_register 9 refl refl refl refl
+register-name (suc (suc (suc (suc (suc (suc (suc (suc (suc (suc zero)))))))))) within = named_register 10 refl refl refl refl
 register-name (suc (suc (suc (suc (suc (suc (suc (suc (suc (suc (suc n))))))))))) within = absurd (omega arith)
 
 -- a register

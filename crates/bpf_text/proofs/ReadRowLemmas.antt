@@ -8,7 +8,7 @@ use Rattle.std.proofs.lemmas.Nat.{mod-mul-add, div-mul-add}
 use Rattle.std.proofs.Math.Facts.{Fits-of_z}
 use Rattle.std.specs.Int.{cast_signed, cast_unsigned, w32}
 use mir.Val.{SFits}
-use Rattle.bpf_insn.specs.Arithmetic.{wide_number_of}
+use Rattle.bpf_insn.specs.Arithmetic.{wide_number}
 use Rattle.bpf_text.proofs.ReadWideLemmas.{wide-back, word-of-wide}
 use Rattle.std.specs.Fmt.{signed_decimal}
 use Rattle.std.proofs.lemmas.List.{append_assoc}
@@ -129,7 +129,7 @@ read-back (insn.Store size base offset s) fits =
     with-operands (insn.Store size base offset s) (comma (memory_text base offset) (register_name s.number)) (operands-of _ _ (word-of-memory base offset (wider offset fits).0 (wider offset fits).1) (word-of-register s)) refl
     (ap (λ (r : Result ((Register × ℤ) × Register) TextFlaw). and_then r (λ read. plain (insn.Store size read.0.0 read.0.1 read.1))) (two-operands memory_in register_in (memory_text base offset) (register_name s.number) (base, offset) s (word-of-memory base offset (wider offset fits).0 (wider offset fits).1) (one-operand _ (word-of-register s)) (memory-back base offset fits.0 fits.1) (register-back s)))
 read-back (insn.WideLoad d value next) fits =
-    let number = wide_number_of value next in
+    let number = wide_number value next in
     let value_fits = fits-32 value fits.0 in
     let next_fits = fits-32 next fits.1 in
     let low = half-32 value value_fits in

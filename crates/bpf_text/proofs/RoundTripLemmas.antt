@@ -10,7 +10,7 @@ use Rattle.std.proofs.lemmas.Grind.{flat_map-append}
 use Rattle.std.proofs.lemmas.List.Sums.{AllPass-from_list_all}
 use Rattle.std.proofs.lemmas.List.Splits.{slice_split_at, length-slice_split}
 use Rattle.bpf_insn.specs.Form.{spelling}
-use Rattle.bpf_insn.specs.Code.{word_count, spelled, HasProgramSize}
+use Rattle.bpf_insn.specs.Code.{word_count, code_words, HasProgramSize}
 use Rattle.bpf_insn.specs.declared.code.TheConstants.{WORD_LIMIT}
 use Rattle.bpf_insn.specs.declared.instruction.Insn.{Insn}
 use Rattle.bpf_text.specs.declared.fault.TextFlaw.{TextFlaw}
@@ -73,7 +73,7 @@ meant-back (insn ∷ code) all =
 faultless-back : (before : List Statement) (code : List Insn) → words_of before + word_count code ≤ WORD_LIMIT → FaultlessAfter before (statements_of code)
 faultless-back before [] fits = tt
 faultless-back before (insn ∷ code) fits =
-    let size : word_count (insn ∷ code) ≡ length (spelling insn) + word_count code = length-append (spelling insn) (spelled code) in (
+    let size : word_count (insn ∷ code) ≡ length (spelling insn) + word_count code = length-append (spelling insn) (code_words code) in (
       faultless-instruction before insn None (omega (arith, size)),
       faultless-back (before ++ Instruction insn None ∷ []) code (omega (arith, size, words-snoc before (Instruction insn None))),
     )

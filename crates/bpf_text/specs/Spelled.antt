@@ -3,7 +3,7 @@ use Rattle.std.specs.Prelude.{ℕ, zero, suc, ℤ, pos, negsuc, ◌*◌, ◌/◌
 use Rattle.std.specs.Fmt.{signed_decimal}
 use Rattle.std.specs.List.{flat_map, list_all}
 use Rattle.std.specs.Char.{digit_char}
-use Rattle.bpf_insn.specs.Arithmetic.{wide_number_of}
+use Rattle.bpf_insn.specs.Arithmetic.{wide_number}
 use Rattle.bpf_insn.specs.declared.register.Register.{Register}
 use Rattle.bpf_insn.specs.declared.instruction.Source.{Source}
 use Rattle.bpf_insn.specs.declared.instruction.Source.TheVariants as source
@@ -77,7 +77,7 @@ operands_text insn.Exit = []
 operands_text (insn.Load format destination base offset) = two (register_name destination.number) (memory_text base offset)
 operands_text (insn.StoreImmediate size base offset value) = two (memory_text base offset) (signed_decimal value)
 operands_text (insn.Store size base offset source) = two (memory_text base offset) (register_name source.number)
-operands_text (insn.WideLoad destination value next) = two (register_name destination.number) (wide_text (wide_number_of value next))
+operands_text (insn.WideLoad destination value next) = two (register_name destination.number) (wide_text (wide_number value next))
 
 -- an instruction's line, without its end
 abbrev pub line_text : Insn → List ℕ

@@ -3,7 +3,7 @@ ghost use Rattle.std.specs.Prelude.{◌≡◌, ◌<◌, [], ◌∷◌, ◌++◌,
 ghost use Rattle.std.specs.Char.{digit_char};
 ghost use Rattle.std.specs.Fmt.{signed_decimal};
 ghost use Rattle.std.specs.String.{string_bytes};
-ghost use Rattle.bpf_insn.specs.Arithmetic.{wide_number_of};
+ghost use Rattle.bpf_insn.specs.Arithmetic.{wide_number};
 ghost use Rattle.bpf_text.specs.Number.{IsWithin, limit_of_16_bits, limit_of_32_bits};
 ghost use Rattle.bpf_text.specs.Operand.{register_name};
 ghost use Rattle.bpf_text.specs.Text.{Means};
@@ -214,7 +214,7 @@ fn push_wide_load<A: Allocator>(
     next_immediate: i32,
 ) -> Result<(), AllocError>
     ensures text { OnOk result (string_bytes text.new ≡ string_bytes text.old
-        ++ two (register_name destination.number) (wide_text (wide_number_of immediate next_immediate))) }
+        ++ two (register_name destination.number) (wide_text (wide_number immediate next_immediate))) }
     ensures fits { OnOk result (IsWithin limit_of_32_bits immediate × IsWithin limit_of_32_bits next_immediate) }
 {
     push_destination(text, destination)?;

@@ -6,7 +6,8 @@ use Rattle.std.proofs.lemmas.Bool.Decides.{nat_tests}
 use Rattle.std.proofs.lemmas.List.Elements.{recursion_from_All}
 use Rattle.std.specs.List.{AllByRecursion}
 use Rattle.std.specs.Int.{cast_signed, w64}
-use Rattle.bpf_insn.specs.Arithmetic.{result_of, extended}
+use Rattle.bpf_insn.specs.Arithmetic.{result_of, immediate_operand}
+use Rattle.bpf_insn.specs.Pointer.{is_offset}
 use Rattle.bpf_insn.specs.Code.{spelling, word_count, instruction_at}
 use Rattle.bpf_insn.specs.declared.instruction.Insn.{Insn}
 use Rattle.bpf_insn.specs.declared.instruction.Insn.TheVariants.{Alu, Load, Exit}
@@ -24,7 +25,7 @@ use Rattle.bpf_insn.specs.declared.value.Value.{Value}
 use Rattle.bpf_insn.specs.declared.value.Value.TheVariants as value
 use Rattle.bpf_meaning.specs.Segment.{Contents, IsSegment}
 use Rattle.bpf_meaning.specs.State.{start, register_value}
-use Rattle.bpf_meaning.specs.Effect.{effect_of, instruction_effect, go_on, set_register, number_or, read_value, is_offset, pointer_to, move_pointer, operate, operation_value, area_bytes, load_bytes, only_pointer, load_value, ◌>>=◌}
+use Rattle.bpf_meaning.specs.Effect.{effect_of, instruction_effect, go_on, set_register, number_or, read_value, pointer_to, move_pointer, operate, operation_value, area_bytes, load_bytes, only_pointer, load_value, ◌>>=◌}
 use Rattle.bpf_meaning.specs.Step.{Configuration, Running, Exited, Stuck, after, carry_out, next_of}
 use Rattle.bpf_meaning.specs.declared.effect.Change.{Change}
 use Rattle.bpf_meaning.specs.declared.effect.Change.TheVariants.{SetRegister}
@@ -81,10 +82,10 @@ add_sound register (Pointer pointer) held number next a e =
     let m = move_sound pointer number next e in (m.0, ap (add_to register number) a ∙ m.1, m.2)
 
 operation_sound : (state : State) (kind : Kind) (operation : Operation) (width : Width) (register : ℕ) (source : Source) (next : Kind) → Admits kind (register_value state register) → operation_kind operation width register kind source ≡ Ok next → Gives (operation_value state operation width register source) next
-operation_sound state kind Add Bits64 register (Immediate number) next a e = add_sound register kind (register_value state register) (extended number) next a e
+operation_sound state kind Add Bits64 register (Immediate number) next a e = add_sound register kind (register_value state register) (immediate_operand number) next a e
 operation_sound state kind Move Bits64 register (Immediate number) next a e =
     let same : Number ≡ next = cc in
-    (value.Number (extended number), refl, subst (λ (k : Kind). Admits k (value.Number (extended number))) same (extended number, refl))
+    (value.Number (immediate_operand number), refl, subst (λ (k : Kind). Admits k (value.Number (immediate_operand number))) same (immediate_operand number, refl))
 operation_sound state kind operation width register source next a e = absurd (let f : ⊥ = cc in f)
 
 -- loads

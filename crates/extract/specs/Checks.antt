@@ -2,7 +2,7 @@
 -- (RFC 9669 says what an instruction does; which programs are refused is this project's own choice).
 use Rattle.std.specs.Prelude.{◌≡◌, ◌≢◌, ℕ, ℤ, pos, ◌+ℤ◌, ◌⊎◌, Bool, true, false, IsTrue, All, List, [], ◌∷◌, ◌++◌, length, slice_set, get_or, Result, Ok, Err, if◌then◌else◌}
 use Rattle.std.specs.Int.{cast_signed, w64}
-use Rattle.bpf_insn.specs.Arithmetic.{extended}
+use Rattle.bpf_insn.specs.Arithmetic.{immediate_operand}
 use Rattle.bpf_insn.specs.Code.{word_count}
 use Rattle.bpf_insn.specs.declared.instruction.Insn.{Insn}
 use Rattle.bpf_insn.specs.declared.instruction.Insn.TheVariants.{Alu, Load, Exit}
@@ -19,8 +19,9 @@ use Rattle.bpf_insn.specs.declared.value.Area.TheVariants.{Record, Frame}
 use Rattle.bpf_insn.specs.declared.value.Pointer.{Pointer as PointerParts}
 use Rattle.bpf_insn.specs.declared.value.Value.{Value}
 use Rattle.bpf_insn.specs.declared.value.Value.TheVariants as value
+use Rattle.bpf_insn.specs.Pointer.{is_offset}
 use Rattle.bpf_meaning.specs.State.{register_value}
-use Rattle.bpf_meaning.specs.Effect.{is_offset, load_length, lie_within, ◌>>=◌}
+use Rattle.bpf_meaning.specs.Effect.{load_length, lie_within, ◌>>=◌}
 use Rattle.bpf_meaning.specs.declared.cause.Cause.{Cause}
 use Rattle.bpf_meaning.specs.declared.cause.Cause.TheVariants.{OutOfProgram, ReadsNothing, PointerArithmetic, LeavesArea, NotPointer, OutOfBounds, UnwrittenFrame, ExitNotNumber}
 use Rattle.bpf_meaning.specs.declared.segment.TheConstants.{RECORD_LENGTH}
@@ -85,7 +86,7 @@ add_kind register (Pointer pointer) number = move_kind pointer number
 
 -- what an arithmetic instruction gives, of those that are taken
 abbrev pub operation_kind : Operation → Width → ℕ → Kind → Source → Result Kind Cause
-operation_kind Add Bits64 register kind (Immediate value) = add_kind register kind (extended value)
+operation_kind Add Bits64 register kind (Immediate value) = add_kind register kind (immediate_operand value)
 operation_kind Move Bits64 register kind (Immediate value) = Ok Number
 operation_kind operation width register kind source = Err PointerArithmetic
 

@@ -1,6 +1,6 @@
 -- The number, the name and the line of text of an extract's fault.
-use Rattle.std.specs.Prelude.{ℕ, List, Option, Some, None, codes}
-use Rattle.bpf_insn.specs.Refusal.{refusal_line}
+use Rattle.std.specs.Prelude.{ℕ, List, Option, Some, None}
+use Rattle.bpf_insn.specs.Refusal.{memory_name, refusal_line}
 use Rattle.tl_fields.specs.Writing as write_fault
 use Rattle.extract.specs.ProgramFault as program_fault
 use Rattle.extract.specs.LoadFault as load_fault
@@ -30,10 +30,10 @@ abbrev pub name : ExtractFault → List ℕ
 name (Program fault) = program_fault.name fault
 name (Load fault) = load_fault.name fault
 name (Write fault) = write_fault.name fault
-name Memory = codes "memory"
+name Memory = memory_name
 
 abbrev pub line : ExtractFault → List ℕ
 line (Program fault) = program_fault.line fault
 line (Load fault) = load_fault.line fault
 line (Write fault) = refusal_line (Some (write_fault.number fault)) (write_fault.name fault)
-line Memory = refusal_line None (codes "memory")
+line Memory = refusal_line None memory_name

@@ -1,6 +1,6 @@
 -- The number, the name and the line of text of a file's fault.
 use Rattle.std.specs.Prelude.{ℕ, List, ◌++◌, Option, Some, None, codes, decimal}
-use Rattle.bpf_insn.specs.Refusal.{refusal_line}
+use Rattle.bpf_insn.specs.Refusal.{memory_name, refusal_line}
 use Rattle.extract.specs.CountyFile as county_file
 use Rattle.extract.specs.LineFlaw as line_flaw
 use Rattle.extract.specs.declared.load.fault.CountyFile.{CountyFile}
@@ -14,7 +14,7 @@ number Memory = None
 
 abbrev pub name : LoadFault → List ℕ
 name (Line file fault) = line_flaw.name fault.flaw
-name Memory = codes "memory"
+name Memory = memory_name
 
 -- the refusal of a line of a file: lines are counted from 1
 abbrev pub file_line : CountyFile → LineFault → List ℕ
@@ -23,4 +23,4 @@ file_line file fault =
 
 abbrev pub line : LoadFault → List ℕ
 line (Line file fault) = file_line file fault
-line Memory = refusal_line None (codes "memory")
+line Memory = refusal_line None memory_name

@@ -1,6 +1,6 @@
 -- The number, the name and the line of text of a program's fault.
-use Rattle.std.specs.Prelude.{ℕ, List, Option, Some, None, codes}
-use Rattle.bpf_insn.specs.Refusal.{refusal_line}
+use Rattle.std.specs.Prelude.{ℕ, List, Option, Some, None}
+use Rattle.bpf_insn.specs.Refusal.{memory_name, refusal_line}
 use Rattle.bpf_insn.specs.CodeFault as code_fault
 use Rattle.bpf_insn.specs.declared.fault.CodeFault.{CodeFault}
 use Rattle.bpf_insn.specs.declared.fault.CodeFault.TheVariants as code_variant
@@ -21,9 +21,9 @@ number Memory = None
 abbrev pub name : ProgramFault → List ℕ
 name (Code fault) = code_fault.name fault
 name (Check fault) = check_fault.name fault
-name Memory = codes "memory"
+name Memory = memory_name
 
 abbrev pub line : ProgramFault → List ℕ
 line (Code fault) = code_fault.line fault
 line (Check fault) = check_fault.line fault
-line Memory = refusal_line None (codes "memory")
+line Memory = refusal_line None memory_name

@@ -8,7 +8,7 @@ ghost use Rattle.extract.specs.Checks.{is_taken, AreTaken, entry, kind_of, move_
 use arrayvec::ArrayString;
 use bpf_insn::{
     Area, Code, Insn, LoadFormat, Operation, Pointer, Register, Source, WORD_LIMIT, Width,
-    WritableRegister, place_line, sign_extended,
+    WritableRegister, place_line, immediate_operand,
 };
 use bpf_meaning::{Cause, FRAME_LENGTH, RECORD_LENGTH, REGISTERS};
 use std::alloc::Allocator;
@@ -249,7 +249,7 @@ impl Kinds {
             unreachable!()
         };
         match (operation, width) {
-            (Operation::Add, Width::Bits64) => add_kind(number, kind, sign_extended(immediate)),
+            (Operation::Add, Width::Bits64) => add_kind(number, kind, immediate_operand(immediate)),
             (Operation::Move, Width::Bits64) => Ok(Kind::Number),
             _ => unreachable!(),
         }

@@ -7,7 +7,7 @@ ghost use Rattle.extract.specs.declared.fault.ExtractFault.TheVariants.{Write};
 use crate::load::LoadFault;
 use crate::program::ProgramFault;
 use arrayvec::ArrayString;
-use bpf_insn::refusal_line;
+use bpf_insn::{memory_name, refusal_line};
 use thiserror::Error;
 use tl_fields::WriteFault;
 
@@ -74,7 +74,7 @@ impl ExtractFault {
             ExtractFault::Program(fault) => fault.name(),
             ExtractFault::Load(fault) => fault.name(),
             ExtractFault::Write(fault) => fault.name(),
-            ExtractFault::Memory => "memory",
+            ExtractFault::Memory => memory_name(),
         }
     }
 
@@ -86,7 +86,7 @@ impl ExtractFault {
             ExtractFault::Program(fault) => fault.line(),
             ExtractFault::Load(fault) => fault.line(),
             ExtractFault::Write(fault) => refusal_line(Some(fault.number()), fault.name()),
-            ExtractFault::Memory => refusal_line(None, "memory"),
+            ExtractFault::Memory => refusal_line(None, memory_name()),
         }
     }
 }

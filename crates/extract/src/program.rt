@@ -7,7 +7,7 @@ ghost use Rattle.extract.specs.declared.program.ProgramFault.TheVariants.{Check}
 
 use crate::checks::{CheckFault, check};
 use arrayvec::ArrayString;
-use bpf_insn::{Code, CodeFault, decode, refusal_line};
+use bpf_insn::{Code, CodeFault, decode, memory_name, refusal_line};
 use std::alloc::Allocator;
 use thiserror::Error;
 
@@ -61,7 +61,7 @@ impl ProgramFault {
         match *self {
             ProgramFault::Code(fault) => fault.name(),
             ProgramFault::Check(fault) => fault.name(),
-            ProgramFault::Memory => "memory",
+            ProgramFault::Memory => memory_name(),
         }
     }
 
@@ -72,7 +72,7 @@ impl ProgramFault {
         match *self {
             ProgramFault::Code(fault) => fault.line(),
             ProgramFault::Check(fault) => fault.line(),
-            ProgramFault::Memory => refusal_line(None, "memory"),
+            ProgramFault::Memory => refusal_line(None, memory_name()),
         }
     }
 }

@@ -6,7 +6,7 @@ ghost use Rattle.extractd.specs.Failure.{Says, file_status, refusal_status, stat
 
 use crate::files::FileFault;
 use arrayvec::{ArrayString, ArrayVec};
-use bpf_insn::refusal_line;
+use bpf_insn::{memory_name, refusal_line};
 use std::alloc::AllocError;
 use std::io::{ErrorKind, Write};
 use std::{fmt, io};
@@ -56,7 +56,7 @@ impl<'a> Failure<'a> {
     {
         Failure::Refusal {
             number: None,
-            line: refusal_line(None, "memory"),
+            line: refusal_line(None, memory_name()),
         }
     }
 

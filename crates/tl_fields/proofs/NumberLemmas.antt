@@ -8,7 +8,7 @@ use Rattle.std.proofs.lemmas.Bool.Decides.{nat_tests}
 use Rattle.std.proofs.lemmas.Int.Digits.{digits_value_more}
 use Rattle.std.proofs.lemmas.List.Folds.{list_all_more}
 use Rattle.std.proofs.lemmas.Str.Parse.{IsNumeralModel, numerals_by_value, digits_value_short}
-use Rattle.tl_fields.specs.Number.{number_of, number_in, is_number, trimmed}
+use Rattle.tl_fields.specs.Number.{number_of, number_in, is_number, trim}
 
 digits_model : IsNumeralModel (λ ds. list_all is_ascii_digit ds ≡ true) (digits_value 10)
 digits_model = numerals_by_value _ (search rules)
@@ -43,21 +43,21 @@ number_in-lt-by ds true is =
 number_in-lt-by ds false is = tt
 
 -- a field between whose blanks stand these bytes, of a length that a number has
-pub number_of-few : (field ds : List ℕ) → ds ≡ trimmed field → 1 ≤ length ds → length ds ≤ 11 → number_of field ≡ (if list_all is_ascii_digit ds then Some (digits_value 10 ds) else None)
+pub number_of-few : (field ds : List ℕ) → ds ≡ trim field → 1 ≤ length ds → length ds ≤ 11 → number_of field ≡ (if list_all is_ascii_digit ds then Some (digits_value 10 ds) else None)
 unfolding number_of
 number_of-few field ds is some few = rw (← is) (number_in-few ds some few)
 
 -- a field of blanks has no number
-pub number_of-empty : (field ds : List ℕ) → ds ≡ trimmed field → length ds < 1 → number_of field ≡ None
+pub number_of-empty : (field ds : List ℕ) → ds ≡ trim field → length ds < 1 → number_of field ≡ None
 unfolding number_of
 number_of-empty field ds is none = rw (← is) (number_in-empty ds none)
 
 -- more than 11 bytes between the blanks are no number
-pub number_of-many : (field ds : List ℕ) → ds ≡ trimmed field → 11 < length ds → number_of field ≡ None
+pub number_of-many : (field ds : List ℕ) → ds ≡ trim field → 11 < length ds → number_of field ≡ None
 unfolding number_of
 number_of-many field ds is many = rw (← is) (number_in-many ds many)
 
 -- a field's number has 11 digits at most
 pub number_of-lt : (field : List ℕ) → IfSome (number_of field) (λ n. n < 10 ^ 11)
 unfolding number_of
-number_of-lt field = number_in-lt-by (trimmed field) _ refl
+number_of-lt field = number_in-lt-by (trim field) _ refl

@@ -10,8 +10,8 @@ without_blanks_before [] = []
 without_blanks_before (b ∷ bs) = if b == 32 then without_blanks_before bs else b ∷ bs
 
 -- the bytes without the blanks at both ends
-abbrev pub trimmed : List ℕ → List ℕ
-trimmed bytes = reverse (without_blanks_before (reverse (without_blanks_before bytes)))
+abbrev pub trim : List ℕ → List ℕ
+trim bytes = reverse (without_blanks_before (reverse (without_blanks_before bytes)))
 
 -- 1 to 11 digits, and nothing else
 abbrev pub is_number : List ℕ → Bool
@@ -23,4 +23,4 @@ number_in bytes = if is_number bytes then Some (digits_value 10 bytes) else None
 
 -- the number of a field, or none where it has none
 unfoldable pub number_of : List ℕ → Option ℕ
-number_of field = number_in (trimmed field)
+number_of field = number_in (trim field)

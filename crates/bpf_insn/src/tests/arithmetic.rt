@@ -2,7 +2,7 @@
 use super::cut;
 use crate::{
     ByteOrder, Condition, LoadFormat, Operation, SignExtension, SwapWidth, Width, negate,
-    sign_extended, wide_number,
+    immediate_operand, wide_number,
 };
 use std::test::Fail;
 
@@ -258,7 +258,7 @@ fn immediates(rt: HostRuntime) -> Result<(), Fail> {
     for row in IMMEDIATES.lines() {
         let (immediate, want) = cut(&rt, row, "=");
         assert_eq!(rt;
-            sign_extended(immediate.parse::<i32>()?),
+            immediate_operand(immediate.parse::<i32>()?),
             number(want)?,
             "{row}"
         );

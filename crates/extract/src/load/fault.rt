@@ -7,7 +7,7 @@ ghost use Rattle.extract.specs.LoadFault.{file_line};
 ghost use Rattle.extract.specs.declared.load.fault.LoadFault.TheVariants.{Memory};
 
 use arrayvec::ArrayString;
-use bpf_insn::refusal_line;
+use bpf_insn::{memory_name, refusal_line};
 use itoa::Buffer;
 use std::alloc::{AllocError, AllocFailed};
 use thiserror::Error;
@@ -142,7 +142,7 @@ impl LoadFault {
     {
         match *self {
             LoadFault::Line { fault, .. } => fault.name(),
-            LoadFault::Memory => "memory",
+            LoadFault::Memory => memory_name(),
         }
     }
 
@@ -152,7 +152,7 @@ impl LoadFault {
     {
         match *self {
             LoadFault::Line { file, fault } => file_line(file, fault),
-            LoadFault::Memory => refusal_line(None, "memory"),
+            LoadFault::Memory => refusal_line(None, memory_name()),
         }
     }
 }
