@@ -5,6 +5,7 @@ pub mod FaultLemmas
 pub mod SpellingLemmas
 pub mod CodeLemmas
 pub mod PlaceLemmas
+pub mod SpanLemmas
 pub mod DecoderLemmas
 pub mod EncoderLemmas
 pub mod ArithmeticLemmas

@@ -76,7 +76,7 @@ is_within place words h = grind (arith, nat_tests)
 is_behind : (place words : ℕ) → words ≤ place → nat_lt place words ≡ false
 is_behind place words h = grind (arith, nat_tests)
 
-instruction_at-inside : (insn : Insn) (code : List Insn) (place : ℕ) → 0 < place → place < length (spelling insn) → instruction_at (insn ∷ code) place ≡ None
+pub instruction_at-inside : (insn : Insn) (code : List Insn) (place : ℕ) → 0 < place → place < length (spelling insn) → instruction_at (insn ∷ code) place ≡ None
 instruction_at-inside insn code place above below =
     rw (starts_not place (length (spelling insn)) above, is_within place (length (spelling insn)) below) refl
 

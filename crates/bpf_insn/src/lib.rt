@@ -17,7 +17,7 @@ mod tests;
 mod value;
 mod word;
 
-pub use arithmetic::{negate, immediate_operand, wide_number};
+pub use arithmetic::{immediate_operand, negate, wide_number};
 pub use code::{Code, CodeBuilder, WORD_LIMIT};
 pub use decoder::decode;
 pub use encoder::encode;

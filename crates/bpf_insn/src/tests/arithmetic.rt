@@ -1,8 +1,8 @@
 //! Results of the arithmetic at the ends of its ranges, worked out with whole numbers elsewhere.
 use super::cut;
 use crate::{
-    ByteOrder, Condition, LoadFormat, Operation, SignExtension, SwapWidth, Width, negate,
-    immediate_operand, wide_number,
+    ByteOrder, Condition, LoadFormat, Operation, SignExtension, SwapWidth, Width,
+    immediate_operand, negate, wide_number,
 };
 use std::test::Fail;
 

@@ -1,0 +1,147 @@
+//! Codes whose jumps all go forward.
+ghost use Rattle.std.specs.Prelude.{◌≡◌, ◌≢◌, ◌<◌, ◌+◌, ◌≤ℤ◌, pos, length, option_map, Some, IsSome, IfSome, IsOk, IfOk, IfErr, OnOk};
+ghost use Rattle.bpf_insn.specs.Code.{instruction_at, word_count};
+ghost use Rattle.bpf_insn.specs.Form.{spelling};
+ghost use Rattle.bpf_insn.specs.Jump.{jump_distance};
+ghost use Rattle.bpf_insn.specs.declared.code.TheConstants.{WORD_LIMIT};
+ghost use Rattle.bpf_insn.specs.declared.instruction.Insn.{Insn};
+ghost use Rattle.bpf_flow.specs.Flow.{target_of, LeadsOn, JumpsLeadOn, JumpsBy, LeadOnBefore, EndsInExit, IsForward, IsFirstFault};
+
+use crate::fault::FlowFault;
+use bpf_insn::{Code, Insn};
+use std::alloc::Allocator;
+use std::marker::Model;
+
+/// A code whose jumps all go forward to where an instruction begins, and whose last instruction is EXIT. Contracts see it as a record with
+/// the field `code`, the list of its instructions.
+#[derive(Debug, Drop)]
+pub struct Flow<A: Allocator> {
+    code: Code<A>,
+}
+
+impl<A: Allocator> Model for Flow<A> {
+    ghost use Rattle.bpf_flow.specs.Flow.{Contents, IsForward};
+
+    ghost Value = { Contents };
+
+    ghost view = { λ flow. record { code = flow.code } };
+
+    ghost invariant = { λ flow. IsForward flow.code };
+}
+
+impl<A: Allocator> Flow<A> {
+    /// The flow of a code, or its first fault: that of the first jump that doesn't lead on, and if there is none, that the last
+    /// instruction is no EXIT. It takes no memory, and its time grows with the instructions.
+    pub fn of(code: Code<A>) -> Result<Self, FlowFault>
+        ensures ok { IfOk result (λ flow. (flow.code ≡ code) × IsForward code) }
+        ensures err { IfErr result (IsFirstFault code) }
+        ensures forward { IsForward code → IsOk result }
+    {
+        check_jumps(&code)?;
+        check_last(&code)?;
+        Ok(Flow { code })
+    }
+
+    /// The code, lent.
+    pub fn code(&self) -> &Code<A>
+        ensures value { result.now ≡ self.now.code }
+        ensures forward { IsForward self.now.code }
+    {
+        &self.code
+    }
+
+    /// The code.
+    pub fn into_code(self) -> Code<A>
+        ensures value { result ≡ self.code }
+        ensures forward { IsForward self.code }
+    {
+        self.code
+    }
+
+    /// The place behind the instruction that begins at a place. If it's no EXIT, an instruction begins there.
+    pub fn next(&self, place: usize) -> usize
+        requires { IsSome (instruction_at self.now.code place) }
+        ensures value { IfSome (instruction_at self.now.code place) (λ insn. result ≡ place + length (spelling insn)) }
+        ensures begins { instruction_at self.now.code place ≢ Some Insn.Exit → IsSome (instruction_at self.now.code result) }
+    {
+        match self.code.at(place) {
+            Some(insn) => place + insn.words(),
+            None => unreachable!(),
+        }
+    }
+
+    /// Where the instruction that begins at a place jumps, if it's a jump: to a later place, where an instruction begins. A conditional
+    /// jump leads there where it's taken.
+    pub fn target(&self, place: usize) -> Option<usize>
+        requires { IsSome (instruction_at self.now.code place) }
+        ensures value { IfSome (instruction_at self.now.code place)
+            (λ insn. option_map pos result ≡ option_map (target_of place) (jump_distance insn)) }
+        ensures later { IfSome result (λ target. place < target) }
+        ensures begins { IfSome result (λ target. IsSome (instruction_at self.now.code target)) }
+    {
+        let distance = self.code.at(place)?.jump_distance()?;
+        Some(target_of(place, distance))
+    }
+}
+
+/// Checks that each jump leads on, in order.
+fn check_jumps<A: Allocator>(code: &Code<A>) -> Result<(), FlowFault>
+    ensures ok { OnOk result (JumpsLeadOn code.now) }
+    ensures err { IfErr result (IsFirstFault code.now) }
+{
+    let instructions = code.instructions();
+    let mut place = 0;
+    for insn in instructions {
+        if let Some(distance) = insn.jump_distance() {
+            check_jump(code, place, distance)?;
+        }
+        place += insn.words();
+    }
+    Ok(())
+}
+
+/// Checks that a jump leads on, where those before it do.
+fn check_jump<A: Allocator>(code: &Code<A>, place: usize, distance: i32) -> Result<(), FlowFault>
+    requires before { LeadOnBefore code.now place }
+    requires jump { JumpsBy code.now place distance }
+    ensures ok { OnOk result (LeadsOn code.now place distance) }
+    ensures err { IfErr result (IsFirstFault code.now) }
+{
+    if distance < 0 {
+        return Err(FlowFault::BackwardJump { place });
+    }
+    let words = code.words();
+    let target = target_of(place, distance);
+    if target >= words {
+        return Err(FlowFault::OutOfProgram { place });
+    }
+    if code.at(target).is_none() {
+        return Err(FlowFault::IntoWide { place });
+    }
+    Ok(())
+}
+
+/// Where a jump that goes forward leads.
+fn target_of(place: usize, distance: i32) -> usize
+    requires within { place < WORD_LIMIT }
+    requires forward { pos 0 ≤ℤ distance }
+    ensures { pos result ≡ target_of place distance }
+{
+    place + 1 + distance as usize
+}
+
+/// Checks that the last instruction is EXIT, where each jump leads on.
+fn check_last<A: Allocator>(code: &Code<A>) -> Result<(), FlowFault>
+    requires { JumpsLeadOn code.now }
+    ensures ok { OnOk result (EndsInExit code.now) }
+    ensures err { IfErr result (IsFirstFault code.now) }
+{
+    let instructions = code.instructions();
+    let last = instructions.len() - 1;
+    match instructions[last] {
+        Insn::Exit => Ok(()),
+        _ => Err(FlowFault::LastNotExit {
+            place: code.place(last),
+        }),
+    }
+}

@@ -1,0 +1,15 @@
+//! What holds of the definitions themselves. The functions do nothing: each one's contract is the law.
+ghost use Rattle.std.specs.Prelude.{◌≡◌, List};
+ghost use Rattle.bpf_insn.specs.declared.instruction.Insn.{Insn};
+ghost use Rattle.bpf_flow.specs.Flow.{IsForward, IsFirstFault};
+ghost use Rattle.bpf_flow.specs.declared.fault.FlowFault.{FlowFault};
+
+/// A code has at most one first fault.
+pub fn one_fault()
+    ensures { (code : List Insn) (a b : FlowFault) → IsFirstFault code a → IsFirstFault code b → a ≡ b }
+{}
+
+/// A code whose jumps all go forward, and that ends in EXIT, has no fault.
+pub fn forward_has_no_fault()
+    ensures { (code : List Insn) (fault : FlowFault) → IsForward code → IsFirstFault code fault → ⊥ }
+{}

@@ -1,0 +1,11 @@
+//! BPF codes (RFC 9669) whose jumps all go forward, and that end in EXIT: no run of one takes more steps than it has instructions.
+#![tactic(auto)]
+
+mod fault;
+mod flow;
+pub mod laws;
+#[cfg(test)]
+mod tests;
+
+pub use fault::FlowFault;
+pub use flow::Flow;
