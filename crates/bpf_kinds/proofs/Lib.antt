@@ -1,0 +1,11 @@
+pub mod BitLemmas
+pub mod HoldLemmas
+pub mod OperationLemmas
+pub mod ShiftLemmas
+pub mod ExactLemmas
+pub mod AluLemmas
+pub mod ResultLemmas
+mod TestLemmas
+pub mod NarrowingLaws
+mod MovingLemmas
+pub mod MovingLaws

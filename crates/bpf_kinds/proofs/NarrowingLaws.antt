@@ -1,0 +1,246 @@
+-- What is known after a conditional jump admits the numbers that were compared, and is no less than what was known before.
+use Rattle.std.proofs.Common.{◌≡◌, ◌≢◌, ℕ, ◌+◌, ◌-◌, ◌<◌, ◌≤◌, ◌^◌, Bool, true, false, Option, Some, None, refl, sym, ◌∙◌, subst, arith}
+use Rattle.std.specs.Prelude.{pos, ◌&&◌, ◌==◌, nat_lt, nat_le, if◌then◌else◌}
+use Rattle.std.specs.Int.{w32, w64, cast_signed}
+use Rattle.std.proofs.lemmas.Bool.Decides.{nat_tests}
+use Rattle.std.proofs.lemmas.Int.{to_z_pos}
+use Rattle.std.proofs.Math.Nat.{mod-eq_of_lt}
+use mir.Val.{bits}
+use Rattle.bpf_insn.specs.Arithmetic.{operand_bits, low_bits, is_met, is_met_on}
+use Rattle.bpf_insn.specs.declared.instruction.Condition.{Condition}
+use Rattle.bpf_insn.specs.declared.instruction.Condition.TheVariants.{Equal, Greater, GreaterOrEqual, SharesBit, NotEqual, SignedGreater, SignedGreaterOrEqual, Less, LessOrEqual, SignedLess, SignedLessOrEqual}
+use Rattle.bpf_insn.specs.declared.instruction.Width.{Width}
+use Rattle.bpf_insn.specs.declared.instruction.Width.TheVariants.{Bits32, Bits64}
+use Rattle.bpf_kinds.proofs.TestLemmas as test
+use Rattle.bpf_kinds.specs.Interval.{IsProper, Admits, IsWithin, is_single}
+use Rattle.bpf_kinds.specs.Narrowing.{relation_of, is_signed, plain_limit, is_plain, at_least, at_most, common, without, narrowed, if_reached, narrow, is_edge, decide, refine_by, refine}
+use Rattle.bpf_kinds.specs.declared.interval.Interval.{Interval}
+use Rattle.bpf_kinds.specs.declared.narrowing.Narrowed.{Narrowed}
+use Rattle.bpf_kinds.specs.declared.narrowing.Relation.{Relation}
+use Rattle.bpf_kinds.specs.declared.narrowing.Relation.TheVariants.{Same, Different, Above, AtLeast, Below, AtMost}
+
+-- how two numbers stand to each other
+
+abbrev Stand : Relation → ℕ → ℕ → Type 0
+Stand Same m n = m ≡ n
+Stand Different m n = m ≢ n
+Stand Above m n = n < m
+Stand AtLeast m n = n ≤ m
+Stand Below m n = m < n
+Stand AtMost m n = m ≤ n
+
+abbrev StandIf : Option Relation → ℕ → ℕ → Type 0
+StandIf None m n = Unit {0}
+StandIf (Some relation) m n = Stand relation m n
+
+-- numbers that are compared as they are
+
+signed_number : (width : Width) (n : ℕ) → n < 2 ^ (bits (operand_bits width) - 1) → cast_signed (operand_bits width) n ≡ pos n
+signed_number Bits32 n below = to_z_pos w32 n below
+signed_number Bits64 n below = to_z_pos w64 n below
+
+limit_fits : (signed : Bool) (width : Width) → (if signed then 2 ^ (bits (operand_bits width) - 1) else 2 ^ bits (operand_bits width)) ≤ 2 ^ bits (operand_bits width)
+limit_fits true Bits32 = omega arith
+limit_fits true Bits64 = omega arith
+limit_fits false Bits32 = omega arith
+limit_fits false Bits64 = omega arith
+
+under : (n high limit : ℕ) → n ≤ high → nat_lt high limit ≡ true → n < limit
+under n high limit most is = let below = test.less high limit is in omega arith
+
+whole : (n limit bound : ℕ) → n < limit → limit ≤ bound → n < bound
+whole n limit bound below most = omega arith
+
+compared : (condition : Condition) (width : Width) (m n : ℕ) → m < 2 ^ bits (operand_bits width) → n < 2 ^ bits (operand_bits width) → is_met condition width m n ≡ is_met_on condition (operand_bits width) m n
+compared condition width m n below-m below-n =
+    let e-m : low_bits (operand_bits width) m ≡ m = mod-eq_of_lt below-m in
+    let e-n : low_bits (operand_bits width) n ≡ n = mod-eq_of_lt below-n in
+    rw (e-m, e-n) refl
+
+stand_where : (condition : Condition) (taken : Bool) (width : Width) (m n : ℕ) → m < plain_limit condition width → n < plain_limit condition width → is_met_on condition (operand_bits width) m n ≡ taken → StandIf (relation_of condition taken) m n
+stand_where Equal true width m n a b is = test.equal m n is
+stand_where Equal false width m n a b is = test.different m n is
+stand_where NotEqual true width m n a b is = test.different m n (test.not_true (m == n) is)
+stand_where NotEqual false width m n a b is = test.equal m n (test.not_false (m == n) is)
+stand_where Greater true width m n a b is = test.less n m is
+stand_where Greater false width m n a b is = test.not_less n m is
+stand_where GreaterOrEqual true width m n a b is = test.at_most n m is
+stand_where GreaterOrEqual false width m n a b is = test.more n m is
+stand_where Less true width m n a b is = test.less m n is
+stand_where Less false width m n a b is = test.not_less m n is
+stand_where LessOrEqual true width m n a b is = test.at_most m n is
+stand_where LessOrEqual false width m n a b is = test.more m n is
+stand_where SignedGreater true width m n a b is = test.less n m (rw (signed_number width n b, signed_number width m a) at is)
+stand_where SignedGreater false width m n a b is = test.not_less n m (rw (signed_number width n b, signed_number width m a) at is)
+stand_where SignedGreaterOrEqual true width m n a b is = test.at_most n m (rw (signed_number width n b, signed_number width m a) at is)
+stand_where SignedGreaterOrEqual false width m n a b is = test.more n m (rw (signed_number width n b, signed_number width m a) at is)
+stand_where SignedLess true width m n a b is = test.less m n (rw (signed_number width m a, signed_number width n b) at is)
+stand_where SignedLess false width m n a b is = test.not_less m n (rw (signed_number width m a, signed_number width n b) at is)
+stand_where SignedLessOrEqual true width m n a b is = test.at_most m n (rw (signed_number width m a, signed_number width n b) at is)
+stand_where SignedLessOrEqual false width m n a b is = test.more m n (rw (signed_number width m a, signed_number width n b) at is)
+stand_where SharesBit taken width m n a b is = tt
+
+stand_plain : (condition : Condition) (width : Width) (x y : Interval) (m n : ℕ) (taken : Bool) → Admits x m → Admits y n → is_met condition width m n ≡ taken → is_plain condition width x y ≡ true → StandIf (relation_of condition taken) m n
+stand_plain condition width x y m n taken left right answer plain =
+    let limits = test.both _ _ plain in
+    let below-m : m < plain_limit condition width = under m x.high _ left.below limits.0 in
+    let below-n : n < plain_limit condition width = under n y.high _ right.below limits.1 in
+    let fits = limit_fits (is_signed condition) width in
+    let same = compared condition width m n (whole m _ _ below-m fits) (whole n _ _ below-n fits) in
+    stand_where condition taken width m n below-m below-n (sym same ∙ answer)
+
+-- two numbers are admitted on an edge
+
+abbrev Keeps : Option Narrowed → ℕ → ℕ → Type 0
+Keeps narrower m n = (both : Narrowed) × (narrower ≡ Some both) × Admits both.left m × Admits both.right n
+
+some_of : (a b : Bool) (both : Narrowed) → a ≡ true → b ≡ true → (if a && b then Some both else None) ≡ Some both
+some_of a b both first second = rw (first, second) refl
+
+le_test : (x : Interval) (n : ℕ) → Admits x n → nat_le x.low x.high ≡ true
+le_test x n here = grind (arith, nat_tests, here.above, here.below)
+
+reached : (left right : Interval) (m n : ℕ) → Admits left m → Admits right n → Keeps (if_reached left right) m n
+reached left right m n here there = (narrowed left right, some_of _ _ (narrowed left right) (le_test left m here) (le_test right n there), here, there)
+
+admits_if : (test : Bool) (a b : Interval) (m : ℕ) → (test ≡ true → Admits a m) → Admits b m → Admits (if test then a else b) m
+admits_if true a b m first second = first refl
+admits_if false a b m first second = second
+
+-- an end that isn't the number itself may move in by one
+low_above : (low m v : ℕ) → low ≤ m → m ≢ v → (if low == v then low + 1 else low) ≤ m
+low_above low m v above other = grind (arith, nat_tests)
+
+high_below : (high m v : ℕ) → m ≤ high → m ≢ v → m ≤ (if high == v then high - 1 else high)
+high_below high m v below other = grind (arith, nat_tests)
+
+only : (x : Interval) (n : ℕ) → Admits x n → is_single x ≡ true → n ≡ x.low
+only x n here single = let same = test.equal x.low x.high single in omega arith
+
+without-admits : (x y : Interval) (m n : ℕ) → Admits x m → Admits y n → m ≢ n → Admits (without x y) m
+without-admits x y m n here there other =
+    admits_if (is_single y) _ x m
+    (λ single.
+    let differs : m ≢ y.low = λ (same : m ≡ y.low). other (same ∙ sym (only y n there single)) in
+    record { above = low_above x.low m y.low here.above differs; below = high_below x.high m y.low here.below differs })
+    here
+
+narrow-keeps : (relation : Relation) (x y : Interval) (m n : ℕ) → Admits x m → Admits y n → Stand relation m n → Keeps (narrow relation x y) m n
+narrow-keeps Same x y m n here there stand =
+    reached (common x y) (common x y) m n (record { above = omega arith; below = omega arith }) (record { above = omega arith; below = omega arith })
+narrow-keeps Different x y m n here there stand =
+    reached (without x y) (without y x) m n (without-admits x y m n here there stand) (without-admits y x n m there here (λ (same : n ≡ m). stand (sym same)))
+narrow-keeps Above x y m n here there stand =
+    reached (at_least x (y.low + 1)) (at_most y (x.high - 1)) m n (record { above = omega arith; below = omega arith }) (record { above = omega arith; below = omega arith })
+narrow-keeps AtLeast x y m n here there stand =
+    reached (at_least x y.low) (at_most y x.high) m n (record { above = omega arith; below = omega arith }) (record { above = omega arith; below = omega arith })
+narrow-keeps Below x y m n here there stand =
+    reached (at_most x (y.high - 1)) (at_least y (x.low + 1)) m n (record { above = omega arith; below = omega arith }) (record { above = omega arith; below = omega arith })
+narrow-keeps AtMost x y m n here there stand =
+    reached (at_most x y.high) (at_least y x.low) m n (record { above = omega arith; below = omega arith }) (record { above = omega arith; below = omega arith })
+
+edge_of : (answer taken : Bool) → answer ≡ taken → is_edge answer taken ≡ true
+edge_of true true is = refl
+edge_of true false is = cc
+edge_of false true is = cc
+edge_of false false is = refl
+
+decided : (single edge : Bool) (both : Narrowed) → (single ≡ true → edge ≡ true) → (if single then (if edge then Some both else None) else Some both) ≡ Some both
+decided true edge both met = rw (met refl) refl
+decided false edge both met = refl
+
+decide-keeps : (condition : Condition) (width : Width) (x y : Interval) (m n : ℕ) (taken : Bool) → Admits x m → Admits y n → is_met condition width m n ≡ taken → Keeps (decide condition width x y taken) m n
+decide-keeps condition width x y m n taken here there answer =
+    let met : (is_single x && is_single y) ≡ true → is_edge (is_met condition width x.low y.low) taken ≡ true = λ single.
+    let singles = test.both (is_single x) (is_single y) single in
+    let e-m : x.low ≡ m = sym (only x m here singles.0) in
+    let e-n : y.low ≡ n = sym (only y n there singles.1) in
+    edge_of _ taken (rw (e-m, e-n) answer) in
+    (narrowed x y, decided (is_single x && is_single y) _ (narrowed x y) met, here, there)
+
+keeps_if : (test : Bool) (a b : Option Narrowed) (m n : ℕ) → (test ≡ true → Keeps a m n) → Keeps b m n → Keeps (if test then a else b) m n
+keeps_if true a b m n first second = first refl
+keeps_if false a b m n first second = second
+
+refine_by-keeps : (relation : Option Relation) (condition : Condition) (width : Width) (x y : Interval) (m n : ℕ) (taken : Bool) → Admits x m → Admits y n → is_met condition width m n ≡ taken → (is_plain condition width x y ≡ true → StandIf relation m n) → Keeps (refine_by relation condition width x y taken) m n
+refine_by-keeps None condition width x y m n taken here there answer stand = decide-keeps condition width x y m n taken here there answer
+refine_by-keeps (Some relation) condition width x y m n taken here there answer stand =
+    keeps_if (is_plain condition width x y) (narrow relation x y) (decide condition width x y taken) m n
+    (λ plain. narrow-keeps relation x y m n here there (stand plain)) (decide-keeps condition width x y m n taken here there answer)
+
+-- two numbers that are compared stay admitted on the edge that their comparison takes
+pub refine-keeps : (condition : Condition) (width : Width) (x y : Interval) (m n : ℕ) (taken : Bool) → IsProper x → IsProper y → Admits x m → Admits y n → is_met condition width m n ≡ taken → (both : Narrowed) × (refine condition width x y taken ≡ Some both) × Admits both.left m × Admits both.right n
+refine-keeps condition width x y m n taken proper-x proper-y left right answer =
+    refine_by-keeps (relation_of condition taken) condition width x y m n taken left right answer
+    (λ plain. stand_plain condition width x y m n taken left right answer plain)
+
+-- narrowed intervals are proper, and lie within those that were there
+
+abbrev Narrows : Narrowed → Interval → Interval → Type 0
+Narrows both x y = IsProper both.left × IsProper both.right × IsWithin both.left x × IsWithin both.right y
+
+reached-within : (left right x y : Interval) (both : Narrowed) → IsProper x → IsProper y → IsWithin left x → IsWithin right y → if_reached left right ≡ Some both → Narrows both x y
+reached-within left right x y both proper-x proper-y within-x within-y is =
+    let parts = test.some_if _ _ _ is in
+    let ordered = test.both _ _ parts.0 in
+    let proper-left : IsProper left = record { ordered = test.at_most _ _ ordered.0; fits = omega arith } in
+    let proper-right : IsProper right = record { ordered = test.at_most _ _ ordered.1; fits = omega arith } in
+    subst (λ (z : Narrowed). Narrows z x y) parts.1 (proper-left, proper-right, within-x, within-y)
+
+within_if : (test : Bool) (a b x : Interval) → IsWithin a x → IsWithin b x → IsWithin (if test then a else b) x
+within_if true a b x first second = first
+within_if false a b x first second = second
+
+low_moved : (low v : ℕ) → low ≤ (if low == v then low + 1 else low)
+low_moved low v = grind (arith, nat_tests)
+
+high_moved : (high v : ℕ) → (if high == v then high - 1 else high) ≤ high
+high_moved high v = grind (arith, nat_tests)
+
+itself-within : (x : Interval) → IsWithin x x
+itself-within x = record { low = omega arith; high = omega arith }
+
+at_least-within : (x : Interval) (n : ℕ) → IsWithin (at_least x n) x
+at_least-within x n = record { low = omega arith; high = omega arith }
+
+at_most-within : (x : Interval) (n : ℕ) → IsWithin (at_most x n) x
+at_most-within x n = record { low = omega arith; high = omega arith }
+
+without-within : (x y : Interval) → IsWithin (without x y) x
+without-within x y = within_if (is_single y) _ x x (record { low = low_moved x.low y.low; high = high_moved x.high y.low }) (itself-within x)
+
+narrow-within : (relation : Relation) (x y : Interval) (both : Narrowed) → IsProper x → IsProper y → narrow relation x y ≡ Some both → Narrows both x y
+narrow-within Same x y both proper-x proper-y is =
+    reached-within (common x y) (common x y) x y both proper-x proper-y (record { low = omega arith; high = omega arith }) (record { low = omega arith; high = omega arith }) is
+narrow-within Different x y both proper-x proper-y is =
+    reached-within (without x y) (without y x) x y both proper-x proper-y (without-within x y) (without-within y x) is
+narrow-within Above x y both proper-x proper-y is =
+    reached-within (at_least x (y.low + 1)) (at_most y (x.high - 1)) x y both proper-x proper-y (at_least-within x (y.low + 1)) (at_most-within y (x.high - 1)) is
+narrow-within AtLeast x y both proper-x proper-y is =
+    reached-within (at_least x y.low) (at_most y x.high) x y both proper-x proper-y (at_least-within x y.low) (at_most-within y x.high) is
+narrow-within Below x y both proper-x proper-y is =
+    reached-within (at_most x (y.high - 1)) (at_least y (x.low + 1)) x y both proper-x proper-y (at_most-within x (y.high - 1)) (at_least-within y (x.low + 1)) is
+narrow-within AtMost x y both proper-x proper-y is =
+    reached-within (at_most x y.high) (at_least y x.low) x y both proper-x proper-y (at_most-within x y.high) (at_least-within y x.low) is
+
+undecided : (single edge : Bool) (z both : Narrowed) → (if single then (if edge then Some z else None) else Some z) ≡ Some both → z ≡ both
+undecided true true z both is = cc
+undecided true false z both is = cc
+undecided false edge z both is = cc
+
+decide-within : (condition : Condition) (width : Width) (x y : Interval) (taken : Bool) (both : Narrowed) → IsProper x → IsProper y → decide condition width x y taken ≡ Some both → Narrows both x y
+decide-within condition width x y taken both proper-x proper-y is =
+    subst (λ (z : Narrowed). Narrows z x y) (undecided (is_single x && is_single y) _ (narrowed x y) both is) (proper-x, proper-y, itself-within x, itself-within y)
+
+narrows_if : (test : Bool) (a b : Option Narrowed) (x y : Interval) (both : Narrowed) → (a ≡ Some both → Narrows both x y) → (b ≡ Some both → Narrows both x y) → (if test then a else b) ≡ Some both → Narrows both x y
+narrows_if true a b x y both first second is = first is
+narrows_if false a b x y both first second is = second is
+
+refine_by-within : (relation : Option Relation) (condition : Condition) (width : Width) (x y : Interval) (taken : Bool) (both : Narrowed) → IsProper x → IsProper y → refine_by relation condition width x y taken ≡ Some both → Narrows both x y
+refine_by-within None condition width x y taken both proper-x proper-y is = decide-within condition width x y taken both proper-x proper-y is
+refine_by-within (Some relation) condition width x y taken both proper-x proper-y is =
+    narrows_if (is_plain condition width x y) (narrow relation x y) (decide condition width x y taken) x y both
+    (narrow-within relation x y both proper-x proper-y) (decide-within condition width x y taken both proper-x proper-y) is
+
+pub refine-within : (condition : Condition) (width : Width) (x y : Interval) (taken : Bool) (both : Narrowed) → IsProper x → IsProper y → refine condition width x y taken ≡ Some both → IsProper both.left × IsProper both.right × IsWithin both.left x × IsWithin both.right y
+refine-within condition width x y taken both proper-x proper-y is = refine_by-within (relation_of condition taken) condition width x y taken both proper-x proper-y is

@@ -1,0 +1,7 @@
+pub mod NumberWidth
+pub mod Interval
+pub mod Offsets
+pub mod Kind
+pub mod Results
+pub mod Narrowing
+pub mod Moving

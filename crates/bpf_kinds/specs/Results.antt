@@ -1,0 +1,157 @@
+-- Results of instructions on intervals. Each bounds the number that the arithmetic of the same name gives (RFC 9669, sections 4 and 5);
+-- which bounds these are is this project's own choice. Where every operand is one number, the result is exact.
+use Rattle.std.specs.Prelude.{ℕ, ℤ, ◌+◌, ◌-◌, ◌*◌, ◌/◌, ◌%◌, ◌^◌, ◌&&◌, ◌||◌, nat_lt, nat_le, min, max, if◌then◌else◌}
+use Rattle.std.specs.Int.{w8, w16, w32, w64, leading_zeros}
+use Rattle.std.specs.Int.{Width as Bits}
+use mir.Val.{bits}
+use Rattle.bpf_insn.specs.Arithmetic as arithmetic
+use Rattle.bpf_insn.specs.Arithmetic.{operand_bits, swap_bits}
+use Rattle.bpf_insn.specs.declared.instruction.Operation.{Operation}
+use Rattle.bpf_insn.specs.declared.instruction.Operation.TheVariants.{Add, Subtract, Multiply, Divide, SignedDivide, Or, And, ShiftLeft, ShiftRight, Modulo, SignedModulo, ExclusiveOr, Move, ArithmeticShiftRight}
+use Rattle.bpf_insn.specs.declared.instruction.Width.{Width}
+use Rattle.bpf_insn.specs.declared.instruction.SignExtension.{SignExtension}
+use Rattle.bpf_insn.specs.declared.instruction.SignExtension.TheVariants.{Bits8To32, Bits16To32, Bits8To64, Bits16To64, Bits32To64}
+use Rattle.bpf_insn.specs.declared.instruction.ByteOrder.{ByteOrder}
+use Rattle.bpf_insn.specs.declared.instruction.ByteOrder.TheVariants.{LittleEndian, BigEndian, Swapped}
+use Rattle.bpf_insn.specs.declared.instruction.SwapWidth.{SwapWidth}
+use Rattle.bpf_insn.specs.declared.instruction.LoadFormat.{LoadFormat}
+use Rattle.bpf_insn.specs.declared.instruction.LoadFormat.TheVariants.{Byte, HalfWord, Word, DoubleWord, SignedByte, SignedHalfWord, SignedWord}
+use Rattle.bpf_kinds.specs.Interval.{between, single, is_single, full, cut}
+use Rattle.bpf_kinds.specs.declared.interval.Interval.{Interval}
+
+-- the greatest number with as many binary digits
+abbrev pub greatest_of_length : ℕ → ℕ
+greatest_of_length n = 2 ^ (64 - leading_zeros w64 n) - 1
+
+-- sums from end to end, where none passes the width or all do
+abbrev pub sum_of : Bits → Interval → Interval → Interval
+sum_of w x y =
+    if nat_lt (x.high + y.high) (2 ^ bits w) then between (x.low + y.low) (x.high + y.high)
+    else (if nat_le (2 ^ bits w) (x.low + y.low) then between (x.low + y.low - 2 ^ bits w) (x.high + y.high - 2 ^ bits w) else full w)
+
+-- differences from end to end, where all are numbers or none is
+abbrev pub difference_of : Bits → Interval → Interval → Interval
+difference_of w x y =
+    if nat_le y.high x.low then between (x.low - y.high) (x.high - y.low)
+    else (if nat_lt x.high y.low then between (x.low + 2 ^ bits w - y.high) (x.high + 2 ^ bits w - y.low) else full w)
+
+abbrev pub product_of : Bits → Interval → Interval → Interval
+product_of w x y = if nat_lt (x.high * y.high) (2 ^ bits w) then between (x.low * y.low) (x.high * y.high) else full w
+
+-- quotients and remainders, where no divisor is zero
+abbrev pub quotient_of : Interval → Interval → Interval
+quotient_of x y = if nat_le 1 y.low then between (x.low / y.high) (x.high / y.low) else between 0 x.high
+
+abbrev pub remainder_of : Interval → Interval → Interval
+remainder_of x y = if nat_le 1 y.low then between 0 (min x.high (y.high - 1)) else between 0 x.high
+
+-- shifts, whose amount is the low 5 or 6 bits of the second operand, where that is one number; a shift to the left is then a product
+abbrev pub left_shift_of : Bits → Interval → Interval → Interval
+left_shift_of w x y = if is_single y then product_of w x (single (2 ^ (y.low % bits w))) else full w
+
+abbrev pub right_shift_of : Bits → Interval → Interval → Interval
+right_shift_of w x y =
+    if is_single y then between (x.low / 2 ^ (y.low % bits w)) (x.high / 2 ^ (y.low % bits w)) else between 0 x.high
+
+-- exact at both ends where all numbers have the same sign
+abbrev pub arithmetic_shift_of : Bits → Interval → Interval → Interval
+arithmetic_shift_of w x y =
+    if is_single y && (nat_lt x.high (2 ^ (bits w - 1)) || nat_le (2 ^ (bits w - 1)) x.low)
+    then between (arithmetic.operation_on ArithmeticShiftRight w x.low y.low) (arithmetic.operation_on ArithmeticShiftRight w x.high y.low)
+    else full w
+
+-- an operation on operands of w bits of which one at least is more than one number
+abbrev pub operation_on : Operation → Bits → Interval → Interval → Interval
+operation_on Add w x y = sum_of w x y
+operation_on Subtract w x y = difference_of w x y
+operation_on Multiply w x y = product_of w x y
+operation_on Divide w x y = quotient_of x y
+operation_on SignedDivide w x y = full w
+operation_on Or w x y = between (max x.low y.low) (greatest_of_length (max x.high y.high))
+operation_on And w x y = between 0 (min x.high y.high)
+operation_on ShiftLeft w x y = left_shift_of w x y
+operation_on ShiftRight w x y = right_shift_of w x y
+operation_on Modulo w x y = remainder_of x y
+operation_on SignedModulo w x y = full w
+operation_on ExclusiveOr w x y = between 0 (greatest_of_length (max x.high y.high))
+operation_on Move w x y = y
+operation_on ArithmeticShiftRight w x y = arithmetic_shift_of w x y
+
+-- an operation on operands of w bits
+abbrev pub result_on : Operation → Bits → Interval → Interval → Interval
+result_on operation w x y =
+    if is_single x && is_single y then single (arithmetic.operation_on operation w x.low y.low) else operation_on operation w x y
+
+-- an operation, with the destination as the first operand and the source as the second; with 32 bits it takes the low halves
+abbrev pub alu : Operation → Width → Interval → Interval → Interval
+alu operation width x y = result_on operation (operand_bits width) (cut (operand_bits width) x) (cut (operand_bits width) y)
+
+abbrev pub negate_on : Width → Interval → Interval
+negate_on width x = if is_single x then single (arithmetic.negate width x.low) else full (operand_bits width)
+
+abbrev pub negate : Width → Interval → Interval
+negate width x = negate_on width (cut (operand_bits width) x)
+
+-- how many bits a move with sign extension takes, and to how many it extends them
+abbrev pub source_bits : SignExtension → Bits
+source_bits Bits8To32 = w8
+source_bits Bits16To32 = w16
+source_bits Bits8To64 = w8
+source_bits Bits16To64 = w16
+source_bits Bits32To64 = w32
+
+abbrev pub target_bits : SignExtension → Bits
+target_bits Bits8To32 = w32
+target_bits Bits16To32 = w32
+target_bits Bits8To64 = w64
+target_bits Bits16To64 = w64
+target_bits Bits32To64 = w64
+
+-- low bits with their sign extended: the low bits themselves, where the sign is 0 for all of them
+abbrev pub extend_low : Bits → Bits → Interval → Interval
+extend_low from to low = if nat_lt low.high (2 ^ (bits from - 1)) then low else full to
+
+abbrev pub extend_on : SignExtension → Interval → Interval
+extend_on extension x =
+    if is_single x
+    then single (arithmetic.extension_of extension x.low)
+    else extend_low (source_bits extension) (target_bits extension) (cut (source_bits extension) x)
+
+abbrev pub extend : SignExtension → Interval → Interval
+extend extension x = extend_on extension (cut (target_bits extension) x)
+
+-- bytes in the opposite order
+abbrev pub reversal : ByteOrder → SwapWidth → Interval → Interval
+reversal order width x = if is_single x then single (arithmetic.byte_swap order width x.low) else full (swap_bits width)
+
+abbrev pub byte_swap : ByteOrder → SwapWidth → Interval → Interval
+byte_swap LittleEndian width x = cut (swap_bits width) x
+byte_swap BigEndian width x = reversal BigEndian width x
+byte_swap Swapped width x = reversal Swapped width x
+
+-- how many bytes a load reads
+abbrev pub load_length : LoadFormat → ℕ
+load_length Byte = 1
+load_length HalfWord = 2
+load_length Word = 4
+load_length DoubleWord = 8
+load_length SignedByte = 1
+load_length SignedHalfWord = 2
+load_length SignedWord = 4
+
+-- what a load gives
+abbrev pub load : LoadFormat → Interval
+load Byte = full w8
+load HalfWord = full w16
+load Word = full w32
+load DoubleWord = full w64
+load SignedByte = full w64
+load SignedHalfWord = full w64
+load SignedWord = full w64
+
+-- the number of a wide load, and that of an immediate
+abbrev pub wide_number : ℤ → ℤ → Interval
+wide_number immediate next_immediate = single (arithmetic.wide_number immediate next_immediate)
+
+abbrev pub immediate_operand : ℤ → Interval
+immediate_operand immediate = single (arithmetic.immediate_operand immediate)

@@ -1,0 +1,104 @@
+//! Intervals of numbers.
+ghost use Rattle.std.specs.Prelude.{◌≡◌, ℕ};
+ghost use Rattle.bpf_kinds.specs.Interval as interval;
+ghost use Rattle.bpf_kinds.specs.Interval.{IsProper, HasBits, single, is_single, full, cut};
+ghost use Rattle.bpf_kinds.specs.NumberWidth.{number_bits};
+ghost use Rattle.std.proofs.Common.{rules};
+
+use crate::number_width::NumberWidth;
+use crate::order::Order;
+
+/// The numbers from `low` to `high`, both included: unsigned, of 64 bits.
+#[derive(Clone, Copy, Debug, PartialEq, Eq)]
+pub struct Interval {
+    pub low: u64,
+    pub high: u64,
+}
+
+impl Interval {
+    /// One number.
+    pub fn single(number: u64) -> Interval
+        ensures value { result ≡ single number }
+        ensures proper { IsProper result }
+    {
+        Interval {
+            low: number,
+            high: number,
+        }
+    }
+
+    /// Whether it's one number.
+    pub fn is_single(self) -> bool
+        ensures { result ≡ is_single self }
+    {
+        self.low == self.high
+    }
+
+    /// All numbers of so many bits.
+    pub fn full(width: NumberWidth) -> Interval
+        ensures value { result ≡ full (number_bits width) }
+        ensures bits { HasBits (number_bits width) result }
+        ensures proper { IsProper result }
+    {
+        Interval {
+            low: 0,
+            high: width.greatest(),
+        }
+    }
+
+    /// The low bits of its numbers, so many.
+    pub fn cut(self, width: NumberWidth) -> Interval
+        requires { IsProper self }
+        ensures value { result ≡ cut (number_bits width) self }
+        ensures bits { HasBits (number_bits width) result }
+        ensures proper { IsProper result }
+    {
+        match width.count() {
+            Some(count) if self.low / count == self.high / count => Interval {
+                low: self.low % count,
+                high: self.high % count,
+            },
+            Some(_) => Interval::full(width),
+            None => self,
+        }
+    }
+}
+
+impl Order for Interval {
+    ghost Element = { ℕ };
+
+    ghost IsProper = { interval.IsProper };
+
+    ghost Admits = { interval.Admits };
+
+    ghost IsWithin = { interval.IsWithin };
+
+    ghost join = { interval.join };
+
+    ghost reflexive = { Prim.search rules };
+
+    ghost transitive = { Prim.search rules };
+
+    ghost antisymmetric = { Prim.search rules };
+
+    ghost join_is_proper = { Prim.search rules };
+
+    ghost left_is_within_join = { Prim.search rules };
+
+    ghost right_is_within_join = { Prim.search rules };
+
+    ghost join_is_least = { Prim.search rules };
+
+    ghost admits_more = { Prim.search rules };
+
+    fn leq(&self, other: &Interval) -> bool {
+        other.low <= self.low && self.high <= other.high
+    }
+
+    fn join(&self, other: &Interval) -> Interval {
+        Interval {
+            low: self.low.min(other.low),
+            high: self.high.max(other.high),
+        }
+    }
+}

@@ -1,0 +1,68 @@
+//! Kinds of values.
+ghost use Rattle.std.proofs.Common.{rules};
+ghost use Rattle.bpf_insn.specs.declared.value.Value.{Value};
+ghost use Rattle.bpf_kinds.specs.Kind as kind;
+
+use crate::interval::Interval;
+use crate::offsets::Offsets;
+use crate::order::Order;
+
+/// What is known of a register's value.
+#[derive(Clone, Copy, Debug, PartialEq, Eq)]
+pub enum Kind {
+    /// A number of the interval.
+    Number(Interval),
+    /// A pointer into the record, at one of the offsets.
+    Record(Offsets),
+    /// A pointer into the frame, at one of the offsets.
+    Frame(Offsets),
+    /// Anything, also an empty register.
+    Nothing,
+}
+
+impl Order for Kind {
+    ghost Element = { Value };
+
+    ghost IsProper = { kind.IsProper };
+
+    ghost Admits = { kind.Admits };
+
+    ghost IsWithin = { kind.IsWithin };
+
+    ghost join = { kind.join };
+
+    ghost reflexive = { Prim.search rules };
+
+    ghost transitive = { Prim.search rules };
+
+    ghost antisymmetric = { Prim.search rules };
+
+    ghost join_is_proper = { Prim.search rules };
+
+    ghost left_is_within_join = { Prim.search rules };
+
+    ghost right_is_within_join = { Prim.search rules };
+
+    ghost join_is_least = { Prim.search rules };
+
+    ghost admits_more = { Prim.search rules };
+
+    fn leq(&self, other: &Kind) -> bool {
+        match (self, other) {
+            (_, Kind::Nothing) => true,
+            (Kind::Number(x), Kind::Number(y)) => x.leq(y),
+            (Kind::Record(x), Kind::Record(y)) => x.leq(y),
+            (Kind::Frame(x), Kind::Frame(y)) => x.leq(y),
+            _ => false,
+        }
+    }
+
+    fn join(&self, other: &Kind) -> Kind {
+        match (self, other) {
+            (Kind::Number(x), Kind::Number(y)) => Kind::Number(x.join(y)),
+            (Kind::Record(x), Kind::Record(y)) => Kind::Record(x.join(y)),
+            (Kind::Frame(x), Kind::Frame(y)) => Kind::Frame(x.join(y)),
+            _ => Kind::Nothing,
+        }
+    }
+}

@@ -1,0 +1,47 @@
+//! What holds of the definitions themselves. The functions do nothing: each one's contract is the
+//! law.
+ghost use Rattle.std.specs.Prelude.{ℕ, ℤ, ◌<◌, ◌^◌, FitsSigned};
+ghost use Rattle.std.specs.Int.{w32, Width as Bits};
+ghost use Rattle.bpf_insn.specs.Arithmetic as arithmetic;
+ghost use Rattle.bpf_insn.specs.Arithmetic.{low_bits, result_of, extension_of, load_extension};
+ghost use Rattle.bpf_insn.specs.declared.instruction.ByteOrder.{ByteOrder};
+ghost use Rattle.bpf_insn.specs.declared.instruction.LoadFormat.{LoadFormat};
+ghost use Rattle.bpf_insn.specs.declared.instruction.Operation.{Operation};
+ghost use Rattle.bpf_insn.specs.declared.instruction.SignExtension.{SignExtension};
+ghost use Rattle.bpf_insn.specs.declared.instruction.SwapWidth.{SwapWidth};
+ghost use Rattle.bpf_insn.specs.declared.instruction.Width.{Width};
+ghost use Rattle.bpf_kinds.specs.Interval.{IsProper, Admits, cut};
+ghost use Rattle.bpf_kinds.specs.Results.{alu, negate, extend, byte_swap, load_length, load, wide_number, immediate_operand};
+ghost use Rattle.bpf_kinds.specs.declared.interval.Interval.{Interval};
+
+/// What an instruction gives of numbers that intervals admit, the interval that it gives of those
+/// admits.
+pub fn results_are_admitted()
+    ensures low_bits { (w : Bits) (x : Interval) (n : ℕ) → IsProper x → Admits x n → Admits (cut w x) (low_bits w n) }
+    ensures alu { (operation : Operation) (width : Width) (x y : Interval) (m n : ℕ) → IsProper x → IsProper y
+        → Admits x m → Admits y n → Admits (alu operation width x y) (result_of operation width m n) }
+    ensures negate { (width : Width) (x : Interval) (n : ℕ) → IsProper x → Admits x n
+        → Admits (negate width x) (arithmetic.negate width n) }
+    ensures extend { (extension : SignExtension) (x : Interval) (n : ℕ) → IsProper x → Admits x n
+        → Admits (extend extension x) (extension_of extension n) }
+    ensures byte_swap { (order : ByteOrder) (width : SwapWidth) (x : Interval) (n : ℕ) → IsProper x → Admits x n
+        → Admits (byte_swap order width x) (arithmetic.byte_swap order width n) }
+    ensures load { (format : LoadFormat) (n : ℕ) → n < 256 ^ load_length format
+        → Admits (load format) (load_extension format n) }
+    ensures wide_number { (immediate next_immediate : ℤ)
+        → Admits (wide_number immediate next_immediate) (arithmetic.wide_number immediate next_immediate) }
+    ensures immediate_operand { (immediate : ℤ) → Admits (immediate_operand immediate) (arithmetic.immediate_operand immediate) }
+{}
+
+/// What an instruction gives of proper intervals is a proper interval.
+pub fn results_are_proper()
+    ensures alu { (operation : Operation) (width : Width) (x y : Interval) → IsProper x → IsProper y
+        → IsProper (alu operation width x y) }
+    ensures negate { (width : Width) (x : Interval) → IsProper x → IsProper (negate width x) }
+    ensures extend { (extension : SignExtension) (x : Interval) → IsProper x → IsProper (extend extension x) }
+    ensures byte_swap { (order : ByteOrder) (width : SwapWidth) (x : Interval) → IsProper x → IsProper (byte_swap order width x) }
+    ensures load { (format : LoadFormat) → IsProper (load format) }
+    ensures wide_number { (immediate next_immediate : ℤ) → FitsSigned w32 immediate → FitsSigned w32 next_immediate
+        → IsProper (wide_number immediate next_immediate) }
+    ensures immediate_operand { (immediate : ℤ) → FitsSigned w32 immediate → IsProper (immediate_operand immediate) }
+{}

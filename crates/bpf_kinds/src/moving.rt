@@ -1,0 +1,58 @@
+//! Pointers that are moved by a number of bytes.
+ghost use Rattle.std.specs.Prelude.{◌≡◌};
+ghost use Rattle.bpf_kinds.specs.Interval.{IsProper};
+ghost use Rattle.bpf_kinds.specs.Moving.{near_distances, if_offsets, move_by, move_back_by};
+ghost use Rattle.bpf_kinds.specs.Offsets.{between};
+
+#[cfg(test)]
+mod tests;
+
+use crate::interval::Interval;
+use crate::offsets::Offsets;
+
+/// The numbers of an interval in two's complement, as distances in bytes, where a pointer may be moved by each of them: all are at
+/// most 32767, or all are from -32768 to -1.
+pub fn near_distances(x: Interval) -> Option<Offsets>
+    requires { IsProper x }
+    ensures { result ≡ near_distances x }
+{
+    if x.high < 1 << 15 || x.low > u64::MAX - (1 << 15) {
+        Some(Offsets {
+            low: x.low.cast_signed() as i16,
+            high: x.high.cast_signed() as i16,
+        })
+    } else {
+        None
+    }
+}
+
+impl Offsets {
+    /// The offsets after a move by the distances, where all of them are offsets.
+    pub fn move_by(self, distances: Offsets) -> Option<Offsets>
+        ensures { result ≡ move_by self distances }
+    {
+        if_offsets(
+            i32::from(self.low) + i32::from(distances.low),
+            i32::from(self.high) + i32::from(distances.high),
+        )
+    }
+
+    /// The offsets after a move backwards by the distances, where all of them are offsets.
+    pub fn move_back_by(self, distances: Offsets) -> Option<Offsets>
+        ensures { result ≡ move_back_by self distances }
+    {
+        if_offsets(
+            i32::from(self.low) - i32::from(distances.high),
+            i32::from(self.high) - i32::from(distances.low),
+        )
+    }
+}
+
+/// The numbers from `low` to `high`, where both are offsets.
+fn if_offsets(low: i32, high: i32) -> Option<Offsets>
+    ensures { result ≡ if_offsets (between low high) }
+{
+    let low = i16::try_from(low).ok()?;
+    let high = i16::try_from(high).ok()?;
+    Some(Offsets { low, high })
+}

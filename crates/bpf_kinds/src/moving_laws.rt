@@ -1,0 +1,36 @@
+//! Laws of moving pointers, each the contract of a function that does nothing.
+ghost use Rattle.std.specs.Prelude.{◌≡◌, ◌+ℤ◌, ◌-ℤ◌, ℕ, ℤ, IsTrue, Some};
+ghost use Rattle.std.specs.Int.{w64, cast_signed};
+ghost use Rattle.bpf_insn.specs.Pointer.{is_offset};
+ghost use Rattle.bpf_kinds.specs.Interval as interval;
+ghost use Rattle.bpf_kinds.specs.Offsets.{IsProper, Admits};
+ghost use Rattle.bpf_kinds.specs.Moving.{near_distances, move_by, move_back_by};
+ghost use Rattle.bpf_kinds.specs.declared.interval.Interval.{Interval};
+ghost use Rattle.bpf_kinds.specs.declared.offsets.Offsets.{Offsets};
+
+/// Each number of an interval by which a pointer may be moved is a near distance, and the distances of the interval admit it.
+pub fn near_distances_admit()
+    ensures proper { (x : Interval) (distances : Offsets)
+        → interval.IsProper x → near_distances x ≡ Some distances → IsProper distances }
+    ensures admits { (x : Interval) (distances : Offsets) (n : ℕ)
+        → interval.IsProper x → near_distances x ≡ Some distances → interval.Admits x n
+        → IsTrue (is_offset (cast_signed w64 n)) × Admits distances (cast_signed w64 n) }
+{}
+
+/// A pointer at one of the offsets that is moved by one of the distances has an offset, and the moved offsets admit it.
+pub fn move_by_admits()
+    ensures proper { (x distances moved : Offsets)
+        → IsProper x → IsProper distances → move_by x distances ≡ Some moved → IsProper moved }
+    ensures admits { (x distances moved : Offsets) (offset distance : ℤ)
+        → move_by x distances ≡ Some moved → Admits x offset → Admits distances distance
+        → IsTrue (is_offset (offset +ℤ distance)) × Admits moved (offset +ℤ distance) }
+{}
+
+/// The same of a pointer that is moved back.
+pub fn move_back_by_admits()
+    ensures proper { (x distances moved : Offsets)
+        → IsProper x → IsProper distances → move_back_by x distances ≡ Some moved → IsProper moved }
+    ensures admits { (x distances moved : Offsets) (offset distance : ℤ)
+        → move_back_by x distances ≡ Some moved → Admits x offset → Admits distances distance
+        → IsTrue (is_offset (offset -ℤ distance)) × Admits moved (offset -ℤ distance) }
+{}

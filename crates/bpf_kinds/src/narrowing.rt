@@ -1,0 +1,195 @@
+//! Narrowing at conditional jumps (RFC 9669, section 4.3).
+ghost use Rattle.std.specs.Prelude.{◌≡◌, ◌+◌, ◌-◌, ◌^◌, min};
+ghost use Rattle.bpf_kinds.specs.Narrowing.{relation_of, is_signed, plain_limit, is_plain, at_least, at_most, common, without, if_reached, narrow, decide, refine};
+
+#[cfg(test)]
+mod tests;
+
+use crate::interval::Interval;
+use bpf_insn::{Condition, Width};
+
+/// What is known of a comparison's two numbers on one of its edges.
+#[derive(Clone, Copy, Debug, PartialEq, Eq)]
+pub struct Narrowed {
+    pub left: Interval,
+    pub right: Interval,
+}
+
+/// How the left number of a comparison stands to the right one.
+#[derive(Clone, Copy, Debug, PartialEq, Eq)]
+pub(crate) enum Relation {
+    Same,
+    Different,
+    Above,
+    AtLeast,
+    Below,
+    AtMost,
+}
+
+/// What is known of two numbers that are compared, on the edge of a jump that is `taken` or of one that isn't. `None` where
+/// the edge isn't reached.
+pub fn refine(
+    condition: Condition,
+    width: Width,
+    x: Interval,
+    y: Interval,
+    taken: bool,
+) -> Option<Narrowed>
+    ensures { result ≡ refine condition width x y taken }
+{
+    match relation_of(condition, taken) {
+        Some(relation) if is_plain(condition, width, x, y) => relation.narrow(x, y),
+        _ => decide(condition, width, x, y, taken),
+    }
+}
+
+/// How two numbers stand to each other where the condition's answer is `taken`, if it says something of their order.
+fn relation_of(condition: Condition, taken: bool) -> Option<Relation>
+    ensures { result ≡ relation_of condition taken }
+{
+    match (condition, taken) {
+        (Condition::Equal, true) | (Condition::NotEqual, false) => Some(Relation::Same),
+        (Condition::Equal, false) | (Condition::NotEqual, true) => Some(Relation::Different),
+        (Condition::Greater | Condition::SignedGreater, true)
+        | (Condition::LessOrEqual | Condition::SignedLessOrEqual, false) => Some(Relation::Above),
+        (Condition::GreaterOrEqual | Condition::SignedGreaterOrEqual, true)
+        | (Condition::Less | Condition::SignedLess, false) => Some(Relation::AtLeast),
+        (Condition::GreaterOrEqual | Condition::SignedGreaterOrEqual, false)
+        | (Condition::Less | Condition::SignedLess, true) => Some(Relation::Below),
+        (Condition::LessOrEqual | Condition::SignedLessOrEqual, true)
+        | (Condition::Greater | Condition::SignedGreater, false) => Some(Relation::AtMost),
+        (Condition::SharesBit, _) => None,
+    }
+}
+
+/// Whether the numbers are compared as they are: none has bits above the width, and for a signed comparison none is negative.
+fn is_plain(condition: Condition, width: Width, x: Interval, y: Interval) -> bool
+    ensures { result ≡ is_plain condition width x y }
+{
+    let greatest = greatest_plain(condition, width);
+    x.high <= greatest && y.high <= greatest
+}
+
+/// The greatest number that is compared as it is.
+fn greatest_plain(condition: Condition, width: Width) -> u64
+    ensures { result + 1 ≡ plain_limit condition width }
+{
+    match (width, is_signed(condition)) {
+        (Width::Bits32, false) => (1 << 32) - 1,
+        (Width::Bits32, true) => (1 << 31) - 1,
+        (Width::Bits64, false) => u64::MAX,
+        (Width::Bits64, true) => (1 << 63) - 1,
+    }
+}
+
+fn is_signed(condition: Condition) -> bool
+    ensures { result ≡ is_signed condition }
+{
+    matches!(
+        condition,
+        Condition::SignedGreater
+            | Condition::SignedGreaterOrEqual
+            | Condition::SignedLess
+            | Condition::SignedLessOrEqual
+    )
+}
+
+/// Both intervals as they are; `None` where both are one number and the condition's answer is that of the other edge.
+fn decide(
+    condition: Condition,
+    width: Width,
+    x: Interval,
+    y: Interval,
+    taken: bool,
+) -> Option<Narrowed>
+    ensures { result ≡ decide condition width x y taken }
+{
+    if x.is_single() && y.is_single() && condition.holds(width, x.low, y.low) != taken {
+        return None;
+    }
+    Some(Narrowed { left: x, right: y })
+}
+
+impl Relation {
+    /// The intervals round all pairs of numbers that stand so to each other, where there is such a pair.
+    fn narrow(self, x: Interval, y: Interval) -> Option<Narrowed>
+        ensures { result ≡ narrow self x y }
+    {
+        // Where an end saturates, one of the two intervals is empty.
+        match self {
+            Relation::Same => if_reached(common(x, y), common(x, y)),
+            Relation::Different => if_reached(without(x, y), without(y, x)),
+            Relation::Above => if_reached(
+                at_least(x, y.low.saturating_add(1)),
+                at_most(y, x.high.saturating_sub(1)),
+            ),
+            Relation::AtLeast => if_reached(at_least(x, y.low), at_most(y, x.high)),
+            Relation::Below => if_reached(
+                at_most(x, y.high.saturating_sub(1)),
+                at_least(y, x.low.saturating_add(1)),
+            ),
+            Relation::AtMost => if_reached(at_most(x, y.high), at_least(y, x.low)),
+        }
+    }
+}
+
+fn if_reached(left: Interval, right: Interval) -> Option<Narrowed>
+    ensures { result ≡ if_reached left right }
+{
+    if left.low <= left.high && right.low <= right.high {
+        Some(Narrowed { left, right })
+    } else {
+        None
+    }
+}
+
+fn at_least(x: Interval, least: u64) -> Interval
+    ensures { result ≡ at_least x least }
+{
+    Interval {
+        low: x.low.max(least),
+        high: x.high,
+    }
+}
+
+fn at_most(x: Interval, most: u64) -> Interval
+    ensures { result ≡ at_most x most }
+{
+    Interval {
+        low: x.low,
+        high: x.high.min(most),
+    }
+}
+
+/// The numbers of both intervals.
+fn common(x: Interval, y: Interval) -> Interval
+    ensures { result ≡ common x y }
+{
+    Interval {
+        low: x.low.max(y.low),
+        high: x.high.min(y.high),
+    }
+}
+
+/// `x` without the number that `y` is, if it's one: an end that is this number moves in by one.
+fn without(x: Interval, y: Interval) -> Interval
+    // A lower end that would be 2^64 is 2^64 - 1, which is above the upper one, too.
+    ensures low { result.low ≡ min (without x y).low (2 ^ 64 - 1) }
+    ensures high { result.high ≡ (without x y).high }
+{
+    if !y.is_single() {
+        return x;
+    }
+    Interval {
+        low: if x.low == y.low {
+            x.low.saturating_add(1)
+        } else {
+            x.low
+        },
+        high: if x.high == y.low {
+            x.high.saturating_sub(1)
+        } else {
+            x.high
+        },
+    }
+}

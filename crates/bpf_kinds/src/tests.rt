@@ -1,0 +1,373 @@
+//! Results of instructions, from another tool that goes by the written rules and was tried on all numbers of small intervals.
+ghost use Rattle.std.specs.Prelude.{IfOk};
+ghost use Rattle.bpf_kinds.specs.Interval.{IsProper};
+
+use crate::{Interval, Order, alu, byte_swap, extend, negate};
+use bpf_insn::{ByteOrder, Operation, SignExtension, SwapWidth, Width};
+use std::test::Fail;
+
+/// What takes operands: two, or the first one alone.
+#[derive(Clone, Copy, Debug)]
+enum Case {
+    Operation(Operation, Width),
+    Negation(Width),
+    Extension(SignExtension),
+    Order(ByteOrder, SwapWidth),
+}
+
+impl Case {
+    fn result(self, x: Interval, y: Interval) -> Interval
+        requires x { IsProper x }
+        requires y { IsProper y }
+    {
+        match self {
+            Case::Operation(operation, width) => alu(operation, width, x, y),
+            Case::Negation(width) => negate(width, x),
+            Case::Extension(extension) => extend(extension, x),
+            Case::Order(order, width) => byte_swap(order, width, x),
+        }
+    }
+}
+
+const CASES: [Case; 44] = [
+    Case::Operation(Operation::Add, Width::Bits64),
+    Case::Operation(Operation::Add, Width::Bits32),
+    Case::Operation(Operation::Subtract, Width::Bits64),
+    Case::Operation(Operation::Subtract, Width::Bits32),
+    Case::Operation(Operation::Multiply, Width::Bits64),
+    Case::Operation(Operation::Multiply, Width::Bits32),
+    Case::Operation(Operation::Divide, Width::Bits64),
+    Case::Operation(Operation::Divide, Width::Bits32),
+    Case::Operation(Operation::SignedDivide, Width::Bits64),
+    Case::Operation(Operation::SignedDivide, Width::Bits32),
+    Case::Operation(Operation::Or, Width::Bits64),
+    Case::Operation(Operation::Or, Width::Bits32),
+    Case::Operation(Operation::And, Width::Bits64),
+    Case::Operation(Operation::And, Width::Bits32),
+    Case::Operation(Operation::ShiftLeft, Width::Bits64),
+    Case::Operation(Operation::ShiftLeft, Width::Bits32),
+    Case::Operation(Operation::ShiftRight, Width::Bits64),
+    Case::Operation(Operation::ShiftRight, Width::Bits32),
+    Case::Operation(Operation::Modulo, Width::Bits64),
+    Case::Operation(Operation::Modulo, Width::Bits32),
+    Case::Operation(Operation::SignedModulo, Width::Bits64),
+    Case::Operation(Operation::SignedModulo, Width::Bits32),
+    Case::Operation(Operation::ExclusiveOr, Width::Bits64),
+    Case::Operation(Operation::ExclusiveOr, Width::Bits32),
+    Case::Operation(Operation::Move, Width::Bits64),
+    Case::Operation(Operation::Move, Width::Bits32),
+    Case::Operation(Operation::ArithmeticShiftRight, Width::Bits64),
+    Case::Operation(Operation::ArithmeticShiftRight, Width::Bits32),
+    Case::Negation(Width::Bits64),
+    Case::Negation(Width::Bits32),
+    Case::Extension(SignExtension::Bits8To32),
+    Case::Extension(SignExtension::Bits16To32),
+    Case::Extension(SignExtension::Bits8To64),
+    Case::Extension(SignExtension::Bits16To64),
+    Case::Extension(SignExtension::Bits32To64),
+    Case::Order(ByteOrder::LittleEndian, SwapWidth::Bits16),
+    Case::Order(ByteOrder::LittleEndian, SwapWidth::Bits32),
+    Case::Order(ByteOrder::LittleEndian, SwapWidth::Bits64),
+    Case::Order(ByteOrder::BigEndian, SwapWidth::Bits16),
+    Case::Order(ByteOrder::BigEndian, SwapWidth::Bits32),
+    Case::Order(ByteOrder::BigEndian, SwapWidth::Bits64),
+    Case::Order(ByteOrder::Swapped, SwapWidth::Bits16),
+    Case::Order(ByteOrder::Swapped, SwapWidth::Bits32),
+    Case::Order(ByteOrder::Swapped, SwapWidth::Bits64),
+];
+
+// A case, its operands and the result, a row a line. Intervals are in hexadecimal, and one number stands for itself.
+const RESULTS: &str = "\
+Operation(Add, Bits64) ffffffff 1 = 100000000
+Operation(Add, Bits64) 1 0-100000000 = 1-100000001
+Operation(Add, Bits64) 80000000 7-9 = 80000007-80000009
+Operation(Add, Bits64) 8000000000000000 ffffffff-8000000000000000 = 0-ffffffffffffffff
+Operation(Add, Bits64) 0-7fffffffffffffff ffffffff-ffffffffffffffff = 0-ffffffffffffffff
+Operation(Add, Bits64) 7fffffff-100000000 ffffffffffffffff = 7ffffffe-ffffffff
+Operation(Add, Bits64) 8000000000000005-8000000000000009 ffffffffffffffff = 8000000000000004-8000000000000008
+Operation(Add, Bits32) 1 7fffffff = 80000000
+Operation(Add, Bits32) 7fffffff 0-1 = 7fffffff-80000000
+Operation(Add, Bits32) 5-9 0-7fffffff = 5-80000008
+Operation(Add, Bits32) 0-80000000 0-80000000 = 0-ffffffff
+Operation(Add, Bits32) 7fffffffffffffff 0-7fffffff = 0-ffffffff
+Operation(Add, Bits32) 100000000 0-7fffffffffffffff = 0-ffffffff
+Operation(Add, Bits32) 0 1-100000000 = 0-ffffffff
+Operation(Add, Bits32) 0-ffffffff 7fffffff-8000000000000000 = 0-ffffffff
+Operation(Subtract, Bits64) 0 8000000000000000 = 8000000000000000
+Operation(Subtract, Bits64) 8000000000000005-8000000000000009 80000000-100000000 = 7fffffff00000005-7fffffff80000009
+Operation(Subtract, Bits64) 80000000-7fffffffffffffff 0-80000000 = 0-7fffffffffffffff
+Operation(Subtract, Bits64) 1-7fffffffffffffff 7fffffff-ffffffff = 0-ffffffffffffffff
+Operation(Subtract, Bits64) 80000001-80000006 1-100000000 = 0-ffffffffffffffff
+Operation(Subtract, Bits64) 5-9 7fffffffffffffff = 8000000000000006-800000000000000a
+Operation(Subtract, Bits64) 7fffffffffffffff-8000000000000000 ffffffffffffffff = 8000000000000000-8000000000000001
+Operation(Subtract, Bits32) 0 8000000000000000 = 0
+Operation(Subtract, Bits32) 80000001-80000006 1-3 = 7ffffffe-80000005
+Operation(Subtract, Bits32) 80000001-80000006 7-9 = 7ffffff8-7fffffff
+Operation(Subtract, Bits32) 1-ffffffff 7fffffff = 0-ffffffff
+Operation(Subtract, Bits32) 0-1 1-3 = 0-ffffffff
+Operation(Subtract, Bits32) 7fffffffffffffff 0-8000000000000000 = 0-ffffffff
+Operation(Subtract, Bits32) ffffffff 1-7fffffffffffffff = 0-ffffffff
+Operation(Subtract, Bits32) 1 1-8000000000000000 = 0-ffffffff
+Operation(Multiply, Bits64) 8000000000000000 1 = 8000000000000000
+Operation(Multiply, Bits64) 0-ffffffffffffffff 1 = 0-ffffffffffffffff
+Operation(Multiply, Bits64) 0-7fffffff ffffffff-100000000 = 0-7fffffff00000000
+Operation(Multiply, Bits64) 100000000-8000000000000000 80000000-ffffffff = 0-ffffffffffffffff
+Operation(Multiply, Bits64) 100000000-8000000000000000 0-7fffffff = 0-ffffffffffffffff
+Operation(Multiply, Bits32) ffffffffffffffff 1 = ffffffff
+Operation(Multiply, Bits32) 0-ffffffff 100000000 = 0
+Operation(Multiply, Bits32) ffffffff 0-1 = 0-ffffffff
+Operation(Multiply, Bits32) 0-ffffffff 7-9 = 0-ffffffff
+Operation(Multiply, Bits32) 0-80000000 7-9 = 0-ffffffff
+Operation(Multiply, Bits32) 0 80000000-ffffffffffffffff = 0
+Operation(Multiply, Bits32) 1 0-100000000 = 0-ffffffff
+Operation(Multiply, Bits32) 80000000 100000000-7fffffffffffffff = 0-ffffffff
+Operation(Divide, Bits64) 8000000000000000 ffffffff = 80000000
+Operation(Divide, Bits64) 80000000 ffffffff-7fffffffffffffff = 0
+Operation(Divide, Bits64) 7fffffff-ffffffff 100000000 = 0
+Operation(Divide, Bits64) 7fffffff 0-80000000 = 0-7fffffff
+Operation(Divide, Bits64) 1-7fffffffffffffff 0-80000000 = 0-7fffffffffffffff
+Operation(Divide, Bits32) 7fffffff 80000000 = 0
+Operation(Divide, Bits32) 7fffffff 80000000-ffffffffffffffff = 0-7fffffff
+Operation(Divide, Bits32) 0-80000000 1-7fffffffffffffff = 0-80000000
+Operation(Divide, Bits32) 7fffffff-ffffffff ffffffff = 0-1
+Operation(Divide, Bits32) 80000001-80000006 1-7fffffff = 1-80000006
+Operation(Divide, Bits32) 8000000000000005-8000000000000009 8000000000000000 = 0-9
+Operation(Divide, Bits32) ffffffff 0-7fffffff = 0-ffffffff
+Operation(Divide, Bits32) 7fffffff-ffffffffffffffff 7fffffff-100000000 = 0-ffffffff
+Operation(SignedDivide, Bits64) 0 2 = 0
+Operation(SignedDivide, Bits64) 1-7fffffff 7fffffff-ffffffffffffffff = 0-ffffffffffffffff
+Operation(SignedDivide, Bits64) 5-9 80000000-100000000 = 0-ffffffffffffffff
+Operation(SignedDivide, Bits32) 100000000 80000000 = 0
+Operation(SignedDivide, Bits32) 0-ffffffff 1-7fffffff = 0-ffffffff
+Operation(SignedDivide, Bits32) 8000000000000005-8000000000000009 100000000 = 0-ffffffff
+Operation(SignedDivide, Bits32) 80000000-ffffffff 80000000-100000000 = 0-ffffffff
+Operation(SignedDivide, Bits32) 1 8000000000000000-ffffffffffffffff = 0-ffffffff
+Operation(SignedDivide, Bits32) 0-7fffffffffffffff 80000000-8000000000000000 = 0-ffffffff
+Operation(SignedDivide, Bits32) 0-ffffffffffffffff 80000000-ffffffff = 0-ffffffff
+Operation(Or, Bits64) 100000000 8000000000000000-ffffffffffffffff = 8000000000000000-ffffffffffffffff
+Operation(Or, Bits64) 7fffffff-8000000000000000 ffffffff-ffffffffffffffff = ffffffff-ffffffffffffffff
+Operation(Or, Bits64) 8000000000000000-ffffffffffffffff ffffffff = 8000000000000000-ffffffffffffffff
+Operation(Or, Bits64) 80000000-8000000000000000 7fffffff = 80000000-ffffffffffffffff
+Operation(Or, Bits64) ffffffff 80000000 = ffffffff
+Operation(Or, Bits32) 7fffffff-80000000 ffffffffffffffff = ffffffff
+Operation(Or, Bits32) 8000000000000005-8000000000000009 7fffffff = 7fffffff
+Operation(Or, Bits32) 7fffffff-ffffffff 1 = 7fffffff-ffffffff
+Operation(Or, Bits32) 80000000 1-80000000 = 80000000-ffffffff
+Operation(Or, Bits32) 100000000 ffffffffffffffff = ffffffff
+Operation(Or, Bits32) 0-1 7fffffff-7fffffffffffffff = 0-ffffffff
+Operation(Or, Bits32) 0-1 100000000-8000000000000000 = 0-ffffffff
+Operation(Or, Bits32) 7fffffff-ffffffff ffffffff-7fffffffffffffff = 7fffffff-ffffffff
+Operation(And, Bits64) 1-7fffffff 7fffffff-ffffffffffffffff = 0-7fffffff
+Operation(And, Bits64) ffffffff-100000000 8000000000000000 = 0-100000000
+Operation(And, Bits64) ffffffff-8000000000000000 1-7fffffff = 0-7fffffff
+Operation(And, Bits64) 80000000-ffffffffffffffff ffffffffffffffff = 0-ffffffffffffffff
+Operation(And, Bits64) 0 7fffffff = 0
+Operation(And, Bits32) 5-9 0-7fffffff = 0-9
+Operation(And, Bits32) 80000000 0-ffffffff = 0-80000000
+Operation(And, Bits32) 0-ffffffff 80000000 = 0-80000000
+Operation(And, Bits32) 80000000-ffffffff 0-ffffffff = 0-ffffffff
+Operation(And, Bits32) 1 ffffffff = 1
+Operation(And, Bits32) 80000000 ffffffff-8000000000000000 = 0-80000000
+Operation(And, Bits32) 0-1 1-100000000 = 0-1
+Operation(And, Bits32) 7fffffff-ffffffff 0-ffffffffffffffff = 0-ffffffff
+Operation(ShiftLeft, Bits64) ffffffffffffffff 7fffffffffffffff = 8000000000000000
+Operation(ShiftLeft, Bits64) 0-80000000 20 = 0-8000000000000000
+Operation(ShiftLeft, Bits64) 1-7fffffff 1 = 2-fffffffe
+Operation(ShiftLeft, Bits64) ffffffff-100000000 100000001 = 1fffffffe-200000000
+Operation(ShiftLeft, Bits64) 80000000-7fffffffffffffff 100000000 = 80000000-7fffffffffffffff
+Operation(ShiftLeft, Bits64) 5-9 ffffffffffffffff = 0-ffffffffffffffff
+Operation(ShiftLeft, Bits64) 7fffffff-ffffffffffffffff 100000001 = 0-ffffffffffffffff
+Operation(ShiftLeft, Bits64) 0-8000000000000000 ffffffff-8000000000000000 = 0-ffffffffffffffff
+Operation(ShiftLeft, Bits32) 8000000000000000 80000000 = 0
+Operation(ShiftLeft, Bits32) 7fffffff-80000000 0 = 7fffffff-80000000
+Operation(ShiftLeft, Bits32) 100000005-100000009 8000000000000000 = 5-9
+Operation(ShiftLeft, Bits32) 1-ffffffff 20 = 1-ffffffff
+Operation(ShiftLeft, Bits32) 80000001-80000006 40 = 80000001-80000006
+Operation(ShiftLeft, Bits32) 1-ffffffff 3f = 0-ffffffff
+Operation(ShiftLeft, Bits32) 1-7fffffff 1f = 0-ffffffff
+Operation(ShiftLeft, Bits32) 1 7fffffffffffffff-ffffffffffffffff = 0-ffffffff
+Operation(ShiftRight, Bits64) 80000000 0 = 80000000
+Operation(ShiftRight, Bits64) 7fffffff-ffffffff 20 = 0
+Operation(ShiftRight, Bits64) 7fffffff-7fffffffffffffff 0 = 7fffffff-7fffffffffffffff
+Operation(ShiftRight, Bits64) 0-1 7fffffffffffffff = 0
+Operation(ShiftRight, Bits64) 1-80000000 ffffffffffffffff = 0
+Operation(ShiftRight, Bits64) 7fffffff-ffffffffffffffff 100000000-7fffffffffffffff = 0-ffffffffffffffff
+Operation(ShiftRight, Bits64) ffffffff 1-ffffffffffffffff = 0-ffffffff
+Operation(ShiftRight, Bits32) 7fffffffffffffff 80000000 = ffffffff
+Operation(ShiftRight, Bits32) 80000001-80000006 1-ffffffffffffffff = 0-80000006
+Operation(ShiftRight, Bits32) 80000000 80000000-8000000000000000 = 0-80000000
+Operation(ShiftRight, Bits32) 0-80000000 0 = 0-80000000
+Operation(ShiftRight, Bits32) 100000005-100000009 0 = 5-9
+Operation(ShiftRight, Bits32) 7fffffff-ffffffff 21 = 3fffffff-7fffffff
+Operation(ShiftRight, Bits32) 5-9 40 = 5-9
+Operation(ShiftRight, Bits32) 7fffffffffffffff 7fffffff-80000000 = 0-ffffffff
+Operation(Modulo, Bits64) 100000000 0 = 100000000
+Operation(Modulo, Bits64) 7fffffff-ffffffff ffffffffffffffff = 0-ffffffff
+Operation(Modulo, Bits64) 7fffffff-ffffffff 7fffffffffffffff = 0-ffffffff
+Operation(Modulo, Bits64) 1-7fffffffffffffff 1-7fffffff = 0-7ffffffe
+Operation(Modulo, Bits64) 8000000000000000-ffffffffffffffff ffffffff = 0-fffffffe
+Operation(Modulo, Bits64) 100000000-7fffffffffffffff 0-7fffffffffffffff = 0-7fffffffffffffff
+Operation(Modulo, Bits64) 7fffffff-ffffffffffffffff 0-1 = 0-ffffffffffffffff
+Operation(Modulo, Bits32) 0 8000000000000000 = 0
+Operation(Modulo, Bits32) 1-80000000 80000000-7fffffffffffffff = 0-80000000
+Operation(Modulo, Bits32) 0-7fffffff ffffffff-100000000 = 0-7fffffff
+Operation(Modulo, Bits32) 0-7fffffff ffffffffffffffff = 0-7fffffff
+Operation(Modulo, Bits32) 7fffffff-80000000 1-ffffffff = 0-80000000
+Operation(Modulo, Bits32) 1-7fffffff 1-3 = 0-2
+Operation(Modulo, Bits32) 0-ffffffff 80000000-ffffffff = 0-fffffffe
+Operation(Modulo, Bits32) ffffffff 0-7fffffff = 0-ffffffff
+Operation(SignedModulo, Bits64) 7fffffffffffffff ffffffffffffffff = 0
+Operation(SignedModulo, Bits64) 0-ffffffffffffffff 7fffffffffffffff-ffffffffffffffff = 0-ffffffffffffffff
+Operation(SignedModulo, Bits64) ffffffff-7fffffffffffffff 0-80000000 = 0-ffffffffffffffff
+Operation(SignedModulo, Bits32) 8000000000000000 ffffffffffffffff = 0
+Operation(SignedModulo, Bits32) 0-1 0-1 = 0-ffffffff
+Operation(SignedModulo, Bits32) 0-7fffffff 0-7fffffff = 0-ffffffff
+Operation(SignedModulo, Bits32) 1-ffffffff 1-100000000 = 0-ffffffff
+Operation(SignedModulo, Bits32) ffffffff 100000000-8000000000000000 = 0-ffffffff
+Operation(SignedModulo, Bits32) ffffffff-100000000 0-80000000 = 0-ffffffff
+Operation(SignedModulo, Bits32) 7fffffffffffffff-8000000000000000 ffffffff-8000000000000000 = 0-ffffffff
+Operation(ExclusiveOr, Bits64) 1-ffffffff 7fffffffffffffff = 0-7fffffffffffffff
+Operation(ExclusiveOr, Bits64) 7fffffff-80000000 ffffffff-ffffffffffffffff = 0-ffffffffffffffff
+Operation(ExclusiveOr, Bits64) 1-7fffffffffffffff 0-1 = 0-7fffffffffffffff
+Operation(ExclusiveOr, Bits64) 1-100000000 1-100000000 = 0-1ffffffff
+Operation(ExclusiveOr, Bits64) 7fffffffffffffff 7fffffff = 7fffffff80000000
+Operation(ExclusiveOr, Bits32) 5-9 0-80000000 = 0-ffffffff
+Operation(ExclusiveOr, Bits32) 5-9 1-80000000 = 0-ffffffff
+Operation(ExclusiveOr, Bits32) 7fffffff-ffffffff 0-1 = 0-ffffffff
+Operation(ExclusiveOr, Bits32) 1-80000000 7-9 = 0-ffffffff
+Operation(ExclusiveOr, Bits32) 1 0 = 1
+Operation(ExclusiveOr, Bits32) 0-7fffffff 100000000-8000000000000000 = 0-ffffffff
+Operation(ExclusiveOr, Bits32) 0-7fffffff 0-100000000 = 0-ffffffff
+Operation(ExclusiveOr, Bits32) 80000000-ffffffff 7fffffff-7fffffffffffffff = 0-ffffffff
+Operation(Move, Bits64) 7fffffff 7fffffffffffffff = 7fffffffffffffff
+Operation(Move, Bits64) 100000005-100000009 1-3 = 1-3
+Operation(Move, Bits64) ffffffff-100000000 8000000000000000-ffffffffffffffff = 8000000000000000-ffffffffffffffff
+Operation(Move, Bits32) 1 ffffffffffffffff = ffffffff
+Operation(Move, Bits32) 8000000000000005-8000000000000009 7fffffff-8000000000000000 = 0-ffffffff
+Operation(Move, Bits32) 0-1 0-7fffffffffffffff = 0-ffffffff
+Operation(Move, Bits32) 8000000000000005-8000000000000009 7fffffffffffffff = ffffffff
+Operation(Move, Bits32) ffffffff 0-80000000 = 0-80000000
+Operation(Move, Bits32) 80000000-100000000 0-80000000 = 0-80000000
+Operation(Move, Bits32) 100000000-7fffffffffffffff 7fffffff-8000000000000000 = 0-ffffffff
+Operation(ArithmeticShiftRight, Bits64) 7fffffffffffffff 1 = 3fffffffffffffff
+Operation(ArithmeticShiftRight, Bits64) 1-8000000000000000 1f = 0-ffffffffffffffff
+Operation(ArithmeticShiftRight, Bits64) 7fffffff-ffffffffffffffff 40 = 0-ffffffffffffffff
+Operation(ArithmeticShiftRight, Bits64) 8000000000000005-8000000000000009 100000001 = c000000000000002-c000000000000004
+Operation(ArithmeticShiftRight, Bits64) 8000000000000000-ffffffffffffffff 21 = ffffffffc0000000-ffffffffffffffff
+Operation(ArithmeticShiftRight, Bits64) 80000000-7fffffffffffffff 100000001 = 40000000-3fffffffffffffff
+Operation(ArithmeticShiftRight, Bits64) 80000000-7fffffffffffffff 40 = 80000000-7fffffffffffffff
+Operation(ArithmeticShiftRight, Bits64) ffffffffffffffff 1-100000000 = 0-ffffffffffffffff
+Operation(ArithmeticShiftRight, Bits32) 100000000 20 = 0
+Operation(ArithmeticShiftRight, Bits32) 1-ffffffff 100000000-7fffffffffffffff = 0-ffffffff
+Operation(ArithmeticShiftRight, Bits32) 1-80000000 ffffffff-7fffffffffffffff = 0-ffffffff
+Operation(ArithmeticShiftRight, Bits32) 0-ffffffff ffffffffffffffff = 0-ffffffff
+Operation(ArithmeticShiftRight, Bits32) 1-ffffffff 0 = 0-ffffffff
+Operation(ArithmeticShiftRight, Bits32) 80000001-80000006 40 = 80000001-80000006
+Operation(ArithmeticShiftRight, Bits32) 80000001-80000006 0 = 80000001-80000006
+Operation(ArithmeticShiftRight, Bits32) 0-7fffffff 40 = 0-7fffffff
+Negation(Bits64) ffffffff-ffffffffffffffff = 0-ffffffffffffffff
+Negation(Bits64) ffffffff-8000000000000000 = 0-ffffffffffffffff
+Negation(Bits64) 8000000000000000 = 8000000000000000
+Negation(Bits64) ffffffffffffffff = 1
+Negation(Bits32) 0-ffffffff = 0-ffffffff
+Negation(Bits32) 7fffffff-7fffffffffffffff = 0-ffffffff
+Negation(Bits32) 1-80000000 = 0-ffffffff
+Negation(Bits32) 80000000-8000000000000000 = 0-ffffffff
+Extension(Bits8To32) ffffffff-ffffffffffffffff = 0-ffffffff
+Extension(Bits8To32) 0 = 0
+Extension(Bits8To32) 8000-ffff = 0-ffffffff
+Extension(Bits8To32) 1-ffffffffffffffff = 0-ffffffff
+Extension(Bits8To32) 7f-80 = 0-ffffffff
+Extension(Bits8To32) 0-1 = 0-1
+Extension(Bits16To32) ffffffff-7fffffffffffffff = 0-ffffffff
+Extension(Bits16To32) 100-17f = 100-17f
+Extension(Bits16To32) 8000-ffff = 0-ffffffff
+Extension(Bits16To32) 0-80000000 = 0-ffffffff
+Extension(Bits16To32) 0-8000000000000000 = 0-ffffffff
+Extension(Bits16To32) 0-7fffffff = 0-ffffffff
+Extension(Bits8To64) 100-17f = 0-7f
+Extension(Bits8To64) ffffffff-100000000 = 0-ffffffffffffffff
+Extension(Bits8To64) 5-9 = 5-9
+Extension(Bits8To64) 0-ffffffffffffffff = 0-ffffffffffffffff
+Extension(Bits8To64) 0 = 0
+Extension(Bits8To64) 1 = 1
+Extension(Bits16To64) 100000005-100000009 = 5-9
+Extension(Bits16To64) 1122334455667788-112233445566778f = 7788-778f
+Extension(Bits16To64) 0-7fffffffffffffff = 0-ffffffffffffffff
+Extension(Bits16To64) 100000000 = 0
+Extension(Bits16To64) ffffffff = ffffffffffffffff
+Extension(Bits16To64) 1-8000000000000000 = 0-ffffffffffffffff
+Extension(Bits32To64) 8000000000000000 = 0
+Extension(Bits32To64) 0-ffffffff = 0-ffffffffffffffff
+Extension(Bits32To64) fedcba98 = fffffffffedcba98
+Extension(Bits32To64) 0-ffffffffffffffff = 0-ffffffffffffffff
+Extension(Bits32To64) 80000000-ffffffff = 0-ffffffffffffffff
+Extension(Bits32To64) 0-1 = 0-1
+Order(LittleEndian, Bits16) 80000000-ffffffffffffffff = 0-ffff
+Order(LittleEndian, Bits16) 80000000 = 0
+Order(LittleEndian, Bits16) 7f-80 = 7f-80
+Order(LittleEndian, Bits16) 1-7fffffff = 0-ffff
+Order(LittleEndian, Bits32) 1-ffffffff = 1-ffffffff
+Order(LittleEndian, Bits32) ffffffff-8000000000000000 = 0-ffffffff
+Order(LittleEndian, Bits32) 0 = 0
+Order(LittleEndian, Bits32) 8000000000000000-ffffffffffffffff = 0-ffffffff
+Order(LittleEndian, Bits64) 80000000-ffffffff = 80000000-ffffffff
+Order(LittleEndian, Bits64) 1-80000000 = 1-80000000
+Order(BigEndian, Bits16) ffffffff-8000000000000000 = 0-ffff
+Order(BigEndian, Bits16) 7fffffff = ffff
+Order(BigEndian, Bits16) 0 = 0
+Order(BigEndian, Bits16) 1-8000000000000000 = 0-ffff
+Order(BigEndian, Bits32) 0-7fffffffffffffff = 0-ffffffff
+Order(BigEndian, Bits32) ffffffff = ffffffff
+Order(BigEndian, Bits32) 0-100000000 = 0-ffffffff
+Order(BigEndian, Bits32) 7fffffffffffffff = ffffffff
+Order(BigEndian, Bits64) 80000000-7fffffffffffffff = 0-ffffffffffffffff
+Order(BigEndian, Bits64) 80 = 8000000000000000
+Order(BigEndian, Bits64) 0 = 0
+Order(BigEndian, Bits64) 8000-ffff = 0-ffffffffffffffff
+Order(Swapped, Bits16) 80000000-8000000000000000 = 0-ffff
+Order(Swapped, Bits16) 80 = 8000
+Order(Swapped, Bits16) 1-100000000 = 0-ffff
+Order(Swapped, Bits16) 7fffffff = ffff
+Order(Swapped, Bits32) 80 = 80000000
+Order(Swapped, Bits32) 1-ffffffff = 0-ffffffff
+Order(Swapped, Bits32) 1-7fffffffffffffff = 0-ffffffff
+Order(Swapped, Bits32) 80000000 = 80
+Order(Swapped, Bits64) 80 = 8000000000000000
+Order(Swapped, Bits64) 0-7fffffffffffffff = 0-ffffffffffffffff
+Order(Swapped, Bits64) ffffffff-100000000 = 0-ffffffffffffffff
+Order(Swapped, Bits64) 8000000000000000 = 80
+";
+
+/// An interval from its two ends, or from its one number.
+fn interval(text: &str) -> Result<Interval, Fail>
+    ensures { IfOk result IsProper }
+{
+    let (low, high) = text.split_once("-").unwrap_or((text, text));
+    let low = Interval::single(u64::from_str_radix(low, 16)?);
+    let high = Interval::single(u64::from_str_radix(high, 16)?);
+    Ok(low.join(&high))
+}
+
+/// Whether a row behind a case's name, with its operands and the result, is right.
+fn is_right(case: Case, row: &str) -> Result<bool, Fail> {
+    let (operands, want) = row.split_once(" = ").unwrap_or((row, ""));
+    let (x, y) = operands.split_once(" ").unwrap_or((operands, operands));
+    Ok(case.result(interval(x)?, interval(y)?) == interval(want)?)
+}
+
+#[test]
+fn results(rt: HostRuntime) -> Result<(), Fail> {
+    for row in RESULTS.lines() {
+        let mut known = false;
+        for case in CASES {
+            let name = format!(in rt.alloc(); "{case:?} ")?;
+            if let Some(case_row) = row.strip_prefix(name.as_str()) {
+                assert!(rt; is_right(case, case_row)?, "{row}");
+                known = true;
+            }
+        }
+        assert!(rt; known, "{row}");
+    }
+    Ok(())
+}
