@@ -25,6 +25,7 @@ pub record IsWithin (x y : Interval) : Type 0 where
   pub low : y.low ≤ x.low
   pub high : x.high ≤ y.high
 
+-- an interval by its ends
 abbrev pub between : ℕ → ℕ → Interval
 between low high = record { low = low; high = high }
 

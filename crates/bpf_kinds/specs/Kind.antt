@@ -9,6 +9,7 @@ use Rattle.bpf_kinds.specs.Offsets as offsets
 use Rattle.bpf_kinds.specs.declared.kind.Kind.{Kind}
 use Rattle.bpf_kinds.specs.declared.kind.Kind.TheVariants.{Number, Record, Frame, Nothing}
 
+-- the interval is proper, if there is one
 abbrev pub IsProper : Kind → Type 0
 IsProper (Number x) = interval.IsProper x
 IsProper (Record x) = offsets.IsProper x

@@ -19,6 +19,7 @@ pub record IsWithin (x y : Offsets) : Type 0 where
   pub low : y.low ≤ℤ x.low
   pub high : x.high ≤ℤ y.high
 
+-- an interval by its ends
 abbrev pub between : ℤ → ℤ → Offsets
 between low high = record { low = low; high = high }
 

@@ -19,7 +19,7 @@ use Rattle.bpf_insn.specs.declared.instruction.LoadFormat.TheVariants.{Byte, Hal
 use Rattle.bpf_kinds.specs.Interval.{between, single, is_single, full, cut}
 use Rattle.bpf_kinds.specs.declared.interval.Interval.{Interval}
 
--- the greatest number with as many binary digits
+-- the greatest number with as many binary digits as one below 2^64
 abbrev pub greatest_of_length : ℕ → ℕ
 greatest_of_length n = 2 ^ (64 - leading_zeros w64 n) - 1
 
@@ -35,25 +35,29 @@ difference_of w x y =
     if nat_le y.high x.low then between (x.low - y.high) (x.high - y.low)
     else (if nat_lt x.high y.low then between (x.low + 2 ^ bits w - y.high) (x.high + 2 ^ bits w - y.low) else full w)
 
+-- products from end to end, where none passes the width
 abbrev pub product_of : Bits → Interval → Interval → Interval
 product_of w x y = if nat_lt (x.high * y.high) (2 ^ bits w) then between (x.low * y.low) (x.high * y.high) else full w
 
--- quotients and remainders, where no divisor is zero
+-- quotients; where a divisor may be zero, the quotient may be 0
 abbrev pub quotient_of : Interval → Interval → Interval
 quotient_of x y = if nat_le 1 y.low then between (x.low / y.high) (x.high / y.low) else between 0 x.high
 
+-- remainders are below their divisor; where that may be zero, the remainder may be the first operand
 abbrev pub remainder_of : Interval → Interval → Interval
 remainder_of x y = if nat_le 1 y.low then between 0 (min x.high (y.high - 1)) else between 0 x.high
 
--- shifts, whose amount is the low 5 or 6 bits of the second operand, where that is one number; a shift to the left is then a product
+-- Shifts: the amount is known where the second operand is one number, and is then its low 5 or 6 bits. A shift to the left by a known
+-- amount is a product with a power of two.
 abbrev pub left_shift_of : Bits → Interval → Interval → Interval
 left_shift_of w x y = if is_single y then product_of w x (single (2 ^ (y.low % bits w))) else full w
 
+-- shifts to the right that fill up with zeros
 abbrev pub right_shift_of : Bits → Interval → Interval → Interval
 right_shift_of w x y =
     if is_single y then between (x.low / 2 ^ (y.low % bits w)) (x.high / 2 ^ (y.low % bits w)) else between 0 x.high
 
--- exact at both ends where all numbers have the same sign
+-- shifts to the right that fill up with the sign, from end to end where that is the same for all numbers
 abbrev pub arithmetic_shift_of : Bits → Interval → Interval → Interval
 arithmetic_shift_of w x y =
     if is_single y && (nat_lt x.high (2 ^ (bits w - 1)) || nat_le (2 ^ (bits w - 1)) x.low)
@@ -86,13 +90,15 @@ result_on operation w x y =
 abbrev pub alu : Operation → Width → Interval → Interval → Interval
 alu operation width x y = result_on operation (operand_bits width) (cut (operand_bits width) x) (cut (operand_bits width) y)
 
+-- the negative of an operand, known of one number alone
 abbrev pub negate_on : Width → Interval → Interval
 negate_on width x = if is_single x then single (arithmetic.negate width x.low) else full (operand_bits width)
 
+-- the negative; with 32 bits that of the low half
 abbrev pub negate : Width → Interval → Interval
 negate width x = negate_on width (cut (operand_bits width) x)
 
--- how many bits a move with sign extension takes, and to how many it extends them
+-- how many bits a move with sign extension takes (section 4.1: MOVSX)
 abbrev pub source_bits : SignExtension → Bits
 source_bits Bits8To32 = w8
 source_bits Bits16To32 = w16
@@ -100,6 +106,7 @@ source_bits Bits8To64 = w8
 source_bits Bits16To64 = w16
 source_bits Bits32To64 = w32
 
+-- and to how many it extends them
 abbrev pub target_bits : SignExtension → Bits
 target_bits Bits8To32 = w32
 target_bits Bits16To32 = w32
@@ -111,25 +118,28 @@ target_bits Bits32To64 = w64
 abbrev pub extend_low : Bits → Bits → Interval → Interval
 extend_low from to low = if nat_lt low.high (2 ^ (bits from - 1)) then low else full to
 
+-- a move with sign extension, of numbers of as many bits as it gives
 abbrev pub extend_on : SignExtension → Interval → Interval
 extend_on extension x =
     if is_single x
     then single (arithmetic.extension_of extension x.low)
     else extend_low (source_bits extension) (target_bits extension) (cut (source_bits extension) x)
 
+-- a move with sign extension
 abbrev pub extend : SignExtension → Interval → Interval
 extend extension x = extend_on extension (cut (target_bits extension) x)
 
--- bytes in the opposite order
+-- the low bytes in the opposite order, known of one number alone
 abbrev pub reversal : ByteOrder → SwapWidth → Interval → Interval
 reversal order width x = if is_single x then single (arithmetic.byte_swap order width x.low) else full (swap_bits width)
 
+-- the low bytes in another order (section 4.2), of the whole operand
 abbrev pub byte_swap : ByteOrder → SwapWidth → Interval → Interval
 byte_swap LittleEndian width x = cut (swap_bits width) x
 byte_swap BigEndian width x = reversal BigEndian width x
 byte_swap Swapped width x = reversal Swapped width x
 
--- how many bytes a load reads
+-- how many bytes a load reads (section 5.1)
 abbrev pub load_length : LoadFormat → ℕ
 load_length Byte = 1
 load_length HalfWord = 2
@@ -139,7 +149,7 @@ load_length SignedByte = 1
 load_length SignedHalfWord = 2
 load_length SignedWord = 4
 
--- what a load gives
+-- what a load gives of any bytes: all numbers of so many bits, and where their sign is extended all of 64
 abbrev pub load : LoadFormat → Interval
 load Byte = full w8
 load HalfWord = full w16
@@ -149,9 +159,10 @@ load SignedByte = full w64
 load SignedHalfWord = full w64
 load SignedWord = full w64
 
--- the number of a wide load, and that of an immediate
+-- the number of a wide load (section 5.4)
 abbrev pub wide_number : ℤ → ℤ → Interval
 wide_number immediate next_immediate = single (arithmetic.wide_number immediate next_immediate)
 
+-- an immediate as a 64-bit operand
 abbrev pub immediate_operand : ℤ → Interval
 immediate_operand immediate = single (arithmetic.immediate_operand immediate)

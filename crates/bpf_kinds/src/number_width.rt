@@ -57,7 +57,7 @@ impl NumberWidth {
         self.greatest() / 2
     }
 
-    /// How many numbers have so many bits: none for 64 bits, whose numbers are more than a number of 64 bits says.
+    /// How many numbers have so many bits, where that is itself a number of 64 bits.
     pub(crate) fn count(self) -> Option<u64>
         ensures some { IfSome result (λ count. count ≡ 2 ^ bits (number_bits self)) }
         ensures none { IfNone result (number_bits self ≡ w64) }

@@ -1,15 +1,16 @@
 //! An order of what is known, from more to less.
 ghost use Rattle.std.specs.Prelude.{◌≡◌, ◌↔◌, IsTrue};
 
-/// What may be known of something, as a type: each value of the type admits some elements. One that lies within
-/// another says as much or more, and admits no element that the other doesn't.
+/// What may be known of something, as a type: each value admits some elements. A value that lies
+/// within another says as much or more, and admits no element that the other doesn't.
 ///
-/// The laws hold of proper values. They are ghost members: each implementer proves them.
+/// The ghost members behind the functions are laws, which each implementer proves. They hold of
+/// proper values.
 pub trait Order {
-    /// What is known of.
+    /// What something is known of.
     ghost Element: { Type 0 };
 
-    /// A value that stands for something: its parts fit each other.
+    /// The parts of a value fit each other.
     ghost IsProper: { Self → Type 0 };
 
     /// A value leaves an element possible.
@@ -18,14 +19,14 @@ pub trait Order {
     /// A value says as much as another, or more.
     ghost IsWithin: { Self → Self → Type 0 };
 
-    /// What both values leave open.
+    /// The least value that two lie within.
     ghost join: { Self → Self → Self };
 
     /// Whether this value says as much as the other one, or more.
     fn leq(&self, other: &Self) -> bool
         ensures { IsTrue result ↔ IsWithin self.now other.now };
 
-    /// The least value that both lie within.
+    /// The least value that this one and the other lie within.
     fn join(&self, other: &Self) -> Self
         ensures { result ≡ join self.now other.now };
 
@@ -41,7 +42,9 @@ pub trait Order {
 
     ghost right_is_within_join: { (x y : Self) → IsProper x → IsProper y → IsWithin y (join x y) };
 
-    ghost join_is_least: { (x y z : Self) → IsProper x → IsProper y → IsProper z → IsWithin x z → IsWithin y z → IsWithin (join x y) z };
+    ghost join_is_least: { (x y z : Self) → IsProper x → IsProper y → IsProper z → IsWithin x z → IsWithin y z
+        → IsWithin (join x y) z };
 
-    ghost admits_more: { (x y : Self) (element : Element) → IsProper x → IsProper y → IsWithin x y → Admits x element → Admits y element };
+    ghost admits_more: { (x y : Self) (element : Element) → IsProper x → IsProper y → IsWithin x y → Admits x element
+        → Admits y element };
 }

@@ -2,17 +2,18 @@
 ghost use Rattle.std.specs.Prelude.{IfOk};
 ghost use Rattle.bpf_kinds.specs.Interval.{IsProper};
 
-use crate::{Interval, Order, alu, byte_swap, extend, negate};
-use bpf_insn::{ByteOrder, Operation, SignExtension, SwapWidth, Width};
+use crate::{Interval, Order, alu, byte_swap, extend, load, negate};
+use bpf_insn::{ByteOrder, LoadFormat, Operation, SignExtension, SwapWidth, Width};
 use std::test::Fail;
 
-/// What takes operands: two, or the first one alone.
+/// What takes operands: two, or the first one alone, or none.
 #[derive(Clone, Copy, Debug)]
 enum Case {
     Operation(Operation, Width),
     Negation(Width),
     Extension(SignExtension),
     Order(ByteOrder, SwapWidth),
+    Load(LoadFormat),
 }
 
 impl Case {
@@ -25,11 +26,12 @@ impl Case {
             Case::Negation(width) => negate(width, x),
             Case::Extension(extension) => extend(extension, x),
             Case::Order(order, width) => byte_swap(order, width, x),
+            Case::Load(format) => load(format),
         }
     }
 }
 
-const CASES: [Case; 44] = [
+const CASES: [Case; 51] = [
     Case::Operation(Operation::Add, Width::Bits64),
     Case::Operation(Operation::Add, Width::Bits32),
     Case::Operation(Operation::Subtract, Width::Bits64),
@@ -74,6 +76,13 @@ const CASES: [Case; 44] = [
     Case::Order(ByteOrder::Swapped, SwapWidth::Bits16),
     Case::Order(ByteOrder::Swapped, SwapWidth::Bits32),
     Case::Order(ByteOrder::Swapped, SwapWidth::Bits64),
+    Case::Load(LoadFormat::Byte),
+    Case::Load(LoadFormat::HalfWord),
+    Case::Load(LoadFormat::Word),
+    Case::Load(LoadFormat::DoubleWord),
+    Case::Load(LoadFormat::SignedByte),
+    Case::Load(LoadFormat::SignedHalfWord),
+    Case::Load(LoadFormat::SignedWord),
 ];
 
 // A case, its operands and the result, a row a line. Intervals are in hexadecimal, and one number stands for itself.
@@ -337,6 +346,13 @@ Order(Swapped, Bits64) 80 = 8000000000000000
 Order(Swapped, Bits64) 0-7fffffffffffffff = 0-ffffffffffffffff
 Order(Swapped, Bits64) ffffffff-100000000 = 0-ffffffffffffffff
 Order(Swapped, Bits64) 8000000000000000 = 80
+Load(Byte) 0 = 0-ff
+Load(HalfWord) 0 = 0-ffff
+Load(Word) 0 = 0-ffffffff
+Load(DoubleWord) 0 = 0-ffffffffffffffff
+Load(SignedByte) 0 = 0-ffffffffffffffff
+Load(SignedHalfWord) 0 = 0-ffffffffffffffff
+Load(SignedWord) 0 = 0-ffffffffffffffff
 ";
 
 /// An interval from its two ends, or from its one number.
