@@ -1,0 +1,37 @@
+-- What a run that is on its way comes to, and what a run that exits excludes.
+use Rattle.std.proofs.Common.{◌≡◌, ℕ, ◌≤◌, List, [], ◌∷◌, length, subst, arith}
+use Rattle.bpf_insn.specs.declared.instruction.Insn.{Insn}
+use Rattle.bpf_meaning.specs.Segment.{Contents}
+use Rattle.bpf_meaning.specs.State.{start}
+use Rattle.bpf_meaning.specs.Step.{Configuration, Running, Exited, Stuck, after}
+use Rattle.bpf_meaning.specs.Run.{FollowSteps, last_of, Answers, IsNeverStuck, Exits}
+use Rattle.bpf_meaning.specs.declared.cause.Cause.{Cause}
+use Rattle.bpf_meaning.specs.declared.state.State.{State}
+use Rattle.bpf_meaning.proofs.RunLemmas.{one_next, ends_there, IsOnItsWay, comes_to}
+
+-- no way that exits is as short as one that is still running
+pub exits_first : (code : List Insn) (segment : Contents) (from : Configuration) (run others : List Configuration) (answer score : ℕ) (state : State) → FollowSteps code segment from run → FollowSteps code segment from others → last_of from run ≡ Exited answer score → last_of from others ≡ Running state → length run ≤ length others → ⊥
+exits_first code segment from [] others answer score state f g e h short =
+    let same = ends_there code segment answer score others (subst (λ (c : Configuration). FollowSteps code segment c others) e g) in
+    let there = subst (λ (c : Configuration). last_of c others ≡ Running state) e h in
+    cc
+exits_first code segment from (next ∷ run) [] answer score state f g e h short = absurd (omega arith)
+exits_first code segment from (next ∷ run) (there ∷ others) answer score state f g e h short =
+    let same = one_next code segment from there next g.0 f.0 in
+    exits_first code segment next run others answer score state f.1
+    (subst (λ (c : Configuration). FollowSteps code segment c others) same g.1) e (subst (λ (c : Configuration). last_of c others ≡ Running state) same h) (omega arith)
+
+-- what a run that is on its way comes to
+
+pub comes_to_answer : (code : List Insn) (segment : Contents) (steps : ℕ) (state : State) (answer score : ℕ) → IsOnItsWay code segment steps state → Exited answer score ≡ after code segment state → Answers code segment answer score
+comes_to_answer code segment steps state answer score way is =
+    let end = comes_to code segment steps state (Exited answer score) way is in record { run = end.run; is_run = end.is_run; exits = end.ends }
+
+pub is_never_stuck : (code : List Insn) (segment : Contents) (steps : ℕ) (state : State) (place : ℕ) (cause : Cause) → IsNeverStuck code segment → IsOnItsWay code segment steps state → Stuck place cause ≡ after code segment state → ⊥
+is_never_stuck code segment steps state place cause never way is =
+    let end = comes_to code segment steps state (Stuck place cause) way is in never end.run end.is_run place cause end.ends
+
+pub has_exited : (code : List Insn) (segment : Contents) (steps : ℕ) (state : State) → Exits code segment → IsOnItsWay code segment steps state → length code ≤ steps → ⊥
+has_exited code segment steps state exits way late =
+    let short = exits.short in let long = way.long in
+    exits_first code segment (Running start) exits.run way.run exits.answer exits.score state exits.is_run way.is_run exits.exits way.ends (omega arith)

@@ -1,0 +1,34 @@
+//! Runs of verified programs.
+ghost use Rattle.bpf_meaning.specs.Run.{Answers};
+
+use bpf_meaning::{Outcome, Segment, State, step};
+use bpf_verify::Verified;
+use std::alloc::Allocator;
+
+/// What a program ends with on a segment.
+#[derive(Clone, Copy, Debug, PartialEq, Eq)]
+pub struct Answer {
+    /// Register 0 at the end: 0 where the segment isn't chosen.
+    pub r0: u64,
+    /// The score that the program gave the segment, 0 where it gave none.
+    pub score: u64,
+}
+
+/// The answer of a verified program on a segment, whatever the segment. It takes no memory, and at most as many steps as the program has
+/// instructions.
+pub fn run<A: Allocator>(verified: &Verified<A>, segment: &Segment) -> Answer
+    ensures { Answers verified.now.code segment.now result.r0 result.score }
+{
+    let code = verified.code();
+    // Not read: that they are a whole record's is what a safe code needs.
+    let _bytes = segment.bytes();
+    let mut state = State::start();
+    for _steps in 0..code.instructions().len() {
+        match step(code, segment, &mut state) {
+            Outcome::Running => {}
+            Outcome::Exit { answer, score } => return Answer { r0: answer, score },
+            Outcome::Stuck { .. } => unreachable!(),
+        }
+    }
+    unreachable!()
+}

@@ -1,0 +1,48 @@
+//! Programs worked by hand, or by another tool, on a record whose bytes are known. Each row has register 0 at the end, the program's text
+//! without its EXIT, and its words in hexadecimal.
+
+use crate::{Answer, run};
+use bpf_flow::Flow;
+use bpf_insn::decode;
+use bpf_meaning::Segment;
+use bpf_verify::{Verified, verify};
+use std::alloc::Allocator;
+use std::test::Fail;
+
+/// A line of record type 1: the 228 bytes of the layout, blank where nothing is named.
+const RECORD: &[u8; 228] =
+    b"10006 123456789    Main                                A41        101        199        100        198    3606736067                                                                          -086500000+32400000-086490000+32410000";
+
+const ANSWERS: &str = "\
+1; mov r0, 1; b700000001000000 9500000000000000
+48; ldxb r0, [r1+227]; 7110e30000000000 9500000000000000
+0; ldxb r0, [r1+55] | add r0, -65; 7110370000000000 07000000bfffffff 9500000000000000
+4160749568; lddw r0, 0x80000000 | arsh32 r0, 4; 1800000000000080 0000000000000000 c400000004000000 9500000000000000
+18446744073709551615; stb [r10-1], -1 | ldxsb r0, [r10-1]; 720affffffffffff 91a0ffff00000000 9500000000000000
+48; mov r2, 1 | add r2, -1 | add r1, r2 | ldxb r0, [r1+227]; b702000001000000 07020000ffffffff 0f21000000000000 7110e30000000000 9500000000000000
+1; mov r0, 1 | ja +1 | ldxb r0, [r9+0]; b700000001000000 0500010000000000 7190000000000000 9500000000000000
+3; mov r0, 3 | ja +2 | lddw r0, 7; b700000003000000 0500020000000000 1800000007000000 0000000000000000 9500000000000000
+7; mov r0, 3 | jset32 r0, 4, +2 | lddw r0, 7; b700000003000000 4600020004000000 1800000007000000 0000000000000000 9500000000000000
+1; mov r2, 5 | mov r3, -1 | mov r0, 0 | jsgt r2, r3, +1 | exit | mov r0, 1; b702000005000000 b7030000ffffffff b700000000000000 6d32010000000000 9500000000000000 b700000001000000 9500000000000000
+";
+
+/// The verified program of words.
+fn verified_of<A: Allocator + Copy>(alloc: A, words: &str) -> Result<Verified<A>, Fail> {
+    let mut program = Vec::new(alloc);
+    for word in words.split_whitespace() {
+        program.extend_from_slice(&u64::from_str_radix(word, 16)?.to_be_bytes())?;
+    }
+    Ok(verify(alloc, Flow::of(decode(alloc, &program)?)?)?)
+}
+
+#[test]
+fn answers(rt: HostRuntime) -> Result<(), Fail> {
+    for row in ANSWERS.lines() {
+        let mut columns = row.split("; ");
+        let r0 = columns.next().unwrap_or("").parse()?;
+        let verified = verified_of(rt.alloc(), columns.last().unwrap_or(""))?;
+        let answer = run(&verified, &Segment::of(RECORD));
+        assert_eq!(rt; answer, Answer { r0, score: 0 }, "{row}");
+    }
+    Ok(())
+}

@@ -1,0 +1,13 @@
+pub mod MoveLemmas
+pub mod CodeLemmas
+pub mod NoteLemmas
+pub mod AnnotationLemmas
+pub mod SoundChecks
+pub mod SoundStates
+pub mod SoundArithmetic
+pub mod SoundComparison
+pub mod SoundMemory
+pub mod SoundInstructions
+pub mod SoundPlaces
+pub mod SoundSteps
+pub mod SoundRuns

@@ -1,0 +1,119 @@
+-- Conditional jumps are sound: what is known on the edge that is taken admits the state.
+use Rattle.std.proofs.Common.{◌≡◌, ℕ, ℤ, Bool, true, false, Option, if◌then◌else◌, refl, sym, ap, subst, arith}
+use Rattle.bpf_insn.specs.Arithmetic as arithmetic
+use Rattle.bpf_insn.specs.Arithmetic.{operand_bits, low_bits, is_met}
+use Rattle.bpf_insn.specs.declared.instruction.Condition.{Condition}
+use Rattle.bpf_insn.specs.declared.instruction.Source.{Source}
+use Rattle.bpf_insn.specs.declared.instruction.Source.TheVariants.{Immediate, Register}
+use Rattle.bpf_insn.specs.declared.instruction.Width.{Width}
+use Rattle.bpf_insn.specs.declared.instruction.Width.TheVariants.{Bits32, Bits64}
+use Rattle.bpf_insn.specs.declared.register.Register.{Register as RegisterParts}
+use Rattle.bpf_insn.specs.declared.value.Value.{Value}
+use Rattle.bpf_insn.specs.declared.value.Value.TheVariants as value
+use Rattle.bpf_kinds.specs.Interval.{IsProper, Admits, single}
+use Rattle.bpf_kinds.specs.Kind as kind
+use Rattle.bpf_kinds.specs.Narrowing.{refine}
+use Rattle.bpf_kinds.specs.declared.interval.Interval.{Interval}
+use Rattle.bpf_kinds.specs.declared.kind.Kind.{Kind}
+use Rattle.bpf_kinds.specs.declared.kind.Kind.TheVariants.{Number, Record, Frame, Nothing}
+use Rattle.bpf_kinds.specs.declared.narrowing.Narrowed.{Narrowed}
+use Rattle.bpf_kinds.proofs.NarrowingLaws.{refine-keeps}
+use Rattle.bpf_meaning.specs.Effect as effect
+use Rattle.bpf_meaning.specs.State.{register_value}
+use Rattle.bpf_meaning.specs.declared.state.State.{State}
+use Rattle.bpf_verify.specs.Edges.{is_register, with_narrowed, narrowed_note, branch, branches, compare, comparison}
+use Rattle.bpf_verify.specs.State as known_state
+use Rattle.bpf_verify.specs.declared.state.AbstractState.{AbstractState}
+use Rattle.bpf_verify.specs.declared.state.Edges.{Edges}
+use Rattle.bpf_verify.specs.declared.state.Note.TheVariants.{Reached}
+use Rattle.bpf_verify.proofs.SoundArithmetic.{low_twice}
+use Rattle.bpf_verify.proofs.SoundChecks.{Sound, then_sound, HasNumber, HasState, IsReadOf, read_holds}
+use Rattle.bpf_verify.proofs.SoundStates.{narrows_keep}
+
+-- what is known on the edge that a comparison takes
+abbrev pub TakesEdge : State → Edges → Bool → Type 0
+TakesEdge state edges true = known_state.Admits edges.target state
+TakesEdge state edges false = known_state.Admits edges.next state
+
+-- the register on the right, if it's one, holds this number
+abbrev RightHolds : State → Source → ℕ → Type 0
+RightHolds state (Immediate immediate) n = Unit {0}
+RightHolds state (Register register) n = register_value state register.number ≡ value.Number n
+
+-- the operands of a comparison: numbers of which these intervals are known
+record Operands (state : State) (left : ℕ) (right : Source) (x y : Interval) (m n : ℕ) : Type 0 where
+  first : HasNumber x m
+  second : HasNumber y n
+  on_left : register_value state left ≡ value.Number m
+  on_right : RightHolds state right n
+
+with_narrowed_admits : (known : AbstractState) (state : State) → known_state.AdmitsState known state → (left : ℕ) (right : Source) (both : Narrowed) (m n : ℕ) → register_value state left ≡ value.Number m → RightHolds state right n → Admits both.left m → Admits both.right n → known_state.AdmitsState (with_narrowed known left right both) state
+with_narrowed_admits known state admits left (Immediate immediate) both m n holds other first second =
+    narrows_keep known state admits left (Number both.left) (subst (kind.Admits (Number both.left)) (sym holds) first)
+with_narrowed_admits known state admits left (Register register) both m n holds other first second =
+    narrows_keep (known_state.with_kind known left (Number both.left)) state
+    (narrows_keep known state admits left (Number both.left) (subst (kind.Admits (Number both.left)) (sym holds) first))
+    register.number (Number both.right) (subst (kind.Admits (Number both.right)) (sym other) second)
+
+-- an edge of a conditional jump
+branch_admits : (known : AbstractState) (state : State) → HasState known state → (condition : Condition) (width : Width) (left : ℕ) (right : Source) (x y : Interval) (m n : ℕ) (taken : Bool) → Operands state left right x y m n → is_met condition width m n ≡ taken → known_state.Admits (branch known condition width left right x y taken) state
+branch_admits known state has condition width left right x y m n taken operands answer = by_test (is_register left right)
+  where
+    by_test : (same : Bool) → known_state.Admits (if same then Reached known else narrowed_note known left right (refine condition width x y taken)) state
+    by_test true = has.admits
+    by_test false =
+        let kept = refine-keeps condition width x y m n taken operands.first.proper operands.second.proper operands.first.admits operands.second.admits answer in
+        subst (λ (refined : Option Narrowed). known_state.Admits (narrowed_note known left right refined) state) (sym kept.1)
+        (with_narrowed_admits known state has.admits left right kept.0 m n operands.on_left operands.on_right kept.2 kept.3)
+
+branches_take : (known : AbstractState) (state : State) → HasState known state → (condition : Condition) (width : Width) (left : ℕ) (right : Source) (x y : Interval) (m n : ℕ) → Operands state left right x y m n → TakesEdge state (branches known condition width left right x y) (is_met condition width m n)
+branches_take known state has condition width left right x y m n operands = by_answer (is_met condition width m n) refl
+  where
+    by_answer : (taken : Bool) → is_met condition width m n ≡ taken → TakesEdge state (branches known condition width left right x y) taken
+    by_answer true answer = branch_admits known state has condition width left right x y m n true operands answer
+    by_answer false answer = branch_admits known state has condition width left right x y m n false operands answer
+
+-- An immediate is compared as its low bits.
+
+single_admits : (n : ℕ) → Admits (single n) n
+single_admits n = record { above = omega arith; below = omega arith }
+
+low_proper : (width : Width) (n : ℕ) → IsProper (single (low_bits (operand_bits width) n))
+low_proper Bits32 n = record { ordered = omega arith; fits = omega arith }
+low_proper Bits64 n = record { ordered = omega arith; fits = omega arith }
+
+met_low : (condition : Condition) (width : Width) (m n : ℕ) → is_met condition width m (low_bits (operand_bits width) n) ≡ is_met condition width m n
+met_low condition width m n = ap (λ (k : ℕ). arithmetic.is_met_on condition (operand_bits width) (low_bits (operand_bits width) m) k) (low_twice width n)
+
+with_immediate : (known : AbstractState) (state : State) → HasState known state → (condition : Condition) (width : Width) (left : ℕ) (immediate : ℤ) (x : Kind) (v : Value) → IsReadOf (register_value state left) x v → Sound (TakesEdge state) (compare known condition width left (Immediate immediate) x (Number (single (low_bits (operand_bits width) (arithmetic.immediate_operand immediate))))) (effect.compare condition width v (value.Number (arithmetic.immediate_operand immediate)))
+with_immediate known state has condition width left immediate (Number x) (value.Number m) first =
+    let n = arithmetic.immediate_operand immediate in
+    let low = low_bits (operand_bits width) n in
+    subst (TakesEdge state (branches known condition width left (Immediate immediate) x (single low))) (met_low condition width m n)
+    (branches_take known state has condition width left (Immediate immediate) x (single low) m low
+    (record { first = record { proper = first.has.proper; admits = first.has.admits }; second = record { proper = low_proper width n; admits = single_admits low }; on_left = first.same; on_right = tt }))
+with_immediate known state has condition width left immediate (Number x) v first = absurd first.has.admits
+with_immediate known state has condition width left immediate (Record x) v first = tt
+with_immediate known state has condition width left immediate (Frame x) v first = tt
+with_immediate known state has condition width left immediate Nothing v first = tt
+
+with_register : (known : AbstractState) (state : State) → HasState known state → (condition : Condition) (width : Width) (left : ℕ) (right : RegisterParts) (x y : Kind) (v w : Value) → IsReadOf (register_value state left) x v → IsReadOf (register_value state right.number) y w → Sound (TakesEdge state) (compare known condition width left (Register right) x y) (effect.compare condition width v w)
+with_register known state has condition width left right (Number x) (Number y) (value.Number m) (value.Number n) first second =
+    branches_take known state has condition width left (Register right) x y m n
+    (record { first = record { proper = first.has.proper; admits = first.has.admits }; second = record { proper = second.has.proper; admits = second.has.admits }; on_left = first.same; on_right = second.same })
+with_register known state has condition width left right (Number x) (Number y) (value.Number m) w first second = absurd second.has.admits
+with_register known state has condition width left right (Number x) (Number y) v w first second = absurd first.has.admits
+with_register known state has condition width left right (Number x) (Record y) v w first second = tt
+with_register known state has condition width left right (Number x) (Frame y) v w first second = tt
+with_register known state has condition width left right (Number x) Nothing v w first second = tt
+with_register known state has condition width left right (Record x) y v w first second = tt
+with_register known state has condition width left right (Frame x) y v w first second = tt
+with_register known state has condition width left right Nothing y v w first second = tt
+
+pub comparison_sound : (known : AbstractState) (state : State) → HasState known state → (condition : Condition) (width : Width) (left : ℕ) (right : Source) → Sound (TakesEdge state) (comparison known condition width left right) (effect.comparison state condition width left right)
+comparison_sound known state has condition width left (Immediate immediate) =
+    then_sound (IsReadOf (register_value state left)) (TakesEdge state) _ _ _ _ (read_holds known state has left) (with_immediate known state has condition width left immediate)
+comparison_sound known state has condition width left (Register right) =
+    then_sound (IsReadOf (register_value state left)) (TakesEdge state) _ _ _ _ (read_holds known state has left) (λ x v first.
+    then_sound (IsReadOf (register_value state right.number)) (TakesEdge state) _ _ _ _ (read_holds known state has right.number) (λ y w second.
+    with_register known state has condition width left right x y v w first second))

@@ -1,0 +1,44 @@
+-- What is known of the registers, where one is written, and where more is known of one.
+use Rattle.std.proofs.Common.{◌≡◌, ℕ, zero, suc, List, [], ◌∷◌, length, get_or, arith}
+use Rattle.std.specs.Prelude.{slice_set}
+use Rattle.bpf_insn.specs.declared.register.WritableRegister.{WritableRegister}
+use Rattle.bpf_insn.specs.declared.value.Value.{Value}
+use Rattle.bpf_insn.specs.declared.value.Value.TheVariants as value
+use Rattle.bpf_kinds.specs.Kind as kind
+use Rattle.bpf_kinds.specs.declared.kind.Kind.{Kind}
+use Rattle.bpf_kinds.specs.declared.kind.Kind.TheVariants.{Nothing}
+use Rattle.bpf_meaning.specs.State.{IsWhole, register_value}
+use Rattle.bpf_meaning.specs.Step.{carry_out}
+use Rattle.bpf_meaning.specs.declared.effect.Change.TheVariants.{SetRegister}
+use Rattle.bpf_meaning.specs.declared.state.State.{State}
+use Rattle.bpf_verify.specs.State.{with_kind, AdmitsState}
+use Rattle.bpf_verify.specs.declared.state.AbstractState.{AbstractState}
+use Rattle.bpf_verify.proofs.SoundChecks.{HasState}
+
+-- a register is written, on both sides
+set_admits : (kinds : List Kind) (values : List Value) (register : ℕ) (x : Kind) (v : Value) → length values ≡ length kinds → kind.Admits x v → ((number : ℕ) → kind.Admits (get_or kinds number Nothing) (get_or values number value.Empty)) → (number : ℕ) → kind.Admits (get_or (slice_set kinds register x) number Nothing) (get_or (slice_set values register v) number value.Empty)
+set_admits [] [] register x v same a all number = all number
+set_admits [] (w ∷ values) register x v same a all number = absurd (omega arith)
+set_admits (k ∷ kinds) [] register x v same a all number = absurd (omega arith)
+set_admits (k ∷ kinds) (w ∷ values) zero x v same a all zero = a
+set_admits (k ∷ kinds) (w ∷ values) zero x v same a all (suc number) = all (suc number)
+set_admits (k ∷ kinds) (w ∷ values) (suc register) x v same a all zero = all zero
+set_admits (k ∷ kinds) (w ∷ values) (suc register) x v same a all (suc number) =
+    set_admits kinds values register x v (omega arith) a (λ n. all (suc n)) number
+
+pub writes_admit : (known : AbstractState) (state : State) → HasState known state → IsWhole state → (register : WritableRegister) (x : Kind) (v : Value) → kind.Admits x v → AdmitsState (with_kind known register.number x) (carry_out state (SetRegister register v))
+writes_admit known state has whole register x v admits = record {
+  registers = set_admits known.registers state.registers register.number x v (let many = has.proper.count in let all = whole.registers in omega arith) admits has.admits.registers;
+}
+
+-- more is known of a register
+set_keeps : (kinds : List Kind) (values : ℕ → Value) (register : ℕ) (x : Kind) → kind.Admits x (values register) → ((number : ℕ) → kind.Admits (get_or kinds number Nothing) (values number)) → (number : ℕ) → kind.Admits (get_or (slice_set kinds register x) number Nothing) (values number)
+set_keeps [] values register x a all number = all number
+set_keeps (k ∷ kinds) values zero x a all zero = a
+set_keeps (k ∷ kinds) values zero x a all (suc number) = all (suc number)
+set_keeps (k ∷ kinds) values (suc register) x a all zero = all zero
+set_keeps (k ∷ kinds) values (suc register) x a all (suc number) = set_keeps kinds (λ n. values (suc n)) register x a (λ n. all (suc n)) number
+
+pub narrows_keep : (known : AbstractState) (state : State) → AdmitsState known state → (register : ℕ) (x : Kind) → kind.Admits x (register_value state register) → AdmitsState (with_kind known register x) state
+narrows_keep known state admits register x a =
+    record { registers = set_keeps known.registers (register_value state) register x a admits.registers }

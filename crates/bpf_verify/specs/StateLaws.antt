@@ -1,0 +1,137 @@
+-- Abstract states and notes stand in order, and joins are least upper bounds.
+use Rattle.std.proofs.Common.{◌≡◌, ℕ, suc, zero, List, [], ◌∷◌, length, get_or, sym, ap, ◌∙◌, subst, refl, rules, arith}
+use Rattle.std.specs.Simd.Lanes.{zip2}
+use Rattle.std.proofs.lemmas.List.{ext_get_or}
+use Rattle.std.proofs.lemmas.Simd.{length-zip2}
+use Rattle.bpf_kinds.specs.Kind as kind
+use Rattle.bpf_insn.specs.declared.value.Value.{Value}
+use Rattle.bpf_kinds.specs.declared.kind.Kind.{Kind}
+use Rattle.bpf_kinds.specs.declared.kind.Kind.TheVariants.{Number, Record, Frame, Nothing}
+use Rattle.bpf_meaning.specs.State.{register_value}
+use Rattle.bpf_meaning.specs.declared.state.State.{State}
+use Rattle.bpf_verify.specs.State.{kind_of, IsProperState, AdmitsState, IsWithinState, join_states, IsProper, Admits, IsWithin, join}
+use Rattle.bpf_verify.specs.declared.state.AbstractState.{AbstractState}
+use Rattle.bpf_verify.specs.declared.state.Note.{Note}
+use Rattle.bpf_verify.specs.declared.state.Note.TheVariants.{Unreached, Reached}
+
+-- kinds
+
+pub kind_reflexive : (x : Kind) → kind.IsWithin x x
+kind_reflexive = search rules
+
+pub kind_transitive : (x y z : Kind) → kind.IsWithin x y → kind.IsWithin y z → kind.IsWithin x z
+kind_transitive = search rules
+
+kind_antisymmetric : (x y : Kind) → kind.IsWithin x y → kind.IsWithin y x → x ≡ y
+kind_antisymmetric = search rules
+
+kind_join_is_proper : (x y : Kind) → kind.IsProper x → kind.IsProper y → kind.IsProper (kind.join x y)
+kind_join_is_proper = search rules
+
+kind_left_is_within_join : (x y : Kind) → kind.IsWithin x (kind.join x y)
+kind_left_is_within_join = search rules
+
+kind_right_is_within_join : (x y : Kind) → kind.IsWithin y (kind.join x y)
+kind_right_is_within_join = search rules
+
+kind_join_is_least : (x y z : Kind) → kind.IsWithin x z → kind.IsWithin y z → kind.IsWithin (kind.join x y) z
+kind_join_is_least = search rules
+
+kind_admits_more : (x y : Kind) (value : Value) → kind.IsWithin x y → kind.Admits x value → kind.Admits y value
+kind_admits_more = search rules
+
+-- states
+
+pub get_or-join : (xs ys : List Kind) (register : ℕ) → length xs ≡ length ys → get_or (zip2 kind.join xs ys) register Nothing ≡ kind.join (get_or xs register Nothing) (get_or ys register Nothing)
+get_or-join [] [] register same = refl
+get_or-join [] (y ∷ ys) register same = absurd (omega arith)
+get_or-join (x ∷ xs) [] register same = absurd (omega arith)
+get_or-join (x ∷ xs) (y ∷ ys) zero same = refl
+get_or-join (x ∷ xs) (y ∷ ys) (suc register) same = get_or-join xs ys register (omega arith)
+
+-- the kinds of a join
+pub kind_of-join : (x y : AbstractState) (register : ℕ) → IsProperState x → IsProperState y → kind_of (join_states x y) register ≡ kind.join (kind_of x register) (kind_of y register)
+kind_of-join x y register proper-x proper-y = get_or-join x.registers y.registers register (proper-x.count ∙ sym proper-y.count)
+
+pub states_reflexive : (x : AbstractState) → IsWithinState x x
+states_reflexive x = record { registers = λ register. kind_reflexive (kind_of x register) }
+
+pub states_transitive : (x y z : AbstractState) → IsWithinState x y → IsWithinState y z → IsWithinState x z
+states_transitive x y z below above = record { registers = λ register. kind_transitive _ _ _ (below.registers register) (above.registers register) }
+
+pub states_antisymmetric : (x y : AbstractState) → IsProperState x → IsProperState y → IsWithinState x y → IsWithinState y x → x ≡ y
+states_antisymmetric x y proper-x proper-y below above =
+    let same = ext_get_or Nothing x.registers y.registers (proper-x.count ∙ sym proper-y.count)
+    (λ register _. kind_antisymmetric _ _ (below.registers register) (above.registers register)) in
+    ap (λ (registers : List Kind). let known : AbstractState = record { registers = registers } in known) same
+
+pub join_states_is_proper : (x y : AbstractState) → IsProperState x → IsProperState y → IsProperState (join_states x y)
+join_states_is_proper x y proper-x proper-y = record {
+  count = length-zip2 kind.join x.registers y.registers (proper-x.count ∙ sym proper-y.count) ∙ proper-x.count;
+  kinds = λ register. subst kind.IsProper (sym (kind_of-join x y register proper-x proper-y)) (kind_join_is_proper _ _ (proper-x.kinds register) (proper-y.kinds register));
+}
+
+pub left_is_within_join_states : (x y : AbstractState) → IsProperState x → IsProperState y → IsWithinState x (join_states x y)
+left_is_within_join_states x y proper-x proper-y = record {
+  registers = λ register. subst (kind.IsWithin (kind_of x register)) (sym (kind_of-join x y register proper-x proper-y)) (kind_left_is_within_join _ (kind_of y register));
+}
+
+pub right_is_within_join_states : (x y : AbstractState) → IsProperState x → IsProperState y → IsWithinState y (join_states x y)
+right_is_within_join_states x y proper-x proper-y = record {
+  registers = λ register. subst (kind.IsWithin (kind_of y register)) (sym (kind_of-join x y register proper-x proper-y)) (kind_right_is_within_join (kind_of x register) _);
+}
+
+pub join_states_is_least : (x y z : AbstractState) → IsProperState x → IsProperState y → IsWithinState x z → IsWithinState y z → IsWithinState (join_states x y) z
+join_states_is_least x y z proper-x proper-y below-x below-y = record {
+  registers = λ register. subst (λ (joined : Kind). kind.IsWithin joined (kind_of z register)) (sym (kind_of-join x y register proper-x proper-y))
+      (kind_join_is_least _ _ _ (below-x.registers register) (below-y.registers register));
+}
+
+pub states_admit_more : (x y : AbstractState) (state : State) → IsWithinState x y → AdmitsState x state → AdmitsState y state
+states_admit_more x y state below admits = record {
+  registers = λ register. kind_admits_more _ _ (register_value state register) (below.registers register) (admits.registers register);
+}
+
+-- notes
+
+pub reflexive : (x : Note) → IsWithin x x
+reflexive Unreached = tt
+reflexive (Reached x) = states_reflexive x
+
+pub transitive : (x y z : Note) → IsWithin x y → IsWithin y z → IsWithin x z
+transitive Unreached y z below above = tt
+transitive (Reached x) Unreached z below above = absurd below
+transitive (Reached x) (Reached y) Unreached below above = absurd above
+transitive (Reached x) (Reached y) (Reached z) below above = states_transitive x y z below above
+
+pub antisymmetric : (x y : Note) → IsProper x → IsProper y → IsWithin x y → IsWithin y x → x ≡ y
+antisymmetric Unreached Unreached proper-x proper-y below above = refl
+antisymmetric Unreached (Reached y) proper-x proper-y below above = absurd above
+antisymmetric (Reached x) Unreached proper-x proper-y below above = absurd below
+antisymmetric (Reached x) (Reached y) proper-x proper-y below above = ap Reached (states_antisymmetric x y proper-x proper-y below above)
+
+pub join_is_proper : (x y : Note) → IsProper x → IsProper y → IsProper (join x y)
+join_is_proper Unreached y proper-x proper-y = proper-y
+join_is_proper (Reached x) Unreached proper-x proper-y = proper-x
+join_is_proper (Reached x) (Reached y) proper-x proper-y = join_states_is_proper x y proper-x proper-y
+
+pub left_is_within_join : (x y : Note) → IsProper x → IsProper y → IsWithin x (join x y)
+left_is_within_join Unreached y proper-x proper-y = tt
+left_is_within_join (Reached x) Unreached proper-x proper-y = states_reflexive x
+left_is_within_join (Reached x) (Reached y) proper-x proper-y = left_is_within_join_states x y proper-x proper-y
+
+pub right_is_within_join : (x y : Note) → IsProper x → IsProper y → IsWithin y (join x y)
+right_is_within_join Unreached y proper-x proper-y = reflexive y
+right_is_within_join (Reached x) Unreached proper-x proper-y = tt
+right_is_within_join (Reached x) (Reached y) proper-x proper-y = right_is_within_join_states x y proper-x proper-y
+
+pub join_is_least : (x y z : Note) → IsProper x → IsProper y → IsWithin x z → IsWithin y z → IsWithin (join x y) z
+join_is_least Unreached y z proper-x proper-y below-x below-y = below-y
+join_is_least (Reached x) Unreached z proper-x proper-y below-x below-y = below-x
+join_is_least (Reached x) (Reached y) Unreached proper-x proper-y below-x below-y = absurd below-x
+join_is_least (Reached x) (Reached y) (Reached z) proper-x proper-y below-x below-y = join_states_is_least x y z proper-x proper-y below-x below-y
+
+pub admits_more : (x y : Note) (state : State) → IsWithin x y → Admits x state → Admits y state
+admits_more Unreached y state below admits = absurd admits
+admits_more (Reached x) Unreached state below admits = absurd below
+admits_more (Reached x) (Reached y) state below admits = states_admit_more x y state below admits

@@ -1,0 +1,17 @@
+//! The verifier: which programs can be stuck on no segment, found in one pass over what is known before each instruction.
+#![tactic(auto)]
+
+mod comparison;
+mod fault;
+mod memory;
+mod operands;
+mod pass;
+mod state;
+mod table;
+#[cfg(test)]
+mod tests;
+mod verified;
+
+pub use fault::VerifyFault;
+pub use pass::verify;
+pub use verified::Verified;

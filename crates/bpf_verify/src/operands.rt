@@ -1,0 +1,157 @@
+//! What instructions make of what is known of registers and immediates.
+ghost use Rattle.std.specs.Prelude.{◌≡◌, ◌≤◌, IfOk};
+ghost use Rattle.bpf_kinds.specs.Interval as interval;
+ghost use Rattle.bpf_kinds.specs.Kind as kinds;
+ghost use Rattle.bpf_kinds.specs.Offsets as offset;
+ghost use Rattle.bpf_verify.specs.State.{IsProperState};
+ghost use Rattle.bpf_verify.specs.Edges.{move_kind, move_pointer, move_pointer_back, number_in, number_or, operand, operate, operate_on_pointer, operate_with_pointer, operation_kind};
+
+use crate::state::AbstractState;
+use bpf_insn::{Operation, Source, Width, WritableRegister};
+use bpf_kinds::{Interval, Kind, NumberWidth, Offsets, alu, immediate_operand, near_distances};
+use bpf_meaning::Cause;
+
+/// The numbers that values of a kind are, or the cause where they are none.
+pub(crate) fn number_or(cause: Cause, kind: Kind) -> Result<Interval, Cause>
+    ensures { result ≡ number_or cause kind }
+{
+    match kind {
+        Kind::Number(x) => Ok(x),
+        _ => Err(cause),
+    }
+}
+
+/// The numbers in a register, of which an instruction makes others.
+pub(crate) fn number_in(known: &AbstractState, register: u8) -> Result<Interval, Cause>
+    requires in_range { register ≤ 10 }
+    requires proper { IsProperState known.now }
+    ensures value { result ≡ number_in known.now register }
+    ensures proper { IfOk result interval.IsProper }
+{
+    number_or(Cause::PointerArithmetic, known.read(register)?)
+}
+
+/// The second operand.
+pub(crate) fn operand(known: &AbstractState, source: Source) -> Result<Kind, Cause>
+    requires { IsProperState known.now }
+    ensures value { result ≡ operand known.now source }
+    ensures proper { IfOk result kinds.IsProper }
+{
+    match source {
+        Source::Immediate(immediate) => Ok(Kind::Number(immediate_operand(immediate))),
+        Source::Register(register) => known.read(register.number),
+    }
+}
+
+/// What an arithmetic instruction gives. A move doesn't read its destination.
+pub(crate) fn operation_kind(
+    known: &AbstractState,
+    operation: Operation,
+    width: Width,
+    destination: WritableRegister,
+    source: Source,
+) -> Result<Kind, Cause>
+    requires { IsProperState known.now }
+    ensures value { result ≡ operation_kind known.now operation width destination.number source }
+    ensures proper { IfOk result kinds.IsProper }
+{
+    match operation {
+        Operation::Move => move_kind(width, operand(known, source)?),
+        _ => {
+            let x = known.read(destination.number)?;
+            let y = operand(known, source)?;
+            operate(operation, width, x, y)
+        }
+    }
+}
+
+/// What a move gives: any kind with 64 bits, the low halves of numbers with 32.
+fn move_kind(width: Width, kind: Kind) -> Result<Kind, Cause>
+    requires { kinds.IsProper kind }
+    ensures value { result ≡ move_kind width kind }
+    ensures proper { IfOk result kinds.IsProper }
+{
+    match (width, kind) {
+        (Width::Bits64, kind) => Ok(kind),
+        (Width::Bits32, Kind::Number(x)) => Ok(Kind::Number(x.cut(NumberWidth::Bits32))),
+        _ => Err(Cause::PointerArithmetic),
+    }
+}
+
+/// An operation on two kinds.
+fn operate(operation: Operation, width: Width, x: Kind, y: Kind) -> Result<Kind, Cause>
+    requires left { kinds.IsProper x }
+    requires right { kinds.IsProper y }
+    ensures value { result ≡ operate operation width x y }
+    ensures proper { IfOk result kinds.IsProper }
+{
+    match (width, x, y) {
+        (_, Kind::Number(x), Kind::Number(y)) => Ok(Kind::Number(alu(operation, width, x, y))),
+        (Width::Bits64, Kind::Record(offsets), Kind::Number(y)) => {
+            Ok(Kind::Record(operate_on_pointer(operation, offsets, y)?))
+        }
+        (Width::Bits64, Kind::Frame(offsets), Kind::Number(y)) => {
+            Ok(Kind::Frame(operate_on_pointer(operation, offsets, y)?))
+        }
+        (Width::Bits64, Kind::Number(x), Kind::Record(offsets)) => {
+            Ok(Kind::Record(operate_with_pointer(operation, x, offsets)?))
+        }
+        (Width::Bits64, Kind::Number(x), Kind::Frame(offsets)) => {
+            Ok(Kind::Frame(operate_with_pointer(operation, x, offsets)?))
+        }
+        _ => Err(Cause::PointerArithmetic),
+    }
+}
+
+/// An operation on pointers and numbers.
+fn operate_on_pointer(operation: Operation, offsets: Offsets, y: Interval) -> Result<Offsets, Cause>
+    requires offsets { offset.IsProper offsets }
+    requires number { interval.IsProper y }
+    ensures value { result ≡ operate_on_pointer operation offsets y }
+    ensures proper { IfOk result offset.IsProper }
+{
+    match operation {
+        Operation::Add => move_pointer(offsets, y),
+        Operation::Subtract => move_pointer_back(offsets, y),
+        _ => Err(Cause::PointerArithmetic),
+    }
+}
+
+/// An operation on numbers and pointers.
+fn operate_with_pointer(
+    operation: Operation,
+    x: Interval,
+    offsets: Offsets,
+) -> Result<Offsets, Cause>
+    requires offsets { offset.IsProper offsets }
+    requires number { interval.IsProper x }
+    ensures value { result ≡ operate_with_pointer operation x offsets }
+    ensures proper { IfOk result offset.IsProper }
+{
+    match operation {
+        Operation::Add => move_pointer(offsets, x),
+        _ => Err(Cause::PointerArithmetic),
+    }
+}
+
+/// Pointers moved forwards by numbers of bytes.
+fn move_pointer(offsets: Offsets, x: Interval) -> Result<Offsets, Cause>
+    requires offsets { offset.IsProper offsets }
+    requires number { interval.IsProper x }
+    ensures value { result ≡ move_pointer offsets x }
+    ensures proper { IfOk result offset.IsProper }
+{
+    let distances = near_distances(x).ok_or(Cause::PointerArithmetic)?;
+    offsets.move_by(distances).ok_or(Cause::LeavesArea)
+}
+
+/// The same backwards.
+fn move_pointer_back(offsets: Offsets, x: Interval) -> Result<Offsets, Cause>
+    requires offsets { offset.IsProper offsets }
+    requires number { interval.IsProper x }
+    ensures value { result ≡ move_pointer_back offsets x }
+    ensures proper { IfOk result offset.IsProper }
+{
+    let distances = near_distances(x).ok_or(Cause::PointerArithmetic)?;
+    offsets.move_back_by(distances).ok_or(Cause::LeavesArea)
+}

@@ -1,0 +1,225 @@
+//! Verdicts on programs, worked out from the rules by hand. Each table has a row a line: the verdict, which is `accepted` or the refusal's
+//! line, the program's text, and its words in hexadecimal.
+
+use crate::{VerifyFault, verify};
+use bpf_flow::Flow;
+use bpf_insn::{Code, decode};
+use std::alloc::Allocator;
+use std::test::Fail;
+
+/// Programs, with what is said of them.
+const VERDICTS: &str = "\
+accepted; ldxb r0, [r1+227] | exit; 7110e30000000000 9500000000000000
+refused 44 place 0 OutOfBounds; ldxb r0, [r1+228] | exit; 7110e40000000000 9500000000000000
+accepted; ldxb r2, [r1+55] | mov r0, 0 | jne r2, 65, +1 | mov r0, 1 | exit; 7112370000000000 b700000000000000 5502010041000000 b700000001000000 9500000000000000
+refused 40 place 3 ReadsNothing(2); ldxb r3, [r1+55] | jeq r3, 65, +1 | mov r2, 1 | mov r0, r2 | exit; 7113370000000000 1503010041000000 b702000001000000 bf20000000000000 9500000000000000
+accepted; mov r2, 0 | ldxb r3, [r1+55] | jeq r3, 65, +1 | mov r2, 1 | mov r0, r2 | exit; b702000000000000 7113370000000000 1503010041000000 b702000001000000 bf20000000000000 9500000000000000
+accepted; mov r0, 7 | div r0, 0 | exit; b700000007000000 3700000000000000 9500000000000000
+accepted; lddw r0, 0x100000007 | mod32 r0, 0 | exit; 1800000007000000 0000000001000000 9400000000000000 9500000000000000
+refused 49 place 2 UnknownHelper; mov r6, r1 | mov r1, 0 | call 1 | and r0, 15 | add r6, r0 | ldxb r0, [r6+0] | exit; bf16000000000000 b701000000000000 8500000001000000 570000000f000000 0f06000000000000 7160000000000000 9500000000000000
+accepted; mov r6, r1 | ldxb r0, [r1+55] | and r0, 15 | add r6, r0 | ldxb r0, [r6+0] | exit; bf16000000000000 7110370000000000 570000000f000000 0f06000000000000 7160000000000000 9500000000000000
+refused 41 place 2 PointerArithmetic; mov r6, r1 | ldxdw r0, [r1+55] | add r6, r0 | ldxb r0, [r6+0] | exit; bf16000000000000 7910370000000000 0f06000000000000 7160000000000000 9500000000000000
+refused 45 place 2 UnwrittenFrame; mov r2, 1 | stxdw [r10-8], r2 | ldxw r3, [r10-8] | ldxw r0, [r10-4] | exit; b702000001000000 7b2af8ff00000000 61a3f8ff00000000 61a0fcff00000000 9500000000000000
+refused 45 place 3 UnwrittenFrame; mov r2, 1 | stxdw [r10-8], r2 | mov r3, 0 | ldxdw r0, [r10-12] | exit; b702000001000000 7b2af8ff00000000 b703000000000000 79a0f4ff00000000 9500000000000000
+refused 44 place 0 OutOfBounds; stb [r10+0], 1 | mov r2, 1 | stxdw [r10-8], r2 | mov r0, 0 | exit; 720a000001000000 b702000001000000 7b2af8ff00000000 b700000000000000 9500000000000000
+accepted; mov r2, 1 | add r2, -1 | add r1, r2 | ldxb r0, [r1+227] | exit; b702000001000000 07020000ffffffff 0f21000000000000 7110e30000000000 9500000000000000
+accepted; mov r2, -1 | add r1, r2 | ldxb r0, [r1+228] | exit; b7020000ffffffff 0f21000000000000 7110e40000000000 9500000000000000
+refused 44 place 2 OutOfBounds; mov r2, -1 | add r1, r2 | ldxb r0, [r1+0] | exit; b7020000ffffffff 0f21000000000000 7110000000000000 9500000000000000
+accepted; mov r0, 1 | ja +1 | ldxb r0, [r9+0] | exit; b700000001000000 0500010000000000 7190000000000000 9500000000000000
+accepted; lddw r0, 0x1122334455667788 | be16 r0 | exit; 1800000088776655 0000000044332211 dc00000010000000 9500000000000000
+accepted; lddw r0, 0x1122334455667788 | le32 r0 | exit; 1800000088776655 0000000044332211 d400000020000000 9500000000000000
+refused 44 place 1 OutOfBounds; add r1, 228 | ldxb r0, [r1+0] | exit; 07010000e4000000 7110000000000000 9500000000000000
+refused 43 place 1 NotPointer; mov r2, 5 | ldxb r0, [r2+0] | exit; b702000005000000 7120000000000000 9500000000000000
+refused 45 place 0 UnwrittenFrame; ldxb r0, [r10-8] | exit; 71a0f8ff00000000 9500000000000000
+refused 41 place 0 PointerArithmetic; add r1, 32768 | exit; 0701000000800000 9500000000000000
+refused 42 place 1 LeavesArea; add r1, 32767 | add r1, 1 | exit; 07010000ff7f0000 0701000001000000 9500000000000000
+accepted; mov r0, 0 | ldxb r2, [r1+55] | jgt r2, 227, +2 | add r1, r2 | ldxb r0, [r1+0] | exit; b700000000000000 7112370000000000 25020200e3000000 0f21000000000000 7110000000000000 9500000000000000
+refused 44 place 4 OutOfBounds; mov r0, 0 | ldxb r2, [r1+55] | jgt r2, 228, +2 | add r1, r2 | ldxb r0, [r1+0] | exit; b700000000000000 7112370000000000 25020200e4000000 0f21000000000000 7110000000000000 9500000000000000
+accepted; mov r0, 0 | ldxb r2, [r1+55] | jsgt r2, 227, +2 | add r1, r2 | ldxb r0, [r1+0] | exit; b700000000000000 7112370000000000 65020200e3000000 0f21000000000000 7110000000000000 9500000000000000
+refused 40 place 4 ReadsNothing(3); ldxb r2, [r1+55] | mov r3, r1 | jeq r2, 65, +1 | mov r3, 0 | ldxb r0, [r3+0] | exit; 7112370000000000 bf13000000000000 1502010041000000 b703000000000000 7130000000000000 9500000000000000
+refused 51 place 1 ExitNotNumber; mov r0, r1 | exit; bf10000000000000 9500000000000000
+refused 48 place 1 ComparesPointer; mov r0, 0 | jeq r1, 0, +0 | exit; b700000000000000 1501000000000000 9500000000000000
+refused 31 place 0 OutOfProgram; ja +0; 0500000000000000
+refused 45 place 6 UnwrittenFrame; ldxb r3, [r1+55] | and r3, 1 | mov r2, r10 | add r2, -2 | add r2, r3 | stb [r2+0], 7 | ldxb r0, [r10-2] | exit; 7113370000000000 5703000001000000 bfa2000000000000 07020000feffffff 0f32000000000000 7202000007000000 71a0feff00000000 9500000000000000
+refused 46 place 0 WritesRecord; stb [r1+0], 1 | ldxb r3, [r1+55] | exit; 7201000001000000 7113370000000000 9500000000000000
+refused 47 place 0 StoresPointer; stxw [r10-8], r1 | ldxb r3, [r1+55] | exit; 631af8ff00000000 7113370000000000 9500000000000000
+accepted; add r1, -32768 | add r1, 32767 | ldxb r0, [r1+1] | exit; 070100000080ffff 07010000ff7f0000 7110010000000000 9500000000000000
+refused 44 place 1 OutOfBounds; add r1, -32768 | ldxb r0, [r1+32767] | exit; 070100000080ffff 7110ff7f00000000 9500000000000000
+refused 41 place 2 PointerArithmetic; ldxb r2, [r1+55] | add r2, -1 | add r1, r2 | ldxb r0, [r1+0] | exit; 7112370000000000 07020000ffffffff 0f21000000000000 7110000000000000 9500000000000000
+accepted; mov r0, 1 | ldxb r2, [r1+55] | jeq r2, 0, +4 | add r2, -1 | and r2, 127 | add r1, r2 | ldxb r0, [r1+0] | exit; b700000001000000 7112370000000000 1502040000000000 07020000ffffffff 570200007f000000 0f21000000000000 7110000000000000 9500000000000000
+accepted; ldxb r2, [r1+55] | div r2, 2 | add r1, r2 | ldxb r0, [r1+0] | exit; 7112370000000000 3702000002000000 0f21000000000000 7110000000000000 9500000000000000
+refused 41 place 2 PointerArithmetic; ldxb r2, [r1+55] | sdiv r2, 2 | add r1, r2 | ldxb r0, [r1+0] | exit; 7112370000000000 3702010002000000 0f21000000000000 7110000000000000 9500000000000000
+accepted; mov r2, 5 | mov r0, 1 | jgt r2, 9, +1 | exit | ldxb r0, [r9+0] | exit; b702000005000000 b700000001000000 2502010009000000 9500000000000000 7190000000000000 9500000000000000
+refused 40 place 4 ReadsNothing(9); ldxb r2, [r1+55] | mov r0, 1 | jne r2, r2, +1 | exit | ldxb r0, [r9+0] | exit; 7112370000000000 b700000001000000 5d22010000000000 9500000000000000 7190000000000000 9500000000000000
+refused 44 place 4 OutOfBounds; ldxb r2, [r1+55] | mov r0, 1 | jset r2, 240, +2 | add r1, r2 | ldxb r0, [r1+0] | exit; 7112370000000000 b700000001000000 45020200f0000000 0f21000000000000 7110000000000000 9500000000000000
+refused 32 place 0 IntoWide; ja +1 | lddw r0, 0x1 | exit; 0500010000000000 1800000001000000 0000000000000000 9500000000000000
+accepted; mov r0, 1 | exit; b700000001000000 9500000000000000
+refused 40 place 0 ReadsNothing(0); exit; 9500000000000000
+accepted; mov32 r2, -1 | mov r0, 0 | jeq32 r2, -1, +1 | ldxb r0, [r9+0] | exit; b4020000ffffffff b700000000000000 16020100ffffffff 7190000000000000 9500000000000000
+refused 40 place 3 ReadsNothing(9); mov32 r2, -1 | mov r0, 0 | jeq r2, -1, +1 | ldxb r0, [r9+0] | exit; b4020000ffffffff b700000000000000 15020100ffffffff 7190000000000000 9500000000000000
+";
+
+/// Each cause at the first instruction, in the middle, and where it isn't reached.
+const CAUSES: &str = "\
+refused 40 place 0 ReadsNothing(9); mov r0, r9 | mov r0, 1 | exit; bf90000000000000 b700000001000000 9500000000000000
+refused 40 place 2 ReadsNothing(9); lddw r0, 0x1 | mov r0, r9 | exit; 1800000001000000 0000000000000000 bf90000000000000 9500000000000000
+accepted; mov r0, 1 | ja +1 | mov r0, r9 | exit; b700000001000000 0500010000000000 bf90000000000000 9500000000000000
+refused 40 place 0 ReadsNothing(9); add r9, r8 | mov r0, 1 | exit; 0f89000000000000 b700000001000000 9500000000000000
+refused 40 place 2 ReadsNothing(9); lddw r0, 0x1 | add r9, r8 | exit; 1800000001000000 0000000000000000 0f89000000000000 9500000000000000
+accepted; mov r0, 1 | ja +1 | add r9, r8 | exit; b700000001000000 0500010000000000 0f89000000000000 9500000000000000
+refused 40 place 0 ReadsNothing(8); add r1, r8 | mov r0, 1 | exit; 0f81000000000000 b700000001000000 9500000000000000
+refused 40 place 2 ReadsNothing(8); lddw r0, 0x1 | add r1, r8 | exit; 1800000001000000 0000000000000000 0f81000000000000 9500000000000000
+accepted; mov r0, 1 | ja +1 | add r1, r8 | exit; b700000001000000 0500010000000000 0f81000000000000 9500000000000000
+refused 40 place 0 ReadsNothing(9); neg r9 | mov r0, 1 | exit; 8709000000000000 b700000001000000 9500000000000000
+refused 40 place 2 ReadsNothing(9); lddw r0, 0x1 | neg r9 | exit; 1800000001000000 0000000000000000 8709000000000000 9500000000000000
+accepted; mov r0, 1 | ja +1 | neg r9 | exit; b700000001000000 0500010000000000 8709000000000000 9500000000000000
+refused 40 place 0 ReadsNothing(9); be16 r9 | mov r0, 1 | exit; dc09000010000000 b700000001000000 9500000000000000
+refused 40 place 2 ReadsNothing(9); lddw r0, 0x1 | be16 r9 | exit; 1800000001000000 0000000000000000 dc09000010000000 9500000000000000
+accepted; mov r0, 1 | ja +1 | be16 r9 | exit; b700000001000000 0500010000000000 dc09000010000000 9500000000000000
+refused 40 place 0 ReadsNothing(9); movsx8 r0, r9 | mov r0, 1 | exit; bf90080000000000 b700000001000000 9500000000000000
+refused 40 place 2 ReadsNothing(9); lddw r0, 0x1 | movsx8 r0, r9 | exit; 1800000001000000 0000000000000000 bf90080000000000 9500000000000000
+accepted; mov r0, 1 | ja +1 | movsx8 r0, r9 | exit; b700000001000000 0500010000000000 bf90080000000000 9500000000000000
+refused 40 place 0 ReadsNothing(9); jeq r9, r8, +0 | mov r0, 1 | exit; 1d89000000000000 b700000001000000 9500000000000000
+refused 40 place 2 ReadsNothing(9); lddw r0, 0x1 | jeq r9, r8, +0 | exit; 1800000001000000 0000000000000000 1d89000000000000 9500000000000000
+accepted; mov r0, 1 | ja +1 | jeq r9, r8, +0 | exit; b700000001000000 0500010000000000 1d89000000000000 9500000000000000
+refused 40 place 0 ReadsNothing(8); jeq r1, r8, +0 | mov r0, 1 | exit; 1d81000000000000 b700000001000000 9500000000000000
+refused 40 place 2 ReadsNothing(8); lddw r0, 0x1 | jeq r1, r8, +0 | exit; 1800000001000000 0000000000000000 1d81000000000000 9500000000000000
+accepted; mov r0, 1 | ja +1 | jeq r1, r8, +0 | exit; b700000001000000 0500010000000000 1d81000000000000 9500000000000000
+refused 40 place 0 ReadsNothing(9); stb [r9+0], 1 | mov r0, 1 | exit; 7209000001000000 b700000001000000 9500000000000000
+refused 40 place 2 ReadsNothing(9); lddw r0, 0x1 | stb [r9+0], 1 | exit; 1800000001000000 0000000000000000 7209000001000000 9500000000000000
+accepted; mov r0, 1 | ja +1 | stb [r9+0], 1 | exit; b700000001000000 0500010000000000 7209000001000000 9500000000000000
+refused 40 place 0 ReadsNothing(9); stxb [r10+0], r9 | mov r0, 1 | exit; 739a000000000000 b700000001000000 9500000000000000
+refused 40 place 2 ReadsNothing(9); lddw r0, 0x1 | stxb [r10+0], r9 | exit; 1800000001000000 0000000000000000 739a000000000000 9500000000000000
+accepted; mov r0, 1 | ja +1 | stxb [r10+0], r9 | exit; b700000001000000 0500010000000000 739a000000000000 9500000000000000
+refused 41 place 0 PointerArithmetic; add r1, r10 | mov r0, 1 | exit; 0fa1000000000000 b700000001000000 9500000000000000
+refused 41 place 2 PointerArithmetic; lddw r0, 0x1 | add r1, r10 | exit; 1800000001000000 0000000000000000 0fa1000000000000 9500000000000000
+accepted; mov r0, 1 | ja +1 | add r1, r10 | exit; b700000001000000 0500010000000000 0fa1000000000000 9500000000000000
+refused 41 place 0 PointerArithmetic; add32 r1, 1 | mov r0, 1 | exit; 0401000001000000 b700000001000000 9500000000000000
+refused 41 place 2 PointerArithmetic; lddw r0, 0x1 | add32 r1, 1 | exit; 1800000001000000 0000000000000000 0401000001000000 9500000000000000
+accepted; mov r0, 1 | ja +1 | add32 r1, 1 | exit; b700000001000000 0500010000000000 0401000001000000 9500000000000000
+refused 41 place 0 PointerArithmetic; mov32 r0, r1 | mov r0, 1 | exit; bc10000000000000 b700000001000000 9500000000000000
+refused 41 place 2 PointerArithmetic; lddw r0, 0x1 | mov32 r0, r1 | exit; 1800000001000000 0000000000000000 bc10000000000000 9500000000000000
+accepted; mov r0, 1 | ja +1 | mov32 r0, r1 | exit; b700000001000000 0500010000000000 bc10000000000000 9500000000000000
+refused 41 place 0 PointerArithmetic; mul r1, 2 | mov r0, 1 | exit; 2701000002000000 b700000001000000 9500000000000000
+refused 41 place 2 PointerArithmetic; lddw r0, 0x1 | mul r1, 2 | exit; 1800000001000000 0000000000000000 2701000002000000 9500000000000000
+accepted; mov r0, 1 | ja +1 | mul r1, 2 | exit; b700000001000000 0500010000000000 2701000002000000 9500000000000000
+refused 41 place 0 PointerArithmetic; neg r1 | mov r0, 1 | exit; 8701000000000000 b700000001000000 9500000000000000
+refused 41 place 2 PointerArithmetic; lddw r0, 0x1 | neg r1 | exit; 1800000001000000 0000000000000000 8701000000000000 9500000000000000
+accepted; mov r0, 1 | ja +1 | neg r1 | exit; b700000001000000 0500010000000000 8701000000000000 9500000000000000
+refused 41 place 0 PointerArithmetic; swap64 r1 | mov r0, 1 | exit; d701000040000000 b700000001000000 9500000000000000
+refused 41 place 2 PointerArithmetic; lddw r0, 0x1 | swap64 r1 | exit; 1800000001000000 0000000000000000 d701000040000000 9500000000000000
+accepted; mov r0, 1 | ja +1 | swap64 r1 | exit; b700000001000000 0500010000000000 d701000040000000 9500000000000000
+refused 41 place 0 PointerArithmetic; movsx32 r0, r1 | mov r0, 1 | exit; bf10200000000000 b700000001000000 9500000000000000
+refused 41 place 2 PointerArithmetic; lddw r0, 0x1 | movsx32 r0, r1 | exit; 1800000001000000 0000000000000000 bf10200000000000 9500000000000000
+accepted; mov r0, 1 | ja +1 | movsx32 r0, r1 | exit; b700000001000000 0500010000000000 bf10200000000000 9500000000000000
+refused 41 place 0 PointerArithmetic; sub r1, -32769 | mov r0, 1 | exit; 17010000ff7fffff b700000001000000 9500000000000000
+refused 41 place 2 PointerArithmetic; lddw r0, 0x1 | sub r1, -32769 | exit; 1800000001000000 0000000000000000 17010000ff7fffff 9500000000000000
+accepted; mov r0, 1 | ja +1 | sub r1, -32769 | exit; b700000001000000 0500010000000000 17010000ff7fffff 9500000000000000
+refused 42 place 0 LeavesArea; sub r1, -32768 | mov r0, 1 | exit; 170100000080ffff b700000001000000 9500000000000000
+refused 42 place 2 LeavesArea; lddw r0, 0x1 | sub r1, -32768 | exit; 1800000001000000 0000000000000000 170100000080ffff 9500000000000000
+accepted; mov r0, 1 | ja +1 | sub r1, -32768 | exit; b700000001000000 0500010000000000 170100000080ffff 9500000000000000
+refused 44 place 0 OutOfBounds; ldxdw r0, [r1+221] | mov r0, 1 | exit; 7910dd0000000000 b700000001000000 9500000000000000
+refused 44 place 2 OutOfBounds; lddw r0, 0x1 | ldxdw r0, [r1+221] | exit; 1800000001000000 0000000000000000 7910dd0000000000 9500000000000000
+accepted; mov r0, 1 | ja +1 | ldxdw r0, [r1+221] | exit; b700000001000000 0500010000000000 7910dd0000000000 9500000000000000
+refused 44 place 0 OutOfBounds; ldxb r0, [r1-1] | mov r0, 1 | exit; 7110ffff00000000 b700000001000000 9500000000000000
+refused 44 place 2 OutOfBounds; lddw r0, 0x1 | ldxb r0, [r1-1] | exit; 1800000001000000 0000000000000000 7110ffff00000000 9500000000000000
+accepted; mov r0, 1 | ja +1 | ldxb r0, [r1-1] | exit; b700000001000000 0500010000000000 7110ffff00000000 9500000000000000
+refused 44 place 0 OutOfBounds; ldxb r0, [r10+0] | mov r0, 1 | exit; 71a0000000000000 b700000001000000 9500000000000000
+refused 44 place 2 OutOfBounds; lddw r0, 0x1 | ldxb r0, [r10+0] | exit; 1800000001000000 0000000000000000 71a0000000000000 9500000000000000
+accepted; mov r0, 1 | ja +1 | ldxb r0, [r10+0] | exit; b700000001000000 0500010000000000 71a0000000000000 9500000000000000
+refused 44 place 0 OutOfBounds; stdw [r10-513], 1 | mov r0, 1 | exit; 7a0afffd01000000 b700000001000000 9500000000000000
+refused 44 place 2 OutOfBounds; lddw r0, 0x1 | stdw [r10-513], 1 | exit; 1800000001000000 0000000000000000 7a0afffd01000000 9500000000000000
+accepted; mov r0, 1 | ja +1 | stdw [r10-513], 1 | exit; b700000001000000 0500010000000000 7a0afffd01000000 9500000000000000
+refused 45 place 0 UnwrittenFrame; ldxdw r0, [r10-512] | mov r0, 1 | exit; 79a000fe00000000 b700000001000000 9500000000000000
+refused 45 place 2 UnwrittenFrame; lddw r0, 0x1 | ldxdw r0, [r10-512] | exit; 1800000001000000 0000000000000000 79a000fe00000000 9500000000000000
+accepted; mov r0, 1 | ja +1 | ldxdw r0, [r10-512] | exit; b700000001000000 0500010000000000 79a000fe00000000 9500000000000000
+refused 46 place 0 WritesRecord; stxb [r1+228], r9 | mov r0, 1 | exit; 7391e40000000000 b700000001000000 9500000000000000
+refused 46 place 2 WritesRecord; lddw r0, 0x1 | stxb [r1+228], r9 | exit; 1800000001000000 0000000000000000 7391e40000000000 9500000000000000
+accepted; mov r0, 1 | ja +1 | stxb [r1+228], r9 | exit; b700000001000000 0500010000000000 7391e40000000000 9500000000000000
+refused 47 place 0 StoresPointer; stxdw [r10+0], r10 | mov r0, 1 | exit; 7baa000000000000 b700000001000000 9500000000000000
+refused 47 place 2 StoresPointer; lddw r0, 0x1 | stxdw [r10+0], r10 | exit; 1800000001000000 0000000000000000 7baa000000000000 9500000000000000
+accepted; mov r0, 1 | ja +1 | stxdw [r10+0], r10 | exit; b700000001000000 0500010000000000 7baa000000000000 9500000000000000
+refused 48 place 0 ComparesPointer; jset r1, r1, +0 | mov r0, 1 | exit; 4d11000000000000 b700000001000000 9500000000000000
+refused 48 place 2 ComparesPointer; lddw r0, 0x1 | jset r1, r1, +0 | exit; 1800000001000000 0000000000000000 4d11000000000000 9500000000000000
+accepted; mov r0, 1 | ja +1 | jset r1, r1, +0 | exit; b700000001000000 0500010000000000 4d11000000000000 9500000000000000
+refused 48 place 0 ComparesPointer; jeq32 r10, 1, +0 | mov r0, 1 | exit; 160a000001000000 b700000001000000 9500000000000000
+refused 48 place 2 ComparesPointer; lddw r0, 0x1 | jeq32 r10, 1, +0 | exit; 1800000001000000 0000000000000000 160a000001000000 9500000000000000
+accepted; mov r0, 1 | ja +1 | jeq32 r10, 1, +0 | exit; b700000001000000 0500010000000000 160a000001000000 9500000000000000
+refused 49 place 0 UnknownHelper; call 1 | mov r0, 1 | exit; 8500000001000000 b700000001000000 9500000000000000
+refused 49 place 2 UnknownHelper; lddw r0, 0x1 | call 1 | exit; 1800000001000000 0000000000000000 8500000001000000 9500000000000000
+accepted; mov r0, 1 | ja +1 | call 1 | exit; b700000001000000 0500010000000000 8500000001000000 9500000000000000
+refused 41 place 1 PointerArithmetic; mov r0, 1 | sub r0, r1 | exit; b700000001000000 1f10000000000000 9500000000000000
+accepted; mov r0, 1 | ja +1 | sub r0, r1 | exit; b700000001000000 0500010000000000 1f10000000000000 9500000000000000
+refused 41 place 1 PointerArithmetic; mov r0, 1 | div r0, r1 | exit; b700000001000000 3f10000000000000 9500000000000000
+accepted; mov r0, 1 | ja +1 | div r0, r1 | exit; b700000001000000 0500010000000000 3f10000000000000 9500000000000000
+refused 43 place 1 NotPointer; mov r0, 1 | ldxb r0, [r0+0] | exit; b700000001000000 7100000000000000 9500000000000000
+accepted; mov r0, 1 | ja +1 | ldxb r0, [r0+0] | exit; b700000001000000 0500010000000000 7100000000000000 9500000000000000
+refused 43 place 1 NotPointer; mov r0, 1 | stxb [r0+0], r9 | exit; b700000001000000 7390000000000000 9500000000000000
+accepted; mov r0, 1 | ja +1 | stxb [r0+0], r9 | exit; b700000001000000 0500010000000000 7390000000000000 9500000000000000
+refused 48 place 1 ComparesPointer; mov r0, 1 | jne r0, r1, +0 | exit; b700000001000000 5d10000000000000 9500000000000000
+accepted; mov r0, 1 | ja +1 | jne r0, r1, +0 | exit; b700000001000000 0500010000000000 5d10000000000000 9500000000000000
+refused 51 place 2 ExitNotNumber; mov r0, r10 | mov r2, 1 | exit; bfa0000000000000 b702000001000000 9500000000000000
+refused 51 place 1 ExitNotNumber; mov r0, r1 | exit | mov r0, 1 | exit; bf10000000000000 9500000000000000 b700000001000000 9500000000000000
+refused 40 place 0 ReadsNothing(0); exit | mov r0, 1 | exit; 9500000000000000 b700000001000000 9500000000000000
+accepted; mov r0, 1 | exit | exit; b700000001000000 9500000000000000 9500000000000000
+";
+
+/// The code of words.
+fn code_of<A: Allocator + Copy>(alloc: A, words: &str) -> Result<Code<A>, Fail> {
+    let mut program = Vec::new(alloc);
+    for word in words.split_whitespace() {
+        program.extend_from_slice(&u64::from_str_radix(word, 16)?.to_be_bytes())?;
+    }
+    Ok(decode(alloc, &program)?)
+}
+
+/// Whether a code's verdict is this one. What is accepted keeps the code.
+fn has_verdict<A: Allocator + Copy>(alloc: A, code: Code<A>, verdict: &str) -> bool {
+    let count = code.instructions().len();
+    let flow = match Flow::of(code) {
+        Ok(flow) => flow,
+        Err(fault) => return fault.line().as_str() == verdict,
+    };
+    match verify(alloc, flow) {
+        Ok(verified) => verdict == "accepted" && verified.code().instructions().len() == count,
+        Err(fault) => fault.line().as_str() == verdict,
+    }
+}
+
+#[test]
+fn verdicts(rt: HostRuntime) -> Result<(), Fail> {
+    for table in [VERDICTS, CAUSES] {
+        for row in table.lines() {
+            let mut columns = row.split("; ");
+            let verdict = columns.next().unwrap_or("");
+            let code = code_of(rt.alloc(), columns.last().unwrap_or(""))?;
+            assert!(rt; has_verdict(rt.alloc(), code, verdict), "{row}");
+        }
+    }
+    Ok(())
+}
+
+/// `ldxb r2, [r1+55]`, 4,000 times `jne r2, 65, +0`, `mov r0, 1` and `exit`.
+#[test]
+fn long_code(rt: HostRuntime) -> Result<(), Fail> {
+    let mut program = Vec::new(rt.alloc());
+    program.extend_from_slice(&0x7112_3700_0000_0000_u64.to_be_bytes())?;
+    for _ in 0..4000 {
+        program.extend_from_slice(&0x5502_0000_4100_0000_u64.to_be_bytes())?;
+    }
+    program.extend_from_slice(&0xb700_0000_0100_0000_u64.to_be_bytes())?;
+    program.extend_from_slice(&0x9500_0000_0000_0000_u64.to_be_bytes())?;
+    let code = decode(rt.alloc(), &program)?;
+    assert!(rt; has_verdict(rt.alloc(), code, "accepted"));
+    Ok(())
+}
+
+/// Want of memory has a name and no number.
+#[test]
+fn memory(rt: HostRuntime) -> Result<(), Fail> {
+    let fault = VerifyFault::Memory;
+    assert_eq!(rt; fault.number(), None);
+    assert_eq!(rt; fault.name(), "memory");
+    assert_eq!(rt; fault.line().as_str(), "refused memory");
+    Ok(())
+}
