@@ -7,8 +7,10 @@
 #   beside coreutils: where one isn't there, the block is left out, and said to be. `rt` is played: `rt try -- ..` and `rt run -- ..`
 #   run the program that is tried, and `rt ci` does nothing.
 # - A block ```asm that a block ```hex follows is a program and its words: `asm` makes these of it, and of what `dis` writes of them.
-# - A row of a table with bytes in its first cell and a refusal in its second is a program that `run` refuses so; one with a place, an
-#   instruction and its bytes is a program of one instruction, and is tried as above.
+# - A block ```asm that a block ```verdict follows is a program and what `verify` says of it. In a block ```verdicts each line is a program,
+#   with `|` between its lines, and behind `;` what `verify` says of it.
+# - A row of a table with bytes in its first cell and a refusal in its second is a program that `verify` and `run` refuse so; one with a
+#   place, an instruction and its bytes is a program of one instruction, and is tried as above.
 #
 # Then the program over files and outputs that are missing, faulty or full: each text of an error has to stand in docs/refusals.md.
 #
@@ -82,13 +84,32 @@ try_conversion() {
     fi
 }
 
+# try_verdict NAME TEXT VERDICT
+try_verdict() {
+    local wrote status=1
+    [ "$3" = accepted ] && status=0
+    printf '%s\n' "$2" > try.s
+    wrote=$(extractd asm --source try.s 2>&1 > try.bpf && extractd verify --program try.bpf 2>&1)
+    if [ "$?: $wrote" = "$status: $3" ]; then pass; else fail "$1 shows" "$2" "$3" "and it is" "$wrote"; fi
+}
+
+# try_verdicts NAME ROWS
+try_verdicts() {
+    local row
+    while IFS= read -r row; do
+        try_verdict "$1" "$(tr '|' '\n' <<< "${row%;*}")" "${row##*; }"
+    done <<< "$2"
+}
+
 # try_refusal NAME BYTES LINE
 try_refusal() {
-    local byte bytes=""
+    local byte command wrote bytes=""
     for byte in $2; do bytes+="\\x$byte"; done
     printf "$bytes" > try.bpf
-    wrote=$(extractd run --program try.bpf --data examples 01001 2>&1)
-    if [ "$?: $wrote" = "1: $3" ]; then pass; else fail "$1 shows" "$3" "and it is" "$wrote"; fi
+    for command in verify "run --data examples 01001"; do
+        wrote=$(extractd $command --program try.bpf 2>&1)
+        if [ "$?: $wrote" = "1: $3" ]; then pass; else fail "$1 shows" "$3" "and $command says" "$wrote"; fi
+    done
 }
 
 # try_document FILE: all that it shows.
@@ -115,6 +136,8 @@ try_document() {
             console) try_console "$1, line $begin" "$needed" "$text" ;;
             asm) asm=$text ;;
             hex) try_conversion "$1, line $begin" "$asm" "$text" ;;
+            verdict) try_verdict "$1, line $begin" "$asm" "$text" ;;
+            verdicts) try_verdicts "$1, line $begin" "$text" ;;
             esac
             kind=""
         else
@@ -170,10 +193,12 @@ try_cases() {
     try_case 0 $rows '' 'extractd run --data "$county" 01001 --program "$all"'
     try_case 0 $rows '' 'extractd run --program "a program.bpf" --data "a county" 01001'
     try_case 0 0 '' 'extractd run --program "$all" --data empty 01001'
+    try_case 0 9 '' 'extractd verify --program "$all"'
     try_case 0 16 '' 'extractd asm --source <(extractd dis --program "$all")'
 
     # Refusals, by way of real files.
     try_case 1 0 'refused 10 Empty' 'extractd run --program nothing --data "$county" 01001'
+    try_case 1 0 'refused 10 Empty' 'extractd verify --program nothing'
     try_case 1 0 'refused 10 Empty' 'extractd dis --program nothing'
     try_case 1 0 'refused 26 line 1 CodeFault(10)' 'extractd asm --source nothing'
 
@@ -194,18 +219,20 @@ dis --program $'\377'|error: an argument isn't UTF-8|
 --version|extractd 0.1.0|
 END
     try_case 2 0 "*Usage: extractd <COMMAND>*Examples:*Exit status:*extractd 0.1.0" 'extractd --help'
-    for command in run asm dis; do
+    for command in run verify asm dis; do
         try_case 2 0 "*Usage: extractd $command *Example:*extractd $command *Exit status:*extractd 0.1.0" "extractd $command --help"
     done
 
     # Files that can't be used.
     try_case 3 0 'error: missing.bpf: not found' 'extractd run --program missing.bpf --data "$county" 01001'
     try_case 3 0 "error: $county/TGR99999.RT1: not found" 'extractd run --program "$all" --data "$county" 99999'
+    try_case 3 0 'error: missing.bpf: not found' 'extractd verify --program missing.bpf'
     try_case 3 0 'error: missing.bpf: not found' 'extractd dis --program missing.bpf'
     try_case 3 0 'error: missing.s: not found' 'extractd asm --source missing.s'
     try_case 3 0 'error: : not found' 'extractd asm --source ""'
     try_shown 'error: FILE: not found'
     try_case 3 0 'error: folder: is a directory' 'extractd run --program folder --data "$county" 01001'
+    try_case 3 0 'error: folder: is a directory' 'extractd verify --program folder'
     try_case 3 0 'error: folder: is a directory' 'extractd dis --program folder'
     try_case 3 0 'error: folder: is a directory' 'extractd asm --source folder'
     try_case 3 0 'refused 5 rt1 line 1 Read' 'extractd run --program "$all" --data folders 01001'
@@ -224,6 +251,7 @@ END
     # Outputs that can't be used.
     if [ -w /dev/full ]; then
         try_case 3 0 'refused 60 Write' 'extractd run --program "$all" --data "$county" 01001 > /dev/full'
+        try_case 3 0 'error: the output can'\''t be written: no space left' 'extractd verify --program "$all" > /dev/full'
         try_case 3 0 'error: the output can'\''t be written: no space left' 'extractd dis --program "$all" > /dev/full'
         try_case 1 0 'refused 10 Empty' 'extractd dis --program nothing > /dev/full'
         try_case 2 0 '' 'extractd dis 2> /dev/full'

@@ -1,3 +1,4 @@
+pub mod KindLemmas
 pub mod BitLemmas
 pub mod HoldLemmas
 pub mod OperationLemmas

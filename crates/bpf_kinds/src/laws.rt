@@ -14,6 +14,8 @@ ghost use Rattle.bpf_kinds.specs.Interval.{IsProper, Admits, cut};
 ghost use Rattle.bpf_kinds.specs.Results.{alu, negate, extend, byte_swap, load_length, load, wide_number, immediate_operand};
 ghost use Rattle.bpf_kinds.specs.declared.interval.Interval.{Interval};
 
+use crate::order::Order;
+
 /// What an instruction gives of numbers that intervals admit, the interval that it gives of those
 /// admits.
 pub fn results_are_admitted()
@@ -44,4 +46,12 @@ pub fn results_are_proper()
     ensures wide_number { (immediate next_immediate : ℤ) → FitsSigned w32 immediate → FitsSigned w32 next_immediate
         → IsProper (wide_number immediate next_immediate) }
     ensures immediate_operand { (immediate : ℤ) → FitsSigned w32 immediate → IsProper (immediate_operand immediate) }
+{}
+
+/// What one of two values admits, the least value that both lie within admits.
+pub fn joins_admit<T: Order>()
+    ensures left { (x y : T) (element : T.Element) → T.IsProper x → T.IsProper y → T.Admits x element
+        → T.Admits (T.join x y) element }
+    ensures right { (x y : T) (element : T.Element) → T.IsProper x → T.IsProper y → T.Admits y element
+        → T.Admits (T.join x y) element }
 {}

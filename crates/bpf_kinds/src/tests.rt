@@ -2,7 +2,7 @@
 ghost use Rattle.std.specs.Prelude.{IfOk};
 ghost use Rattle.bpf_kinds.specs.Interval.{IsProper};
 
-use crate::{Interval, Order, alu, byte_swap, extend, load, negate};
+use crate::{Interval, Kind, Offsets, Order, alu, byte_swap, extend, load, negate};
 use bpf_insn::{ByteOrder, LoadFormat, Operation, SignExtension, SwapWidth, Width};
 use std::test::Fail;
 
@@ -386,4 +386,32 @@ fn results(rt: HostRuntime) -> Result<(), Fail> {
         assert!(rt; known, "{row}");
     }
     Ok(())
+}
+
+/// The join of two values, if both lie within it.
+fn bound_of<T: Order + Drop>(x: &T, y: &T) -> Option<T> {
+    let join = x.join(y);
+    if x.leq(&join) && y.leq(&join) {
+        Some(join)
+    } else {
+        None
+    }
+}
+
+#[test]
+fn joins(rt: HostRuntime) {
+    let low = Offsets { low: -3, high: 4 };
+    let high = Offsets { low: 0, high: 9 };
+    let round = Offsets { low: -3, high: 9 };
+    let number = Kind::Number(Interval::single(7));
+    assert_eq!(rt; bound_of(&low, &high), Some(round));
+    assert_eq!(rt;
+        bound_of(&Kind::Frame(low), &Kind::Frame(high)),
+        Some(Kind::Frame(round))
+    );
+    assert_eq!(rt;
+        bound_of(&Kind::Frame(low), &Kind::Record(low)),
+        Some(Kind::Nothing)
+    );
+    assert_eq!(rt; bound_of(&number, &number), Some(number));
 }

@@ -19,6 +19,7 @@ mod tests;
 pub use cause::Cause;
 pub use effect::{Change, Effect};
 pub use frame::{FRAME_LENGTH, Frame};
+pub use memory::{load_length, store_length};
 pub use outcome::Outcome;
 pub use segment::{RECORD_LENGTH, Segment};
 pub use state::{REGISTERS, State};

@@ -12,7 +12,7 @@ use crate::state::State;
 use bpf_insn::{Area, LoadFormat, Pointer, Register, Source, StoreSize, Value};
 
 /// How many bytes a load reads (RFC 9669, section 5.1).
-fn load_length(format: LoadFormat) -> usize
+pub fn load_length(format: LoadFormat) -> usize
     ensures value { result ≡ load_length format }
     ensures short { result ≤ 8 }
 {
@@ -25,7 +25,7 @@ fn load_length(format: LoadFormat) -> usize
 }
 
 /// How many bytes a store writes (RFC 9669, section 5.1).
-pub(crate) fn store_length(size: StoreSize) -> usize
+pub fn store_length(size: StoreSize) -> usize
     ensures value { result ≡ store_length size }
     ensures short { result ≤ 8 }
 {

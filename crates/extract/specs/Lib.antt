@@ -1,5 +1,3 @@
-pub mod CheckFault
-pub mod Checks
 pub mod CountyFile
 pub mod ExtractFault
 pub mod Extracting

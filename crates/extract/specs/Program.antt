@@ -1,23 +1,30 @@
 -- Programs that are accepted, and why one isn't.
 use Rattle.std.specs.Prelude.{◌≢◌, ℕ, List}
-use Rattle.bpf_insn.specs.Code.{IsCodeOf, IsFirstFault}
+use Rattle.bpf_insn.specs.Code as code
+use Rattle.bpf_insn.specs.Code.{IsCodeOf}
 use Rattle.bpf_insn.specs.declared.fault.CodeFault.TheVariants as code_fault
 use Rattle.bpf_insn.specs.declared.instruction.Insn.{Insn}
+use Rattle.bpf_flow.specs.Flow as flow
+use Rattle.bpf_flow.specs.Flow.{IsForward}
 use Rattle.bpf_meaning.specs.Run.{IsSafe}
-use Rattle.extract.specs.Checks.{AreTaken, EndsInExit, IsCheckFault}
+use Rattle.bpf_verify.specs.Annotation.{IsAccepted, IsVerifyFault}
+use Rattle.bpf_verify.specs.declared.fault.VerifyFault.TheVariants as verify_fault
 use Rattle.extract.specs.declared.program.ProgramFault.{ProgramFault}
-use Rattle.extract.specs.declared.program.ProgramFault.TheVariants.{Code, Check, Memory}
+use Rattle.extract.specs.declared.program.ProgramFault.TheVariants.{Code, Flow, Verify, Memory}
 
--- the bytes have this code, and it is safe: on every segment whatever no run ends stuck, and some run exits in at most as many steps as
--- the code has instructions. Its last instruction is EXIT, which is this project's own rule, and each one is taken.
+-- The bytes have this code, which is forward: its jumps go forward, and its last instruction is EXIT. It is accepted: what is known before
+-- each instruction makes every check pass. So it is safe: on every segment whatever no run ends stuck, and some run exits in at most as
+-- many steps as the code has instructions.
 pub record IsSafeProgram (program : List ℕ) (code : List Insn) : Type 0 where
   pub is_code : IsCodeOf program code
+  pub forward : IsForward code
+  pub accepted : IsAccepted code
   pub safe : IsSafe code
-  pub last : EndsInExit code
-  pub taken : AreTaken code
 
--- 10 to 18 are the first fault of the bytes; the others come of their code
+-- 10 to 18 are the first fault of the bytes, 30 to 33 the first fault of their code; 40 to 51 come of a forward code alone
 abbrev pub IsProgramFault : List ℕ → ProgramFault → Type 0
-IsProgramFault program (Code fault) = IsFirstFault program fault × (fault ≢ code_fault.Memory)
-IsProgramFault program (Check fault) = (code : List Insn) × IsCodeOf program code × IsCheckFault code fault
+IsProgramFault program (Code fault) = code.IsFirstFault program fault × (fault ≢ code_fault.Memory)
+IsProgramFault program (Flow fault) = (code : List Insn) × IsCodeOf program code × flow.IsFirstFault code fault
+IsProgramFault program (Verify fault) =
+    (code : List Insn) × IsCodeOf program code × IsForward code × IsVerifyFault code fault × (fault ≢ verify_fault.Memory)
 IsProgramFault program Memory = Unit {0}

@@ -32,8 +32,8 @@ pub fn extract<A: Allocator + Copy, R: CountedRead, W: CountedWrite>(
         → (rt1.new ≡ rt1.old) × (out.new ≡ out.old) }
     ensures others { (rt4.new ≡ rt4.old) × (rt5.new ≡ rt5.old) × (rt6.new ≡ rt6.old) }
 {
-    let code = accept(alloc, program)?;
+    let verified = accept(alloc, program)?;
     let segments = read_segments(alloc, rt1)?;
-    let rows = write_rows(&code, segments.as_slice(), out)?;
+    let rows = write_rows(&verified, segments.as_slice(), out)?;
     Ok(rows)
 }

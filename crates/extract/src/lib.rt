@@ -1,19 +1,16 @@
 //! Extracts: the rows of the street segments (TIGER/Line 2006) that a BPF program (RFC 9669) chooses.
 #![tactic(auto)]
 
-mod checks;
 mod extractor;
 mod fault;
 pub mod laws;
 mod load;
-mod machine;
 mod program;
 mod rows;
 #[cfg(test)]
 mod tests;
 
-pub use checks::CheckFault;
 pub use extractor::extract;
 pub use fault::ExtractFault;
 pub use load::{CountyFile, LineFault, LineFlaw, LoadFault};
-pub use program::ProgramFault;
+pub use program::{ProgramFault, accept};

@@ -2,12 +2,12 @@
 ghost use Rattle.std.specs.Prelude.{◌≡◌, IfOk, IfErr};
 ghost use Rattle.extract.specs.Program.{IsSafeProgram, IsProgramFault};
 ghost use Rattle.extract.specs.ProgramFault as program_fault;
-ghost use Rattle.extract.specs.ProgramFault.{of_code};
-ghost use Rattle.extract.specs.declared.program.ProgramFault.TheVariants.{Check};
+ghost use Rattle.extract.specs.ProgramFault.{of_code, of_flow, of_verify};
 
-use crate::checks::{CheckFault, check};
 use arrayvec::ArrayString;
-use bpf_insn::{Code, CodeFault, decode, memory_name, refusal_line};
+use bpf_flow::{Flow, FlowFault};
+use bpf_insn::{CodeFault, decode, memory_name, refusal_line};
+use bpf_verify::{Verified, VerifyFault, verify};
 use std::alloc::Allocator;
 use thiserror::Error;
 
@@ -17,9 +17,12 @@ pub enum ProgramFault {
     /// The bytes are no code.
     #[error("{0}")]
     Code(CodeFault),
-    /// The code may go wrong on some segment, or isn't taken yet.
+    /// A jump of the code leads elsewhere than forward to an instruction, or its last instruction is no exit.
     #[error("{0}")]
-    Check(CheckFault),
+    Flow(FlowFault),
+    /// The code may be stuck on some segment, as far as its checks can tell.
+    #[error("{0}")]
+    Verify(VerifyFault),
     #[error("out of memory")]
     Memory,
 }
@@ -35,11 +38,22 @@ impl From<CodeFault> for ProgramFault {
     }
 }
 
-impl From<CheckFault> for ProgramFault {
-    ghost from_gives = { λ fault given. given ≡ Check fault };
+impl From<FlowFault> for ProgramFault {
+    ghost from_gives = { λ fault given. given ≡ of_flow fault };
 
-    fn from(fault: CheckFault) -> ProgramFault {
-        ProgramFault::Check(fault)
+    fn from(fault: FlowFault) -> ProgramFault {
+        ProgramFault::Flow(fault)
+    }
+}
+
+impl From<VerifyFault> for ProgramFault {
+    ghost from_gives = { λ fault given. given ≡ of_verify fault };
+
+    fn from(fault: VerifyFault) -> ProgramFault {
+        match fault {
+            VerifyFault::Memory => ProgramFault::Memory,
+            fault => ProgramFault::Verify(fault),
+        }
     }
 }
 
@@ -50,7 +64,8 @@ impl ProgramFault {
     {
         match *self {
             ProgramFault::Code(fault) => fault.number(),
-            ProgramFault::Check(fault) => Some(fault.number()),
+            ProgramFault::Flow(fault) => Some(fault.number()),
+            ProgramFault::Verify(fault) => fault.number(),
             ProgramFault::Memory => None,
         }
     }
@@ -60,7 +75,8 @@ impl ProgramFault {
     {
         match *self {
             ProgramFault::Code(fault) => fault.name(),
-            ProgramFault::Check(fault) => fault.name(),
+            ProgramFault::Flow(fault) => fault.name(),
+            ProgramFault::Verify(fault) => fault.name(),
             ProgramFault::Memory => memory_name(),
         }
     }
@@ -71,18 +87,21 @@ impl ProgramFault {
     {
         match *self {
             ProgramFault::Code(fault) => fault.line(),
-            ProgramFault::Check(fault) => fault.line(),
+            ProgramFault::Flow(fault) => fault.line(),
+            ProgramFault::Verify(fault) => fault.line(),
             ProgramFault::Memory => refusal_line(None, memory_name()),
         }
     }
 }
 
-/// The code of a program that is safe to run.
-pub(crate) fn accept<A: Allocator + Copy>(alloc: A, program: &[u8]) -> Result<Code<A>, ProgramFault>
-    ensures ok { IfOk result (IsSafeProgram program.now) }
+/// Accepts a program, which `bpf_machine::run` then takes, or refuses it: its bytes are looked at first, then where its jumps lead and how it
+/// ends, and then what its instructions do. What is accepted keeps the allocator, and nothing of `program`.
+pub fn accept<A: Allocator + Copy>(alloc: A, program: &[u8]) -> Result<Verified<A>, ProgramFault>
+    ensures ok { IfOk result (λ verified. IsSafeProgram program.now verified.code) }
     ensures err { IfErr result (IsProgramFault program.now) }
 {
     let code = decode(alloc, program)?;
-    check(&code)?;
-    Ok(code)
+    let flow = Flow::of(code)?;
+    let verified = verify(alloc, flow)?;
+    Ok(verified)
 }

@@ -2,13 +2,12 @@
 ghost use Rattle.std.specs.Prelude.{◌≡◌, length};
 ghost use Rattle.tl_fields.specs.Device.{writer};
 ghost use Rattle.bpf_meaning.specs.Extract.{row_of};
-ghost use Rattle.bpf_meaning.specs.Run.{IsSafe};
 ghost use Rattle.extract.specs.Rows.{WritesRow, WritesExtract};
 
-use crate::machine::run;
 use arrayvec::ArrayVec;
-use bpf_insn::Code;
+use bpf_machine::run;
 use bpf_meaning::{RECORD_LENGTH, Segment};
+use bpf_verify::Verified;
 use itoa::Buffer;
 use std::alloc::Allocator;
 use tl_fields::{CountedWrite, WriteFault, write_whole};
@@ -33,17 +32,16 @@ fn row_of(score: u64, record_bytes: &[u8]) -> ArrayVec<u8, LONGEST_ROW>
 
 /// Writes the row of a segment if the code chooses it, and answers how many rows that were.
 fn write_row_if_chosen<A: Allocator, W: CountedWrite>(
-    code: &Code<A>,
+    verified: &Verified<A>,
     segment: &Segment,
     out: &mut W,
 ) -> Result<u64, WriteFault>
-    requires { IsSafe code.now }
-    ensures { WritesRow code.now segment.now result
+    ensures { WritesRow verified.now.code segment.now result
         (writer W.contents W.counts out.old) (writer W.contents W.counts out.new) }
 {
     let record_bytes = segment.bytes();
-    let answer = run(code, segment);
-    if answer.answer == 0 {
+    let answer = run(verified, segment);
+    if answer.r0 == 0 {
         return Ok(0);
     }
     match write_whole(out, row_of(answer.score, record_bytes).as_slice()) {
@@ -54,17 +52,16 @@ fn write_row_if_chosen<A: Allocator, W: CountedWrite>(
 
 /// Writes the rows of the segments that the code chooses, in order, and answers their number.
 pub(crate) fn write_rows<A: Allocator, W: CountedWrite>(
-    code: &Code<A>,
+    verified: &Verified<A>,
     segments: &[Segment],
     out: &mut W,
 ) -> Result<u64, WriteFault>
-    requires { IsSafe code.now }
-    ensures { WritesExtract code.now segments.now result
+    ensures { WritesExtract verified.now.code segments.now result
         (writer W.contents W.counts out.old) (writer W.contents W.counts out.new) }
 {
     let mut rows = 0;
     for segment in segments {
-        match write_row_if_chosen(code, segment, out) {
+        match write_row_if_chosen(verified, segment, out) {
             Ok(count) => rows += count,
             Err(fault) => return Err(fault),
         }

@@ -12,7 +12,11 @@ use tl_fields::{Burst, CountedWrite, Counting, Fuse};
 const EVERY: &str = "b700000001000000 9500000000000000";
 
 // ldxb r0, [r1+55] | add r0, -65 | exit
-const BY_CLASS: &str = "7110370000000000 07000000bfffffff 9500000000000000";
+const NOT_ROADS: &str = "7110370000000000 07000000bfffffff 9500000000000000";
+
+// ldxb r2, [r1+55] | mov r0, 0 | jne r2, 65, +1 | mov r0, 1 | exit
+const ROADS: &str =
+    "7112370000000000 b700000000000000 5502010041000000 b700000001000000 9500000000000000";
 
 // Hands on so many bytes a write at most.
 #[derive(Drop)]
@@ -118,37 +122,38 @@ fn each_write_fails(rt: HostRuntime) -> Result<(), Fail> {
     Ok(())
 }
 
-// A program, its words, and the number of rows of a file of one record, or the refusal.
+// A program, its words, and the number of rows of a file of one record, or the refusal. The program's bytes are looked at before its jumps,
+// these before its end, and that before what its instructions do.
 const PROGRAMS: &str = "\
 mov r0, 1 | exit; b700000001000000 9500000000000000; 1
-ldxb r0, [r1+227] | exit; 7110e30000000000 9500000000000000; 1
 mov r0, 0 | exit; b700000000000000 9500000000000000; 0
-mov r0, 1 | exit | ldxb r0, [r9+0] | exit; b700000001000000 9500000000000000 7190000000000000 9500000000000000; 1
-mov r0, 1 | exit | ldxb r0, [r9+0]; b700000001000000 9500000000000000 7190000000000000; refused 33 place 2 LastNotExit
-exit | mov r0, 1 | exit; 9500000000000000 b700000001000000 9500000000000000; refused 40 place 0 ReadsNothing(0)
-exit; 9500000000000000; refused 40 place 0 ReadsNothing(0)
 no bytes; ; refused 10 Empty
-seven bytes; b7000000010000; refused 11 NotWhole
-an opcode that no instruction has; 9500000000000000 ff00000000000000; refused 13 place 1 UnknownOpcode
+mov r0, 1 | ja -1 | an opcode that no instruction has; b700000001000000 0500ffff00000000 ff00000000000000; refused 13 place 2 UnknownOpcode
 exit | half of lddw r0, 0; 9500000000000000 1800000000000000; refused 17 place 1 CutWide
-mov r0, 7 | div r0, 0 | exit; b700000007000000 3700000000000000 9500000000000000; refused 34 place 1 NotYet
-mov r0, 1 | lddw r1, 0 | ja 0 | exit; b700000001000000 1801000000000000 0000000000000000 0500000000000000 9500000000000000; refused 34 place 1 NotYet
-mov r0, 1 | ja -1; b700000001000000 0500ffff00000000; refused 34 place 1 NotYet
-mov r0, 1 | exit | mov r0, r1 | exit; b700000001000000 9500000000000000 bf10000000000000 9500000000000000; refused 34 place 2 NotYet
-ldxb r0, [r9+0] | neg r0 | exit; 7190000000000000 8700000000000000 9500000000000000; refused 34 place 1 NotYet
-mov32 r0, 1 | ldxh r0, [r1+0] | exit; b400000001000000 6910000000000000 9500000000000000; refused 34 place 0 NotYet
-call 1; 8500000001000000; refused 34 place 0 NotYet
-mov r11, 1 | exit; b70b000001000000 9500000000000000; refused 14 place 0 BadRegister
-a source register in mov r0, 1 | exit; b710000001000000 9500000000000000; refused 15 place 0 UnusedNotZero
-mov r10, 1 | exit; b70a000001000000 9500000000000000; refused 18 place 0 WritesFramePointer
-mov r0, 1; b700000001000000; refused 33 place 0 LastNotExit
+mov r0, r1 | ja -1 | ja +9 | ja +1 | lddw r0, 1; bf10000000000000 0500ffff00000000 0500090000000000 0500010000000000 1800000001000000 0000000000000000; refused 30 place 1 BackwardJump
+exit | ja +1 | ja -1 | exit; 9500000000000000 0500010000000000 0500ffff00000000 9500000000000000; refused 30 place 2 BackwardJump
+exit | ja +9 | mov r0, 1; 9500000000000000 0500090000000000 b700000001000000; refused 31 place 1 OutOfProgram
+exit | ja +1 | lddw r0, 1; 9500000000000000 0500010000000000 1800000001000000 0000000000000000; refused 32 place 1 IntoWide
+exit | mov r0, 1; 9500000000000000 b700000001000000; refused 33 place 1 LastNotExit
+exit; 9500000000000000; refused 40 place 0 ReadsNothing(0)
+mov r0, 1 | exit | call 1 | exit; b700000001000000 9500000000000000 8500000001000000 9500000000000000; 1
+mov r0, r1 | ja +0 | exit; bf10000000000000 0500000000000000 9500000000000000; refused 51 place 2 ExitNotNumber
+ldxb r0, [r1+227] | exit; 7110e30000000000 9500000000000000; 1
 ldxb r0, [r1+228] | exit; 7110e40000000000 9500000000000000; refused 44 place 0 OutOfBounds
-add r1, 228 | ldxb r0, [r1+0] | exit; 07010000e4000000 7110000000000000 9500000000000000; refused 44 place 1 OutOfBounds
-mov r2, 5 | ldxb r0, [r2+0] | exit; b702000005000000 7120000000000000 9500000000000000; refused 43 place 1 NotPointer
-ldxb r0, [r10-8] | exit; 71a0f8ff00000000 9500000000000000; refused 45 place 0 UnwrittenFrame
-add r1, 32768 | exit; 0701000000800000 9500000000000000; refused 41 place 0 PointerArithmetic
-add r1, 32767 | add r1, 1 | exit; 07010000ff7f0000 0701000001000000 9500000000000000; refused 42 place 1 LeavesArea
-ldxb r0, [r9+0] | exit; 7190000000000000 9500000000000000; refused 40 place 0 ReadsNothing(9)";
+ldxb r3, [r1+55] | jeq r3, 65, +1 | mov r2, 1 | mov r0, r2 | exit; 7113370000000000 1503010041000000 b702000001000000 bf20000000000000 9500000000000000; refused 40 place 3 ReadsNothing(2)
+the same behind mov r2, 0; b702000000000000 7113370000000000 1503010041000000 b702000001000000 bf20000000000000 9500000000000000; 0
+mov r0, 7 | div r0, 0 | exit; b700000007000000 3700000000000000 9500000000000000; 0
+mov r0, 7 | mod r0, 0 | exit; b700000007000000 9700000000000000 9500000000000000; 1
+lddw r0, 0x100000007 | mod32 r0, 0 | jeq r0, 7, +1 | mov r0, 0 | exit; 1800000007000000 0000000001000000 9400000000000000 1500010007000000 b700000000000000 9500000000000000; 1
+mov32 r2, -1 | mov r0, 0 | jne r2, -1, +1 | mov r0, 1 | exit; b4020000ffffffff b700000000000000 55020100ffffffff b700000001000000 9500000000000000; 0
+mov32 r2, -1 | mov r0, 0 | jne32 r2, -1, +1 | mov r0, 1 | exit; b4020000ffffffff b700000000000000 56020100ffffffff b700000001000000 9500000000000000; 1
+mov r0, 1 | ja +1 | ldxb r0, [r9+0] | exit; b700000001000000 0500010000000000 7190000000000000 9500000000000000; 1
+lddw r0, 0x1122334455667788 | be16 r0 | jeq r0, 34935, +1 | mov r0, 0 | exit; 1800000088776655 0000000044332211 dc00000010000000 1500010077880000 b700000000000000 9500000000000000; 1
+lddw r0, 0x1122334455667788 | le32 r0 | jeq r0, 1432778632, +1 | mov r0, 0 | exit; 1800000088776655 0000000044332211 d400000020000000 1500010088776655 b700000000000000 9500000000000000; 1
+mov r0, 0 | ldxb r2, [r1+55] | jgt r2, 227, +2 | add r1, r2 | ldxb r0, [r1+0] | exit; b700000000000000 7112370000000000 25020200e3000000 0f21000000000000 7110000000000000 9500000000000000; 1
+the same with add r0, -32 | exit; b700000000000000 7112370000000000 25020200e3000000 0f21000000000000 7110000000000000 07000000e0ffffff 9500000000000000; 0
+the same with jgt r2, 228; b700000000000000 7112370000000000 25020200e4000000 0f21000000000000 7110000000000000 9500000000000000; refused 44 place 4 OutOfBounds
+the same with jsgt r2, 227; b700000000000000 7112370000000000 65020200e3000000 0f21000000000000 7110000000000000 9500000000000000; 1";
 
 #[test]
 fn programs(rt: HostRuntime) -> Result<(), Fail> {
@@ -159,13 +164,22 @@ fn programs(rt: HostRuntime) -> Result<(), Fail> {
         let program = bytes_of(rt.alloc(), columns.next().unwrap_or(""))?;
         let expected = columns.next().unwrap_or("");
         let mut rt1 = reader(&file, u64::MAX, ErrorKind::BrokenPipe);
-        let mut out = Counting::new(Vec::with_capacity(rt.alloc(), 500)?);
+        let inner = Vec::with_capacity(rt.alloc(), 500)?;
+        let mut out = Counting::new(Fuse::after_calls(inner, u64::MAX, Burst::TakesNothing));
         let given = row_count(rt.alloc(), &program, &mut rt1, &mut out);
         assert!(rt; is_as_expected(&given, expected), "{row}");
         let reads = if given.is_ok() { 230 } else { 0 };
-        let written = if given == Ok(1) { text.as_slice() } else { b"" };
-        assert_eq!(rt; rt1.get_ref().calls, reads, "{row}");
-        assert_eq!(rt; out.get_ref().as_slice(), written, "{row}");
+        let (writes, written) = if given == Ok(1) {
+            (1, text.as_slice())
+        } else {
+            (0, b"".as_slice())
+        };
+        assert_eq!(rt;
+            (rt1.get_ref().calls, out.get_ref().calls),
+            (reads, writes),
+            "{row}"
+        );
+        assert_eq!(rt; out.get_ref().inner.as_slice(), written, "{row}");
     }
     Ok(())
 }
@@ -193,13 +207,17 @@ RECORD 0a ..5 2020202020 2020202020 15..; refused 3 rt1 line 2 BadTlid;
 RECORD 0a ..5 2031323334 3536373878 15..; refused 3 rt1 line 2 BadTlid;
 RECORD 0a 3230303036 2020202020 2020202020 15..; refused 2 rt1 line 2 WrongType;";
 
-// The same for the program that chooses by the class's first letter.
-const CLASSES: &str = "; 0;
+// The same for the programs that choose by the class's first letter.
+const NOT_ROADS_OF: &str = "; 0;
 RECORD 0a ..55 483031 58.. 0a ..55 202020 58.. 0a; 2; 3009 ..55 483031 58.. 0a 3009 ..55 202020 58.. 0a";
+
+const ROADS_OF: &str = "; 0;
+RECORD 0a ..55 483031 58.. 0a ..55 202020 58.. 0a; 1; 3009 RECORD 0a";
 
 #[test]
 fn files(rt: HostRuntime) -> Result<(), Fail> {
-    for (words, table) in [(EVERY, FILES), (BY_CLASS, CLASSES)] {
+    let tables = [(EVERY, FILES), (NOT_ROADS, NOT_ROADS_OF), (ROADS, ROADS_OF)];
+    for (words, table) in tables {
         let program = bytes_of(rt.alloc(), words)?;
         for row in table.lines() {
             let mut columns = row.split(';');

@@ -22,11 +22,13 @@ macro_rules! help_end {
 mod assemble;
 mod disassemble;
 mod run;
+mod verify;
 
 use crate::arguments::ArgumentsFault;
 use crate::commands::assemble::Assemble;
 use crate::commands::disassemble::Disassemble;
 use crate::commands::run::Run;
+use crate::commands::verify::Verify;
 use crate::failure::Failure;
 use crate::files::Files;
 use clap::{Arg, ArgAction, ArgMatches, Command};
@@ -37,6 +39,7 @@ use tl_fields::CountedWrite;
 #[derive(Clone, Copy, Debug)]
 pub enum Request<'a> {
     Run(Run<'a>),
+    Verify(Verify<'a>),
     Assemble(Assemble<'a>),
     Disassemble(Disassemble<'a>),
 }
@@ -46,6 +49,7 @@ impl<'a> Request<'a> {
     fn of_command(name: &str, matches: &ArgMatches<'a>) -> Result<Request<'a>, ArgumentsFault<'a>> {
         match name {
             "run" => Ok(Request::Run(Run::from_matches(matches)?)),
+            "verify" => Ok(Request::Verify(Verify::from_matches(matches)?)),
             "asm" => Ok(Request::Assemble(Assemble::from_matches(matches)?)),
             "dis" => Ok(Request::Disassemble(Disassemble::from_matches(matches)?)),
             _ => Err(ArgumentsFault::Missing("COMMAND")),
@@ -73,6 +77,7 @@ impl<'a> Request<'a> {
     {
         match self {
             Request::Run(run) => run.carry_out(alloc, files, out),
+            Request::Verify(verify) => verify.carry_out(alloc, files, out),
             Request::Assemble(assemble) => assemble.carry_out(alloc, files, out),
             Request::Disassemble(disassemble) => disassemble.carry_out(alloc, files, out),
         }
@@ -84,12 +89,13 @@ pub fn program_command<'a>(alloc: Global) -> Result<Command<'a>, AllocError> {
     Command::new(alloc, "extractd")
         .bin_name("extractd")?
         .about(
-            "Extracts the TIGER/Line street segments that a BPF program chooses, and converts programs",
+            "Extracts the TIGER/Line street segments that a BPF program chooses, and verifies and converts programs",
         )
         .version("0.1.0")
         .after_help(help_end!(
             "Examples:
   extractd run --program street.bpf --data tiger 01001 > rows.tsv
+  extractd verify --program street.bpf
   extractd asm --source street.s > street.bpf
   extractd dis --program street.bpf"
         ))
@@ -97,6 +103,7 @@ pub fn program_command<'a>(alloc: Global) -> Result<Command<'a>, AllocError> {
         .disable_help_subcommand(true)
         .subcommand_required(true)
         .subcommand(run::command(alloc)?)?
+        .subcommand(verify::command(alloc)?)?
         .subcommand(assemble::command(alloc)?)?
         .subcommand(disassemble::command(alloc)?)
 }

@@ -1,4 +1,4 @@
-//! Extracts of the street segments that a BPF program chooses, and programs as text: the program.
+//! Extracts of the street segments that a BPF program chooses, and programs verified and as text: the program.
 #![tactic(auto)]
 
 mod arguments;

@@ -4,3 +4,4 @@ mod conversions;
 mod devices;
 mod fixtures;
 mod runs;
+mod verdicts;

@@ -21,7 +21,13 @@ run --program p.bpf --data d 0100a | error: CODE is five digits, and "0100a" isn
 run --program p.bpf --data d 0100١ | error: CODE is five digits, and "0100١" isn't
 run --program p.bpf --data d '' | error: CODE is five digits, and "" isn't
 frob | error:
-verify --program p.bpf | error:
+verify | error:
+verify --program | error:
+verify p.bpf | error:
+verify --source p.s | error:
+verify --program p.bpf --data d | error:
+verify --program p.bpf 01001 | error:
+verify --program p.bpf --program p.bpf | error:
 asm | error:
 asm --source | error:
 asm p.s | error:
@@ -40,6 +46,7 @@ serve --data d --port 8080 01001 | error:
 help | error:
 --help | Extracts the TIGER/Line street segments
 run --help | Writes the rows
+verify --help | Says whether
 asm --help | Writes the BPF
 dis --help | Writes a program
 --version | extractd 0.1.0
@@ -68,15 +75,18 @@ fn usage_faults(rt: HostRuntime) -> Result<(), Fail> {
 // What a text for the user has somewhere in it: the program's name in a usage line, its version, an example of each command.
 const PARTS: &str = r#"
 run | Usage: extractd run --program <FILE> --data <DIR> <CODE>
+verify | Usage: extractd verify --program <FILE>
 asm | Usage: extractd asm --source <FILE>
 dis | Usage: extractd dis --program <FILE>
 frob | Usage: extractd <COMMAND>
 --help | extractd run --program street.bpf --data tiger 01001 > rows.tsv
+--help | extractd verify --program street.bpf
 --help | extractd asm --source street.s > street.bpf
 --help | extractd dis --program street.bpf
 --help | extractd 0.1.0
 --help | 4  out of memory
 run --help | extractd run --program street.bpf --data tiger 01001 > rows.tsv
+verify --help | extractd verify --program street.bpf
 asm --help | extractd asm --source street.s > street.bpf
 dis --help | extractd dis --program street.bpf
 "#;

@@ -34,6 +34,15 @@ run --program p.bpf --data d 01001 | ONE EXIT | LINE \n | empty 0 | 3 | refused 
 run --program p.bpf --data d 01001 | ONE EXIT | LINE \n | write 1 | 3 | error: the output can't be written: no space left
 run --program p.bpf --data d 01001 | EXIT | LINE \n | write 0 | 1 | refused 40 place 0 ReadsNothing(0)
 run --program p.bpf --data d 01001 | missing | LINE \n | write 0 | 3 | error: p.bpf: not found
+verify --program p.bpf | missing | | | 3 | error: p.bpf: not found
+verify --program p.bpf | closed denied | | | 3 | error: p.bpf: permission denied
+verify --program p.bpf | ! 0 directory | | | 3 | error: p.bpf: is a directory
+verify --program p.bpf | EXIT ! 1 pipe | | write 0 | 3 | error: p.bpf: broken pipe
+verify --program p.bpf | closed memory | | | 4 | refused memory
+verify --program p.bpf | ONE EXIT | | write 0 | 3 | refused 60 Write
+verify --program p.bpf | ONE EXIT | | empty 0 | 3 | refused 61 WriteZero
+verify --program p.bpf | ONE EXIT | | write 1 | 3 | error: the output can't be written: no space left
+verify --program p.bpf | EXIT | | write 0 | 1 | refused 40 place 0 ReadsNothing(0)
 asm --source p.s | missing | | | 3 | error: p.s: not found
 asm --source p.s | closed denied | | | 3 | error: p.s: permission denied
 asm --source p.s | ! 0 directory | | | 3 | error: p.s: is a directory

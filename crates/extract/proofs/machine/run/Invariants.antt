@@ -1,6 +1,0 @@
-use Rattle.bpf_meaning.proofs.RunLemmas.{IsOnItsWay}
-use Rattle.extract.proofs.machine.run.Given as goal
-
--- a run of so many steps is on its way in this state
-abbrev pub invariant-loop-steps : goal.invariant-loop-steps
-invariant-loop-steps g l = IsOnItsWay l.code l.segment l._steps l.state

@@ -1,0 +1,65 @@
+//! `verify`: whether a program is accepted.
+ghost use Rattle.tl_fields.specs.Device.{writer};
+ghost use Rattle.extractd.specs.Command.{IsCarriedOut};
+ghost use Rattle.extractd.specs.Failure.{TellsOpens};
+ghost use Rattle.extractd.specs.declared.commands.Request.{Request};
+
+use super::{option, value};
+use crate::arguments::ArgumentsFault;
+use crate::failure::{Failure, write};
+use crate::files::{Files, read_file};
+use clap::{ArgMatches, Command};
+use extract::accept;
+use std::alloc::{AllocError, Global};
+use tl_fields::CountedWrite;
+
+pub fn command<'a>(alloc: Global) -> Result<Command<'a>, AllocError> {
+    Command::new(alloc, "verify")
+        .about("Says whether run would accept a program")
+        .after_help(help_end!("Example:\n  extractd verify --program street.bpf"))
+        .arg(option(
+            alloc,
+            "program",
+            "FILE",
+            "The program, as BPF instruction words",
+        ))
+}
+
+/// What `verify` is asked for.
+#[derive(Clone, Copy, Debug)]
+pub struct Verify<'a> {
+    /// The program's file.
+    pub program: &'a str,
+}
+
+impl<'a> Verify<'a> {
+    pub fn from_matches(matches: &ArgMatches<'a>) -> Result<Verify<'a>, ArgumentsFault<'a>> {
+        Ok(Verify {
+            program: value(matches, "program")?,
+        })
+    }
+
+    /// Reads the program to its end, and says that it is accepted, if it is.
+    pub fn carry_out<F: Files, W: CountedWrite>(
+        self,
+        alloc: Global,
+        files: &mut F,
+        out: &mut W,
+    ) -> Result<(), Failure<'a>>
+        ensures outcome { IsCarriedOut (Request.Verify self.entry) (F.bytes files.old) result
+            (writer W.contents W.counts out.old) (writer W.contents W.counts out.new) }
+        ensures opens { TellsOpens result (F.failed_opens files.old) (F.failed_opens files.new) }
+    {
+        let program = match read_file(alloc, files, self.program) {
+            Ok(program) => program,
+            Err(fault) => return Err(Failure::of_file(self.program, fault)),
+        };
+        match accept(alloc, program.as_slice()) {
+            Ok(_verified) => write(out, b"accepted\n"),
+            Err(fault) => Err(Failure::Refusal {
+                number: fault.number(),
+                line: fault.line(),
+            }),
+        }
+    }
+}

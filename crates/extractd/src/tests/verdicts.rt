@@ -1,0 +1,166 @@
+//! The commands `verify` and `run` on programs that are accepted, and on programs that are refused.
+use super::fixtures::{
+    MemoryFile, bytes_of, cell, line_of, output, run_command, status_of, text_of,
+};
+use std::alloc::{AllocError, Global};
+use std::io::ErrorKind;
+use std::test::Fail;
+use tl_fields::Burst;
+
+const VERIFY: &str = "verify --program p.bpf";
+
+const RUN: &str = "run --program p.bpf --data d 01001";
+
+const RT1: &str = "d/TGR01001.RT1";
+
+// Programs whose bytes, or whose words, are no code, and the order of refusals: bytes, jumps, the last instruction, what each one does.
+const REFUSED: &str = r"
+| refused 10 Empty
+95 00 00 00 00 00 00 | refused 11 NotWhole
+EXIT*4096 EXIT | refused 12 TooLong
+EXIT*4096 EXIT 00 | refused 11 NotWhole
+00 00 00 00 00 00 00 00 EXIT | refused 13 place 0 UnknownOpcode
+ONE ff 00 00 00 00 00 00 00 EXIT | refused 13 place 1 UnknownOpcode
+b7 0b 00 00 01 00 00 00 EXIT | refused 14 place 0 BadRegister
+07 0f 00 00 01 00 00 00 EXIT | refused 14 place 0 BadRegister
+71 c0 00 00 00 00 00 00 EXIT | refused 14 place 0 BadRegister
+b7 10 00 00 01 00 00 00 EXIT | refused 15 place 0 UnusedNotZero
+b7 00 01 00 01 00 00 00 EXIT | refused 15 place 0 UnusedNotZero
+07 10 00 00 01 00 00 00 EXIT | refused 15 place 0 UnusedNotZero
+07 00 00 01 01 00 00 00 EXIT | refused 15 place 0 UnusedNotZero
+71 10 00 00 01 00 00 00 EXIT | refused 15 place 0 UnusedNotZero
+ONE 95 01 00 00 00 00 00 00 EXIT | refused 15 place 1 UnusedNotZero
+95 10 00 00 00 00 00 00 EXIT | refused 15 place 0 UnusedNotZero
+95 00 01 00 00 00 00 00 EXIT | refused 15 place 0 UnusedNotZero
+95 00 00 00 00 00 00 01 EXIT | refused 15 place 0 UnusedNotZero
+d4 00 00 00 08 00 00 00 EXIT | refused 16 place 0 BadWidth
+18 00 00 00 01 00 00 00 | refused 17 place 0 CutWide
+EXIT 18 00 00 00 01 00 00 00 | refused 17 place 1 CutWide
+b7 0a 00 00 01 00 00 00 EXIT | refused 18 place 0 WritesFramePointer
+07 0a 00 00 01 00 00 00 EXIT | refused 18 place 0 WritesFramePointer
+71 1a 00 00 00 00 00 00 EXIT | refused 18 place 0 WritesFramePointer
+05 00 ff ff 00 00 00 00 ff 00 00 00 00 00 00 00 | refused 13 place 1 UnknownOpcode
+EXIT 05 00 ff ff 00 00 00 00 | refused 30 place 1 BackwardJump
+EXIT ONE | refused 33 place 1 LastNotExit
+EXIT ONE EXIT | refused 40 place 0 ReadsNothing(0)
+";
+
+// Programs as text, over a line of Main Street: whether its row is written, or the refusal.
+const VERDICTS: &str = r"
+exit | refused 40 place 0 ReadsNothing(0)
+mov r0, 1\nexit | row
+mov r0, 0\nexit | no row
+mov r0, 1\nexit\nldxb r0, [r9+0]\nexit | row
+ldxb r0, [r1+227]\nexit | row
+ldxb r0, [r1+228]\nexit | refused 44 place 0 OutOfBounds
+ldxb r0, [r1-1]\nexit | refused 44 place 0 OutOfBounds
+ja +1\nlddw r0, 0x1\nexit | refused 32 place 0 IntoWide
+mov r0, 1\nja -1\nexit | refused 30 place 1 BackwardJump
+mov r0, 1 | refused 33 place 0 LastNotExit
+mov r0, 1\nexit\nldxb r0, [r9+0] | refused 33 place 2 LastNotExit
+ja +0 | refused 31 place 0 OutOfProgram
+ldxb r3, [r1+55]\njeq r3, 65, +1\nmov r2, 1\nmov r0, r2\nexit | refused 40 place 3 ReadsNothing(2)
+mov r2, 0\nldxb r3, [r1+55]\njeq r3, 65, +1\nmov r2, 1\nmov r0, r2\nexit | no row
+mov r0, 7\ndiv r0, 0\nexit | no row
+mov r0, 7\nmod r0, 0\nexit | row
+lddw r0, 0x100000007\nmod32 r0, 0\njeq r0, 7, +1\nmov r0, 0\nexit | row
+mov r6, r1\nldxdw r0, [r1+0]\nand r0, 15\nadd r6, r0\nldxb r0, [r6+0]\nexit | row
+mov r6, r1\nldxdw r0, [r1+0]\nadd r6, r0\nldxb r0, [r6+0]\nexit | refused 41 place 2 PointerArithmetic
+mov r2, 1\nstxdw [r10-8], r2\nmov r0, r2\nexit | row
+mov r2, 1\nstxdw [r10-8], r2\nldxw r3, [r10-8]\nldxw r0, [r10-4]\nexit | refused 45 place 2 UnwrittenFrame
+mov r2, 1\nstxdw [r10-8], r2\nldxw r0, [r10-8]\nldxdw r0, [r10-12]\nexit | refused 45 place 2 UnwrittenFrame
+stb [r10+0], 1\nexit | refused 44 place 0 OutOfBounds
+mov r0, 0\nstb [r1+0], 1\nexit | refused 46 place 1 WritesRecord
+stxdw [r10-8], r1\nexit | refused 47 place 0 StoresPointer
+call 1\nexit | refused 49 place 0 UnknownHelper
+mov r2, 1\nadd r2, -1\nadd r1, r2\nldxb r0, [r1+227]\nexit | row
+mov r2, -1\nadd r1, r2\nldxb r0, [r1+228]\nexit | row
+mov r2, -1\nadd r1, r2\nldxb r0, [r1+0]\nexit | refused 44 place 2 OutOfBounds
+mov32 r2, -1\nmov r0, 0\njne r2, -1, +1\nmov r0, 1\nexit | no row
+mov32 r2, -1\nmov r0, 0\njne32 r2, -1, +1\nmov r0, 1\nexit | row
+mov r0, 1\nja +1\nldxb r0, [r9+0]\nexit | row
+lddw r0, 0x1122334455667788\nbe16 r0\njeq r0, 34935, +1\nmov r0, 0\nexit | row
+lddw r0, 0x1122334455667788\nle32 r0\njeq r0, 1432778632, +1\nmov r0, 0\nexit | row
+add r1, 228\nldxb r0, [r1+0]\nexit | refused 44 place 1 OutOfBounds
+mov r2, 5\nldxb r0, [r2+0]\nexit | refused 43 place 1 NotPointer
+ldxb r0, [r10-8]\nexit | refused 45 place 0 UnwrittenFrame
+add r1, 32768\nexit | refused 41 place 0 PointerArithmetic
+add r1, 32767\nadd r1, 1\nexit | refused 42 place 1 LeavesArea
+add r3, 1\nexit | refused 40 place 0 ReadsNothing(3)
+mov r0, 0\nldxb r2, [r1+55]\njgt r2, 227, +2\nadd r1, r2\nldxb r0, [r1+0]\nexit | row
+mov r0, 0\nldxb r2, [r1+55]\njgt r2, 227, +2\nadd r1, r2\nldxb r0, [r1+0]\nadd r0, -32\nexit | no row
+mov r0, 0\nldxb r2, [r1+55]\njgt r2, 228, +2\nadd r1, r2\nldxb r0, [r1+0]\nexit | refused 44 place 4 OutOfBounds
+mov r0, 0\nldxb r2, [r1+55]\njsgt r2, 227, +2\nadd r1, r2\nldxb r0, [r1+0]\nexit | row
+ldxb r2, [r1+55]\nmov r3, r1\njeq r2, 65, +1\nmov r3, 0\nldxb r0, [r3+0]\nexit | refused 40 place 4 ReadsNothing(3)
+mov r0, r1\nexit | refused 51 place 1 ExitNotNumber
+mov r0, 0\njeq r1, 0, +0\nexit | refused 48 place 1 ComparesPointer
+";
+
+/// Whether both commands refuse a program so. Every read of the type 1 file and every write to the output goes wrong, so that none is made.
+fn is_refused(alloc: Global, program: MemoryFile<'_>, line: &str) -> Result<bool, AllocError> {
+    let rt1 = MemoryFile {
+        reads: 0,
+        burst: Burst::Fails(ErrorKind::BrokenPipe),
+        ..MemoryFile::new(RT1, b"")
+    };
+    let said = line_of(alloc, line)?;
+    let mut refusals = 0;
+    for command in [VERIFY, RUN] {
+        let mut out = output(alloc, Some(0), Burst::Fails(ErrorKind::StorageFull));
+        let mut errors = output(alloc, None, Burst::TakesNothing);
+        let status = status_of(alloc, command, program, rt1, &mut out, &mut errors)?;
+        if status == 1 && errors.inner == said && out.inner.is_empty() {
+            refusals += 1;
+        }
+    }
+    Ok(refusals == 2)
+}
+
+/// Whether a program is accepted, and these are the rows of a type 1 file.
+fn is_accepted(
+    alloc: Global,
+    program: MemoryFile<'_>,
+    file: &[u8],
+    rows: &[u8],
+) -> Result<bool, AllocError> {
+    let verified = run_command(alloc, VERIFY, program, MemoryFile::missing(RT1))?;
+    let run = run_command(alloc, RUN, program, MemoryFile::new(RT1, file))?;
+    let is_verified = verified.status == 0
+        && verified.written.as_slice() == b"accepted\n".as_slice()
+        && verified.said.is_empty();
+    Ok(is_verified && run.status == 0 && run.written.as_slice() == rows && run.said.is_empty())
+}
+
+#[test]
+fn refused_bytes(rt: HostRuntime) -> Result<(), Fail> {
+    for row in REFUSED.trim().lines() {
+        let program = bytes_of(rt.alloc(), cell(row, 0))?;
+        let program = MemoryFile::new("p.bpf", program.as_slice());
+        assert!(rt; is_refused(rt.alloc(), program, cell(row, 1))?, "{row}");
+    }
+    Ok(())
+}
+
+#[test]
+fn verdicts(rt: HostRuntime) -> Result<(), Fail> {
+    let file = bytes_of(rt.alloc(), r"LINE \n")?;
+    let row_of_file = bytes_of(rt.alloc(), r"0\t LINE \n")?;
+    for row in VERDICTS.trim().lines() {
+        let source = text_of(rt.alloc(), cell(row, 0))?;
+        let source = MemoryFile::new("p.s", source.as_slice());
+        let assembled = run_command(
+            rt.alloc(),
+            "asm --source p.s",
+            source,
+            MemoryFile::missing(RT1),
+        )?;
+        let program = MemoryFile::new("p.bpf", assembled.written.as_slice());
+        let holds = match cell(row, 1) {
+            "row" => is_accepted(rt.alloc(), program, &file, &row_of_file)?,
+            "no row" => is_accepted(rt.alloc(), program, &file, b"")?,
+            refusal => is_refused(rt.alloc(), program, refusal)?,
+        };
+        assert!(rt; holds, "{row}");
+    }
+    Ok(())
+}
