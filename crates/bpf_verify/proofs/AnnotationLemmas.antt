@@ -15,11 +15,11 @@ use Rattle.std.specs.Int.{w16}
 use Rattle.std.proofs.lemmas.List.{length-replicate}
 use Rattle.bpf_kinds.specs.Kind as kind
 use Rattle.bpf_kinds.specs.Offsets as offsets
-use Rattle.bpf_insn.specs.Code.{spelling, word_count, instruction_at, index_at, place_of}
+use Rattle.bpf_insn.specs.Code.{spelling, instruction_at, index_at, place_of}
 use Rattle.bpf_insn.specs.Jump.{jump_distance}
 use Rattle.bpf_insn.specs.declared.instruction.Insn.{Insn}
 use Rattle.bpf_insn.specs.declared.instruction.Insn.TheVariants.{Exit}
-use Rattle.bpf_flow.specs.Flow.{IsForward, LeadsOn, EndsInExit, target_of}
+use Rattle.bpf_flow.specs.Flow.{IsForward, EndsInExit}
 use Rattle.bpf_meaning.specs.Effect.{◌>>=◌}
 use Rattle.bpf_meaning.specs.declared.cause.Cause.{Cause}
 use Rattle.bpf_verify.specs.Annotation.{Annotation, PassesAt, IsGoodUpTo, IsAccepted, IsRefusedAt}
@@ -30,7 +30,7 @@ use Rattle.bpf_verify.specs.StateLaws as laws
 use Rattle.bpf_verify.specs.declared.state.Edges.{Edges}
 use Rattle.bpf_verify.specs.declared.state.Note.{Note}
 use Rattle.bpf_verify.specs.declared.state.Note.TheVariants.{Unreached, Reached}
-use Rattle.bpf_verify.proofs.CodeLemmas.{of_some, insn_at, insn_at-is, index_at-place_of, place_of-more, place_of-next, place_of-end, StandsBy, stands_by, instruction_at-place_of}
+use Rattle.bpf_verify.proofs.CodeLemmas.{of_some, insn_at, insn_at-is, index_at-place_of, place_of-more, place_of-next, place_of-end, stands_by, instruction_at-place_of}
 use Rattle.bpf_verify.proofs.NoteLemmas.{GrowsBehind, TakesEdges, lead_on-takes}
 
 abbrev pub note_of : List Note → Option ℕ → Note

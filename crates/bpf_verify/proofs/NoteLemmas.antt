@@ -1,13 +1,13 @@
 -- Notes, with edges joined in.
-use Rattle.std.proofs.Common.{◌≡◌, ℕ, ◌+◌, ◌<◌, ◌≤◌, List, length, get_or, Option, Some, None, refl, sym, ap, ◌∙◌, subst, arith, inl, inr}
+use Rattle.std.proofs.Common.{◌≡◌, ℕ, ◌+◌, ◌<◌, ◌≤◌, List, length, Option, Some, None, refl, sym, ◌∙◌, subst, arith, inl, inr}
 use Rattle.std.proofs.lemmas.Bool.{cases_lt}
 use Rattle.std.proofs.lemmas.List.{get_or-set_same, get_or-set_other, get_or_past, length-set}
-use Rattle.bpf_verify.specs.Pass.{note_at, AreProper, lead, lead_if, lead_on}
+use Rattle.bpf_verify.specs.Pass.{note_at, AreProper, lead, lead_on}
 use Rattle.bpf_verify.specs.State.{IsProper, IsWithin, join, AreProperEdges}
 use Rattle.bpf_verify.specs.StateLaws as laws
 use Rattle.bpf_verify.specs.declared.state.Edges.{Edges}
 use Rattle.bpf_verify.specs.declared.state.Note.{Note}
-use Rattle.bpf_verify.specs.declared.state.Note.TheVariants.{Unreached, Reached}
+use Rattle.bpf_verify.specs.declared.state.Note.TheVariants.{Unreached}
 
 pub length-lead : (notes : List Note) (index : ℕ) (edge : Note) → length (lead notes index edge) ≡ length notes
 length-lead notes index edge = length-set notes index (join (note_at notes index) edge)

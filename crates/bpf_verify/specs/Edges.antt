@@ -1,6 +1,6 @@
 -- The abstract step: the first check of an instruction that fails for some of the values that are known before it, or what is known
 -- behind it. It goes as an instruction's effect does, with kinds in the place of values. Which checks there are is this project's own.
-use Rattle.std.specs.Prelude.{◌≡◌, ℕ, ℤ, pos, ◌+ℤ◌, ◌&&◌, ◌==◌, Bool, true, false, int_le, Option, Some, None, Result, Ok, Err, if◌then◌else◌}
+use Rattle.std.specs.Prelude.{ℕ, ℤ, pos, ◌+ℤ◌, ◌&&◌, ◌==◌, Bool, true, false, int_le, Option, Some, None, Result, Ok, Err, if◌then◌else◌}
 use Rattle.std.specs.Int.{w32}
 use Rattle.bpf_insn.specs.Arithmetic as arithmetic
 use Rattle.bpf_insn.specs.Arithmetic.{operand_bits, low_bits}

@@ -1,5 +1,5 @@
 -- The one pass over a code: notes of what is known before each instruction, and what each instruction adds to them.
-use Rattle.std.specs.Prelude.{ℕ, ℤ, pos, negsuc, ◌+◌, ◌-◌, List, [], ◌∷◌, length, replicate, slice_get, slice_set, get_or, Option, Some, None, Result, Ok}
+use Rattle.std.specs.Prelude.{ℕ, ℤ, pos, negsuc, ◌+◌, ◌-◌, List, ◌∷◌, replicate, slice_get, slice_set, get_or, Option, Some, None, Result, Ok}
 use Rattle.bpf_insn.specs.Code.{index_at, place_of}
 use Rattle.bpf_insn.specs.Jump.{jump_distance}
 use Rattle.bpf_insn.specs.declared.instruction.Insn.{Insn}

@@ -1,11 +1,10 @@
 -- Abstract states: what is known of each register before an instruction, whatever the segment.
-use Rattle.std.specs.Prelude.{◌≡◌, ℕ, pos, List, [], ◌∷◌, length, slice_set, get_or}
+use Rattle.std.specs.Prelude.{◌≡◌, ℕ, pos, [], ◌∷◌, length, slice_set, get_or}
 use Rattle.std.specs.Simd.Lanes.{zip2}
-use Rattle.bpf_insn.specs.declared.register.Register.{Register}
 use Rattle.bpf_kinds.specs.Kind as kind
 use Rattle.bpf_kinds.specs.Offsets as offsets
 use Rattle.bpf_kinds.specs.declared.kind.Kind.{Kind}
-use Rattle.bpf_kinds.specs.declared.kind.Kind.TheVariants.{Number, Record, Frame, Nothing}
+use Rattle.bpf_kinds.specs.declared.kind.Kind.TheVariants.{Record, Frame, Nothing}
 use Rattle.bpf_meaning.specs.State.{register_value}
 use Rattle.bpf_meaning.specs.declared.frame.TheConstants.{FRAME_LENGTH}
 use Rattle.bpf_meaning.specs.declared.state.State.{State}

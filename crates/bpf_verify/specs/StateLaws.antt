@@ -6,7 +6,7 @@ use Rattle.std.proofs.lemmas.Simd.{length-zip2}
 use Rattle.bpf_kinds.specs.Kind as kind
 use Rattle.bpf_insn.specs.declared.value.Value.{Value}
 use Rattle.bpf_kinds.specs.declared.kind.Kind.{Kind}
-use Rattle.bpf_kinds.specs.declared.kind.Kind.TheVariants.{Number, Record, Frame, Nothing}
+use Rattle.bpf_kinds.specs.declared.kind.Kind.TheVariants.{Nothing}
 use Rattle.bpf_meaning.specs.State.{register_value}
 use Rattle.bpf_meaning.specs.declared.state.State.{State}
 use Rattle.bpf_verify.specs.State.{kind_of, IsProperState, AdmitsState, IsWithinState, join_states, IsProper, Admits, IsWithin, join}

@@ -1,6 +1,5 @@
-use Rattle.std.proofs.Common.{◌≡◌, List, sym, ap, subst}
-use Rattle.bpf_verify.specs.Pass.{AreProper, note_at}
-use Rattle.bpf_verify.specs.State.{join}
+use Rattle.std.proofs.Common.{sym, subst}
+use Rattle.bpf_verify.specs.Pass.{AreProper}
 use Rattle.bpf_verify.specs.declared.state.Note.{Note}
 use Rattle.bpf_verify.proofs.NoteLemmas.{lead_proper}
 use Rattle.bpf_verify.proofs.pass.lead.Goals as goal

@@ -1,8 +1,8 @@
-use Rattle.std.proofs.Common.{◌≡◌, ℕ, ◌<◌, List, length, sym, ap, ◌∙◌, subst, arith}
+use Rattle.std.proofs.Common.{ℕ, List, length, sym, ap, ◌∙◌, subst, arith}
 use Rattle.bpf_insn.specs.Code.{place_of}
 use Rattle.bpf_insn.specs.declared.instruction.Insn.{Insn}
 use Rattle.bpf_verify.specs.Annotation.{IsRefusedAt}
-use Rattle.bpf_verify.proofs.AnnotationLemmas.{IsOnItsWay, starts, visit_goes_on, visit_refuses, is_accepted}
+use Rattle.bpf_verify.proofs.AnnotationLemmas.{IsOnItsWay, starts, visit_goes_on, visit_refuses}
 use Rattle.bpf_verify.proofs.pass.pass.Goals as goal
 
 pub loop-index-init : goal.loop-index-init

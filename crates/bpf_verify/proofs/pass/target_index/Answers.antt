@@ -1,7 +1,6 @@
-use Rattle.std.proofs.Common.{◌≡◌, ℕ, List, Option, Some, None, slice_get, pos, option_and_then, IfSome, option_map, sym, ap, subst, ◌∙◌}
-use Rattle.bpf_insn.specs.Code.{index_at, instruction_at, place_of}
+use Rattle.std.proofs.Common.{◌≡◌, ℕ, List, Option, slice_get, option_and_then, IfSome, sym, ap, subst, ◌∙◌}
+use Rattle.bpf_insn.specs.Code.{index_at, place_of}
 use Rattle.bpf_insn.specs.Jump.{jump_distance}
-use Rattle.bpf_flow.specs.Flow.{target_of}
 use Rattle.bpf_insn.specs.declared.instruction.Insn.{Insn}
 use Rattle.bpf_verify.specs.Pass.{target_index}
 use Rattle.bpf_verify.proofs.CodeLemmas.{begins, target_index-is}

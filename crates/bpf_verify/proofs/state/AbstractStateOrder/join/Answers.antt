@@ -1,11 +1,11 @@
-use Rattle.std.proofs.Common.{◌≡◌, ℕ, ◌≤◌, ◌<◌, List, length, get_or, sym, ap, ◌∙◌, arith}
+use Rattle.std.proofs.Common.{◌≡◌, ℕ, ◌<◌, List, length, get_or, sym, ap, ◌∙◌, arith}
 use Rattle.std.specs.Simd.Lanes.{zip2}
 use Rattle.std.proofs.lemmas.List.{ext_get_or}
 use Rattle.std.proofs.lemmas.Simd.{length-zip2}
 use Rattle.bpf_kinds.specs.Kind as kind
 use Rattle.bpf_kinds.specs.declared.kind.Kind.{Kind}
 use Rattle.bpf_kinds.specs.declared.kind.Kind.TheVariants.{Nothing}
-use Rattle.bpf_verify.specs.State.{kind_of, join_states}
+use Rattle.bpf_verify.specs.State.{join_states}
 use Rattle.bpf_verify.specs.StateLaws.{get_or-join}
 use Rattle.bpf_verify.specs.declared.state.AbstractState.{AbstractState}
 use Rattle.bpf_verify.proofs.state.AbstractStateOrder.join.Goals as goal
