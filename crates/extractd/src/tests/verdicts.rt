@@ -104,16 +104,16 @@ fn is_refused(alloc: Global, program: MemoryFile<'_>, line: &str) -> Result<bool
         ..MemoryFile::new(RT1, b"")
     };
     let said = line_of(alloc, line)?;
-    let mut refusals = 0;
     for command in [VERIFY, RUN] {
         let mut out = output(alloc, Some(0), Burst::Fails(ErrorKind::StorageFull));
         let mut errors = output(alloc, None, Burst::TakesNothing);
         let status = status_of(alloc, command, program, rt1, &mut out, &mut errors)?;
-        if status == 1 && errors.inner == said && out.inner.is_empty() {
-            refusals += 1;
+        let is_refused = status == 1 && errors.inner == said && out.inner.is_empty();
+        if !is_refused {
+            return Ok(false);
         }
     }
-    Ok(refusals == 2)
+    Ok(true)
 }
 
 /// Whether a program is accepted, and these are the rows of a type 1 file.
