@@ -1,5 +1,5 @@
 -- A reader or writer that goes wrong in one call.
-use Rattle.std.specs.Prelude.{◌≡◌, ℕ, ◌-◌, ◌≤◌, ◌==◌, nat_lt, Bool, true, false, ◌&&◌, ◌||◌, not, if◌then◌else◌, Result, Ok, IsErr, IfOk}
+use Rattle.std.specs.Prelude.{◌≡◌, ℕ, ◌-◌, ◌==◌, nat_lt, Bool, ◌&&◌, ◌||◌, not, Result, Ok, IsErr}
 use Rattle.tl_fields.specs.Counted.{next_count}
 use Rattle.tl_fields.specs.declared.fuse.Burst.{Burst}
 use Rattle.tl_fields.specs.declared.fuse.Burst.TheVariants.{Fails, TakesNothing}

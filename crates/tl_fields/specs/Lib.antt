@@ -1,3 +1,4 @@
+pub mod Coordinate
 pub mod Counted
 pub mod Device
 pub mod Field

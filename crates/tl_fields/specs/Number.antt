@@ -9,18 +9,22 @@ abbrev pub without_blanks_before : List ℕ → List ℕ
 without_blanks_before [] = []
 without_blanks_before (b ∷ bs) = if b == 32 then without_blanks_before bs else b ∷ bs
 
+-- all bytes are blanks
+abbrev pub is_blank : List ℕ → Bool
+is_blank bytes = list_all (λ b. b == 32) bytes
+
 -- the bytes without the blanks at both ends
 abbrev pub trim : List ℕ → List ℕ
 trim bytes = reverse (without_blanks_before (reverse (without_blanks_before bytes)))
 
--- 1 to 11 digits, and nothing else
-abbrev pub is_number : List ℕ → Bool
-is_number bytes = nat_le 1 (length bytes) && nat_le (length bytes) 11 && list_all is_ascii_digit bytes
+-- one digit or more, up to a number of them, and nothing else
+abbrev pub is_decimal : ℕ → List ℕ → Bool
+is_decimal most bytes = nat_le 1 (length bytes) && nat_le (length bytes) most && list_all is_ascii_digit bytes
 
--- the number that they write in decimal, or none where they are anything else
-abbrev pub number_in : List ℕ → Option ℕ
-number_in bytes = if is_number bytes then Some (digits_value 10 bytes) else None
+-- the number that so many digits at most write in decimal, or none where the bytes are anything else
+abbrev pub decimal_in : ℕ → List ℕ → Option ℕ
+decimal_in most bytes = if is_decimal most bytes then Some (digits_value 10 bytes) else None
 
--- the number of a field, or none where it has none
+-- the number of a field, of 11 digits at most, or none where it has none
 unfoldable pub number_of : List ℕ → Option ℕ
-number_of field = number_in (trim field)
+number_of field = decimal_in 11 (trim field)

@@ -1,4 +1,4 @@
-//! Fields of a record line, their numbers, and readers and writers that count their failures.
+//! Fields of a record line, their numbers and coordinates, and readers and writers that count their failures.
 #![tactic(auto)]
 
 mod counted;
@@ -12,5 +12,5 @@ mod writing;
 pub use counted::{CountedRead, CountedWrite, Counting, count_one};
 pub use fields::field;
 pub use fuse::{Burst, Fuse};
-pub use numbers::number;
+pub use numbers::{blank, coordinate, number};
 pub use writing::{WriteFault, write_whole};

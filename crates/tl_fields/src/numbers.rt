@@ -1,14 +1,18 @@
-//! The number that a field holds.
-ghost use Rattle.std.specs.Prelude.{◌≡◌, ◌^◌, ◌<◌, ◌≤◌, length, reverse, IfSome, if◌then◌else◌, Some, None};
+//! The number or the coordinate that a field holds.
+ghost use Rattle.std.specs.Prelude.{◌≡◌, ◌^◌, ◌<◌, ◌≤◌, pos, nat_abs, length, reverse, option_map, IfSome, if◌then◌else◌, Some, None};
 ghost use Rattle.std.specs.List.{list_all};
 ghost use Rattle.std.specs.Char.{is_ascii_digit};
 ghost use Rattle.std.specs.Str.Parse.{digits_value};
-ghost use Rattle.tl_fields.specs.Number.{number_of, without_blanks_before};
+ghost use Rattle.tl_fields.specs.Coordinate.{coordinate_in, coordinate_of};
+ghost use Rattle.tl_fields.specs.Number.{decimal_in, is_blank, number_of, trim, without_blanks_before};
 
 const BLANK: u8 = b' ';
 
 // The width of an address field, the widest that is read as a number.
 const MOST_DIGITS: usize = 11;
+
+// A longitude has a sign and 9 digits, a latitude a sign and 8.
+const MOST_COORDINATE_DIGITS: usize = 9;
 
 /// The number of a field, or `None` where it has none.
 ///
@@ -19,11 +23,42 @@ pub fn number(field: &[u8]) -> Option<u64>
     ensures value { result ≡ number_of field.now }
     ensures small { IfSome result (λ n. n < 10 ^ 11) }
 {
-    let digits = without_trailing_blanks(without_leading_blanks(field));
-    match digits.len() {
-        1..=MOST_DIGITS => decimal_value(digits),
-        _ => None,
+    decimal(trim(field), MOST_DIGITS)
+}
+
+/// The coordinate of a field in millionths of a degree, or `None` where it has none: 1 to 9 digits between blanks, before which a sign may
+/// stand, as in `-086500000`. A blank between the sign and the digits isn't taken off.
+pub fn coordinate(field: &[u8]) -> Option<i64>
+    ensures value { result ≡ coordinate_of field.now }
+    ensures small { IfSome result (λ millionths. nat_abs millionths < 10 ^ 9) }
+{
+    coordinate_in(trim(field))
+}
+
+/// The coordinate that is written without blanks at its ends.
+fn coordinate_in(text: &[u8]) -> Option<i64>
+    ensures value { result ≡ coordinate_in text.now }
+    ensures small { IfSome result (λ millionths. nat_abs millionths < 10 ^ 9) }
+{
+    match text {
+        [b'-', digits @ ..] => Some(-millionths(digits)?),
+        [b'+', digits @ ..] => millionths(digits),
+        _ => millionths(text),
     }
+}
+
+/// Whether all bytes are blanks.
+pub fn blank(bytes: &[u8]) -> bool
+    ensures { result ≡ is_blank bytes.now }
+{
+    bytes.iter().all(|byte| *byte == BLANK)
+}
+
+/// The bytes without the blanks at both ends.
+fn trim(field: &[u8]) -> &[u8]
+    ensures { result.now ≡ trim field.now }
+{
+    without_trailing_blanks(without_leading_blanks(field))
 }
 
 fn without_leading_blanks(field: &[u8]) -> &[u8]
@@ -44,6 +79,26 @@ fn without_trailing_blanks(field: &[u8]) -> &[u8]
         rest = before;
     }
     rest
+}
+
+/// A number without a sign, of millionths of a degree.
+fn millionths(digits: &[u8]) -> Option<i64>
+    ensures value { result ≡ option_map pos (decimal_in 9 digits.now) }
+    ensures small { IfSome result (λ amount. nat_abs amount < 10 ^ 9) }
+{
+    Some(decimal(digits, MOST_COORDINATE_DIGITS)? as i64)
+}
+
+/// The number that digits write, of which there are one or more, up to a number of them.
+fn decimal(digits: &[u8], most: usize) -> Option<u64>
+    requires few { most ≤ 11 }
+    ensures value { result ≡ decimal_in most digits.now }
+    ensures small { IfSome result (λ n. n < 10 ^ most) }
+{
+    if digits.is_empty() || digits.len() > most {
+        return None;
+    }
+    decimal_value(digits)
 }
 
 fn decimal_value(digits: &[u8]) -> Option<u64>

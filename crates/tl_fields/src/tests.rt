@@ -1,6 +1,7 @@
 //! Values of the record layouts, worked by hand, and devices that go wrong in mid-stream.
 use crate::{
-    Burst, CountedRead, CountedWrite, Counting, Fuse, WriteFault, field, number, write_whole,
+    Burst, CountedRead, CountedWrite, Counting, Fuse, WriteFault, blank, coordinate, field, number,
+    write_whole,
 };
 use std::io::{ErrorKind, Read, Write};
 use std::process::Abort;
@@ -67,6 +68,56 @@ fn numbers(rt: HostRuntime) {
         let text = columns.next().unwrap_or("");
         let value = columns.next().and_then(|text| text.parse::<u64>().ok());
         assert_eq!(rt; number(text.as_bytes()), value, "{row}");
+    }
+}
+
+// A field, and its coordinate.
+const COORDINATES: &str = "|
+          |
+-086500000|-86500000
++32400000|32400000
+ 32400000 |32400000
+-1|-1
++0|0
+-0|0
++999999999|999999999
+-999999999|-999999999
+1000000000|
+-0865000000|
+- 86500000|
+--1|
++-1|
++|
+ - |
+1 2|
+12.5|
+1-|";
+
+#[test]
+fn coordinates(rt: HostRuntime) {
+    for row in COORDINATES.lines() {
+        let mut columns = row.split('|');
+        let text = columns.next().unwrap_or("");
+        let value = columns.next().and_then(|text| text.parse::<i64>().ok());
+        assert_eq!(rt; coordinate(text.as_bytes()), value, "{row}");
+    }
+}
+
+// Bytes, and whether all of them are blanks.
+const BLANKS: &str = "|true
+ |true
+           |true
+     0     |false
+          1|false
+\t|false";
+
+#[test]
+fn blanks(rt: HostRuntime) {
+    for row in BLANKS.lines() {
+        let mut columns = row.split('|');
+        let text = columns.next().unwrap_or("");
+        let is_blank = columns.next() == Some("true");
+        assert_eq!(rt; blank(text.as_bytes()), is_blank, "{row}");
     }
 }
 
