@@ -1,0 +1,48 @@
+-- Parts of a segment by their numbers, and fields of its record.
+use Rattle.std.proofs.Common.{◌≡◌, ℕ, ◌+◌, ◌-◌, ◌<◌, ◌≤◌, zero, suc, add-one, List, [], ◌∷◌, length, get_or, take, drop, slice_index, Some, None, slice_get, ◌∙◌, ap, sym, refl, arith}
+use Rattle.std.proofs.lemmas.Grind.{common_steps}
+use Rattle.std.proofs.lemmas.List.{get_or-drop}
+use Rattle.std.proofs.lemmas.Option.{slice_get_past, slice_get-get_or}
+use Rattle.tl_fields.specs.Field.{field_of}
+use Rattle.tl_segments.specs.Range.{AreBytes, IsRange, own_range}
+
+-- part 0 is the record's own
+pub slice_get-own : {X : Type 0} (own : X) (further : List X) (n : ℕ) → n < 1 → slice_get (own ∷ further) n ≡ Some own
+slice_get-own own further n first = grind (arith, common_steps)
+
+-- the parts behind it are the further ones
+pub slice_get-further : {X : Type 0} (own part : X) (further : List X) (n index : ℕ) → n ≡ index + 1 → index < length further → part ≡ get_or further index part → slice_get (own ∷ further) n ≡ Some part
+slice_get-further own part further n index is inside same =
+    let behind : slice_get (own ∷ further) (index + 1) ≡ slice_get further index = rw add-one refl in
+    rw is (behind ∙ slice_get-get_or further index part inside ∙ ap (λ part. Some part) (sym same))
+
+-- and there are no more
+pub slice_get-beyond : {X : Type 0} (own : X) (further : List X) (n index : ℕ) → n ≡ index + 1 → length further ≤ index → slice_get (own ∷ further) n ≡ None
+slice_get-beyond own further n index is past = slice_get_past (own ∷ further) n (omega arith)
+
+below-take : (n : ℕ) (bytes : List ℕ) → ((i : ℕ) → slice_index bytes i < 256) → (i : ℕ) → slice_index (take n bytes) i < 256
+below-take zero bytes below i = omega arith
+below-take (suc n) [] below i = omega arith
+below-take (suc n) (byte ∷ bytes) below zero = below 0
+below-take (suc n) (byte ∷ bytes) below (suc i) = below-take n bytes (λ j. below (suc j)) i
+
+below-drop : (n : ℕ) (bytes : List ℕ) → ((i : ℕ) → slice_index bytes i < 256) → (i : ℕ) → slice_index (drop n bytes) i < 256
+below-drop n bytes below i = rw (get_or-drop n bytes i 0) (below (n + i))
+
+-- a field of bytes is bytes
+pub AreBytes-field_of : (bytes : List ℕ) (total first last : ℕ) → AreBytes total bytes → 1 ≤ first → first ≤ last → last ≤ total → AreBytes (last + 1 - first) (field_of bytes first last)
+AreBytes-field_of bytes total first last are from order until = record {
+  length = grind (arith, common_steps);
+  bytes = below-take (last + 1 - first) (drop (first - 1) bytes) (below-drop (first - 1) bytes are.bytes);
+}
+
+-- the fields of a record's own range have their lengths
+pub own_range_fields : (bytes : List ℕ) → AreBytes 228 bytes → IsRange (own_range bytes)
+own_range_fields bytes are = record {
+  fraddl = AreBytes-field_of bytes 228 59 69 are (omega arith) (omega arith) (omega arith);
+  toaddl = AreBytes-field_of bytes 228 70 80 are (omega arith) (omega arith) (omega arith);
+  fraddr = AreBytes-field_of bytes 228 81 91 are (omega arith) (omega arith) (omega arith);
+  toaddr = AreBytes-field_of bytes 228 92 102 are (omega arith) (omega arith) (omega arith);
+  zipl = AreBytes-field_of bytes 228 107 111 are (omega arith) (omega arith) (omega arith);
+  zipr = AreBytes-field_of bytes 228 112 116 are (omega arith) (omega arith) (omega arith);
+}

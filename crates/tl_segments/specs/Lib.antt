@@ -1,0 +1,3 @@
+pub mod Name
+pub mod Range
+pub mod Segment

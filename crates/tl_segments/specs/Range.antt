@@ -1,0 +1,69 @@
+-- Address ranges (TIGER/Line 2006, record types 1 and 6).
+use Rattle.std.specs.Prelude.{◌≡◌, ℕ, ◌%◌, ◌^◌, ◌<◌, min, max, nat_le, Bool, false, not, ◌==◌, ◌&&◌, ◌||◌, List, length, slice_index, Option, Some}
+use Rattle.tl_fields.specs.Field.{field_of}
+use Rattle.tl_fields.specs.Number.{number_of}
+use Rattle.tl_segments.specs.declared.range.Range.{Range}
+use Rattle.tl_segments.specs.declared.range.RangeFields.{RangeFields}
+use Rattle.tl_segments.specs.declared.range.TheConstants.{ADDRESS_LENGTH, ZIP_LENGTH}
+
+-- so many bytes
+pub record AreBytes (count : ℕ) (field : List ℕ) : Type 0 where
+  pub length : length field ≡ count
+  pub bytes : (i : ℕ) → slice_index field i < 2 ^ 8
+
+-- the fields have the lengths that the layout gives them
+pub record HasFieldLengths (range : RangeFields) : Type 0 where
+  pub fraddl : length range.fraddl ≡ ADDRESS_LENGTH
+  pub toaddl : length range.toaddl ≡ ADDRESS_LENGTH
+  pub fraddr : length range.fraddr ≡ ADDRESS_LENGTH
+  pub toaddr : length range.toaddr ≡ ADDRESS_LENGTH
+  pub zipl : length range.zipl ≡ ZIP_LENGTH
+  pub zipr : length range.zipr ≡ ZIP_LENGTH
+
+-- the fields are bytes, of the lengths that the layout gives them
+pub record IsRange (range : RangeFields) : Type 0 where
+  pub fraddl : AreBytes ADDRESS_LENGTH range.fraddl
+  pub toaddl : AreBytes ADDRESS_LENGTH range.toaddl
+  pub fraddr : AreBytes ADDRESS_LENGTH range.fraddr
+  pub toaddr : AreBytes ADDRESS_LENGTH range.toaddr
+  pub zipl : AreBytes ZIP_LENGTH range.zipl
+  pub zipr : AreBytes ZIP_LENGTH range.zipr
+
+-- the fields of a lent range
+abbrev pub fields_of : Range → RangeFields
+fields_of range = record {
+  fraddl = range.fraddl.now;
+  toaddl = range.toaddl.now;
+  fraddr = range.fraddr.now;
+  toaddr = range.toaddr.now;
+  zipl = range.zipl.now;
+  zipr = range.zipr.now;
+}
+
+-- the range that a type 1 record itself has, by the places of its layout
+abbrev pub own_range : List ℕ → RangeFields
+own_range bytes = record {
+  fraddl = field_of bytes 59 69;
+  toaddl = field_of bytes 70 80;
+  fraddr = field_of bytes 81 91;
+  toaddr = field_of bytes 92 102;
+  zipl = field_of bytes 107 111;
+  zipr = field_of bytes 112 116;
+}
+
+-- between two numbers, both included, whichever is greater
+abbrev pub is_between : ℕ → ℕ → ℕ → Bool
+is_between from to number = nat_le (min from to) number && nat_le number (max from to)
+
+-- where both ends are even or both odd, the number is too
+abbrev pub keeps_parity : ℕ → ℕ → ℕ → Bool
+keeps_parity from to number = not (from % 2 == to % 2) || number % 2 == from % 2
+
+-- a house number lies on a side whose ends have these numbers
+abbrev pub lies_between : ℕ → Option ℕ → Option ℕ → Bool
+lies_between number (Some from) (Some to) = is_between from to number && keeps_parity from to number
+lies_between number from to = false
+
+-- a house number lies on the side whose FR and TO addresses these fields are: both have a number, and it lies between them
+abbrev pub lies_on : ℕ → List ℕ → List ℕ → Bool
+lies_on number fr to = lies_between number (number_of fr) (number_of to)

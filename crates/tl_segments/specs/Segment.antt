@@ -1,0 +1,29 @@
+-- Street segments (TIGER/Line 2006, record types 1, 4, 5 and 6).
+use Rattle.std.specs.Prelude.{ℕ, ◌≤◌, List, ◌∷◌, length, All}
+use Rattle.tl_fields.specs.Field.{field_of}
+use Rattle.tl_segments.specs.Range.{AreBytes, IsRange, own_range}
+use Rattle.tl_segments.specs.declared.name.TheConstants.{NAME_LENGTH}
+use Rattle.tl_segments.specs.declared.range.RangeFields.{RangeFields}
+use Rattle.tl_segments.specs.declared.segment.TheConstants.{NAME_LIMIT, RANGE_LIMIT, RECORD_LENGTH}
+
+-- what a segment consists of: the bytes of its type 1 record, its alternate names, and its further ranges
+pub record Contents : Type 0 where
+  pub bytes : List ℕ
+  pub names : List (List ℕ)
+  pub ranges : List RangeFields
+
+-- the record, the names and the fields of the ranges have their lengths, and there are as many names and ranges as there may be
+pub record IsSegment (segment : Contents) : Type 0 where
+  pub bytes : AreBytes RECORD_LENGTH segment.bytes
+  pub names : All (AreBytes NAME_LENGTH) segment.names
+  pub few_names : length segment.names ≤ NAME_LIMIT
+  pub ranges : All IsRange segment.ranges
+  pub few_ranges : length segment.ranges ≤ RANGE_LIMIT
+
+-- the names of a segment in order, counted from 0: the record's FENAME, and then the alternate names
+abbrev pub names_of : Contents → List (List ℕ)
+names_of segment = field_of segment.bytes 20 49 ∷ segment.names
+
+-- the ranges of a segment in order, counted from 0: the record's own, and then the further ones
+abbrev pub ranges_of : Contents → List RangeFields
+ranges_of segment = own_range segment.bytes ∷ segment.ranges

@@ -1,0 +1,20 @@
+//! Laws over the definitions, as contracts of functions that do nothing.
+ghost use Rattle.std.specs.Prelude.{◌≡◌};
+
+use crate::name::NAME_LENGTH;
+use crate::range::{ADDRESS_LENGTH, ZIP_LENGTH};
+use crate::segment::{NAME_LIMIT, RANGE_LIMIT, RECORD_LENGTH};
+
+/// The lengths of the record layouts.
+pub fn lengths()
+    ensures record { RECORD_LENGTH ≡ 228 }
+    ensures name { NAME_LENGTH ≡ 30 }
+    ensures address { ADDRESS_LENGTH ≡ 11 }
+    ensures zip { ZIP_LENGTH ≡ 5 }
+{}
+
+/// How many alternate names and further ranges a segment has at most.
+pub fn limits()
+    ensures names { NAME_LIMIT ≡ 5000 }
+    ensures ranges { RANGE_LIMIT ≡ 1000 }
+{}

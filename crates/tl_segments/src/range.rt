@@ -1,0 +1,107 @@
+//! Address ranges of street segments.
+ghost use Rattle.std.specs.Prelude.{◌≡◌, length};
+ghost use Rattle.tl_segments.specs.Range.{AreBytes, HasFieldLengths, IsRange, fields_of, lies_on, own_range};
+ghost use Rattle.tl_segments.specs.declared.range.RangeFields.{RangeFields};
+
+use crate::segment::RECORD_LENGTH;
+use tl_fields::{field, number};
+
+/// How many bytes an address has, its blanks counted.
+pub const ADDRESS_LENGTH: usize = 11;
+
+/// How many bytes a ZIP code has.
+pub const ZIP_LENGTH: usize = 5;
+
+/// An address range: the fields of record type 1 or 6, named as there. FR and TO are the ends of a side, L is the left side and R the
+/// right one. An end that isn't known is blank.
+#[derive(Clone, Copy, Debug)]
+pub struct Range<'a> {
+    pub fraddl: &'a [u8],
+    pub toaddl: &'a [u8],
+    pub fraddr: &'a [u8],
+    pub toaddr: &'a [u8],
+    pub zipl: &'a [u8],
+    pub zipr: &'a [u8],
+}
+
+/// The fields of an address range, kept.
+#[derive(Clone, Copy, Debug)]
+pub(crate) struct RangeFields {
+    fraddl: [u8; ADDRESS_LENGTH],
+    toaddl: [u8; ADDRESS_LENGTH],
+    fraddr: [u8; ADDRESS_LENGTH],
+    toaddr: [u8; ADDRESS_LENGTH],
+    zipl: [u8; ZIP_LENGTH],
+    zipr: [u8; ZIP_LENGTH],
+}
+
+impl RangeFields {
+    /// The fields, copied.
+    pub(crate) fn of(range: Range<'_>) -> Self
+        requires { HasFieldLengths (fields_of range) }
+        ensures value { result ≡ fields_of range.entry }
+        ensures fields { IsRange result }
+    {
+        RangeFields {
+            fraddl: copy_of(range.fraddl),
+            toaddl: copy_of(range.toaddl),
+            fraddr: copy_of(range.fraddr),
+            toaddr: copy_of(range.toaddr),
+            zipl: copy_of(range.zipl),
+            zipr: copy_of(range.zipr),
+        }
+    }
+
+    /// The fields, lent.
+    pub(crate) fn as_range(&self) -> Range<'_>
+        ensures { fields_of result ≡ self.now }
+    {
+        Range {
+            fraddl: &self.fraddl,
+            toaddl: &self.toaddl,
+            fraddr: &self.fraddr,
+            toaddr: &self.toaddr,
+            zipl: &self.zipl,
+            zipr: &self.zipr,
+        }
+    }
+}
+
+fn copy_of<const N: usize>(bytes: &[u8]) -> [u8; N]
+    requires { length bytes.now ≡ N }
+    ensures value { result ≡ bytes.now }
+    ensures bytes { AreBytes N result }
+{
+    let mut copy = [0; N];
+    copy.copy_from_slice(bytes);
+    copy
+}
+
+/// The range that a type 1 record itself has.
+pub(crate) fn own_range(line: &[u8]) -> Range<'_>
+    requires { length line.now ≡ RECORD_LENGTH }
+    ensures value { fields_of result ≡ own_range line.now }
+    ensures fields { IsRange (fields_of result) }
+{
+    Range {
+        fraddl: field(line, 59, 69),
+        toaddl: field(line, 70, 80),
+        fraddr: field(line, 81, 91),
+        toaddr: field(line, 92, 102),
+        zipl: field(line, 107, 111),
+        zipr: field(line, 112, 116),
+    }
+}
+
+/// Whether a house number lies on a side of a street, by the FR and TO addresses of that side: both have a number, it lies between them
+/// (both included, whichever is greater), and where both are even or both odd, it is too.
+pub fn lies_on(n: u64, fr: &[u8], to: &[u8]) -> bool
+    ensures { result ≡ lies_on n fr.now to.now }
+{
+    let (Some(from), Some(to)) = (number(fr), number(to)) else {
+        return false;
+    };
+    let is_between = from.min(to) <= n && n <= from.max(to);
+    let keeps_parity = from % 2 != to % 2 || n % 2 == from % 2;
+    is_between && keeps_parity
+}
