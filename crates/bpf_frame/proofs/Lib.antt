@@ -1,0 +1,2 @@
+pub mod MarkLemmas
+mod ReadLemmas

@@ -1,0 +1,2 @@
+pub mod FrameMap
+pub mod OrderLaws

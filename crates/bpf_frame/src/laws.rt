@@ -1,0 +1,32 @@
+//! What holds of the definitions themselves. The functions do nothing: each one's contract is the
+//! law.
+ghost use Rattle.std.specs.Prelude.{◌≡◌, ◌≤◌, ◌<◌, ◌+◌, ◌⊎◌, ◌↔◌, ℕ, Bool, List, length};
+ghost use Rattle.bpf_frame.specs.FrameMap.{Contents, IsProper, IsMarked, AllWritten, IsWithin, Admits, mark, unwritten};
+ghost use Rattle.bpf_frame.specs.declared.frame_map.TheConstants.{MARKS};
+
+/// What the definitions take from the code.
+pub fn counts_are_known()
+    ensures { MARKS ≡ 512 }
+{}
+
+/// To mark bytes gives each of them its mark, and leaves the others as they were.
+pub fn mark_is_exact()
+    ensures count { (marks : List Bool) (from len : ℕ) → from + len ≤ length marks → length (mark marks from len) ≡ length marks }
+    ensures byte { (marks : List Bool) (from len at : ℕ) → from + len ≤ length marks
+        → IsMarked (mark marks from len) at ↔ (IsMarked marks at ⊎ ((from ≤ at) × (at < from + len))) }
+    ensures none { (marks : List Bool) (from : ℕ) → from ≤ length marks → mark marks from 0 ≡ marks }
+{}
+
+/// Where nothing is known, each frame is possible.
+pub fn unwritten_admits_all()
+    ensures proper { IsProper unwritten }
+    ensures admits { (is_written : ℕ → Bool) → Admits unwritten is_written }
+{}
+
+/// What says more stays so once the same bytes are marked, and has all bytes written that the other has.
+pub fn marks_go_upwards()
+    ensures mark { (map other : Contents) (from len : ℕ) → IsProper map → IsProper other → from + len ≤ MARKS → IsWithin map other
+        → IsWithin (record map { marks = mark map.marks from len }) (record other { marks = mark other.marks from len }) }
+    ensures all_written { (map other : Contents) (from to : ℕ) → IsWithin map other → AllWritten other.marks from to
+        → AllWritten map.marks from to }
+{}

@@ -1,0 +1,113 @@
+//! Maps beside those of a plain program over 512 truth values.
+ghost use Rattle.std.specs.Prelude.{◌<◌, ◌^◌, IfOk};
+
+use crate::{FrameMap, MARKS};
+use bpf_kinds::Order;
+use std::test::Fail;
+
+// What is marked in a map and in another, each by the first offset and how many; whether the first has the same marks as the other, more,
+// fewer or others; and the bytes that are written in both, by the first and the last of each run.
+const MAPS: &str = "\
+60+8;60+8;same;60-67
+0+512;0+512;same;0-511
+511+1;448+64;fewer;511-511
+64+0;;same;
+;0+512;fewer;
+0+0 511+0 512+0;0+512;fewer;
+60+8;60+9;fewer;60-67
+0+64;64+64;others;
+63+2;0+64 65+447;others;63-63
+0+512;511+1;more;511-511
+0+1;0+511;fewer;0-0
+0+1 2+1 4+1;1+1 3+1 5+1;others;
+60+8 68+4 72+8;63+14;more;63-76
+510+2 0+2;1+510;others;1-1 510-510
+128+64 120+20;127+66;others;127-191
+504+8;496+12;others;504-507
+508+4 504+4;504+8;same;504-511
+154+6 74+24 374+14 219+0;428+0 92+108 60+31 228+15 406+0;others;74-90 92-97 154-159
+136+13 147+30;185+0 381+0 61+52 508+3;others;
+476+29 370+7 184+1 307+126;459+19 74+1 168+4 500+0;others;476-477
+321+22 358+127;70+1 485+0 317+174 456+22 395+0;fewer;321-342 358-484
+363+1 505+0 294+3 407+63 82+7;284+6 285+45 389+2 84+2 237+0;others;84-85 294-296";
+
+#[test]
+fn maps(rt: HostRuntime) -> Result<(), Fail> {
+    for row in MAPS.lines() {
+        let (marks, rest) = row.split_once(';').unwrap_or((row, ""));
+        let (others, rest) = rest.split_once(';').unwrap_or((rest, ""));
+        let (order, runs) = rest.split_once(';').unwrap_or((rest, ""));
+        let (map, other, written) = (map_of(marks)?, map_of(others)?, bytes_of(runs)?);
+        assert_eq!(rt; order_of(&map, &other), order, "{row}");
+        assert!(rt; has_exactly(&map.join(&other), &written), "{row}");
+        assert!(rt;
+            has_exactly(&other.duplicate().join(&map), &written),
+            "{row}"
+        );
+    }
+    Ok(())
+}
+
+/// The map with so many bytes marked from each offset on.
+fn map_of(text: &str) -> Result<FrameMap, Fail> {
+    let mut map = FrameMap::unwritten();
+    for marks in text.split_whitespace() {
+        let (from, len) = ends_of(marks, '+')?;
+        if from + len <= MARKS {
+            map.mark(from, len);
+        }
+    }
+    Ok(map)
+}
+
+/// The bytes of some runs, as truth values.
+fn bytes_of(text: &str) -> Result<[bool; MARKS], Fail> {
+    let mut written = [false; MARKS];
+    for run in text.split_whitespace() {
+        let (first, last) = ends_of(run, '-')?;
+        for at in 0..MARKS {
+            written[at] = written[at] || first <= at && at <= last;
+        }
+    }
+    Ok(written)
+}
+
+/// Two numbers below 65,536 round a sign.
+fn ends_of(text: &str, sign: char) -> Result<(usize, usize), Fail>
+    ensures { IfOk result (λ ends. (ends.0 < 2 ^ 16) × (ends.1 < 2 ^ 16)) }
+{
+    let (first, second) = text.split_once(sign).unwrap_or((text, ""));
+    Ok((
+        usize::from(first.parse::<u16>()?),
+        usize::from(second.parse::<u16>()?),
+    ))
+}
+
+/// How the marks of one map are to those of another.
+fn order_of<Known: Order>(map: &Known, other: &Known) -> &'static str {
+    match (map.leq(other), other.leq(map)) {
+        (true, true) => "same",
+        (true, false) => "more",
+        (false, true) => "fewer",
+        (false, false) => "others",
+    }
+}
+
+/// Whether a map says of just these bytes that they are written: of each two neighbours, and from each offset to the last of its run and no
+/// further.
+fn has_exactly(map: &FrameMap, written: &[bool; MARKS]) -> bool {
+    let mut end = MARKS;
+    for from in (0..MARKS).rev() {
+        if !written[from] {
+            end = from;
+        }
+        let run = from < end && end <= MARKS && map.all_written(from, end - 1);
+        let beyond = from <= end && end < MARKS && map.all_written(from, end);
+        let behind = from + 1 < MARKS && written[from + 1];
+        let both = from + 1 < MARKS && map.all_written(from, from + 1);
+        if run != written[from] || beyond || both != (written[from] && behind) {
+            return false;
+        }
+    }
+    true
+}
