@@ -1,6 +1,6 @@
 //! Codes whose jumps all go forward.
 ghost use Rattle.std.specs.Prelude.{◌≡◌, ◌≢◌, ◌<◌, ◌+◌, ◌≤ℤ◌, pos, length, option_map, Some, IsSome, IfSome, IsOk, IfOk, IfErr, OnOk};
-ghost use Rattle.bpf_insn.specs.Code.{instruction_at, word_count};
+ghost use Rattle.bpf_insn.specs.Code.{instruction_at};
 ghost use Rattle.bpf_insn.specs.Form.{spelling};
 ghost use Rattle.bpf_insn.specs.Jump.{jump_distance};
 ghost use Rattle.bpf_insn.specs.declared.code.TheConstants.{WORD_LIMIT};

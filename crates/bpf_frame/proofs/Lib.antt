@@ -1,2 +1,2 @@
 pub mod MarkLemmas
-mod ReadLemmas
+pub mod ReadLemmas

@@ -4,7 +4,7 @@ use Rattle.std.specs.Prelude.{IsTrue}
 use Rattle.std.proofs.lemmas.Bool.{both_ways, cases_lt}
 use Rattle.std.proofs.lemmas.List.{places, append-nil, length-replicate, take-append-drop}
 use Rattle.bpf_frame.specs.FrameMap.{Contents, IsProper, IsMarked, AllWritten, mark, unwritten, Admits, IsWithin}
-use Rattle.bpf_frame.specs.declared.frame_map.TheConstants.{MARKS}
+use Rattle.bpf_insn.specs.declared.memory.TheConstants.{FRAME_LENGTH}
 
 pub length-mark : (marks : List Bool) (from len : ℕ) → from + len ≤ length marks → length (mark marks from len) ≡ length marks
 length-mark marks from len within = search (rules, places)
@@ -49,7 +49,7 @@ pub mark_none : (marks : List Bool) (from : ℕ) → from ≤ length marks → m
 mark_none marks from within = simp (append-nil, add-zero, take-append-drop)
 
 -- a map stays proper
-pub mark_is_proper : (map : Contents) (from len : ℕ) → IsProper map → from + len ≤ MARKS → IsProper (record map { marks = mark map.marks from len })
+pub mark_is_proper : (map : Contents) (from len : ℕ) → IsProper map → from + len ≤ FRAME_LENGTH → IsProper (record map { marks = mark map.marks from len })
 mark_is_proper map from len proper within = record { count = length-mark map.marks from len (subst (λ (n : ℕ). from + len ≤ n) (sym proper.count) within) ∙ proper.count }
 
 no_mark : (n at : ℕ) → get_or (replicate n false) at false ≡ false
@@ -59,13 +59,13 @@ no_mark (suc n) (suc at) = no_mark n at
 
 -- of a frame of which nothing is known, each is possible
 pub unwritten_is_proper : IsProper unwritten
-unwritten_is_proper = record { count = length-replicate MARKS false }
+unwritten_is_proper = record { count = length-replicate FRAME_LENGTH false }
 
 pub unwritten_admits : (is_written : ℕ → Bool) → Admits unwritten is_written
-unwritten_admits is_written = record { written = λ at marked. absurd (both_ways _ (no_mark MARKS at) marked) }
+unwritten_admits is_written = record { written = λ at marked. absurd (both_ways _ (no_mark FRAME_LENGTH at) marked) }
 
 -- where a frame is possible, so it is once bytes are marked that were written, if none was taken back
-pub mark_admits : (map : Contents) (from len : ℕ) (before after : ℕ → Bool) → IsProper map → from + len ≤ MARKS → Admits map before → ((at : ℕ) → IsTrue (before at) → IsTrue (after at)) → ((at : ℕ) → from ≤ at → at < from + len → IsTrue (after at)) → Admits (record map { marks = mark map.marks from len }) after
+pub mark_admits : (map : Contents) (from len : ℕ) (before after : ℕ → Bool) → IsProper map → from + len ≤ FRAME_LENGTH → Admits map before → ((at : ℕ) → IsTrue (before at) → IsTrue (after at)) → ((at : ℕ) → from ≤ at → at < from + len → IsTrue (after at)) → Admits (record map { marks = mark map.marks from len }) after
 mark_admits map from len before after proper within admitted stay new = record {
   written = λ at marked.
       elim (marked_before_or_inside map.marks from len at (subst (λ (n : ℕ). from + len ≤ n) (sym proper.count) within) marked) [
@@ -86,7 +86,7 @@ all_written_admitted map is_written from to at admitted all above below = admitt
 pub all_written_within : (map other : Contents) (from to : ℕ) → IsWithin map other → AllWritten other.marks from to → AllWritten map.marks from to
 all_written_within map other from to within all = λ at above below. within.marks at (all at above below)
 
-pub mark_within : (map other : Contents) (from len : ℕ) → IsProper map → IsProper other → from + len ≤ MARKS → IsWithin map other → IsWithin (record map { marks = mark map.marks from len }) (record other { marks = mark other.marks from len })
+pub mark_within : (map other : Contents) (from len : ℕ) → IsProper map → IsProper other → from + len ≤ FRAME_LENGTH → IsWithin map other → IsWithin (record map { marks = mark map.marks from len }) (record other { marks = mark other.marks from len })
 mark_within map other from len proper proper_other short within =
     let fits : from + len ≤ length map.marks = subst (λ (n : ℕ). from + len ≤ n) (sym proper.count) short in
     let other_fits : from + len ≤ length other.marks = subst (λ (n : ℕ). from + len ≤ n) (sym proper_other.count) short in

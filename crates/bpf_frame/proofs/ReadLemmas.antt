@@ -1,23 +1,26 @@
 -- A search for a byte without a mark tells whether all have it.
-use Rattle.std.proofs.Common.{◌≡◌, ◌↔◌, ℕ, zero, suc, ◌+◌, ◌-◌, ◌<◌, ◌≤◌, Bool, true, false, not, List, [], ◌∷◌, length, get_or, take, drop, refl, ◌∙◌, sym, ap, arith, rules}
+use Rattle.std.proofs.Common.{◌≡◌, ◌↔◌, ℕ, zero, suc, ◌+◌, ◌-◌, ◌<◌, ◌≤◌, Bool, true, false, not, ◌||◌, List, [], ◌∷◌, length, get_or, take, drop, refl, ◌∙◌, sym, ap, arith, rules}
 use Rattle.std.specs.Prelude.{IsTrue}
-use Rattle.std.specs.List.{list_any}
-use Rattle.std.proofs.lemmas.Bool.{both_ways, false≢true, or_parts, or_from, not-true, not_from_false}
+use Rattle.std.specs.List.{list_all, list_any}
+use Rattle.std.proofs.lemmas.Bool.{and_parts, and_from}
 use Rattle.std.proofs.lemmas.List.{places, get_or-take, get_or-drop}
-use Rattle.bpf_frame.specs.FrameMap.{AllWritten}
+use Rattle.bpf_frame.specs.FrameMap.{AllWritten, all_written}
 
--- where no mark is missing, each byte has its mark
-none_missing : (is_missing : Bool → Bool) (marks : List Bool) → is_missing false ≡ true → list_any is_missing marks ≡ false → (at : ℕ) → at < length marks → get_or marks at false ≡ true
-none_missing is_missing [] test none at within = absurd (omega arith)
-none_missing is_missing (false ∷ marks) test none at within = absurd (both_ways _ (or_parts _ _ none).0 test)
-none_missing is_missing (true ∷ marks) test none zero within = refl
-none_missing is_missing (true ∷ marks) test none (suc at) within = none_missing is_missing marks test (or_parts _ _ none).1 at (omega arith)
+-- no mark is missing exactly where all are there
+pub none_missing : (is_missing : Bool → Bool) (marks : List Bool) → is_missing false ≡ true → is_missing true ≡ false → not (list_any is_missing marks) ≡ list_all (λ mark. mark) marks
+none_missing is_missing [] missing present = refl
+none_missing is_missing (false ∷ marks) missing present = ap (λ is. not (is || list_any is_missing marks)) missing
+none_missing is_missing (true ∷ marks) missing present = ap (λ is. not (is || list_any is_missing marks)) present ∙ none_missing is_missing marks missing present
 
--- where each byte has its mark, none is missing
-each_marked : (is_missing : Bool → Bool) (marks : List Bool) → is_missing true ≡ false → ((at : ℕ) → at < length marks → get_or marks at false ≡ true) → list_any is_missing marks ≡ false
-each_marked is_missing [] test each = refl
-each_marked is_missing (false ∷ marks) test each = absurd (false≢true (each 0 (omega arith)))
-each_marked is_missing (true ∷ marks) test each = or_from _ _ test (each_marked is_missing marks test (λ at within. each (suc at) (omega arith)))
+-- where all marks are there, each is, and the other way round
+each_from_all : (marks : List Bool) → IsTrue (list_all (λ mark. mark) marks) → (at : ℕ) → at < length marks → get_or marks at false ≡ true
+each_from_all [] all at within = absurd (omega arith)
+each_from_all (mark ∷ marks) all zero within = (and_parts _ _ all).0
+each_from_all (mark ∷ marks) all (suc at) within = each_from_all marks (and_parts _ _ all).1 at (omega arith)
+
+all_from_each : (marks : List Bool) → ((at : ℕ) → at < length marks → get_or marks at false ≡ true) → IsTrue (list_all (λ mark. mark) marks)
+all_from_each [] each = refl
+all_from_each (mark ∷ marks) each = and_from _ _ (each 0 (omega arith)) (all_from_each marks (λ at within. each (suc at) (omega arith)))
 
 length-part : (marks : List Bool) (from k : ℕ) → from + k ≤ length marks → length (take k (drop from marks)) ≡ k
 length-part marks from k within = search (rules, places)
@@ -25,15 +28,15 @@ length-part marks from k within = search (rules, places)
 get_or-part : (marks : List Bool) (from k at : ℕ) → at < k → get_or (take k (drop from marks)) at false ≡ get_or marks (from + at) false
 get_or-part marks from k at within = get_or-take k (drop from marks) at false within ∙ get_or-drop from marks at false
 
--- a search of the bytes from one to another finds one without a mark or all are written
-pub all_written_or_found : (is_missing : Bool → Bool) (marks : List Bool) (from to k : ℕ) (found : Bool) → is_missing false ≡ true → is_missing true ≡ false → from ≤ to → to < length marks → from + k ≡ to + 1 → found ≡ list_any is_missing (take k (drop from marks)) → IsTrue (not found) ↔ AllWritten marks from to
-all_written_or_found is_missing marks from to k found missing present ordered within count is =
+-- the test of the bytes from one to another tells whether each has its mark
+pub all_written_is : (marks : List Bool) (from to : ℕ) → from ≤ to → to < length marks → IsTrue (all_written marks from to) ↔ AllWritten marks from to
+all_written_is marks from to ordered within =
+    let k : ℕ = to + 1 - from in
     let part : List Bool = take k (drop from marks) in
     let long : length part ≡ k = length-part marks from k (omega arith) in (
       (λ all at above below.
           ap (λ (n : ℕ). get_or marks n false) (let same : at ≡ from + (at - from) = omega arith in same)
           ∙ sym (get_or-part marks from k (at - from) (omega arith))
-          ∙ none_missing is_missing part missing (sym is ∙ not-true found all) (at - from) (omega arith)),
-      (λ all. not_from_false found (is ∙ each_marked is_missing part present
-          (λ at short. get_or-part marks from k at (omega arith) ∙ all (from + at) (omega arith) (omega arith)))),
+          ∙ each_from_all part all (at - from) (omega arith)),
+      (λ all. all_from_each part (λ at short. get_or-part marks from k at (omega arith) ∙ all (from + at) (omega arith) (omega arith))),
     )

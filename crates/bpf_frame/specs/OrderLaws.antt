@@ -2,8 +2,13 @@
 use Rattle.std.proofs.Common.{◌≡◌, ℕ, suc, zero, ◌<◌, Bool, true, false, ◌&&◌, List, [], ◌∷◌, length, get_or, sym, ap, ◌∙◌, refl, arith}
 use Rattle.std.proofs.lemmas.Bool.{and_parts, and_from}
 use Rattle.std.proofs.lemmas.List.{ext_get_or}
-use Rattle.std.proofs.lemmas.Simd.{length-zip2}
-use Rattle.bpf_frame.specs.FrameMap.{Contents, IsProper, IsMarked, Admits, IsWithin, join}
+use Rattle.bpf_frame.specs.FrameMap.{Contents, IsProper, IsMarked, Admits, IsWithin, join_marks, join}
+
+-- the join of as many marks has as many
+length-join_marks : (xs ys : List Bool) → length xs ≡ length ys → length (join_marks xs ys) ≡ length xs
+length-join_marks [] ys same = refl
+length-join_marks (x ∷ xs) [] same = absurd (omega arith)
+length-join_marks (x ∷ xs) (y ∷ ys) same = ap suc (length-join_marks xs ys (omega arith))
 
 -- the mark of a byte in the join of marks
 pub get_or-join : (xs ys : List Bool) (at : ℕ) → length xs ≡ length ys
@@ -46,7 +51,7 @@ antisymmetric x y proper-x proper-y below above =
 
 pub join_is_proper : (x y : Contents) → IsProper x → IsProper y → IsProper (join x y)
 join_is_proper x y proper-x proper-y =
-    record { count = length-zip2 _ x.marks y.marks (proper-x.count ∙ sym proper-y.count) ∙ proper-x.count }
+    record { count = length-join_marks x.marks y.marks (proper-x.count ∙ sym proper-y.count) ∙ proper-x.count }
 
 pub left_is_within_join : (x y : Contents) → IsProper x → IsProper y → IsWithin x (join x y)
 left_is_within_join x y proper-x proper-y = record { marks = λ at marked. (marked_in_both x y at proper-x proper-y marked).0 }
@@ -67,5 +72,5 @@ pub is_join : (xs ys marks : List Bool) (n : ℕ) → length xs ≡ n → length
     → marks ≡ (join (record { marks = xs }) (record { marks = ys })).marks
 is_join xs ys marks n left right count each =
     let both : length xs ≡ length ys = left ∙ sym right in
-    ext_get_or false marks _ (count ∙ sym (length-zip2 _ xs ys both ∙ left))
+    ext_get_or false marks _ (count ∙ sym (length-join_marks xs ys both ∙ left))
     (λ at within. each at (omega arith) ∙ sym (get_or-join xs ys at both))

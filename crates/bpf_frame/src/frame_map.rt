@@ -1,32 +1,30 @@
 //! Which bytes of a program's frame are known to be written.
 ghost use Rattle.std.specs.Prelude.{◌≡◌, ◌≤◌, ◌<◌, ◌+◌, ◌↔◌, ℕ, Bool, IsTrue};
 ghost use Rattle.bpf_frame.specs.FrameMap as map;
-ghost use Rattle.bpf_frame.specs.FrameMap.{AllWritten, IsProper, mark, unwritten};
+ghost use Rattle.bpf_frame.specs.FrameMap.{AllWritten, IsProper, all_written, mark, unwritten};
 ghost use Rattle.bpf_frame.specs.OrderLaws as laws;
 
+use bpf_insn::FRAME_LENGTH;
 use bpf_kinds::Order;
 use std::marker::Model;
-
-/// How many marks a map has: one for each byte of the frame.
-pub const MARKS: usize = 512;
 
 /// Which bytes of a program's frame are known to be written, by their offset from 0. Contracts see it as a record with the field `marks`, a
 /// list of truth values.
 #[derive(Drop)]
 pub struct FrameMap {
-    marks: [bool; MARKS],
+    marks: [bool; FRAME_LENGTH],
 }
 
 impl Model for FrameMap {
     ghost use Rattle.std.specs.Prelude.{◌≡◌, length};
     ghost use Rattle.bpf_frame.specs.FrameMap.{Contents};
-    ghost use Rattle.bpf_frame.specs.declared.frame_map.TheConstants.{MARKS};
+    ghost use Rattle.bpf_insn.specs.declared.memory.TheConstants.{FRAME_LENGTH};
 
     ghost Value = { Contents };
 
     ghost view = { λ map. record { marks = map.marks } };
 
-    ghost invariant = { λ map. length map.marks ≡ MARKS };
+    ghost invariant = { λ map. length map.marks ≡ FRAME_LENGTH };
 }
 
 impl FrameMap {
@@ -36,7 +34,7 @@ impl FrameMap {
         ensures proper { IsProper result }
     {
         FrameMap {
-            marks: [false; MARKS],
+            marks: [false; FRAME_LENGTH],
         }
     }
 
@@ -50,7 +48,7 @@ impl FrameMap {
 
     /// Marks so many bytes from an offset on as written, and no others.
     pub fn mark(&mut self, from: usize, len: usize)
-        requires { from + len ≤ MARKS }
+        requires { from + len ≤ FRAME_LENGTH }
         ensures value { self.new.marks ≡ mark self.old.marks from len }
         ensures proper { IsProper self.new }
     {
@@ -60,8 +58,9 @@ impl FrameMap {
     /// Whether each byte from an offset to another, both included, is known to be written.
     pub fn all_written(&self, from: usize, to: usize) -> bool
         requires ordered { from ≤ to }
-        requires within { to < MARKS }
-        ensures { IsTrue result ↔ AllWritten self.now.marks from to }
+        requires within { to < FRAME_LENGTH }
+        ensures value { result ≡ all_written self.now.marks from to }
+        ensures written { IsTrue result ↔ AllWritten self.now.marks from to }
     {
         !self.marks[from..=to].contains(&false)
     }
@@ -95,7 +94,7 @@ impl Order for FrameMap {
     ghost admits_more = { λ x y is_written _ _. laws.admits_more x y is_written };
 
     fn leq(&self, other: &FrameMap) -> bool {
-        for at in 0..MARKS {
+        for at in 0..FRAME_LENGTH {
             if other.marks[at] && !self.marks[at] {
                 return false;
             }
@@ -104,8 +103,8 @@ impl Order for FrameMap {
     }
 
     fn join(&self, other: &FrameMap) -> FrameMap {
-        let mut marks = [false; MARKS];
-        for at in 0..MARKS {
+        let mut marks = [false; FRAME_LENGTH];
+        for at in 0..FRAME_LENGTH {
             marks[at] = self.marks[at] && other.marks[at];
         }
         FrameMap { marks }

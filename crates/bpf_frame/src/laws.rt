@@ -1,13 +1,8 @@
 //! What holds of the definitions themselves. The functions do nothing: each one's contract is the
 //! law.
-ghost use Rattle.std.specs.Prelude.{◌≡◌, ◌≤◌, ◌<◌, ◌+◌, ◌⊎◌, ◌↔◌, ℕ, Bool, List, length};
-ghost use Rattle.bpf_frame.specs.FrameMap.{Contents, IsProper, IsMarked, AllWritten, IsWithin, Admits, mark, unwritten};
-ghost use Rattle.bpf_frame.specs.declared.frame_map.TheConstants.{MARKS};
-
-/// What the definitions take from the code.
-pub fn counts_are_known()
-    ensures { MARKS ≡ 512 }
-{}
+ghost use Rattle.std.specs.Prelude.{◌≡◌, ◌≤◌, ◌<◌, ◌+◌, ◌&&◌, ◌⊎◌, ◌↔◌, ℕ, Bool, false, IsTrue, List, length, slice_index_or};
+ghost use Rattle.bpf_frame.specs.FrameMap.{Contents, IsProper, IsMarked, AllWritten, IsWithin, Admits, all_written, mark, join, unwritten};
+ghost use Rattle.bpf_insn.specs.declared.memory.TheConstants.{FRAME_LENGTH};
 
 /// To mark bytes gives each of them its mark, and leaves the others as they were.
 pub fn mark_is_exact()
@@ -15,6 +10,18 @@ pub fn mark_is_exact()
     ensures byte { (marks : List Bool) (from len at : ℕ) → from + len ≤ length marks
         → IsMarked (mark marks from len) at ↔ (IsMarked marks at ⊎ ((from ≤ at) × (at < from + len))) }
     ensures none { (marks : List Bool) (from : ℕ) → from ≤ length marks → mark marks from 0 ≡ marks }
+{}
+
+/// The test of bytes from an offset to another tells whether each of them has its mark.
+pub fn all_written_is_exact()
+    ensures { (marks : List Bool) (from to : ℕ) → from ≤ to → to < length marks
+        → IsTrue (all_written marks from to) ↔ AllWritten marks from to }
+{}
+
+/// A byte has its mark in a join where it has it in both maps.
+pub fn join_is_exact()
+    ensures { (map other : Contents) (at : ℕ) → IsProper map → IsProper other → slice_index_or (join map other).marks at false
+        ≡ (slice_index_or map.marks at false && slice_index_or other.marks at false) }
 {}
 
 /// Where nothing is known, each frame is possible.
@@ -25,7 +32,7 @@ pub fn unwritten_admits_all()
 
 /// What says more stays so once the same bytes are marked, and has all bytes written that the other has.
 pub fn marks_go_upwards()
-    ensures mark { (map other : Contents) (from len : ℕ) → IsProper map → IsProper other → from + len ≤ MARKS → IsWithin map other
+    ensures mark { (map other : Contents) (from len : ℕ) → IsProper map → IsProper other → from + len ≤ FRAME_LENGTH → IsWithin map other
         → IsWithin (record map { marks = mark map.marks from len }) (record other { marks = mark other.marks from len }) }
     ensures all_written { (map other : Contents) (from to : ℕ) → IsWithin map other → AllWritten other.marks from to
         → AllWritten map.marks from to }

@@ -6,4 +6,4 @@ pub mod laws;
 #[cfg(test)]
 mod tests;
 
-pub use frame_map::{FrameMap, MARKS};
+pub use frame_map::FrameMap;

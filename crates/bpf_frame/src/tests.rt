@@ -1,7 +1,8 @@
 //! Maps beside those of a plain program over 512 truth values.
 ghost use Rattle.std.specs.Prelude.{◌<◌, ◌^◌, IfOk};
 
-use crate::{FrameMap, MARKS};
+use crate::FrameMap;
+use bpf_insn::FRAME_LENGTH;
 use bpf_kinds::Order;
 use std::test::Fail;
 
@@ -53,7 +54,7 @@ fn map_of(text: &str) -> Result<FrameMap, Fail> {
     let mut map = FrameMap::unwritten();
     for marks in text.split_whitespace() {
         let (from, len) = ends_of(marks, '+')?;
-        if from + len <= MARKS {
+        if from + len <= FRAME_LENGTH {
             map.mark(from, len);
         }
     }
@@ -61,11 +62,11 @@ fn map_of(text: &str) -> Result<FrameMap, Fail> {
 }
 
 /// The bytes of some runs, as truth values.
-fn bytes_of(text: &str) -> Result<[bool; MARKS], Fail> {
-    let mut written = [false; MARKS];
+fn bytes_of(text: &str) -> Result<[bool; FRAME_LENGTH], Fail> {
+    let mut written = [false; FRAME_LENGTH];
     for run in text.split_whitespace() {
         let (first, last) = ends_of(run, '-')?;
-        for at in 0..MARKS {
+        for at in 0..FRAME_LENGTH {
             written[at] = written[at] || first <= at && at <= last;
         }
     }
@@ -95,16 +96,16 @@ fn order_of<Known: Order>(map: &Known, other: &Known) -> &'static str {
 
 /// Whether a map says of just these bytes that they are written: of each two neighbours, and from each offset to the last of its run and no
 /// further.
-fn has_exactly(map: &FrameMap, written: &[bool; MARKS]) -> bool {
-    let mut end = MARKS;
-    for from in (0..MARKS).rev() {
+fn has_exactly(map: &FrameMap, written: &[bool; FRAME_LENGTH]) -> bool {
+    let mut end = FRAME_LENGTH;
+    for from in (0..FRAME_LENGTH).rev() {
         if !written[from] {
             end = from;
         }
-        let run = from < end && end <= MARKS && map.all_written(from, end - 1);
-        let beyond = from <= end && end < MARKS && map.all_written(from, end);
-        let behind = from + 1 < MARKS && written[from + 1];
-        let both = from + 1 < MARKS && map.all_written(from, from + 1);
+        let run = from < end && end <= FRAME_LENGTH && map.all_written(from, end - 1);
+        let beyond = from <= end && end < FRAME_LENGTH && map.all_written(from, end);
+        let behind = from + 1 < FRAME_LENGTH && written[from + 1];
+        let both = from + 1 < FRAME_LENGTH && map.all_written(from, from + 1);
         if run != written[from] || beyond || both != (written[from] && behind) {
             return false;
         }

@@ -7,6 +7,7 @@ pub mod Reading
 pub mod Code
 pub mod Jump
 pub mod Pointer
+pub mod Memory
 pub mod Table
 pub mod Arithmetic
 pub mod Refusal

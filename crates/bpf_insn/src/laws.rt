@@ -5,6 +5,7 @@ ghost use Rattle.bpf_insn.specs.Code.{IsCodeOf, IsFirstFault};
 ghost use Rattle.bpf_insn.specs.declared.code.TheConstants.{WORD_LIMIT};
 ghost use Rattle.bpf_insn.specs.declared.fault.CodeFault.{CodeFault};
 ghost use Rattle.bpf_insn.specs.declared.instruction.Insn.{Insn};
+ghost use Rattle.bpf_insn.specs.declared.memory.TheConstants.{FRAME_LENGTH};
 
 /// Bytes have at most one code.
 pub fn one_code()
@@ -20,6 +21,11 @@ pub fn one_spelling()
 /// A program has 4,096 words at most.
 pub fn word_limit()
     ensures { WORD_LIMIT ≡ 4096 }
+{}
+
+/// The frame has 512 bytes.
+pub fn frame_length()
+    ensures { FRAME_LENGTH ≡ 512 }
 {}
 
 /// Bytes have at most one first fault, apart from want of memory, which depends on more than the

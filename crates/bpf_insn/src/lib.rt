@@ -9,6 +9,7 @@ mod fault;
 mod form;
 mod instruction;
 pub mod laws;
+mod memory;
 mod refusal;
 mod register;
 mod row;
@@ -26,6 +27,7 @@ pub use instruction::{
     ByteOrder, Condition, Insn, JumpDistance, LoadFormat, Operation, SignExtension, Source,
     StoreSize, SwapWidth, Width,
 };
+pub use memory::{FRAME_LENGTH, load_length, store_length};
 pub use refusal::{memory_name, place_line, refusal_line, refusal_line_at};
 pub use register::{Register, WritableRegister};
 pub use value::{Area, Pointer, Value};

@@ -3,7 +3,7 @@ use Rattle.std.proofs.Common.{◌≡◌, ℕ, ◌^◌, ◌<◌, ◌≤◌, ◌&&
 use Rattle.std.proofs.lemmas.Bool.{cond_both, and_parts, eqb-true}
 use mir.Val.{bits}
 use Rattle.bpf_insn.specs.Arithmetic as arithmetic
-use Rattle.bpf_insn.specs.Arithmetic.{operand_bits, low_bits}
+use Rattle.bpf_insn.specs.Arithmetic.{operand_bits}
 use Rattle.bpf_insn.specs.declared.instruction.Operation.{Operation}
 use Rattle.bpf_insn.specs.declared.instruction.Operation.TheVariants.{Add, Subtract, Multiply, Divide, SignedDivide, Or, And, ShiftLeft, ShiftRight, Modulo, SignedModulo, ExclusiveOr, Move, ArithmeticShiftRight}
 use Rattle.bpf_insn.specs.declared.instruction.Width.{Width}

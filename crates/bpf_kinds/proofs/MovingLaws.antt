@@ -1,6 +1,6 @@
 -- Where pointers come to that are moved by numbers of an interval.
-use Rattle.std.proofs.Common.{◌≡◌, ℕ, suc, ◌<◌, ◌≤◌, ◌-◌, ◌^◌, true, ◌||◌, inl, inr, Some, arith, subst}
-use Rattle.std.specs.Prelude.{ℤ, pos, negsuc, ◌≤ℤ◌, ◌+ℤ◌, ◌-ℤ◌, IsTrue, FitsSigned, nat_lt, nat_le, int_le}
+use Rattle.std.proofs.Common.{◌≡◌, ℕ, suc, ◌<◌, ◌≤◌, ◌-◌, ◌^◌, true, ◌||◌, Option, Some, None, refl, inl, inr, arith, subst}
+use Rattle.std.specs.Prelude.{ℤ, pos, negsuc, ◌≤ℤ◌, ◌+ℤ◌, ◌-ℤ◌, IsTrue, IfSome, FitsSigned, nat_lt, nat_le, int_le}
 use Rattle.std.specs.Int.{w16, w64, cast_signed}
 use Rattle.std.proofs.lemmas.Bool.Decides.{nat_tests}
 use Rattle.std.proofs.lemmas.Int.{ints}
@@ -111,3 +111,8 @@ move_back_by-proper x distances moved proper-x proper-distances is =
 pub move_back_by-admits : (x distances moved : Offsets) (offset distance : ℤ) → move_back_by x distances ≡ Some moved → Admits x offset → Admits distances distance → IsTrue (is_offset (offset -ℤ distance)) × Admits moved (offset -ℤ distance)
 move_back_by-admits x distances moved offset distance is here by =
     admitted (between (x.low -ℤ distances.high) (x.high -ℤ distances.low)) moved (offset -ℤ distance) is (omega (arith, ints)) (omega (arith, ints))
+
+-- what holds of each value that may be there
+pub if_some : (found : Option Offsets) (P : Offsets → Type 0) → ((offsets : Offsets) → found ≡ Some offsets → P offsets) → IfSome found P
+if_some None P holds = tt
+if_some (Some offsets) P holds = holds offsets refl

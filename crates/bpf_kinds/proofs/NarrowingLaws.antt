@@ -1,10 +1,11 @@
 -- What is known after a conditional jump admits the numbers that were compared, and is no less than what was known before.
 use Rattle.std.proofs.Common.{◌≡◌, ◌≢◌, ℕ, ◌+◌, ◌-◌, ◌<◌, ◌≤◌, ◌^◌, Bool, true, false, Option, Some, None, refl, sym, ◌∙◌, subst, arith}
-use Rattle.std.specs.Prelude.{pos, ◌&&◌, ◌==◌, nat_lt, nat_le, if◌then◌else◌}
+use Rattle.std.specs.Prelude.{pos, IfSome, IsSomeAnd, ◌&&◌, ◌==◌, nat_lt, nat_le, if◌then◌else◌}
 use Rattle.std.specs.Int.{w32, w64, cast_signed}
 use Rattle.std.proofs.lemmas.Bool.Decides.{nat_tests}
 use Rattle.std.proofs.lemmas.Int.{to_z_pos}
 use Rattle.std.proofs.Math.Nat.{mod-eq_of_lt}
+use mathlib.Core.Bool.{beq}
 use mir.Val.{bits}
 use Rattle.bpf_insn.specs.Arithmetic.{operand_bits, low_bits, is_met, is_met_on}
 use Rattle.bpf_insn.specs.declared.instruction.Condition.{Condition}
@@ -13,7 +14,7 @@ use Rattle.bpf_insn.specs.declared.instruction.Width.{Width}
 use Rattle.bpf_insn.specs.declared.instruction.Width.TheVariants.{Bits32, Bits64}
 use Rattle.bpf_kinds.proofs.TestLemmas as test
 use Rattle.bpf_kinds.specs.Interval.{IsProper, Admits, IsWithin, is_single}
-use Rattle.bpf_kinds.specs.Narrowing.{relation_of, is_signed, plain_limit, is_plain, at_least, at_most, common, without, narrowed, if_reached, narrow, is_edge, decide, refine_by, refine}
+use Rattle.bpf_kinds.specs.Narrowing.{relation_of, is_signed, plain_limit, is_plain, at_least, at_most, common, without, narrowed, if_reached, narrow, decide, refine_by, refine}
 use Rattle.bpf_kinds.specs.declared.interval.Interval.{Interval}
 use Rattle.bpf_kinds.specs.declared.narrowing.Narrowed.{Narrowed}
 use Rattle.bpf_kinds.specs.declared.narrowing.Relation.{Relation}
@@ -139,7 +140,7 @@ narrow-keeps Below x y m n here there stand =
 narrow-keeps AtMost x y m n here there stand =
     reached (at_most x y.high) (at_least y x.low) m n (record { above = omega arith; below = omega arith }) (record { above = omega arith; below = omega arith })
 
-edge_of : (answer taken : Bool) → answer ≡ taken → is_edge answer taken ≡ true
+edge_of : (answer taken : Bool) → answer ≡ taken → beq answer taken ≡ true
 edge_of true true is = refl
 edge_of true false is = cc
 edge_of false true is = cc
@@ -151,7 +152,7 @@ decided false edge both met = refl
 
 decide-keeps : (condition : Condition) (width : Width) (x y : Interval) (m n : ℕ) (taken : Bool) → Admits x m → Admits y n → is_met condition width m n ≡ taken → Keeps (decide condition width x y taken) m n
 decide-keeps condition width x y m n taken here there answer =
-    let met : (is_single x && is_single y) ≡ true → is_edge (is_met condition width x.low y.low) taken ≡ true = λ single.
+    let met : (is_single x && is_single y) ≡ true → beq (is_met condition width x.low y.low) taken ≡ true = λ single.
     let singles = test.both (is_single x) (is_single y) single in
     let e-m : x.low ≡ m = sym (only x m here singles.0) in
     let e-n : y.low ≡ n = sym (only y n there singles.1) in
@@ -176,16 +177,22 @@ refine-keeps condition width x y m n taken proper-x proper-y left right answer =
 
 -- narrowed intervals are proper, and lie within those that were there
 
-abbrev Narrows : Narrowed → Interval → Interval → Type 0
-Narrows both x y = IsProper both.left × IsProper both.right × IsWithin both.left x × IsWithin both.right y
+record Narrows (both : Narrowed) (x y : Interval) : Type 0 where
+  within : IsWithin both.left x × IsWithin both.right y
+  proper : IsProper x → IsProper y → IsProper both.left × IsProper both.right
 
-reached-within : (left right x y : Interval) (both : Narrowed) → IsProper x → IsProper y → IsWithin left x → IsWithin right y → if_reached left right ≡ Some both → Narrows both x y
-reached-within left right x y both proper-x proper-y within-x within-y is =
+reached-within : (left right x y : Interval) (both : Narrowed) → IsWithin left x → IsWithin right y → if_reached left right ≡ Some both → Narrows both x y
+reached-within left right x y both within-x within-y is =
     let parts = test.some_if _ _ _ is in
     let ordered = test.both _ _ parts.0 in
-    let proper-left : IsProper left = record { ordered = test.at_most _ _ ordered.0; fits = omega arith } in
-    let proper-right : IsProper right = record { ordered = test.at_most _ _ ordered.1; fits = omega arith } in
-    subst (λ (z : Narrowed). Narrows z x y) parts.1 (proper-left, proper-right, within-x, within-y)
+    let reached : Narrows (narrowed left right) x y = record {
+      within = (within-x, within-y);
+      proper = λ proper-x proper-y. (
+        record { ordered = test.at_most _ _ ordered.0; fits = omega arith },
+        record { ordered = test.at_most _ _ ordered.1; fits = omega arith },
+      );
+    } in
+    subst (λ (z : Narrowed). Narrows z x y) parts.1 reached
 
 within_if : (test : Bool) (a b x : Interval) → IsWithin a x → IsWithin b x → IsWithin (if test then a else b) x
 within_if true a b x first second = first
@@ -209,38 +216,62 @@ at_most-within x n = record { low = omega arith; high = omega arith }
 without-within : (x y : Interval) → IsWithin (without x y) x
 without-within x y = within_if (is_single y) _ x x (record { low = low_moved x.low y.low; high = high_moved x.high y.low }) (itself-within x)
 
-narrow-within : (relation : Relation) (x y : Interval) (both : Narrowed) → IsProper x → IsProper y → narrow relation x y ≡ Some both → Narrows both x y
-narrow-within Same x y both proper-x proper-y is =
-    reached-within (common x y) (common x y) x y both proper-x proper-y (record { low = omega arith; high = omega arith }) (record { low = omega arith; high = omega arith }) is
-narrow-within Different x y both proper-x proper-y is =
-    reached-within (without x y) (without y x) x y both proper-x proper-y (without-within x y) (without-within y x) is
-narrow-within Above x y both proper-x proper-y is =
-    reached-within (at_least x (y.low + 1)) (at_most y (x.high - 1)) x y both proper-x proper-y (at_least-within x (y.low + 1)) (at_most-within y (x.high - 1)) is
-narrow-within AtLeast x y both proper-x proper-y is =
-    reached-within (at_least x y.low) (at_most y x.high) x y both proper-x proper-y (at_least-within x y.low) (at_most-within y x.high) is
-narrow-within Below x y both proper-x proper-y is =
-    reached-within (at_most x (y.high - 1)) (at_least y (x.low + 1)) x y both proper-x proper-y (at_most-within x (y.high - 1)) (at_least-within y (x.low + 1)) is
-narrow-within AtMost x y both proper-x proper-y is =
-    reached-within (at_most x y.high) (at_least y x.low) x y both proper-x proper-y (at_most-within x y.high) (at_least-within y x.low) is
+narrow-within : (relation : Relation) (x y : Interval) (both : Narrowed) → narrow relation x y ≡ Some both → Narrows both x y
+narrow-within Same x y both is =
+    reached-within (common x y) (common x y) x y both (record { low = omega arith; high = omega arith }) (record { low = omega arith; high = omega arith }) is
+narrow-within Different x y both is =
+    reached-within (without x y) (without y x) x y both (without-within x y) (without-within y x) is
+narrow-within Above x y both is =
+    reached-within (at_least x (y.low + 1)) (at_most y (x.high - 1)) x y both (at_least-within x (y.low + 1)) (at_most-within y (x.high - 1)) is
+narrow-within AtLeast x y both is =
+    reached-within (at_least x y.low) (at_most y x.high) x y both (at_least-within x y.low) (at_most-within y x.high) is
+narrow-within Below x y both is =
+    reached-within (at_most x (y.high - 1)) (at_least y (x.low + 1)) x y both (at_most-within x (y.high - 1)) (at_least-within y (x.low + 1)) is
+narrow-within AtMost x y both is =
+    reached-within (at_most x y.high) (at_least y x.low) x y both (at_most-within x y.high) (at_least-within y x.low) is
 
 undecided : (single edge : Bool) (z both : Narrowed) → (if single then (if edge then Some z else None) else Some z) ≡ Some both → z ≡ both
 undecided true true z both is = cc
 undecided true false z both is = cc
 undecided false edge z both is = cc
 
-decide-within : (condition : Condition) (width : Width) (x y : Interval) (taken : Bool) (both : Narrowed) → IsProper x → IsProper y → decide condition width x y taken ≡ Some both → Narrows both x y
-decide-within condition width x y taken both proper-x proper-y is =
-    subst (λ (z : Narrowed). Narrows z x y) (undecided (is_single x && is_single y) _ (narrowed x y) both is) (proper-x, proper-y, itself-within x, itself-within y)
+decide-within : (condition : Condition) (width : Width) (x y : Interval) (taken : Bool) (both : Narrowed) → decide condition width x y taken ≡ Some both → Narrows both x y
+decide-within condition width x y taken both is =
+    subst (λ (z : Narrowed). Narrows z x y) (undecided (is_single x && is_single y) _ (narrowed x y) both is)
+    (record { within = (itself-within x, itself-within y); proper = λ proper-x proper-y. (proper-x, proper-y) })
 
 narrows_if : (test : Bool) (a b : Option Narrowed) (x y : Interval) (both : Narrowed) → (a ≡ Some both → Narrows both x y) → (b ≡ Some both → Narrows both x y) → (if test then a else b) ≡ Some both → Narrows both x y
 narrows_if true a b x y both first second is = first is
 narrows_if false a b x y both first second is = second is
 
-refine_by-within : (relation : Option Relation) (condition : Condition) (width : Width) (x y : Interval) (taken : Bool) (both : Narrowed) → IsProper x → IsProper y → refine_by relation condition width x y taken ≡ Some both → Narrows both x y
-refine_by-within None condition width x y taken both proper-x proper-y is = decide-within condition width x y taken both proper-x proper-y is
-refine_by-within (Some relation) condition width x y taken both proper-x proper-y is =
+refine_by-within : (relation : Option Relation) (condition : Condition) (width : Width) (x y : Interval) (taken : Bool) (both : Narrowed) → refine_by relation condition width x y taken ≡ Some both → Narrows both x y
+refine_by-within None condition width x y taken both is = decide-within condition width x y taken both is
+refine_by-within (Some relation) condition width x y taken both is =
     narrows_if (is_plain condition width x y) (narrow relation x y) (decide condition width x y taken) x y both
-    (narrow-within relation x y both proper-x proper-y) (decide-within condition width x y taken both proper-x proper-y) is
+    (narrow-within relation x y both) (decide-within condition width x y taken both) is
 
 pub refine-within : (condition : Condition) (width : Width) (x y : Interval) (taken : Bool) (both : Narrowed) → IsProper x → IsProper y → refine condition width x y taken ≡ Some both → IsProper both.left × IsProper both.right × IsWithin both.left x × IsWithin both.right y
-refine-within condition width x y taken both proper-x proper-y is = refine_by-within (relation_of condition taken) condition width x y taken both proper-x proper-y is
+refine-within condition width x y taken both proper-x proper-y is =
+    let narrows = refine_by-within (relation_of condition taken) condition width x y taken both is in
+    let proper = narrows.proper proper-x proper-y in
+    (proper.0, proper.1, narrows.within.0, narrows.within.1)
+
+-- the same of whatever comes of two intervals
+
+pub refined-keeps : (condition : Condition) (width : Width) (x y : Interval) (taken : Bool) (result : Option Narrowed) → result ≡ refine condition width x y taken → (m n : ℕ) → Admits x m → Admits y n → is_met condition width m n ≡ taken → IsSomeAnd result (λ both. Admits both.left m × Admits both.right n)
+refined-keeps condition width x y taken result is m n left right answer =
+    let kept = refine_by-keeps (relation_of condition taken) condition width x y m n taken left right answer
+    (λ plain. stand_plain condition width x y m n taken left right answer plain) in
+    subst (λ (o : Option Narrowed). IsSomeAnd o (λ both. Admits both.left m × Admits both.right n)) (sym (is ∙ kept.1)) (kept.2, kept.3)
+
+if_some : (result : Option Narrowed) (P : Narrowed → Type 0) → ((both : Narrowed) → result ≡ Some both → P both) → IfSome result P
+if_some None P holds = tt
+if_some (Some both) P holds = holds both refl
+
+pub refined-within : (condition : Condition) (width : Width) (x y : Interval) (taken : Bool) (result : Option Narrowed) → result ≡ refine condition width x y taken → IfSome result (λ both. IsWithin both.left x × IsWithin both.right y)
+refined-within condition width x y taken result is =
+    if_some result _ (λ both some. (refine_by-within (relation_of condition taken) condition width x y taken both (sym is ∙ some)).within)
+
+pub refined-proper : (condition : Condition) (width : Width) (x y : Interval) (taken : Bool) (result : Option Narrowed) → result ≡ refine condition width x y taken → IsProper x → IsProper y → IfSome result (λ both. IsProper both.left × IsProper both.right)
+refined-proper condition width x y taken result is proper-x proper-y =
+    if_some result _ (λ both some. (refine_by-within (relation_of condition taken) condition width x y taken both (sym is ∙ some)).proper proper-x proper-y)

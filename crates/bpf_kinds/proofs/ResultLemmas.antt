@@ -9,6 +9,7 @@ use Rattle.std.specs.Int.{Width as Bits, swap_bytes, cast_signed, cast_unsigned}
 use mir.Val.{bits, hbits}
 use Rattle.bpf_insn.specs.Arithmetic as arithmetic
 use Rattle.bpf_insn.specs.Arithmetic.{operand_bits, low_bits, swap_bits, result_of, sign_extension, extension_of, load_extension}
+use Rattle.bpf_insn.specs.Memory.{load_length}
 use Rattle.bpf_insn.specs.declared.instruction.Operation.{Operation}
 use Rattle.bpf_insn.specs.declared.instruction.Width.{Width}
 use Rattle.bpf_insn.specs.declared.instruction.Width.TheVariants as width
@@ -21,7 +22,7 @@ use Rattle.bpf_insn.specs.declared.instruction.SwapWidth.TheVariants.{Bits16, Bi
 use Rattle.bpf_insn.specs.declared.instruction.LoadFormat.{LoadFormat}
 use Rattle.bpf_insn.specs.declared.instruction.LoadFormat.TheVariants.{Byte, HalfWord, Word, DoubleWord, SignedByte, SignedHalfWord, SignedWord}
 use Rattle.bpf_kinds.specs.Interval.{IsProper, Admits, single, full, cut}
-use Rattle.bpf_kinds.specs.Results.{alu, negate, source_bits, target_bits, extend_low, extend, reversal, byte_swap, load_length, load, wide_number, immediate_operand}
+use Rattle.bpf_kinds.specs.Results.{alu, negate, source_bits, target_bits, extend_low, extend, reversal, byte_swap, load, wide_number, immediate_operand}
 use Rattle.bpf_kinds.specs.declared.interval.Interval.{Interval}
 use Rattle.bpf_kinds.proofs.AluLemmas.{result_on-holds}
 use Rattle.bpf_kinds.proofs.HoldLemmas.{Holds, full-holds, single-holds, if_lt-holds, if_single-holds, cut-holds}

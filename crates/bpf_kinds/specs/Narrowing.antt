@@ -1,6 +1,7 @@
 -- Narrowing at conditional jumps (RFC 9669, section 4.3): what is known of two numbers on the edge of a jump that is taken, and on that
 -- of one that isn't. Which bounds these are is this project's own choice.
-use Rattle.std.specs.Prelude.{ℕ, ◌+◌, ◌-◌, ◌^◌, ◌&&◌, ◌==◌, nat_lt, nat_le, min, max, Bool, true, false, not, Option, Some, None, if◌then◌else◌}
+use Rattle.std.specs.Prelude.{ℕ, ◌+◌, ◌-◌, ◌^◌, ◌&&◌, ◌==◌, nat_lt, nat_le, min, max, Bool, true, false, Option, Some, None, if◌then◌else◌}
+use mathlib.Core.Bool.{beq}
 use mir.Val.{bits}
 use Rattle.bpf_insn.specs.Arithmetic.{operand_bits, is_met}
 use Rattle.bpf_insn.specs.declared.instruction.Condition.{Condition}
@@ -84,16 +85,11 @@ narrow AtLeast x y = if_reached (at_least x y.low) (at_most y x.high)
 narrow Below x y = if_reached (at_most x (y.high - 1)) (at_least y (x.low + 1))
 narrow AtMost x y = if_reached (at_most x y.high) (at_least y x.low)
 
--- whether a comparison with this answer goes along the edge
-abbrev pub is_edge : Bool → Bool → Bool
-is_edge true taken = taken
-is_edge false taken = not taken
-
--- two intervals as they are; where both are one number, the comparison's answer shows whether the edge is reached
+-- two intervals as they are; where both are one number, the edge is reached if it's the one that the comparison's answer takes
 abbrev pub decide : Condition → Width → Interval → Interval → Bool → Option Narrowed
 decide condition width x y taken =
     if is_single x && is_single y
-    then (if is_edge (is_met condition width x.low y.low) taken then Some (narrowed x y) else None)
+    then (if beq (is_met condition width x.low y.low) taken then Some (narrowed x y) else None)
     else Some (narrowed x y)
 
 -- by how the numbers stand to each other, where they are compared as they are

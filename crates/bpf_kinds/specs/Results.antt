@@ -139,16 +139,6 @@ byte_swap LittleEndian width x = cut (swap_bits width) x
 byte_swap BigEndian width x = reversal BigEndian width x
 byte_swap Swapped width x = reversal Swapped width x
 
--- how many bytes a load reads (section 5.1)
-abbrev pub load_length : LoadFormat → ℕ
-load_length Byte = 1
-load_length HalfWord = 2
-load_length Word = 4
-load_length DoubleWord = 8
-load_length SignedByte = 1
-load_length SignedHalfWord = 2
-load_length SignedWord = 4
-
 -- what a load gives of any bytes: all numbers of so many bits, and where their sign is extended all of 64
 abbrev pub load : LoadFormat → Interval
 load Byte = full w8

@@ -1,5 +1,6 @@
 //! Intervals of numbers.
 ghost use Rattle.std.specs.Prelude.{◌≡◌, ℕ};
+ghost use Rattle.bpf_insn.specs.Arithmetic.{low_bits};
 ghost use Rattle.bpf_kinds.specs.Interval as interval;
 ghost use Rattle.bpf_kinds.specs.Interval.{IsProper, HasBits, single, is_single, full, cut};
 ghost use Rattle.bpf_kinds.specs.NumberWidth.{number_bits};
@@ -50,6 +51,7 @@ impl Interval {
     pub fn cut(self, width: NumberWidth) -> Interval
         requires { IsProper self }
         ensures value { result ≡ cut (number_bits width) self }
+        ensures admits { (n : ℕ) → interval.Admits self n → interval.Admits result (low_bits (number_bits width) n) }
         ensures bits { HasBits (number_bits width) result }
         ensures proper { IsProper result }
     {

@@ -4,6 +4,7 @@ ghost use Rattle.std.specs.Prelude.{ℕ, ℤ, ◌<◌, ◌^◌, FitsSigned};
 ghost use Rattle.std.specs.Int.{w32, Width as Bits};
 ghost use Rattle.bpf_insn.specs.Arithmetic as arithmetic;
 ghost use Rattle.bpf_insn.specs.Arithmetic.{low_bits, result_of, extension_of, load_extension};
+ghost use Rattle.bpf_insn.specs.Memory.{load_length};
 ghost use Rattle.bpf_insn.specs.declared.instruction.ByteOrder.{ByteOrder};
 ghost use Rattle.bpf_insn.specs.declared.instruction.LoadFormat.{LoadFormat};
 ghost use Rattle.bpf_insn.specs.declared.instruction.Operation.{Operation};
@@ -11,7 +12,7 @@ ghost use Rattle.bpf_insn.specs.declared.instruction.SignExtension.{SignExtensio
 ghost use Rattle.bpf_insn.specs.declared.instruction.SwapWidth.{SwapWidth};
 ghost use Rattle.bpf_insn.specs.declared.instruction.Width.{Width};
 ghost use Rattle.bpf_kinds.specs.Interval.{IsProper, Admits, cut};
-ghost use Rattle.bpf_kinds.specs.Results.{alu, negate, extend, byte_swap, load_length, load, wide_number, immediate_operand};
+ghost use Rattle.bpf_kinds.specs.Results.{alu, negate, extend, byte_swap, load, wide_number, immediate_operand};
 ghost use Rattle.bpf_kinds.specs.declared.interval.Interval.{Interval};
 
 use crate::order::Order;

@@ -1,8 +1,9 @@
 //! Pointers that are moved by a number of bytes.
-ghost use Rattle.std.specs.Prelude.{◌≡◌};
-ghost use Rattle.bpf_kinds.specs.Interval.{IsProper};
+ghost use Rattle.std.specs.Prelude.{◌≡◌, ◌+ℤ◌, ◌-ℤ◌, ℕ, ℤ, IfSome};
+ghost use Rattle.std.specs.Int.{w64, cast_signed};
+ghost use Rattle.bpf_kinds.specs.Interval as interval;
 ghost use Rattle.bpf_kinds.specs.Moving.{near_distances, if_offsets, move_by, move_back_by};
-ghost use Rattle.bpf_kinds.specs.Offsets.{between};
+ghost use Rattle.bpf_kinds.specs.Offsets.{IsProper, Admits, between};
 
 #[cfg(test)]
 mod tests;
@@ -13,8 +14,10 @@ use crate::offsets::Offsets;
 /// The numbers of an interval in two's complement, as distances in bytes, where a pointer may be moved by each of them: all are at
 /// most 32767, or all are from -32768 to -1.
 pub fn near_distances(x: Interval) -> Option<Offsets>
-    requires { IsProper x }
-    ensures { result ≡ near_distances x }
+    requires { interval.IsProper x }
+    ensures value { result ≡ near_distances x }
+    ensures admits { (n : ℕ) → interval.Admits x n → IfSome result (λ distances. Admits distances (cast_signed w64 n)) }
+    ensures proper { IfSome result IsProper }
 {
     if x.high < 1 << 15 || x.low > u64::MAX - (1 << 15) {
         Some(Offsets {
@@ -29,7 +32,10 @@ pub fn near_distances(x: Interval) -> Option<Offsets>
 impl Offsets {
     /// The offsets after a move by the distances, where all of them are offsets.
     pub fn move_by(self, distances: Offsets) -> Option<Offsets>
-        ensures { result ≡ move_by self distances }
+        ensures value { result ≡ move_by self distances }
+        ensures admits { (offset distance : ℤ) → Admits self offset → Admits distances distance
+            → IfSome result (λ moved. Admits moved (offset +ℤ distance)) }
+        ensures proper { IsProper self → IsProper distances → IfSome result IsProper }
     {
         if_offsets(
             i32::from(self.low) + i32::from(distances.low),
@@ -39,7 +45,10 @@ impl Offsets {
 
     /// The offsets after a move backwards by the distances, where all of them are offsets.
     pub fn move_back_by(self, distances: Offsets) -> Option<Offsets>
-        ensures { result ≡ move_back_by self distances }
+        ensures value { result ≡ move_back_by self distances }
+        ensures admits { (offset distance : ℤ) → Admits self offset → Admits distances distance
+            → IfSome result (λ moved. Admits moved (offset -ℤ distance)) }
+        ensures proper { IsProper self → IsProper distances → IfSome result IsProper }
     {
         if_offsets(
             i32::from(self.low) - i32::from(distances.high),

@@ -1,6 +1,8 @@
 //! Narrowing at conditional jumps (RFC 9669, section 4.3).
-ghost use Rattle.std.specs.Prelude.{◌≡◌, ◌+◌, ◌-◌, ◌^◌, min};
-ghost use Rattle.bpf_kinds.specs.Narrowing.{relation_of, is_signed, plain_limit, is_plain, at_least, at_most, common, without, if_reached, narrow, decide, refine};
+ghost use Rattle.std.specs.Prelude.{◌≡◌, ◌+◌, ◌-◌, ◌^◌, ℕ, min, IfSome, IsSomeAnd};
+ghost use Rattle.bpf_insn.specs.Arithmetic.{is_met};
+ghost use Rattle.bpf_kinds.specs.Interval.{IsProper, Admits, IsWithin};
+ghost use Rattle.bpf_kinds.specs.Narrowing.{relation_of, is_signed, plain_limit, is_plain, at_least, at_most, common, without, if_reached, narrow, decide, refine_by, refine};
 
 #[cfg(test)]
 mod tests;
@@ -35,9 +37,28 @@ pub fn refine(
     y: Interval,
     taken: bool,
 ) -> Option<Narrowed>
-    ensures { result ≡ refine condition width x y taken }
+    ensures value { result ≡ refine condition width x y taken }
+    // Numbers that take the edge stay.
+    ensures keeps { (m n : ℕ) → Admits x m → Admits y n → is_met condition width m n ≡ taken
+        → IsSomeAnd result (λ both. Admits both.left m × Admits both.right n) }
+    ensures within { IfSome result (λ both. IsWithin both.left x × IsWithin both.right y) }
+    ensures proper { IsProper x → IsProper y → IfSome result (λ both. IsProper both.left × IsProper both.right) }
 {
-    match relation_of(condition, taken) {
+    refine_by(relation_of(condition, taken), condition, width, x, y, taken)
+}
+
+/// The same, by how the numbers stand to each other on the edge.
+fn refine_by(
+    relation: Option<Relation>,
+    condition: Condition,
+    width: Width,
+    x: Interval,
+    y: Interval,
+    taken: bool,
+) -> Option<Narrowed>
+    ensures { result ≡ refine_by relation condition width x y taken }
+{
+    match relation {
         Some(relation) if is_plain(condition, width, x, y) => relation.narrow(x, y),
         _ => decide(condition, width, x, y, taken),
     }

@@ -1,5 +1,5 @@
 //! What operations give of intervals of operands.
-ghost use Rattle.std.specs.Prelude.{◌≡◌, ◌<◌, ◌≤◌, ◌%◌, ◌^◌};
+ghost use Rattle.std.specs.Prelude.{◌≡◌, ◌<◌, ◌≤◌, ◌%◌};
 ghost use mir.Val.{bits};
 ghost use Rattle.bpf_insn.specs.Arithmetic.{operand_bits};
 ghost use Rattle.bpf_kinds.specs.Interval.{HasBits, full};

@@ -1,8 +1,9 @@
 //! What instructions give of intervals: each result holds every number that the instruction gives of
 //! numbers of the operands' intervals. Where every operand is one number, so is the result.
-ghost use Rattle.std.specs.Prelude.{◌≡◌, ℕ};
+ghost use Rattle.std.specs.Prelude.{◌≡◌, ◌<◌, ◌^◌, ℕ};
 ghost use Rattle.bpf_insn.specs.Arithmetic as arithmetic;
-ghost use Rattle.bpf_insn.specs.Arithmetic.{result_of, extension_of};
+ghost use Rattle.bpf_insn.specs.Arithmetic.{result_of, extension_of, load_extension};
+ghost use Rattle.bpf_insn.specs.Memory.{load_length};
 ghost use Rattle.bpf_kinds.specs.Interval.{IsProper, Admits};
 ghost use Rattle.bpf_kinds.specs.NumberWidth.{number_bits};
 ghost use Rattle.bpf_kinds.specs.Results.{alu, negate, source_bits, target_bits, extend, reversal, byte_swap, load, wide_number, immediate_operand};
@@ -48,8 +49,8 @@ pub fn extend(extension: SignExtension, x: Interval) -> Interval
     ensures admits { (n : ℕ) → Admits x n → Admits result (extension_of extension n) }
     ensures proper { IsProper result }
 {
-    let source = source_width(extension);
-    let target = target_width(extension);
+    let source = source_bits(extension);
+    let target = target_bits(extension);
     let x = x.cut(target);
     if x.is_single() {
         return Interval::single(extension.apply(x.low));
@@ -63,7 +64,7 @@ pub fn extend(extension: SignExtension, x: Interval) -> Interval
 }
 
 /// How many bits a move with sign extension takes.
-fn source_width(extension: SignExtension) -> NumberWidth
+fn source_bits(extension: SignExtension) -> NumberWidth
     ensures { number_bits result ≡ source_bits extension }
 {
     match extension {
@@ -74,7 +75,7 @@ fn source_width(extension: SignExtension) -> NumberWidth
 }
 
 /// To how many bits a move with sign extension extends those that it takes.
-fn target_width(extension: SignExtension) -> NumberWidth
+fn target_bits(extension: SignExtension) -> NumberWidth
     ensures { number_bits result ≡ target_bits extension }
 {
     match extension {
@@ -112,6 +113,7 @@ fn reversal(order: ByteOrder, width: SwapWidth, x: Interval) -> Interval
 /// What a load gives of any bytes.
 pub fn load(format: LoadFormat) -> Interval
     ensures value { result ≡ load format }
+    ensures admits { (n : ℕ) → n < 256 ^ load_length format → Admits result (load_extension format n) }
     ensures proper { IsProper result }
 {
     match format {
@@ -128,6 +130,7 @@ pub fn load(format: LoadFormat) -> Interval
 /// The number of a wide load, from the immediates of its two words.
 pub fn wide_number(immediate: i32, next_immediate: i32) -> Interval
     ensures value { result ≡ wide_number immediate next_immediate }
+    ensures admits { Admits result (arithmetic.wide_number immediate next_immediate) }
     ensures proper { IsProper result }
 {
     Interval::single(bpf_insn::wide_number(immediate, next_immediate))
@@ -136,6 +139,7 @@ pub fn wide_number(immediate: i32, next_immediate: i32) -> Interval
 /// An immediate as a 64-bit operand.
 pub fn immediate_operand(immediate: i32) -> Interval
     ensures value { result ≡ immediate_operand immediate }
+    ensures admits { Admits result (arithmetic.immediate_operand immediate) }
     ensures proper { IsProper result }
 {
     Interval::single(bpf_insn::immediate_operand(immediate))

@@ -1,11 +1,12 @@
-use Rattle.std.proofs.Common.{rules}
+use Rattle.std.proofs.Common.{rules, sym, ◌∙◌}
 use Rattle.std.specs.Prelude.{FitsSigned}
 use Rattle.std.specs.Int.{w16}
+use Rattle.bpf_kinds.proofs.MovingLaws.{if_some, move_back_by-admits, move_back_by-proper}
 use Rattle.bpf_kinds.proofs.MovingLemmas.{difference_end}
 use Rattle.bpf_kinds.proofs.offsets.Offsets.move_back_by.Goals as goal
 
-pub returns : goal.returns
-returns c =
+pub returns-clause-value : goal.returns-clause-value
+returns-clause-value c =
     let self_low : FitsSigned w16 c.args.self.low = search rules in
     let self_high : FitsSigned w16 c.args.self.high = search rules in
     let low : FitsSigned w16 c.args.distances.low = search rules in
@@ -13,3 +14,13 @@ returns c =
     let e-low = difference_end _ _ c.args.self.low c.args.distances.high self_low high c.from.ensures c.from-2.ensures in
     let e-high = difference_end _ _ c.args.self.high c.args.distances.low self_high low c.from-3.ensures c.from-4.ensures in
     rw (e-low, e-high) at c.if_offsets.ensures
+
+pub returns-clause-admits : goal.returns-clause-admits
+returns-clause-admits c = λ offset distance here by.
+    if_some c.if_offsets.result _
+    (λ moved some. (move_back_by-admits c.args.self c.args.distances moved offset distance (sym (returns-clause-value c) ∙ some) here by).1)
+
+pub returns-clause-proper : goal.returns-clause-proper
+returns-clause-proper c = λ proper near.
+    if_some c.if_offsets.result _
+    (λ moved some. move_back_by-proper c.args.self c.args.distances moved proper near (sym (returns-clause-value c) ∙ some))

@@ -1,0 +1,34 @@
+//! Memory: how many bytes the frame has, and how many loads and stores reach.
+ghost use Rattle.std.specs.Prelude.{◌≡◌, ◌≤◌};
+ghost use Rattle.bpf_insn.specs.Memory.{load_length, store_length};
+
+use crate::instruction::{LoadFormat, StoreSize};
+
+/// How many bytes the frame has, the program's own memory. Register 10 starts behind its last.
+pub const FRAME_LENGTH: usize = 512;
+
+/// How many bytes a load reads (RFC 9669, section 5.1).
+pub fn load_length(format: LoadFormat) -> usize
+    ensures value { result ≡ load_length format }
+    ensures short { result ≤ 8 }
+{
+    match format {
+        LoadFormat::Byte | LoadFormat::SignedByte => 1,
+        LoadFormat::HalfWord | LoadFormat::SignedHalfWord => 2,
+        LoadFormat::Word | LoadFormat::SignedWord => 4,
+        LoadFormat::DoubleWord => 8,
+    }
+}
+
+/// How many bytes a store writes (RFC 9669, section 5.1).
+pub fn store_length(size: StoreSize) -> usize
+    ensures value { result ≡ store_length size }
+    ensures short { result ≤ 8 }
+{
+    match size {
+        StoreSize::Byte => 1,
+        StoreSize::HalfWord => 2,
+        StoreSize::Word => 4,
+        StoreSize::DoubleWord => 8,
+    }
+}
