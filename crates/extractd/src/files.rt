@@ -6,12 +6,12 @@ ghost use Rattle.tl_fields.specs.Counted.{CountsFailure};
 ghost use Rattle.extractd.specs.Files.{TellsOpens};
 ghost use Rattle.extractd.specs.declared.files.FileFault.TheVariants.{Memory};
 
-use crate::by_byte::ByByte;
+use arrayvec::ArrayVec;
 use std::alloc::{AllocError, Global};
 use std::fs::File;
 use std::io::{BufReader, ErrorKind, Read};
 use std::{io, rt};
-use tl_fields::{CountedRead, count_one};
+use tl_fields::{Buffered, CountedRead, LONGEST_CONTENT, Stop, count_one};
 
 /// Why a file's bytes aren't there.
 #[derive(Clone, Copy)]
@@ -70,11 +70,11 @@ impl<'a, R> SystemFiles<'a, R> {
 }
 
 impl<R: rt::Files + AllocGlobal> Files for SystemFiles<'_, R> {
-    type Reader = ByByte<BufReader<R::File>>;
+    type Reader = Buffered<BufReader<R::File>>;
 
     ghost failed_opens = { λ files. files.failed_opens };
 
-    fn open(&mut self, name: &str) -> io::Result<ByByte<BufReader<R::File>>> {
+    fn open(&mut self, name: &str) -> io::Result<Buffered<BufReader<R::File>>> {
         match open_buffered(self.runtime, name) {
             Ok(reader) => Ok(reader),
             Err(error) => {
@@ -90,10 +90,10 @@ impl<R: rt::Files + AllocGlobal> Files for SystemFiles<'_, R> {
 fn open_buffered<R: rt::Files + AllocGlobal>(
     runtime: &R,
     name: &str,
-) -> io::Result<ByByte<BufReader<R::File>>> {
+) -> io::Result<Buffered<BufReader<R::File>>> {
     let file = File::open(runtime, name)?;
     let reader = BufReader::with_capacity(runtime.alloc(), INPUT_BUFFER, file)?;
-    Ok(ByByte::new(reader))
+    Ok(Buffered::new(reader))
 }
 
 /// Opens a file.
@@ -179,5 +179,16 @@ impl<R: CountedRead> CountedRead for Input<R> {
         ensures nothing { self.old ≡ Input.Nothing → result ≡ Ok 0 }
     {
         self.read(buf)
+    }
+
+    #[inline]
+    fn read_content(&mut self, content: &mut ArrayVec<u8, LONGEST_CONTENT>) -> Stop {
+        match self {
+            Input::Opened(reader) => reader.read_content(content),
+            Input::Nothing => {
+                content.clear();
+                Stop::EndOfInput
+            }
+        }
     }
 }

@@ -2,7 +2,6 @@
 #![tactic(auto)]
 
 mod arguments;
-mod by_byte;
 mod command;
 mod commands;
 mod failure;

@@ -3,5 +3,6 @@ mod arguments;
 mod conversions;
 mod devices;
 mod fixtures;
+mod readers;
 mod runs;
 mod verdicts;

@@ -1,2 +1,4 @@
+pub mod BufferLemmas
+pub mod ContentLemmas
 pub mod KnownBytesLemmas
 pub mod NumberLemmas

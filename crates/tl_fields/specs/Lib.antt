@@ -1,3 +1,5 @@
+pub mod Buffered
+pub mod Content
 pub mod Coordinate
 pub mod Counted
 pub mod Device

@@ -2,9 +2,12 @@
 ghost use Rattle.std.specs.Prelude.{◌≡◌, ℕ};
 ghost use Rattle.std.specs.Io.{ReadsAtMost, WritesAtMost};
 ghost use Rattle.std.specs.Io.KnownBytes.{Keeps, ReadConsumes, WriteAppends};
+ghost use Rattle.tl_fields.specs.Content.{IsByteRead, IsContentRead};
 ghost use Rattle.tl_fields.specs.Counted.{AddsFailure, AddsFlush, AddsWrite, CountsFailure, CountsFlush, CountsWrite, next_count};
-ghost use Rattle.tl_fields.specs.Device.{WriteCounts};
+ghost use Rattle.tl_fields.specs.Device.{WriteCounts, reader};
 
+use crate::content::{LINE_FEED, LONGEST_CONTENT, Stop};
+use arrayvec::ArrayVec;
 use std::io;
 use std::io::{Read, Write};
 use std::marker::Model;
@@ -22,6 +25,14 @@ pub trait CountedRead: Read {
         ensures bound { ReadsAtMost result buf.new }
         ensures bytes { ReadConsumes (Self.remaining self.old) (Self.remaining self.new) result buf.new }
         ensures failures { CountsFailure result (failed_reads self.old) (failed_reads self.new) };
+
+    /// Reads a line's bytes up to its LF into `content`, in place of what it held, as if one byte a read. The LF is taken and left out of
+    /// the content. Nothing is read behind a failure, and a line of more than 230 bytes is left after its 231st.
+    ///
+    /// There is no body to fall back on: what wraps a reader hands the call on, so that a reader with a buffer can search it.
+    fn read_content(&mut self, content: &mut ArrayVec<u8, LONGEST_CONTENT>) -> Stop
+        ensures { IsContentRead content.new.items
+            (reader Self.remaining failed_reads self.old) (reader Self.remaining failed_reads self.new) result };
 }
 
 /// A writer that counts its failures, the writes that were handed bytes and took none, and its
@@ -128,6 +139,23 @@ impl<T> Counting<T> {
     }
 }
 
+impl<T: Read> Counting<T> {
+    #[inline]
+    fn read_byte(&mut self) -> io::Result<Option<u8>>
+        ensures read { IsByteRead
+            (record { left = T.remaining self.old.inner; failed = self.old.failed_reads })
+            (record { left = T.remaining self.new.inner; failed = self.new.failed_reads }) result }
+        ensures counts { self.new.counts ≡ self.old.counts }
+    {
+        let mut byte = [0];
+        let count = self.read(&mut byte)?;
+        if count == 0 {
+            return Ok(None);
+        }
+        Ok(Some(byte[0]))
+    }
+}
+
 /// Counts one more. A count that is full goes back to 0.
 #[cold]
 pub fn count_one(count: &mut u64)
@@ -203,6 +231,25 @@ impl<T: Read> CountedRead for Counting<T> {
         ensures counts { self.new.counts ≡ self.old.counts }
     {
         self.read(buf)
+    }
+
+    #[inline]
+    #[tactic(auto, using(crate::proofs::ContentLemmas::none_so_far, crate::proofs::ContentLemmas::one_more, crate::proofs::ContentLemmas::no_more))]
+    fn read_content(&mut self, content: &mut ArrayVec<u8, LONGEST_CONTENT>) -> Stop {
+        content.clear();
+        loop {
+            match self.read_byte() {
+                Ok(Some(LINE_FEED)) => return Stop::LineFeed,
+                Ok(Some(byte)) => {
+                    if content.is_full() {
+                        return Stop::TooLong;
+                    }
+                    content.push(byte);
+                }
+                Ok(None) => return Stop::EndOfInput,
+                Err(_) => return Stop::ReadFailed,
+            }
+        }
     }
 }
 

@@ -1,6 +1,8 @@
 //! Fields of a record line, their numbers and coordinates, and readers and writers that count their failures.
 #![tactic(auto)]
 
+mod buffered;
+mod content;
 mod counted;
 mod fields;
 mod fuse;
@@ -9,6 +11,8 @@ mod numbers;
 mod tests;
 mod writing;
 
+pub use buffered::Buffered;
+pub use content::{LONGEST_CONTENT, Stop};
 pub use counted::{CountedRead, CountedWrite, Counting, count_one};
 pub use fields::field;
 pub use fuse::{Burst, Fuse};

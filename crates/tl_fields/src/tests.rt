@@ -1,9 +1,11 @@
 //! Values of the record layouts, worked by hand, and devices that go wrong in mid-stream.
 use crate::{
-    Burst, CountedRead, CountedWrite, Counting, Fuse, WriteFault, blank, coordinate, field, number,
-    write_whole,
+    Buffered, Burst, CountedRead, CountedWrite, Counting, Fuse, Stop, WriteFault, blank,
+    coordinate, field, number, write_whole,
 };
-use std::io::{ErrorKind, Read, Write};
+use arrayvec::ArrayVec;
+use std::alloc::Global;
+use std::io::{BufReader, ErrorKind, Read, Write};
 use std::process::Abort;
 use std::test::Fail;
 
@@ -231,6 +233,78 @@ fn counts_of_flushes(rt: HostRuntime) {
     }
     assert_eq!(rt; (writer.failed_reads(), writer.empty_writes()), (0, 0));
     assert_eq!(rt; writer.get_ref().calls, 4);
+}
+
+// How many bytes the lines of a file have, CR in them, and the last one without an end.
+const LENGTHS: &str = "0 231 230 2";
+
+/// A file of lines of these lengths.
+fn file_of(alloc: Global, lengths: &str) -> Result<Vec<u8>, Fail> {
+    let mut file = Vec::new(alloc);
+    for length in lengths.split(' ') {
+        file.resize(file.len() + length.parse::<u8>()? as usize, b'\r')?;
+        file.push(b'\n')?;
+    }
+    file.pop();
+    Ok(file)
+}
+
+/// Whether the lines of these bytes have the same contents through a buffer of this size as byte by byte.
+fn reads_alike(alloc: Global, bytes: &[u8], size: usize) -> Result<bool, Fail> {
+    let mut by_byte = Counting::new(bytes);
+    let mut buffered = Buffered::new(BufReader::with_capacity(alloc, size, bytes)?);
+    let mut expected = ArrayVec::new();
+    let mut content = ArrayVec::new();
+    for _ in 0..=bytes.len() {
+        let stop = by_byte.read_content(&mut expected);
+        let is_same = buffered.read_content(&mut content) == stop
+            && (stop == Stop::TooLong || content.as_slice() == expected.as_slice());
+        if !is_same || stop == Stop::EndOfInput {
+            return Ok(is_same);
+        }
+    }
+    Ok(false)
+}
+
+#[test]
+fn contents_through_buffers(rt: HostRuntime) -> Result<(), Fail> {
+    let file = file_of(rt.alloc(), LENGTHS)?;
+    for size in 1..=300 {
+        for length in 0..=file.len() {
+            let front = file.get(..length).unwrap_or(b"");
+            assert!(rt; reads_alike(rt.alloc(), front, size)?, "{size} {length}");
+        }
+    }
+    Ok(())
+}
+
+// The size of the buffer, how many calls of the device pass before one fails, and how many bytes of a line were read then.
+const FAILURES: &str = "1|0|0
+1|9|9
+3|0|0
+3|2|6
+3|3|9
+300|0|0";
+
+#[test]
+fn contents_up_to_a_failure(rt: HostRuntime) -> Result<(), Fail> {
+    for row in FAILURES.lines() {
+        let mut columns = row.split('|');
+        let size = column(&rt, columns.next());
+        let calls = column(&rt, columns.next()) as u64;
+        let device = Fuse::after_calls(b"abcdefghijkl\n".as_slice(), calls, FAILS);
+        let mut reader = Buffered::new(BufReader::with_capacity(rt.alloc(), size, device)?);
+        let mut content = ArrayVec::new();
+        let stop = reader.read_content(&mut content);
+        let given = (stop, content.len(), reader.get_ref().get_ref().calls);
+        let read = column(&rt, columns.next());
+        assert_eq!(rt;
+            given,
+            (Stop::ReadFailed, read, calls.saturating_add(1)),
+            "{row}"
+        );
+    }
+    Ok(())
 }
 
 // How many bytes are taken before the write that goes wrong, and the calls up to and with it.

@@ -1,1 +1,5 @@
+pub mod IndexLemmas
+pub mod JoiningLemmas
+pub mod ReadingLemmas
 pub mod SegmentLemmas
+pub mod TableLemmas

@@ -1,3 +1,11 @@
+pub mod County
+pub mod CountyFile
+pub mod Indexing
+pub mod Joining
+pub mod LoadFault
+pub mod Loading
 pub mod Name
 pub mod Range
 pub mod Segment
+pub mod Tables
+pub mod Taking

@@ -1,7 +1,8 @@
 -- Address ranges (TIGER/Line 2006, record types 1 and 6).
 use Rattle.std.specs.Prelude.{◌≡◌, ℕ, ◌%◌, ◌^◌, ◌<◌, min, max, nat_le, Bool, false, not, ◌==◌, ◌&&◌, ◌||◌, List, length, slice_index, Option, Some}
-use Rattle.tl_fields.specs.Field.{field_of}
 use Rattle.tl_fields.specs.Number.{number_of}
+use Rattle.tl_records.specs.Layout.{field_at}
+use Rattle.tl_records.specs.declared.type1.TheConstants.Rt1.{FRADDL, TOADDL, FRADDR, TOADDR, ZIPL, ZIPR}
 use Rattle.tl_segments.specs.declared.range.Range.{Range}
 use Rattle.tl_segments.specs.declared.range.RangeFields.{RangeFields}
 use Rattle.tl_segments.specs.declared.range.TheConstants.{ADDRESS_LENGTH, ZIP_LENGTH}
@@ -40,15 +41,15 @@ fields_of range = record {
   zipr = range.zipr.now;
 }
 
--- the range that a type 1 record itself has, by the places of its layout
+-- the range that a type 1 record itself has
 abbrev pub own_range : List ℕ → RangeFields
 own_range bytes = record {
-  fraddl = field_of bytes 59 69;
-  toaddl = field_of bytes 70 80;
-  fraddr = field_of bytes 81 91;
-  toaddr = field_of bytes 92 102;
-  zipl = field_of bytes 107 111;
-  zipr = field_of bytes 112 116;
+  fraddl = field_at FRADDL bytes;
+  toaddl = field_at TOADDL bytes;
+  fraddr = field_at FRADDR bytes;
+  toaddr = field_at TOADDR bytes;
+  zipl = field_at ZIPL bytes;
+  zipr = field_at ZIPR bytes;
 }
 
 -- between two numbers, both included, whichever is greater

@@ -1,6 +1,7 @@
 -- Street segments (TIGER/Line 2006, record types 1, 4, 5 and 6).
 use Rattle.std.specs.Prelude.{ℕ, ◌≤◌, List, ◌∷◌, length, All}
-use Rattle.tl_fields.specs.Field.{field_of}
+use Rattle.tl_records.specs.Layout.{field_at}
+use Rattle.tl_records.specs.declared.type1.TheConstants.Rt1.{FENAME}
 use Rattle.tl_segments.specs.Range.{AreBytes, IsRange, own_range}
 use Rattle.tl_segments.specs.declared.name.TheConstants.{NAME_LENGTH}
 use Rattle.tl_segments.specs.declared.range.RangeFields.{RangeFields}
@@ -22,7 +23,7 @@ pub record IsSegment (segment : Contents) : Type 0 where
 
 -- the names of a segment in order, counted from 0: the record's FENAME, and then the alternate names
 abbrev pub names_of : Contents → List (List ℕ)
-names_of segment = field_of segment.bytes 20 49 ∷ segment.names
+names_of segment = field_at FENAME segment.bytes ∷ segment.names
 
 -- the ranges of a segment in order, counted from 0: the record's own, and then the further ones
 abbrev pub ranges_of : Contents → List RangeFields

@@ -3,7 +3,7 @@ ghost use Rattle.std.specs.Prelude.{◌≡◌};
 
 use crate::name::NAME_LENGTH;
 use crate::range::{ADDRESS_LENGTH, ZIP_LENGTH};
-use crate::segment::{NAME_LIMIT, RANGE_LIMIT, RECORD_LENGTH};
+use crate::segment::{LINE_LIMIT, NAME_LIMIT, RANGE_LIMIT, RECORD_LENGTH};
 
 /// The lengths of the record layouts.
 pub fn lengths()
@@ -13,8 +13,9 @@ pub fn lengths()
     ensures zip { ZIP_LENGTH ≡ 5 }
 {}
 
-/// How many alternate names and further ranges a segment has at most.
+/// How many lines of record types 4 and 6 may have one TLID, and so how many alternate names and further ranges a segment has at most.
 pub fn limits()
+    ensures lines { LINE_LIMIT ≡ 1000 }
     ensures names { NAME_LIMIT ≡ 5000 }
     ensures ranges { RANGE_LIMIT ≡ 1000 }
 {}

@@ -1,13 +1,25 @@
-//! Street segments (TIGER/Line 2006, record types 1, 4, 5 and 6): their names and address ranges.
+//! Street segments (TIGER/Line 2006, record types 1, 4, 5 and 6): their names and address ranges, and how a county's files give them.
 #![tactic(auto)]
 
+mod county;
+mod county_file;
+#[cfg(test)]
+mod county_tests;
+mod fault;
+mod feature_names;
+mod grouped;
+mod index;
 pub mod laws;
 mod name;
 mod range;
 mod segment;
+mod tables;
 #[cfg(test)]
 mod tests;
 
+pub use county::County;
+pub use fault::{CountyFile, LoadFault};
+pub use index::Index;
 pub use name::{NAME_LENGTH, name_equals};
 pub use range::{ADDRESS_LENGTH, Range, ZIP_LENGTH, lies_on};
-pub use segment::{NAME_LIMIT, RANGE_LIMIT, RECORD_LENGTH, Segment};
+pub use segment::{LINE_LIMIT, NAME_LIMIT, RANGE_LIMIT, RECORD_LENGTH, Segment};

@@ -1,10 +1,12 @@
 //! Address ranges of street segments.
-ghost use Rattle.std.specs.Prelude.{◌≡◌, length};
+ghost use Rattle.std.specs.Prelude.{◌≡◌, ◌+◌, ◌-◌, length};
+ghost use Rattle.tl_records.specs.Layout.{IsWithin, field_at};
 ghost use Rattle.tl_segments.specs.Range.{AreBytes, HasFieldLengths, IsRange, fields_of, lies_on, own_range};
 ghost use Rattle.tl_segments.specs.declared.range.RangeFields.{RangeFields};
 
 use crate::segment::RECORD_LENGTH;
 use tl_fields::{field, number};
+use tl_records::{Places, Rt1};
 
 /// How many bytes an address has, its blanks counted.
 pub const ADDRESS_LENGTH: usize = 11;
@@ -54,7 +56,8 @@ impl RangeFields {
 
     /// The fields, lent.
     pub(crate) fn as_range(&self) -> Range<'_>
-        ensures { fields_of result ≡ self.now }
+        ensures value { fields_of result ≡ self.now }
+        ensures lengths { HasFieldLengths (fields_of result) }
     {
         Range {
             fraddl: &self.fraddl,
@@ -67,7 +70,8 @@ impl RangeFields {
     }
 }
 
-fn copy_of<const N: usize>(bytes: &[u8]) -> [u8; N]
+/// The bytes, copied.
+pub(crate) fn copy_of<const N: usize>(bytes: &[u8]) -> [u8; N]
     requires { length bytes.now ≡ N }
     ensures value { result ≡ bytes.now }
     ensures bytes { AreBytes N result }
@@ -84,13 +88,22 @@ pub(crate) fn own_range(line: &[u8]) -> Range<'_>
     ensures fields { IsRange (fields_of result) }
 {
     Range {
-        fraddl: field(line, 59, 69),
-        toaddl: field(line, 70, 80),
-        fraddr: field(line, 81, 91),
-        toaddr: field(line, 92, 102),
-        zipl: field(line, 107, 111),
-        zipr: field(line, 112, 116),
+        fraddl: field_at(Rt1::FRADDL, line),
+        toaddl: field_at(Rt1::TOADDL, line),
+        fraddr: field_at(Rt1::FRADDR, line),
+        toaddr: field_at(Rt1::TOADDR, line),
+        zipl: field_at(Rt1::ZIPL, line),
+        zipr: field_at(Rt1::ZIPR, line),
     }
+}
+
+/// The field at these places of a line.
+pub(crate) fn field_at(places: Places, line: &[u8]) -> &[u8]
+    requires { IsWithin places (length line.now) }
+    ensures value { result.now ≡ field_at places line.now }
+    ensures len { length result.now ≡ places.1 + 1 - places.0 }
+{
+    field(line, places.0, places.1)
 }
 
 /// Whether a house number lies on a side of a street, by the FR and TO addresses of that side: both have a number, it lies between them

@@ -5,18 +5,21 @@ ghost use Rattle.tl_segments.specs.Segment.{IsSegment, names_of, ranges_of};
 ghost use Rattle.tl_segments.specs.declared.range.RangeFields.{RangeFields};
 
 use crate::name::NAME_LENGTH;
-use crate::range::{Range, RangeFields, own_range};
+use crate::range::{Range, RangeFields, field_at, own_range};
 use std::alloc::{AllocError, Allocator};
 use std::marker::Model;
-use tl_fields::field;
+use tl_records::Rt1;
 
 /// How many bytes a type 1 record has, its end of line not counted (TIGER/Line 2006, record type 1).
 pub const RECORD_LENGTH: usize = 228;
 
-/// How many alternate names a segment has at most: five of each of 1,000 lines of record type 4.
+/// How many lines of record type 4, and how many of record type 6, may have one TLID.
+pub const LINE_LIMIT: usize = 1000;
+
+/// How many alternate names a segment has at most: five of each line of record type 4.
 pub const NAME_LIMIT: usize = 5000;
 
-/// How many further ranges a segment has at most: one of each of 1,000 lines of record type 6.
+/// How many further ranges a segment has at most: one of each line of record type 6.
 pub const RANGE_LIMIT: usize = 1000;
 
 /// A street segment: its type 1 record, its alternate names and its further address ranges. Contracts see it as a record with the fields
@@ -104,7 +107,7 @@ impl<A: Allocator> Segment<A> {
         ensures bytes { IfSome result (λ name. AreBytes NAME_LENGTH name.now) }
     {
         let Some(further) = n.checked_sub(1) else {
-            return Some(field(&self.record, 20, 49));
+            return Some(field_at(Rt1::FENAME, &self.record));
         };
         let name = self.names.get(further as usize)?;
         Some(name)

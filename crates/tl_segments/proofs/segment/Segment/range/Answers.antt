@@ -28,4 +28,4 @@ returns-clause-value g c =
     let inside : c.in-Some.further < length segment.ranges = omega (arith, ap length ranges, found.3.0) in
     let same : fields ≡ get_or segment.ranges c.in-Some.further fields = found.1 ∙ ap (λ (xs : List RangeFields). get_or xs c.in-Some.further fields) ranges in
     let number : c.args.n ≡ c.in-Some.further + 1 = omega (arith, c.in-Some.ensures) in
-    rw c.as_range.ensures (sym (slice_get-further (own_range segment.bytes) fields segment.ranges c.args.n c.in-Some.further number inside same))
+    rw c.as_range.ensures.value (sym (slice_get-further (own_range segment.bytes) fields segment.ranges c.args.n c.in-Some.further number inside same))

@@ -1,0 +1,25 @@
+-- What one look at a reader's buffer does to the content of a line.
+use Rattle.std.specs.Prelude.{◌≡◌, ◌≢◌, ℕ, ◌+◌, ◌<◌, ◌≤◌, List, [], ◌∷◌, ◌++◌, length, Option, Some, None, OnSome}
+use Rattle.std.specs.Io.KnownBytes.{Consumes, IsAtEnd}
+use Rattle.tl_fields.specs.Content.{HasNoLineFeed}
+use Rattle.tl_fields.specs.Device.{Reader}
+use Rattle.tl_fields.specs.declared.content.Stop.{Stop}
+use Rattle.tl_fields.specs.declared.content.Stop.TheVariants.{LineFeed, EndOfInput, TooLong, ReadFailed}
+
+-- the content grows by a part without a line feed
+abbrev pub GrowsBy : List ℕ → List ℕ → List ℕ → Type 0
+GrowsBy content new_content part = (new_content ≡ content ++ part) × HasNoLineFeed part × (length new_content ≤ 230)
+
+-- The content grows by bytes that the buffer shows, and they are taken: the line goes on behind them, or it stops, and why. That the input has
+-- ended is said where its bytes are known.
+abbrev pub IsFrontRead : List ℕ → List ℕ → Reader → Reader → Option Stop → Type 0
+IsFrontRead content new_content old new None =
+    (new.failed ≡ old.failed) × (part : List ℕ) × GrowsBy content new_content part × (0 < length part) × Consumes old.left new.left part
+IsFrontRead content new_content old new (Some LineFeed) =
+    (new.failed ≡ old.failed) × (part : List ℕ) × GrowsBy content new_content part × Consumes old.left new.left (part ++ 10 ∷ [])
+IsFrontRead content new_content old new (Some EndOfInput) =
+    (new.failed ≡ old.failed) × (new_content ≡ content) × Consumes old.left new.left [] × OnSome old.left (IsAtEnd new.left)
+IsFrontRead content new_content old new (Some TooLong) =
+    (new.failed ≡ old.failed) × (part : List ℕ) × HasNoLineFeed part × (length content + length part ≡ 231) × Consumes old.left new.left part
+IsFrontRead content new_content old new (Some ReadFailed) =
+    (new.failed ≢ old.failed) × (new_content ≡ content) × Consumes old.left new.left []

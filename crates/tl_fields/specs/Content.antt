@@ -1,0 +1,28 @@
+-- The content of a line: its bytes up to a line feed, read from a reader.
+use Rattle.std.specs.Prelude.{◌≡◌, ◌≢◌, ℕ, ◌≤◌, List, [], ◌∷◌, ◌++◌, length, All, Option, Some, None, Result, Ok, Err}
+use Rattle.std.specs.Io.KnownBytes.{Consumes, IsAtEnd}
+use Rattle.tl_fields.specs.Device.{Reader}
+use Rattle.tl_fields.specs.declared.content.Stop.{Stop}
+use Rattle.tl_fields.specs.declared.content.Stop.TheVariants.{LineFeed, EndOfInput, TooLong, ReadFailed}
+
+-- no byte is the line feed, 10
+abbrev pub HasNoLineFeed : List ℕ → Type 0
+HasNoLineFeed bytes = All (λ b. b ≢ 10) bytes
+
+-- what one read of one byte does to the reader
+abbrev pub IsByteRead : {E : Type 0} → Reader → Reader → Result (Option ℕ) E → Type 0
+IsByteRead old new (Ok (Some byte)) = (new.failed ≡ old.failed) × Consumes old.left new.left (byte ∷ [])
+IsByteRead old new (Ok None) = (new.failed ≡ old.failed) × Consumes old.left new.left [] × IsAtEnd new.left
+IsByteRead old new (Err error) = (new.failed ≢ old.failed) × Consumes old.left new.left []
+
+-- What reading up to a line feed does to the reader, and why it stopped: at a line feed, which is taken but isn't of the content, at the end
+-- of the input, at the 231st byte, or at a read that failed. Where the reader's bytes are known, nothing but these was taken.
+abbrev pub IsContentRead : List ℕ → Reader → Reader → Stop → Type 0
+IsContentRead content old new LineFeed =
+    (new.failed ≡ old.failed) × HasNoLineFeed content × (length content ≤ 230) × Consumes old.left new.left (content ++ 10 ∷ [])
+IsContentRead content old new EndOfInput =
+    (new.failed ≡ old.failed) × HasNoLineFeed content × (length content ≤ 230) × Consumes old.left new.left content × IsAtEnd new.left
+IsContentRead content old new TooLong =
+    (new.failed ≡ old.failed) × (taken : List ℕ) × HasNoLineFeed taken × (length taken ≡ 231) × Consumes old.left new.left taken
+IsContentRead content old new ReadFailed =
+    (new.failed ≢ old.failed) × HasNoLineFeed content × (length content ≤ 230) × Consumes old.left new.left content

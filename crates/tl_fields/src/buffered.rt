@@ -1,0 +1,161 @@
+//! A reader over one with a buffer.
+ghost use Rattle.std.specs.Prelude.{◌≡◌, ◌∷◌, [], None, OnSome};
+ghost use Rattle.std.specs.Io.{ReadsAtMost};
+ghost use Rattle.std.specs.Io.KnownBytes.{ReadConsumes};
+ghost use Rattle.tl_fields.specs.Buffered.{IsFrontRead};
+ghost use Rattle.tl_fields.specs.Content.{IsContentRead};
+ghost use Rattle.tl_fields.specs.Counted.{AddsFailure, CountsFailure};
+
+use crate::content::{LINE_FEED, LONGEST_CONTENT, Stop};
+use crate::counted::{CountedRead, count_one};
+use arrayvec::ArrayVec;
+use memchr::memchr;
+use std::io;
+use std::io::{BufRead, Read};
+
+/// A reader over one with a buffer, which counts its failures.
+///
+/// The content of a line is searched for in the buffer, and a read of one byte goes past the copying of slices. The inner reader is called
+/// where its buffer is empty, as by reads of one byte.
+#[derive(Drop)]
+pub struct Buffered<B> {
+    reader: B,
+    failed_reads: u64,
+}
+
+impl<B: BufRead> Buffered<B> {
+    /// Takes the reader as it stands, with the count at 0.
+    pub fn new(reader: B) -> Self
+        ensures reader { result.reader ≡ reader }
+        ensures failed_reads { result.failed_reads ≡ 0 }
+    {
+        Buffered {
+            reader,
+            failed_reads: 0,
+        }
+    }
+
+    /// The inner reader. What is done through it isn't counted.
+    pub fn get_ref(&self) -> &B
+        ensures { result.now ≡ self.now.reader }
+    {
+        &self.reader
+    }
+
+    // Takes what the buffer shows of a line, and tells why the line stops there, or that it goes on.
+    #[inline]
+    fn read_front(&mut self, content: &mut ArrayVec<u8, LONGEST_CONTENT>) -> Option<Stop>
+        ensures { IsFrontRead content.old.items content.new.items
+            (record { left = B.remaining self.old.reader; failed = self.old.failed_reads })
+            (record { left = B.remaining self.new.reader; failed = self.new.failed_reads }) result }
+    {
+        let front = match self.reader.fill_buf() {
+            Ok(front) => front,
+            Err(_) => {
+                count_one(&mut self.failed_reads);
+                return Some(Stop::ReadFailed);
+            }
+        };
+        let room = LONGEST_CONTENT - content.len();
+        let shown = &front[..front.len().min(room + 1)];
+        let Some(length) = memchr(LINE_FEED, shown) else {
+            if shown.is_empty() {
+                return Some(Stop::EndOfInput);
+            }
+            let count = shown.len();
+            if count > room {
+                self.reader.consume(count);
+                return Some(Stop::TooLong);
+            }
+            content.try_extend_from_slice(shown).unwrap();
+            self.reader.consume(count);
+            return None;
+        };
+        content.try_extend_from_slice(&shown[..length]).unwrap();
+        self.reader.consume(length + 1);
+        Some(Stop::LineFeed)
+    }
+
+    #[inline]
+    fn read_byte(&mut self, byte: &mut u8) -> io::Result<usize>
+        ensures bound { ReadsAtMost result (byte.new ∷ []) }
+        ensures bytes { OnSome (B.remaining self.old.reader)
+            (ReadConsumes (B.remaining self.old.reader) (B.remaining self.new.reader) result (byte.new ∷ [])) }
+        ensures failures { AddsFailure result self.old.failed_reads self.new.failed_reads }
+    {
+        let front = match self.reader.fill_buf() {
+            Ok(front) => front,
+            Err(error) => {
+                count_one(&mut self.failed_reads);
+                return Err(error);
+            }
+        };
+        let Some(first) = front.first().copied() else {
+            return Ok(0);
+        };
+        self.reader.consume(1);
+        *byte = first;
+        Ok(1)
+    }
+
+    #[cold]
+    fn read_slice(&mut self, buf: &mut [u8]) -> io::Result<usize>
+        ensures bound { ReadsAtMost result buf.new }
+        ensures bytes { ReadConsumes (B.remaining self.old.reader) (B.remaining self.new.reader) result buf.new }
+        ensures failures { AddsFailure result self.old.failed_reads self.new.failed_reads }
+    {
+        let result = self.reader.read(buf);
+        if result.is_err() {
+            count_one(&mut self.failed_reads);
+        }
+        result
+    }
+}
+
+impl<B: BufRead> Read for Buffered<B> {
+    #[inline]
+    fn read(&mut self, buf: &mut [u8]) -> io::Result<usize>
+        ensures bound { ReadsAtMost result buf.new }
+        ensures taken { OnSome (B.remaining self.old.reader)
+            (ReadConsumes (B.remaining self.old.reader) (B.remaining self.new.reader) result buf.new) }
+        ensures failures { AddsFailure result self.old.failed_reads self.new.failed_reads }
+    {
+        match buf {
+            [byte] => self.read_byte(byte),
+            _ => self.read_slice(buf),
+        }
+    }
+}
+
+impl<B: BufRead> CountedRead for Buffered<B> {
+    ghost failed_reads = { λ r. r.failed_reads };
+
+    #[inline]
+    fn read_counted(&mut self, buf: &mut [u8]) -> io::Result<usize>
+        ensures bound { ReadsAtMost result buf.new }
+        ensures taken { OnSome (B.remaining self.old.reader)
+            (ReadConsumes (B.remaining self.old.reader) (B.remaining self.new.reader) result buf.new) }
+        ensures failures { CountsFailure result self.old.failed_reads self.new.failed_reads }
+        ensures failed_reads { AddsFailure result self.old.failed_reads self.new.failed_reads }
+    {
+        self.read(buf)
+    }
+
+    #[inline]
+    fn read_content(&mut self, content: &mut ArrayVec<u8, LONGEST_CONTENT>) -> Stop
+        ensures content { IsContentRead content.new.items
+            (record { left = None; failed = self.old.failed_reads })
+            (record { left = None; failed = self.new.failed_reads }) result }
+        // The same where the bytes of the reader with the buffer are known.
+        ensures known { OnSome (B.remaining self.old.reader) (IsContentRead content.new.items
+            (record { left = B.remaining self.old.reader; failed = self.old.failed_reads })
+            (record { left = B.remaining self.new.reader; failed = self.new.failed_reads }) result) }
+    {
+        content.clear();
+        loop {
+            if let Some(stop) = self.read_front(content) {
+                return stop;
+            }
+        }
+    }
+}

@@ -1,0 +1,11 @@
+use Rattle.std.proofs.Common.{◌≡◌, arith, ap}
+use Rattle.tl_records.proofs.ReadLemmas.{line_by_lf}
+use Rattle.tl_records.specs.Lines.{LineParts}
+use Rattle.tl_records.proofs.lines.read_line.Goals as goal
+
+pub returns-in-LineFeed : goal.returns-in-LineFeed
+returns-in-LineFeed g c =
+    let content = c.read_content.new.content.items in
+    let read = c.in-LineFeed.ensures in
+    let number : c.line.inside.number ≡ c.args.line.now.number = ap (λ (line : LineParts). line.number) c.line.view_is in
+    (read.0, omega arith, omega arith, line_by_lf _ _ content _ read.1 read.2 read.3 c.take_off_return.ensures)

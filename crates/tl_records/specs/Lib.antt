@@ -1,0 +1,4 @@
+pub mod Layout
+pub mod LineFlaw
+pub mod Lines
+pub mod Records

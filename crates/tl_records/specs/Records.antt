@@ -1,0 +1,38 @@
+-- Records: lines that are good for their record type (TIGER/Line 2006, record types 1, 4, 5 and 6), and the flaws of those that aren't.
+use Rattle.std.specs.Prelude.{◌≡◌, ℕ, ◌^◌, ◌<◌, ◌==◌, if◌then◌else◌, List, length, slice_index, Option, Some, None, is_some}
+use Rattle.tl_fields.specs.Number.{number_of}
+use Rattle.tl_records.specs.Layout.{field_at}
+use Rattle.tl_records.specs.Lines.{LineParts}
+use Rattle.tl_records.specs.declared.fault.LineFault.{LineFault}
+use Rattle.tl_records.specs.declared.fault.LineFlaw.{LineFlaw}
+use Rattle.tl_records.specs.declared.fault.LineFlaw.TheVariants.{WrongLength, WrongType}
+use Rattle.tl_records.specs.declared.layout.Layout.{Layout}
+
+-- the first flaw of a line of this record type, if it has one: it hasn't the length, it begins with another byte than the tag, or the field
+-- that has a number in such lines has none
+abbrev pub line_flaw : Layout → List ℕ → Option LineFlaw
+line_flaw layout line =
+    if length line == layout.length
+    then (if slice_index line 0 == layout.tag
+    then (if is_some (number_of (field_at layout.number line)) then None else Some layout.without_number)
+    else Some WrongType)
+    else Some WrongLength
+
+-- a record of this type: bytes without a flaw
+pub record IsGoodLine (layout : Layout) (line : List ℕ) : Type 0 where
+  pub no_flaw : line_flaw layout line ≡ None
+  pub are_bytes : (i : ℕ) → slice_index line i < 2 ^ 8
+
+-- this is the fault of a line with a flaw, by the line's number
+abbrev pub IsLineFault : Layout → LineParts → LineFault → Type 0
+IsLineFault layout line fault = (fault.line ≡ line.number) × (line_flaw layout line.bytes ≡ Some fault.flaw)
+
+-- what a record consists of: the bytes of its line, without the end
+pub record RecordParts : Type 0 where
+  pub bytes : List ℕ
+
+-- a record of this type, in which the field that has a number has this one
+pub record IsRecord (layout : Layout) (line : List ℕ) (number : ℕ) : Type 0 where
+  pub good : IsGoodLine layout line
+  pub len : length line ≡ layout.length
+  pub numbered : number_of (field_at layout.number line) ≡ Some number

@@ -1,0 +1,135 @@
+//! The lines of a file of records.
+ghost use Rattle.std.specs.Prelude.{◌≡◌, ◌-◌, ◌^◌, []};
+ghost use Rattle.tl_fields.specs.Device.{reader};
+ghost use Rattle.tl_records.specs.Lines.{IsLineRead, IsWithoutReturn};
+
+#[cfg(test)]
+mod tests;
+
+use crate::fault::{LineFault, LineFlaw};
+use arrayvec::ArrayVec;
+use std::marker::Model;
+use tl_fields::{CountedRead, LONGEST_CONTENT, Stop};
+
+const CARRIAGE_RETURN: u8 = b'\r';
+
+// The number of the first line that has no number in 32 bits.
+const LINE_TOO_MANY: u64 = 4_294_967_296;
+
+/// A line without its end, of at most 230 bytes, and its number, counted from 1; 0 before the first line.
+#[derive(Drop)]
+pub struct Line {
+    content: ArrayVec<u8, LONGEST_CONTENT>,
+    number: u32,
+}
+
+impl Model for Line {
+    ghost use Rattle.tl_records.specs.Lines.{LineParts};
+
+    ghost Value = { LineParts };
+
+    ghost view = { λ line. record { number = line.number; bytes = line.content.items } };
+}
+
+impl Line {
+    /// No line yet: no bytes, and the number 0.
+    pub fn new() -> Self
+        ensures { result ≡ record { number = 0; bytes = [] } }
+    {
+        Line {
+            content: ArrayVec::new(),
+            number: 0,
+        }
+    }
+
+    /// The bytes of the line, without its end.
+    #[inline]
+    pub fn bytes(&self) -> &[u8]
+        ensures { result.now ≡ self.now.bytes }
+    {
+        self.content.as_slice()
+    }
+
+    /// The number of the line, counted from 1.
+    #[inline]
+    pub fn number(&self) -> u32
+        ensures { result ≡ self.now.number }
+    {
+        self.number
+    }
+}
+
+/// Reads the next line, without its end, as if one byte a read.
+///
+/// A line ends with CR LF or with LF, and the last one may lack its end. No read is tried again. After
+/// `None`, which is the end of the input, and after a fault the line is empty with the number that it
+/// had, and the input stands where the reading stopped. A line of more than 230 bytes is left after
+/// its 231st byte.
+pub fn read_line<R: CountedRead>(input: &mut R, line: &mut Line) -> Result<Option<()>, LineFault>
+    ensures { IsLineRead line.old line.new
+        (reader R.remaining R.failed_reads input.old) (reader R.remaining R.failed_reads input.new) result }
+{
+    if line.number == u32::MAX {
+        line.content.clear();
+        return expect_end(input);
+    }
+    let next = line.number + 1;
+    match input.read_content(&mut line.content) {
+        Stop::LineFeed => {
+            take_off_return(&mut line.content);
+            line.number = next;
+            Ok(Some(()))
+        }
+        Stop::EndOfInput => {
+            if line.content.is_empty() {
+                return Ok(None);
+            }
+            line.number = next;
+            Ok(Some(()))
+        }
+        Stop::TooLong => {
+            line.content.clear();
+            Err(LineFault {
+                line: u64::from(next),
+                flaw: LineFlaw::WrongLength,
+            })
+        }
+        Stop::ReadFailed => {
+            line.content.clear();
+            Err(LineFault {
+                line: u64::from(next),
+                flaw: LineFlaw::Read,
+            })
+        }
+    }
+}
+
+// After the last line that has a number: the input has to end there.
+#[cold]
+fn expect_end<R: CountedRead>(input: &mut R) -> Result<Option<()>, LineFault>
+    ensures { IsLineRead (record { number = 2 ^ 32 - 1; bytes = [] }) (record { number = 2 ^ 32 - 1; bytes = [] })
+        (reader R.remaining R.failed_reads input.old) (reader R.remaining R.failed_reads input.new) result }
+{
+    let line = LINE_TOO_MANY;
+    match input.read_counted(&mut [0]) {
+        Ok(0) => Ok(None),
+        Ok(_) => Err(LineFault {
+            line,
+            flaw: LineFlaw::TooManyLines,
+        }),
+        Err(_) => Err(LineFault {
+            line,
+            flaw: LineFlaw::Read,
+        }),
+    }
+}
+
+// Takes off the CR that stands before an LF.
+#[inline]
+fn take_off_return(content: &mut ArrayVec<u8, LONGEST_CONTENT>)
+    ensures { IsWithoutReturn content.old.items content.new.items }
+{
+    if let [.., CARRIAGE_RETURN] = content.as_slice() {
+        content.pop();
+    }
+}

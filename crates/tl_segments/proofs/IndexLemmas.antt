@@ -1,0 +1,61 @@
+-- What an index has of a TLID is what its lines have.
+use Rattle.std.proofs.Common.{◌≡◌, ℕ, List, [], ◌∷◌, ◌++◌, map, All, Option, Some, None, IsSome, refl, sym, ap, ◌∙◌, arith}
+use Rattle.std.specs.List.{filter_map, flat_map, cons_option}
+use Rattle.std.specs.Option.{option_and_then, option_map_or}
+use Rattle.std.proofs.lemmas.Bool.Decides.{nat_tests}
+use Rattle.std.proofs.lemmas.List.Elements.{filter_map-append, All-nil, All-cons, All-head, All-tail}
+use Rattle.tl_fields.specs.Number.{number_of}
+use Rattle.tl_records.specs.Layout.{field_at}
+use Rattle.tl_records.specs.Records.{IsGoodLine, line_flaw}
+use Rattle.tl_records.specs.declared.layout.Layout.{Layout}
+use Rattle.tl_records.specs.declared.layout.Places.{Places}
+use Rattle.tl_records.specs.declared.type1.TheConstants.Rt1.{TLID}
+use Rattle.tl_records.specs.declared.type4.TheConstants.Rt4.{FEAT1, FEAT2, FEAT3, FEAT4, FEAT5}
+use Rattle.tl_segments.specs.County.{HasTlids}
+use Rattle.tl_segments.specs.CountyFile.{layout}
+use Rattle.tl_segments.specs.Indexing.{IsIndexOf, names_in}
+use Rattle.tl_segments.specs.Joining.{JoinedLines, number_in, lines_with, features_of, feature_name, alternate_names, further_ranges, segment_of, segments_of}
+use Rattle.tl_segments.specs.Segment.{Contents}
+use Rattle.tl_segments.specs.Tables.{feature_numbers, list_at, name_at, names_among}
+use Rattle.tl_segments.specs.declared.fault.CountyFile.TheVariants.{Rt1, Rt4}
+use Rattle.tl_segments.specs.declared.feature_names.FeatureNames.{FeatureNames}
+use Rattle.tl_segments.specs.declared.index.Index.{Index}
+
+module _ {P Y : Type 0} (name other : ℕ → Option Y) (same : (feat : ℕ) → name feat ≡ other feat) (number : P → Option ℕ) where
+  named_by : (found : Option ℕ) (names : List Y) (feats : List ℕ) → names ≡ filter_map other feats → cons_option (option_and_then name found) names ≡ filter_map other (cons_option found feats)
+  named_by None names feats e = e
+  named_by (Some feat) names feats e = ap (λ found. cons_option found names) (same feat) ∙ ap (λ names. cons_option (other feat) names) e
+
+  -- to look for the names of numbers, where there are any, is to look for those of the numbers that there are
+  named : (fields : List P) → filter_map (option_and_then name) (map number fields) ≡ filter_map other (filter_map number fields)
+  named [] = refl
+  named (field ∷ fields) = named_by (number field) (filter_map (option_and_then name) (map number fields)) (filter_map number fields) (named fields)
+
+names_of_lines : {A : Type 0} (table : FeatureNames A) (rt5 lines : List (List ℕ)) → ((feat : ℕ) → name_at table feat ≡ feature_name rt5 feat) → flat_map (names_among table) (map feature_numbers lines) ≡ filter_map (feature_name rt5) (flat_map features_of lines)
+names_of_lines table rt5 [] same = refl
+names_of_lines table rt5 (line ∷ lines) same =
+    ap (λ names. names ++ flat_map (names_among table) (map feature_numbers lines)) (named (name_at table) (feature_name rt5) same (λ (feat : Places). number_of (field_at feat line)) (FEAT1 ∷ FEAT2 ∷ FEAT3 ∷ FEAT4 ∷ FEAT5 ∷ []))
+    ∙ ap (λ names. filter_map (feature_name rt5) (features_of line) ++ names) (names_of_lines table rt5 lines same)
+    ∙ sym (filter_map-append (feature_name rt5) (features_of line) (flat_map features_of lines))
+
+names_of_tlid : {A : Type 0} (index : Index A) (lines : JoinedLines) (tlid : ℕ) → IsIndexOf index lines → names_in index tlid ≡ alternate_names lines tlid
+names_of_tlid index lines tlid of_lines =
+    ap (λ list. flat_map (names_among index.names) list) (of_lines.features tlid) ∙ names_of_lines index.names lines.rt5 (lines_with Rt4 tlid lines.rt4) of_lines.names
+
+-- a segment with what the index has of its TLID
+pub segment_from_index : {A : Type 0} (index : Index A) (lines : JoinedLines) (line : List ℕ) (tlid : ℕ) (segment : Contents) → IsIndexOf index lines → number_in Rt1 line ≡ Some tlid → segment ≡ record { bytes = line; names = names_in index tlid; ranges = list_at index.ranges tlid } → segment ≡ segment_of lines line
+segment_from_index index lines line tlid segment of_lines is made =
+    made
+    ∙ ap (λ names. record { bytes = line; names = names; ranges = list_at index.ranges tlid }) (names_of_tlid index lines tlid of_lines)
+    ∙ ap (λ ranges. record { bytes = line; names = alternate_names lines tlid; ranges = ranges }) (of_lines.ranges tlid)
+    ∙ ap (λ found. record { bytes = line; names = option_map_or (alternate_names lines) found []; ranges = option_map_or (further_ranges lines) found [] }) (sym is)
+
+-- the field that has a number in each line of this type has one in a good line
+has_number_good : (row : Layout) (line : List ℕ) → line_flaw row line ≡ None → IsSome (number_of (field_at row.number line))
+has_number_good row line none = grind (arith, nat_tests, none)
+
+-- the segments of good lines have numbers for TLIDs
+pub tlids_of_good : (joined : JoinedLines) (lines : List (List ℕ)) → All (IsGoodLine (layout Rt1)) lines → HasTlids (segments_of joined lines)
+tlids_of_good joined [] good = All-nil (λ (segment : Contents). IsSome (number_of (field_at TLID segment.bytes)))
+tlids_of_good joined (line ∷ lines) good =
+    All-cons (λ (segment : Contents). IsSome (number_of (field_at TLID segment.bytes))) (segment_of joined line) (segments_of joined lines) (has_number_good (layout Rt1) line (All-head (IsGoodLine (layout Rt1)) line lines good).no_flaw) (tlids_of_good joined lines (All-tail (IsGoodLine (layout Rt1)) line lines good))

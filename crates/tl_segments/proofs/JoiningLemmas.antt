@@ -1,0 +1,77 @@
+-- Lines joined by their numbers: what one line more adds.
+use Rattle.std.proofs.Common.{◌≡◌, ℕ, ◌+◌, ◌<◌, ◌≤◌, nat_eq, Bool, true, false, cond, if◌then◌else◌, List, [], ◌∷◌, ◌++◌, length, map, Option, Some, None, unwrap_or, option_map, refl, sym, ap, ◌∙◌, length-append, arith}
+use Rattle.std.specs.List.{find}
+use Rattle.std.specs.Option.{option_or, option_eq}
+use Rattle.std.proofs.lemmas.Bool.{eq-eqb}
+use Rattle.std.proofs.lemmas.Bool.Decides.{nat_tests}
+use Rattle.std.proofs.lemmas.List.{map-append, append-nil, length-map}
+use Rattle.std.proofs.lemmas.List.Elements.{filter-append}
+use Rattle.std.proofs.lemmas.List.Folds.{find-append}
+use Rattle.tl_records.specs.Layout.{field_at}
+use Rattle.tl_records.specs.declared.type5.TheConstants.Rt5.{FENAME}
+use Rattle.tl_segments.specs.Joining.{number_in, has_number, lines_with, feature_name, FewHaveEach}
+use Rattle.tl_segments.specs.Tables.{AddsAt, AddsNameAt, KeepsNames, list_at, name_at}
+use Rattle.tl_segments.specs.declared.fault.CountyFile.{CountyFile}
+use Rattle.tl_segments.specs.declared.fault.CountyFile.TheVariants.{Rt5}
+use Rattle.tl_segments.specs.declared.feature_names.FeatureNames.{FeatureNames}
+use Rattle.tl_segments.specs.declared.grouped.Grouped.{Grouped}
+use Rattle.tl_segments.specs.declared.segment.TheConstants.{LINE_LIMIT}
+
+-- whether a line has a number, by the number that it has
+has_number_by : (file : CountyFile) (line : List ℕ) (number q : ℕ) → number_in file line ≡ Some number → has_number file q line ≡ nat_eq number q
+has_number_by file line number q is = ap (λ found. option_eq nat_eq found (Some q)) is
+
+-- the lines with a number, where one line more has this number
+pub lines_with-push : (file : CountyFile) (lines : List (List ℕ)) (line : List ℕ) (number q : ℕ) → number_in file line ≡ Some number → lines_with file q (lines ++ line ∷ []) ≡ lines_with file q lines ++ cond (nat_eq number q) (line ∷ []) []
+lines_with-push file lines line number q is =
+    filter-append (has_number file q) lines (line ∷ []) ∙ ap (λ b. lines_with file q lines ++ cond b (line ∷ []) []) (has_number_by file line number q is)
+
+keeps_by : {V : Type 0} (f : List ℕ → V) (found : List (List ℕ)) (line : List ℕ) (list : List V) (has : Bool) → list ≡ map f found → (if has then list ++ f line ∷ [] else list) ≡ map f (found ++ cond has (line ∷ []) [])
+keeps_by f found line list true e = ap (λ s. s ++ f line ∷ []) e ∙ sym (map-append f found (line ∷ []))
+keeps_by f found line list false e = e ∙ ap (λ s. map f s) (sym (append-nil found))
+
+-- a table of lists that keeps lines keeps one line more
+pub keeps-push : {V A : Type 0} (file : CountyFile) (f : List ℕ → V) (old new : Grouped V A) (lines : List (List ℕ)) (line : List ℕ) (number : ℕ) → number_in file line ≡ Some number → ((q : ℕ) → list_at old q ≡ map f (lines_with file q lines)) → AddsAt old new number (f line) → (q : ℕ) → list_at new q ≡ map f (lines_with file q (lines ++ line ∷ []))
+keeps-push file f old new lines line number is keeps adds q =
+    adds.lists q ∙ keeps_by f (lines_with file q lines) line (list_at old q) (nat_eq number q) (keeps q) ∙ ap (λ s. map f s) (sym (lines_with-push file lines line number q is))
+
+length_by : (found : List (List ℕ)) (line : List ℕ) (has : Bool) → length (found ++ cond has (line ∷ []) []) ≡ length found + cond has 1 0
+length_by found line true = length-append found (line ∷ [])
+length_by found line false = length-append found []
+
+-- how many lines have a number, with one line more
+length_with-push : (file : CountyFile) (lines : List (List ℕ)) (line : List ℕ) (number q : ℕ) → number_in file line ≡ Some number → length (lines_with file q (lines ++ line ∷ [])) ≡ length (lines_with file q lines) + cond (nat_eq number q) 1 0
+length_with-push file lines line number q is =
+    ap length (lines_with-push file lines line number q is) ∙ length_by (lines_with file q lines) line (nat_eq number q)
+
+few_by : (count : ℕ → ℕ) (number q limit : ℕ) → count q ≤ limit → count number < limit → count q + cond (nat_eq number q) 1 0 ≤ limit
+few_by count number q limit few room = grind (arith, nat_tests)
+
+-- lines within the limit stay within it, where the number of one line more had room
+pub few-push : (file : CountyFile) (lines : List (List ℕ)) (line : List ℕ) (number : ℕ) → number_in file line ≡ Some number → FewHaveEach file lines → length (lines_with file number lines) < LINE_LIMIT → FewHaveEach file (lines ++ line ∷ [])
+few-push file lines line number is few room q =
+    rw (length_with-push file lines line number q is) (few_by (λ n. length (lines_with file n lines)) number q LINE_LIMIT (few q) room)
+
+-- and are beyond it where it had none
+pub not_few-push : (file : CountyFile) (lines : List (List ℕ)) (line : List ℕ) (number : ℕ) → number_in file line ≡ Some number → LINE_LIMIT ≤ length (lines_with file number lines) → ¬ FewHaveEach file (lines ++ line ∷ [])
+not_few-push file lines line number is full few =
+    let more : length (lines_with file number (lines ++ line ∷ [])) ≡ length (lines_with file number lines) + 1 = length_with-push file lines line number number is ∙ ap (λ b. length (lines_with file number lines) + cond b 1 0) (eq-eqb number number refl) in
+    let most = few number in
+    omega arith
+
+name_by : (field : List ℕ → List ℕ) (before : Option (List ℕ)) (line : List ℕ) (has : Bool) → option_map field (option_or before (cond has (Some line) None)) ≡ (if has then Some (unwrap_or (option_map field before) (field line)) else option_map field before)
+name_by field None line true = refl
+name_by field None line false = refl
+name_by field (Some before) line true = refl
+name_by field (Some before) line false = refl
+
+-- a table of names that keeps lines of type 5 keeps one line more
+pub names-push : {A : Type 0} (old new : FeatureNames A) (lines : List (List ℕ)) (line : List ℕ) (feat : ℕ) → number_in Rt5 line ≡ Some feat → KeepsNames old lines → AddsNameAt old new feat (field_at FENAME line) → KeepsNames new (lines ++ line ∷ [])
+names-push old new lines line feat is keeps adds q =
+    let added : name_at new q ≡ (if nat_eq feat q then Some (unwrap_or (feature_name lines q) (field_at FENAME line)) else feature_name lines q) = adds q ∙ ap (λ name. if nat_eq feat q then Some (unwrap_or name (field_at FENAME line)) else name) (keeps q) in
+    let found : find (has_number Rt5 q) (lines ++ line ∷ []) ≡ option_or (find (has_number Rt5 q) lines) (cond (nat_eq feat q) (Some line) None) = find-append (has_number Rt5 q) lines (line ∷ []) ∙ ap (λ b. option_or (find (has_number Rt5 q) lines) (cond b (Some line) None)) (has_number_by Rt5 line feat q is) in
+    added ∙ sym (name_by (field_at FENAME) (find (has_number Rt5 q) lines) line (nat_eq feat q)) ∙ ap (λ line. option_map (field_at FENAME) line) (sym found)
+
+-- a list that is full is that of as many lines
+pub keeps-full : {V A : Type 0} (file : CountyFile) (f : List ℕ → V) (table : Grouped V A) (lines : List (List ℕ)) (number : ℕ) → list_at table number ≡ map f (lines_with file number lines) → LINE_LIMIT ≤ length (list_at table number) → LINE_LIMIT ≤ length (lines_with file number lines)
+keeps-full file f table lines number keeps full = omega (arith, ap length keeps, length-map (lines_with file number lines) f)

@@ -1,0 +1,240 @@
+-- Reading a county's file line by line, where the reader's bytes are known and where they aren't.
+use Rattle.std.proofs.Common.{◌≡◌, ◌≢◌, ℕ, ◌+◌, ◌<◌, ◌≤◌, ◌^◌, List, [], ◌∷◌, ◌++◌, length, Option, Some, None, IfSome, Ok, Err, refl, sym, ap, ◌∙◌, subst, length-append, arith}
+use Rattle.std.proofs.lemmas.Bool.Decides.{nat_tests}
+use Rattle.std.proofs.lemmas.List.Elements.{All-nil, All-head, All-tail, All-push}
+use Rattle.tl_fields.specs.Content.{HasNoLineFeed}
+use Rattle.tl_fields.specs.Device.{Reader}
+use Rattle.tl_records.specs.Lines.{LineParts, IsEnded, by_lf, by_cr_lf, missing, IsFirstLine, AreFirstLines, AreLines, WhereKnown, IsNextLine, BeginsTooLong, FailsWithin, most_bytes, HasOneMore, IsLineRead, IsUnreadLine}
+use Rattle.tl_records.specs.Records.{IsGoodLine, IsLineFault, line_flaw}
+use Rattle.tl_records.specs.declared.fault.LineFault.{LineFault}
+use Rattle.tl_records.specs.declared.fault.LineFlaw.{LineFlaw}
+use Rattle.tl_records.specs.declared.fault.LineFlaw.TheVariants.{WrongLength, WrongType, BadTlid, BadFeature, Read, TooManyLines}
+use Rattle.tl_records.specs.declared.layout.Layout.{Layout}
+use Rattle.tl_records.proofs.LineLemmas.{cr_lf, has_first_line}
+use Rattle.tl_segments.specs.CountyFile.{layout}
+use Rattle.tl_segments.specs.Joining.{IsWithinLimits}
+use Rattle.tl_segments.specs.Loading.{AreGoodLines, ReadsFile, BeginsWith, HasMoreAfter, HasFlawAfter, ComesAfter, IsFirstFault, IsOneTooMany, IsFileFault}
+use Rattle.tl_segments.specs.Taking.{IsBeyond, IsNextOf, IsTaken}
+use Rattle.tl_segments.specs.declared.fault.CountyFile.{CountyFile}
+use Rattle.tl_segments.specs.declared.fault.CountyFile.TheVariants.{Rt1, Rt4, Rt5, Rt6}
+use Rattle.tl_segments.specs.declared.fault.LoadFault.{LoadFault}
+use Rattle.tl_segments.specs.declared.fault.LoadFault.TheVariants.{Line, TooManyNames, TooManyRanges, Memory}
+
+-- what two calls say of known bytes, one after the other, says this of those before both
+pub known_then : (bytes now left : Option (List ℕ)) (P Q : List ℕ → List ℕ → Type 0) (R : List ℕ → Type 0) → ((file mid rest : List ℕ) → P file mid → Q mid rest → R file) → WhereKnown bytes now P → WhereKnown now left Q → IfSome bytes R
+known_then None now left P Q R f p q = tt
+known_then (Some file) None left P Q R f p q = absurd p
+known_then (Some file) (Some mid) None P Q R f p q = absurd q
+known_then (Some file) (Some mid) (Some rest) P Q R f p q = f file mid rest p q
+
+-- what two calls say of known bytes, one after the other, says this of both together
+pub known_both : (bytes now left : Option (List ℕ)) (P Q R : List ℕ → List ℕ → Type 0) → ((file mid rest : List ℕ) → P file mid → Q mid rest → R file rest) → WhereKnown bytes now P → WhereKnown now left Q → WhereKnown bytes left R
+known_both None now left P Q R f p q = tt
+known_both (Some file) None left P Q R f p q = absurd p
+known_both (Some file) (Some mid) None P Q R f p q = absurd q
+known_both (Some file) (Some mid) (Some rest) P Q R f p q = f file mid rest p q
+
+-- one first line more
+pub AreFirstLines-push : (lines : List (List ℕ)) (file mid line rest : List ℕ) → AreFirstLines file lines mid → IsFirstLine mid line rest → AreFirstLines file (lines ++ line ∷ []) rest
+AreFirstLines-push [] file mid line rest a first = (rest, subst (λ file. IsFirstLine file line rest) (sym a) first, refl)
+AreFirstLines-push (l ∷ lines) file mid line rest a first =
+    (a.0, a.1, AreFirstLines-push lines a.0 mid line rest a.2 first)
+
+-- bytes without a line feed end before the first one
+no_feed-short : (taken rest front after : List ℕ) → HasNoLineFeed taken → taken ++ rest ≡ front ++ 10 ∷ after → length taken ≤ length front
+no_feed-short [] rest front after p e = omega arith
+no_feed-short (b ∷ taken) rest [] after p e = absurd (All-head (λ b. b ≢ 10) b taken p (cc))
+no_feed-short (b ∷ taken) rest (c ∷ front) after p e =
+    let shorter = no_feed-short taken rest front after (All-tail (λ b. b ≢ 10) b taken p) (cc) in omega arith
+
+long_line : (file line rest taken after : List ℕ) → HasNoLineFeed taken → file ≡ taken ++ after → length taken ≡ 231 → IsEnded file line rest → 230 ≤ length line
+long_line file line rest taken after p e long (by_lf f n) =
+    let fits = no_feed-short taken after line rest p (sym e ∙ f) in omega arith
+long_line file line rest taken after p e long (by_cr_lf f) =
+    let cut = no_feed-short taken after (line ++ 13 ∷ []) rest p (sym e ∙ f ∙ cr_lf line rest) in
+    omega (arith, length-append line (13 ∷ []))
+long_line file line rest taken after p e long (missing f g n) =
+    omega (arith, length-append taken after, ap length (sym f ∙ e))
+
+-- each record type's lines are shorter than the longest content
+layout_short : (file : CountyFile) → (layout file).length < 230
+layout_short Rt1 = omega arith
+layout_short Rt4 = omega arith
+layout_short Rt5 = omega arith
+layout_short Rt6 = omega arith
+
+wrong_length_of : (row : Layout) (line : List ℕ) → row.length < 230 → 230 ≤ length line → line_flaw row line ≡ Some WrongLength
+wrong_length_of row line short long = grind (arith, nat_tests)
+
+pub wrong_length : (file : CountyFile) (line : List ℕ) → 230 ≤ length line → line_flaw (layout file) line ≡ Some WrongLength
+wrong_length file line long = wrong_length_of (layout file) line (layout_short file) long
+
+not_flaw_of : (row : Layout) (line : List ℕ) (flaw : LineFlaw) → flaw ≢ WrongLength → flaw ≢ WrongType → flaw ≢ row.without_number → line_flaw row line ≡ Some flaw → ⊥
+not_flaw_of row line flaw a b c e = grind (arith, nat_tests, e)
+
+not_read : (file : CountyFile) (line : List ℕ) → line_flaw (layout file) line ≡ Some Read → ⊥
+not_read Rt1 line e = not_flaw_of (layout Rt1) line Read (λ e. cc) (λ e. cc) (λ e. cc) e
+not_read Rt4 line e = not_flaw_of (layout Rt4) line Read (λ e. cc) (λ e. cc) (λ e. cc) e
+not_read Rt5 line e = not_flaw_of (layout Rt5) line Read (λ e. cc) (λ e. cc) (λ e. cc) e
+not_read Rt6 line e = not_flaw_of (layout Rt6) line Read (λ e. cc) (λ e. cc) (λ e. cc) e
+
+not_too_many : (file : CountyFile) (line : List ℕ) → line_flaw (layout file) line ≡ Some TooManyLines → ⊥
+not_too_many Rt1 line e = not_flaw_of (layout Rt1) line TooManyLines (λ e. cc) (λ e. cc) (λ e. cc) e
+not_too_many Rt4 line e = not_flaw_of (layout Rt4) line TooManyLines (λ e. cc) (λ e. cc) (λ e. cc) e
+not_too_many Rt5 line e = not_flaw_of (layout Rt5) line TooManyLines (λ e. cc) (λ e. cc) (λ e. cc) e
+not_too_many Rt6 line e = not_flaw_of (layout Rt6) line TooManyLines (λ e. cc) (λ e. cc) (λ e. cc) e
+
+not_empty : (file taken rest : List ℕ) → file ≡ taken ++ rest → length taken ≡ 231 → file ≢ []
+not_empty file taken rest e long none = omega (arith, length-append taken rest, ap length (sym none ∙ e))
+
+-- a file that begins with 231 bytes without a line feed has a first line that is too long for its type
+pub too_long_after : (file : CountyFile) (bytes mid rest : List ℕ) (lines : List (List ℕ)) → AreFirstLines bytes lines mid → BeginsTooLong mid rest → HasFlawAfter file WrongLength bytes lines
+too_long_after file bytes mid rest lines before (taken, e, p, long) =
+    let first = has_first_line mid (not_empty mid taken rest e long) in
+    record {
+      after = mid;
+      line = first.line;
+      rest = first.rest;
+      before = before;
+      first = first.first;
+      flawed = wrong_length file first.line (long_line mid first.line first.rest taken rest p e long first.first.ended);
+    }
+
+one_more_not_empty : (file rest : List ℕ) → HasOneMore file rest → file ≢ []
+one_more_not_empty file rest (byte, e) none = cc
+
+-- the lines that were read so far, all good and within the limits
+pub record IsReadSoFar (file : CountyFile) (lines : List (List ℕ)) (line : LineParts) (old new : Reader) : Type 0 where
+  pub good : AreGoodLines file lines
+  pub counted : line.number ≡ length lines
+  pub small : line.number < 2 ^ 32
+  pub unfailed : new.failed ≡ old.failed
+  pub known : WhereKnown old.left new.left (λ bytes rest. AreFirstLines bytes lines rest)
+
+-- the same of lines that are kept
+pub record KeepsSoFar (file : CountyFile) (keeps : List (List ℕ) → Type 0) (line : LineParts) (old new : Reader) : Type 0 where
+  pub lines : List (List ℕ)
+  pub kept : keeps lines
+  pub read : IsReadSoFar file lines line old new
+
+known_start : (bytes : Option (List ℕ)) → WhereKnown bytes bytes (λ bytes rest. AreFirstLines bytes [] rest)
+known_start None = tt
+known_start (Some file) = refl
+
+-- no lines are within the limits
+none_beyond : (file : CountyFile) → IsWithinLimits file []
+none_beyond Rt1 = tt
+none_beyond Rt4 = λ number. omega arith
+none_beyond Rt5 = tt
+none_beyond Rt6 = λ number. omega arith
+
+pub none_read : (file : CountyFile) (line : LineParts) (input : Reader) → line.number ≡ 0 → IsReadSoFar file [] line input input
+none_read file line input zeroth = record {
+  good = record { good = All-nil (IsGoodLine (layout file)); within = none_beyond file };
+  counted = zeroth;
+  small = omega arith;
+  unfailed = refl;
+  known = known_start input.left;
+}
+
+module _ (file : CountyFile) (lines : List (List ℕ)) (line new_line : LineParts) (old now new : Reader) (read : IsReadSoFar file lines line old now) where
+  -- a good line more
+  pub one_line_more : (done : Unit {0}) → IsLineRead line new_line now new (Ok (Some done)) → IsNextOf file lines new_line → IsReadSoFar file (lines ++ new_line.bytes ∷ []) new_line old new
+  one_line_more done next good = record {
+    good = record { good = All-push (IsGoodLine (layout file)) lines new_line.bytes read.good.good good.good; within = good.within };
+    counted = omega (arith, next.2, read.counted, length-append lines (new_line.bytes ∷ []));
+    small = omega (arith, next.1, next.2);
+    unfailed = next.0 ∙ read.unfailed;
+    known = known_both old.left now.left new.left (λ bytes rest. AreFirstLines bytes lines rest) (IsNextLine new_line.bytes) (λ bytes rest. AreFirstLines bytes (lines ++ new_line.bytes ∷ []) rest) (λ bytes mid rest a b. AreFirstLines-push lines bytes mid new_line.bytes rest a b.0) read.known next.3;
+  }
+
+  -- the input ended
+  pub all_read : IsLineRead line new_line now new (Ok None) → ReadsFile file lines old new
+  all_read next = record {
+    good = read.good;
+    few = omega (arith, read.counted, read.small);
+    known = known_then old.left now.left new.left (λ bytes rest. AreFirstLines bytes lines rest) (λ bytes rest. bytes ≡ []) (λ bytes. AreLines bytes lines) (λ bytes mid rest a b. subst (λ rest. AreFirstLines bytes lines rest) b a) read.known next.3;
+    at_end = next.2;
+    reads = next.0 ∙ read.unfailed;
+  }
+
+  -- a line with a flaw
+  flaw_after : (flaw : LineFlaw) (number : ℕ) (done : Unit {0}) → IsLineRead line new_line now new (Ok (Some done)) → number ≡ new_line.number → line_flaw (layout file) new_line.bytes ≡ Some flaw → (number < 2 ^ 32) × IfSome old.left (λ bytes. HasFlawAfter file flaw bytes lines) × (new.failed ≡ old.failed)
+  flaw_after flaw number done next at flawed = (
+    omega (arith, at, next.1, next.2),
+    known_then old.left now.left new.left (λ bytes rest. AreFirstLines bytes lines rest) (IsNextLine new_line.bytes) (λ bytes. HasFlawAfter file flaw bytes lines) (λ bytes mid rest a b. record {
+      after = mid;
+      line = new_line.bytes;
+      rest = rest;
+      before = a;
+      first = b.0;
+      flawed = flawed;
+    }) read.known next.3,
+    next.0 ∙ read.unfailed,
+  )
+
+  flaw_comes : (flaw : LineFlaw) (number : ℕ) (done : Unit {0}) → IsLineRead line new_line now new (Ok (Some done)) → number ≡ new_line.number → line_flaw (layout file) new_line.bytes ≡ Some flaw → ComesAfter file flaw number lines old new
+  flaw_comes WrongLength number done next at flawed = flaw_after WrongLength number done next at flawed
+  flaw_comes WrongType number done next at flawed = flaw_after WrongType number done next at flawed
+  flaw_comes BadTlid number done next at flawed = flaw_after BadTlid number done next at flawed
+  flaw_comes BadFeature number done next at flawed = flaw_after BadFeature number done next at flawed
+  flaw_comes Read number done next at flawed = absurd (not_read file new_line.bytes flawed)
+  flaw_comes TooManyLines number done next at flawed = absurd (not_too_many file new_line.bytes flawed)
+
+  pub at_flaw : (fault : LineFault) (done : Unit {0}) → IsLineRead line new_line now new (Ok (Some done)) → IsLineFault (layout file) new_line fault → IsFirstFault file fault old new
+  at_flaw fault done next flawed = record {
+    lines = lines;
+    good = read.good;
+    counted = omega (arith, flawed.0, next.2, read.counted);
+    follows = flaw_comes fault.flaw fault.line done next flawed.0 flawed.1;
+  }
+
+  -- a line with which the lines are beyond the limits
+  pub at_beyond : (number : ℕ) (done : Unit {0}) → IsLineRead line new_line now new (Ok (Some done)) → number ≡ new_line.number → IsBeyond file lines new_line → IsOneTooMany file number old new
+  at_beyond number done next at beyond = record {
+    lines = lines;
+    line = new_line.bytes;
+    good = read.good;
+    line_good = beyond.good;
+    beyond = beyond.beyond;
+    counted = omega (arith, at, next.2, read.counted);
+    small = omega (arith, at, next.1, next.2);
+    known = known_then old.left now.left new.left (λ bytes rest. AreFirstLines bytes lines rest) (IsNextLine new_line.bytes) (λ bytes. BeginsWith bytes (lines ++ new_line.bytes ∷ [])) (λ bytes mid rest a b. (rest, AreFirstLines-push lines bytes mid new_line.bytes rest a b.0)) read.known next.3;
+    reads = next.0 ∙ read.unfailed;
+  }
+
+  -- a line that isn't taken
+  pub not_taken : (keeps : List (List ℕ) → Type 0) (fault : LoadFault) (done : Unit {0}) → IsLineRead line new_line now new (Ok (Some done)) → IsTaken file lines new_line (Err fault) keeps → IsFileFault file fault old new
+  not_taken keeps (Line of_file fault) done next taken = (taken.0, at_flaw fault done next taken.1)
+  not_taken keeps (TooManyNames number) done next taken = (taken.0, at_beyond number done next taken.1 taken.2)
+  not_taken keeps (TooManyRanges number) done next taken = (taken.0, at_beyond number done next taken.1 taken.2)
+  not_taken keeps Memory done next taken = next.0 ∙ read.unfailed
+
+  -- a line that couldn't be read
+  unread_comes : (flaw : LineFlaw) (number : ℕ) → number ≡ line.number + 1 → IsUnreadLine line.number flaw now new → ComesAfter file flaw number lines old new
+  unread_comes WrongLength number at unread = (
+    omega (arith, at, unread.1),
+    known_then old.left now.left new.left (λ bytes rest. AreFirstLines bytes lines rest) BeginsTooLong (λ bytes. HasFlawAfter file WrongLength bytes lines) (λ bytes mid rest a b. too_long_after file bytes mid rest lines a b) read.known unread.2,
+    unread.0 ∙ read.unfailed,
+  )
+  unread_comes Read number at unread = (
+    omega (arith, at, read.small),
+    known_then old.left now.left new.left (λ bytes rest. AreFirstLines bytes lines rest) (FailsWithin (most_bytes line.number)) (λ bytes. BeginsWith bytes lines) (λ bytes mid rest a b. (mid, a)) read.known unread.1,
+    λ e. unread.0 (e ∙ sym read.unfailed),
+  )
+  unread_comes TooManyLines number at unread = (
+    omega (arith, at, unread.1),
+    known_then old.left now.left new.left (λ bytes rest. AreFirstLines bytes lines rest) HasOneMore (λ bytes. HasMoreAfter bytes lines) (λ bytes mid rest a b. (mid, a, λ none. one_more_not_empty mid rest b none)) read.known unread.2,
+    unread.0 ∙ read.unfailed,
+  )
+  unread_comes WrongType number at unread = absurd unread
+  unread_comes BadTlid number at unread = absurd unread
+  unread_comes BadFeature number at unread = absurd unread
+
+  pub at_fault : (fault : LineFault) → IsLineRead line new_line now new (Err fault) → IsFirstFault file fault old new
+  at_fault fault next = record {
+    lines = lines;
+    good = read.good;
+    counted = omega (arith, next.1, read.counted);
+    follows = unread_comes fault.flaw fault.line next.1 next.2;
+  }

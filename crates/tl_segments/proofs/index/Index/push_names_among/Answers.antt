@@ -1,0 +1,26 @@
+use Rattle.std.proofs.Common.{◌<◌, [], ◌∷◌, length, take, Some, None, ◌∙◌, ap, sym, arith}
+use Rattle.std.specs.Option.{option_and_then}
+use Rattle.std.proofs.lemmas.Grind.{common_steps}
+use Rattle.std.proofs.lemmas.List.{append-nil}
+use Rattle.tl_segments.specs.Tables.{name_at, names_among}
+use Rattle.tl_segments.proofs.TableLemmas.{filter_map-more, names-more}
+use Rattle.tl_segments.proofs.index.Index.push_names_among.Goals as goal
+use Rattle.tl_segments.proofs.index.Index.push_names_among.Goals.{in-Some+in_ok-push_name, in_default}
+
+pub loop-feat-preserved : goal.loop-feat-preserved
+loop-feat-preserved g c =
+    let table = c.args.self.now.names in
+    let feats = c.args.features.now in
+    let i = c.loop-feat.feat-index in
+    let start = c.args.segment.now in
+    let now = c.loop-feat.segment in
+    let inside : i < length feats = omega arith in
+    let names = names_among table (take i feats) in
+    elim c.match-name.branch [
+      | in-Some+in_ok-push_name w ↦ (
+          let more = filter_map-more (option_and_then (name_at table)) feats i None (Some w.in-Some.name.now) inside w.in-Some.ensures in
+          record { names = names-more start now c.match-name.segment names (w.in-Some.name.now ∷ []) _ c.loop-feat.invariant.names (w.segment-is ∙ w.in_ok-push_name.ensures.ok) more; few = grind (arith, common_steps) })
+      | in_default w ↦ (
+          let more = filter_map-more (option_and_then (name_at table)) feats i None None inside w.in_default.ensures in
+          record { names = names-more start now c.match-name.segment names [] _ c.loop-feat.invariant.names (w.segment-is ∙ ap (λ names. record now { names = names }) (sym (append-nil now.names))) more; few = grind (arith, common_steps) })
+    ]

@@ -1,0 +1,37 @@
+-- A county: the segments of its four files.
+use Rattle.std.specs.Prelude.{◌≡◌, ℕ, List, All, IsSome}
+use Rattle.tl_fields.specs.Device.{Reader}
+use Rattle.tl_fields.specs.Number.{number_of}
+use Rattle.tl_records.specs.Layout.{field_at}
+use Rattle.tl_records.specs.declared.type1.TheConstants.Rt1.{TLID}
+use Rattle.tl_segments.specs.Joining.{JoinedLines, segments_of}
+use Rattle.tl_segments.specs.Loading.{Readers, ReadsFile, ReadsJoined, IsFileFault, IsJoinedFault}
+use Rattle.tl_segments.specs.Segment.{Contents}
+use Rattle.tl_segments.specs.declared.fault.CountyFile.TheVariants.{Rt1}
+use Rattle.tl_segments.specs.declared.fault.LoadFault.{LoadFault}
+
+-- what a county consists of
+pub record CountyParts : Type 0 where
+  pub segments : List Contents
+
+-- the TLID of each segment has a number
+abbrev pub HasTlids : List Contents → Type 0
+HasTlids segments = All (λ segment. IsSome (number_of (field_at TLID segment.bytes))) segments
+
+-- the readers of a county's files
+pub record CountyReaders : Type 0 where
+  pub rt1 : Reader
+  pub joined : Readers
+
+-- all four files were read to their ends without a fault, and the segments are those of their lines
+pub record LoadsCounty (county : CountyParts) (old new : CountyReaders) : Type 0 where
+  pub joined : JoinedLines
+  pub lines : List (List ℕ)
+  pub segments : county.segments ≡ segments_of joined lines
+  pub reads_joined : ReadsJoined joined old.joined new.joined
+  pub rt1 : ReadsFile Rt1 lines old.rt1 new.rt1
+
+-- why a county can't be loaded: type 1 is read behind the others
+pub data IsCountyFault (fault : LoadFault) (old new : CountyReaders) : Type 0 where
+  before_rt1 : IsJoinedFault fault old.joined new.joined → new.rt1 ≡ old.rt1 → IsCountyFault fault old new
+  in_rt1 : (lines : JoinedLines) → ReadsJoined lines old.joined new.joined → IsFileFault Rt1 fault old.rt1 new.rt1 → IsCountyFault fault old new

@@ -1,0 +1,114 @@
+-- What loading a county's files does to their readers, and the first fault of a file.
+use Rattle.std.specs.Prelude.{◌≡◌, ◌≢◌, ℕ, ◌+◌, ◌^◌, ◌<◌, ◌≤◌, List, [], ◌∷◌, ◌++◌, length, All, Option, Some, IfSome}
+use Rattle.std.specs.Io.KnownBytes.{IsAtEnd}
+use Rattle.tl_fields.specs.Device.{Reader, reader}
+use Rattle.tl_records.specs.Lines.{IsFirstLine, AreFirstLines, AreLines}
+use Rattle.tl_records.specs.Records.{IsGoodLine, line_flaw}
+use Rattle.tl_records.specs.declared.fault.LineFault.{LineFault}
+use Rattle.tl_records.specs.declared.fault.LineFlaw.{LineFlaw}
+use Rattle.tl_records.specs.declared.fault.LineFlaw.TheVariants.{Read, TooManyLines}
+use Rattle.tl_segments.specs.CountyFile.{layout}
+use Rattle.tl_segments.specs.Joining.{JoinedLines, IsWithinLimits}
+use Rattle.tl_segments.specs.declared.fault.CountyFile.{CountyFile}
+use Rattle.tl_segments.specs.declared.fault.CountyFile.TheVariants.{Rt4, Rt5, Rt6}
+use Rattle.tl_segments.specs.declared.fault.LoadFault.{LoadFault}
+use Rattle.tl_segments.specs.declared.fault.LoadFault.TheVariants.{Line, TooManyNames, TooManyRanges, Memory}
+
+-- lines of a file without a fault: each is good for its type, and they are within the limits
+pub record AreGoodLines (file : CountyFile) (lines : List (List ℕ)) : Type 0 where
+  pub good : All (IsGoodLine (layout file)) lines
+  pub within : IsWithinLimits file lines
+
+-- A file was read to its end, and no read failed: these are good lines, at most 2^32 - 1, and where the reader's bytes are known they are
+-- that file's.
+pub record ReadsFile (file : CountyFile) (lines : List (List ℕ)) (old new : Reader) : Type 0 where
+  pub good : AreGoodLines file lines
+  pub few : length lines < 2 ^ 32
+  pub known : IfSome old.left (λ bytes. AreLines bytes lines)
+  pub at_end : IsAtEnd new.left
+  pub reads : new.failed ≡ old.failed
+
+-- a file was read to its end without a fault
+abbrev pub HasNoFault : CountyFile → Reader → Reader → Type 0
+HasNoFault file old new = (lines : List (List ℕ)) × ReadsFile file lines old new
+
+-- these are first lines of a file's bytes
+abbrev pub BeginsWith : List ℕ → List (List ℕ) → Type 0
+BeginsWith bytes lines = (after : List ℕ) × AreFirstLines bytes lines after
+
+-- these are first lines of a file's bytes, and more bytes follow them
+abbrev pub HasMoreAfter : List ℕ → List (List ℕ) → Type 0
+HasMoreAfter bytes lines = (after : List ℕ) × AreFirstLines bytes lines after × (after ≢ [])
+
+-- after these first lines of a file's bytes comes a line with this flaw
+pub record HasFlawAfter (file : CountyFile) (flaw : LineFlaw) (bytes : List ℕ) (lines : List (List ℕ)) : Type 0 where
+  pub after : List ℕ
+  pub line : List ℕ
+  pub rest : List ℕ
+  pub before : AreFirstLines bytes lines after
+  pub first : IsFirstLine after line rest
+  pub flawed : line_flaw (layout file) line ≡ Some flaw
+
+-- What holds where the line of this number, behind these lines, has this flaw. Lines are numbered below 2^32: only a read fails there too,
+-- and the line that is too many stands there. Where the reader's bytes are known they have the line, and a read has failed where that is the
+-- flaw, and nowhere else.
+abbrev pub ComesAfter : CountyFile → LineFlaw → ℕ → List (List ℕ) → Reader → Reader → Type 0
+ComesAfter file Read number lines old new =
+    (number ≤ 2 ^ 32) × IfSome old.left (λ bytes. BeginsWith bytes lines) × (new.failed ≢ old.failed)
+ComesAfter file TooManyLines number lines old new =
+    (number ≡ 2 ^ 32) × IfSome old.left (λ bytes. HasMoreAfter bytes lines) × (new.failed ≡ old.failed)
+ComesAfter file flaw number lines old new =
+    (number < 2 ^ 32) × IfSome old.left (λ bytes. HasFlawAfter file flaw bytes lines) × (new.failed ≡ old.failed)
+
+-- the first fault of a file is a line's own: lines without a fault come before it
+pub record IsFirstFault (file : CountyFile) (fault : LineFault) (old new : Reader) : Type 0 where
+  pub lines : List (List ℕ)
+  pub good : AreGoodLines file lines
+  pub counted : fault.line ≡ length lines + 1
+  pub follows : ComesAfter file fault.flaw fault.line lines old new
+
+-- The first fault of a file is that the line of this number is one too many of its TLID: lines without a fault come before it, it is good, and
+-- with it they are beyond the limits. Where the reader's bytes are known they begin with these lines.
+pub record IsOneTooMany (file : CountyFile) (number : ℕ) (old new : Reader) : Type 0 where
+  pub lines : List (List ℕ)
+  pub line : List ℕ
+  pub good : AreGoodLines file lines
+  pub line_good : IsGoodLine (layout file) line
+  pub beyond : ¬ IsWithinLimits file (lines ++ line ∷ [])
+  pub counted : number ≡ length lines + 1
+  pub small : number < 2 ^ 32
+  pub known : IfSome old.left (λ bytes. BeginsWith bytes (lines ++ line ∷ []))
+  pub reads : new.failed ≡ old.failed
+
+-- why a file can't be loaded: this is its first fault, or memory is wanting and no read failed
+abbrev pub IsFileFault : CountyFile → LoadFault → Reader → Reader → Type 0
+IsFileFault file (Line of_file fault) old new = (of_file ≡ file) × IsFirstFault file fault old new
+IsFileFault file (TooManyNames line) old new = (file ≡ Rt4) × IsOneTooMany file line old new
+IsFileFault file (TooManyRanges line) old new = (file ≡ Rt6) × IsOneTooMany file line old new
+IsFileFault file Memory old new = new.failed ≡ old.failed
+
+-- the readers of the files that are joined to that of type 1
+pub record Readers : Type 0 where
+  pub rt4 : Reader
+  pub rt5 : Reader
+  pub rt6 : Reader
+
+-- their values, by the members of their trait
+abbrev pub readers : {R : Type 0} → (R → Option (List ℕ)) → (R → ℕ) → R → R → R → Readers
+readers remaining failed_reads rt4 rt5 rt6 = record {
+  rt4 = reader remaining failed_reads rt4;
+  rt5 = reader remaining failed_reads rt5;
+  rt6 = reader remaining failed_reads rt6;
+}
+
+-- the files of types 4, 5 and 6 were read to their ends without a fault, and have these lines
+pub record ReadsJoined (lines : JoinedLines) (old new : Readers) : Type 0 where
+  pub rt4 : ReadsFile Rt4 lines.rt4 old.rt4 new.rt4
+  pub rt5 : ReadsFile Rt5 lines.rt5 old.rt5 new.rt5
+  pub rt6 : ReadsFile Rt6 lines.rt6 old.rt6 new.rt6
+
+-- why these files can't be loaded: they are read in this order, each to its end, up to the first that can't be
+pub data IsJoinedFault (fault : LoadFault) (old new : Readers) : Type 0 where
+  in_rt4 : IsFileFault Rt4 fault old.rt4 new.rt4 → new.rt5 ≡ old.rt5 → new.rt6 ≡ old.rt6 → IsJoinedFault fault old new
+  in_rt5 : HasNoFault Rt4 old.rt4 new.rt4 → IsFileFault Rt5 fault old.rt5 new.rt5 → new.rt6 ≡ old.rt6 → IsJoinedFault fault old new
+  in_rt6 : HasNoFault Rt4 old.rt4 new.rt4 → HasNoFault Rt5 old.rt5 new.rt5 → IsFileFault Rt6 fault old.rt6 new.rt6 → IsJoinedFault fault old new

@@ -1,0 +1,54 @@
+-- Tables of what a county's lines have, by number.
+use Rattle.std.specs.Prelude.{◌≡◌, ℕ, ◌<◌, ◌≤◌, if◌then◌else◌, nat_eq, List, [], ◌∷◌, ◌++◌, length, map, Option, Some, unwrap_or, option_and_then}
+use Rattle.std.specs.HashMap.{get}
+use Rattle.std.specs.List.{filter_map}
+use Rattle.std.specs.Option.{option_map_or}
+use Rattle.tl_fields.specs.Number.{number_of}
+use Rattle.tl_records.specs.Layout.{field_at}
+use Rattle.tl_records.specs.declared.type4.TheConstants.Rt4.{FEAT1, FEAT2, FEAT3, FEAT4, FEAT5}
+use Rattle.tl_segments.specs.Joining.{lines_with, feature_name, further_range}
+use Rattle.tl_segments.specs.declared.fault.CountyFile.TheVariants.{Rt4, Rt6}
+use Rattle.tl_segments.specs.declared.feature_names.FeatureNames.{FeatureNames}
+use Rattle.tl_segments.specs.declared.grouped.Grouped.{Grouped}
+use Rattle.tl_segments.specs.declared.range.RangeFields.{RangeFields}
+use Rattle.tl_segments.specs.declared.segment.TheConstants.{LINE_LIMIT}
+
+-- the values that a number has
+abbrev pub list_at : {V A : Type 0} → Grouped V A → ℕ → List V
+list_at grouped number = option_map_or (λ list. list.items) (get nat_eq grouped.lists number) []
+
+-- a value was added behind those of a number, which had room
+pub record AddsAt {V A : Type 0} (old new : Grouped V A) (number : ℕ) (value : V) : Type 0 where
+  pub room : length (list_at old number) < LINE_LIMIT
+  pub lists : (q : ℕ) → list_at new q ≡ (if nat_eq number q then list_at old q ++ value ∷ [] else list_at old q)
+
+-- the name that a FEAT has, if it has one
+abbrev pub name_at : {A : Type 0} → FeatureNames A → ℕ → Option (List ℕ)
+name_at table feat = get nat_eq table.names feat
+
+-- a FEAT has this name, if it had none yet
+abbrev pub AddsNameAt : {A : Type 0} → FeatureNames A → FeatureNames A → ℕ → List ℕ → Type 0
+AddsNameAt old new feat name = (q : ℕ) → name_at new q ≡ (if nat_eq feat q then Some (unwrap_or (name_at old q) name) else name_at old q)
+
+-- the numbers of a type 4 line's FEATs, in order, each where it has one
+abbrev pub feature_numbers : List ℕ → List (Option ℕ)
+feature_numbers line = map (λ feat. number_of (field_at feat line)) (FEAT1 ∷ FEAT2 ∷ FEAT3 ∷ FEAT4 ∷ FEAT5 ∷ [])
+
+-- the names of these FEATs: of each that has a number and a name
+abbrev pub names_among : {A : Type 0} → FeatureNames A → List (Option ℕ) → List (List ℕ)
+names_among table feats = filter_map (option_and_then (name_at table)) feats
+
+-- each TLID has what these lines of type 4, of type 6, have of it
+abbrev pub KeepsFeatures : {A : Type 0} → Grouped (List (Option ℕ)) A → List (List ℕ) → Type 0
+KeepsFeatures table lines = (tlid : ℕ) → list_at table tlid ≡ map feature_numbers (lines_with Rt4 tlid lines)
+
+abbrev pub KeepsRanges : {A : Type 0} → Grouped RangeFields A → List (List ℕ) → Type 0
+KeepsRanges table lines = (tlid : ℕ) → list_at table tlid ≡ map further_range (lines_with Rt6 tlid lines)
+
+-- each FEAT has the name that these lines of type 5 give it
+abbrev pub KeepsNames : {A : Type 0} → FeatureNames A → List (List ℕ) → Type 0
+KeepsNames table lines = (feat : ℕ) → name_at table feat ≡ feature_name lines feat
+
+-- no list is longer than the limit
+abbrev pub HasShortLists : {V A : Type 0} → Grouped V A → Type 0
+HasShortLists table = (number : ℕ) → length (list_at table number) ≤ LINE_LIMIT

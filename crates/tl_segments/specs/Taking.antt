@@ -1,0 +1,34 @@
+-- What a table does with the lines of a county's file.
+use Rattle.std.specs.Prelude.{◌≡◌, ℕ, List, [], ◌∷◌, ◌++◌, Result, Ok, Err}
+use Rattle.tl_fields.specs.Device.{Reader}
+use Rattle.tl_records.specs.Lines.{LineParts}
+use Rattle.tl_records.specs.Records.{IsGoodLine, IsLineFault}
+use Rattle.tl_segments.specs.CountyFile.{layout}
+use Rattle.tl_segments.specs.Joining.{IsWithinLimits}
+use Rattle.tl_segments.specs.Loading.{ReadsFile}
+use Rattle.tl_segments.specs.declared.fault.CountyFile.{CountyFile}
+use Rattle.tl_segments.specs.declared.fault.CountyFile.TheVariants.{Rt4, Rt6}
+use Rattle.tl_segments.specs.declared.fault.LoadFault.{LoadFault}
+use Rattle.tl_segments.specs.declared.fault.LoadFault.TheVariants.{Line, TooManyNames, TooManyRanges, Memory}
+
+-- a line is good, but with it the lines are beyond the limits
+pub record IsBeyond (file : CountyFile) (lines : List (List ℕ)) (line : LineParts) : Type 0 where
+  pub good : IsGoodLine (layout file) line.bytes
+  pub beyond : ¬ IsWithinLimits file (lines ++ line.bytes ∷ [])
+
+-- a line is good, and with it the lines are within the limits
+pub record IsNextOf (file : CountyFile) (lines : List (List ℕ)) (line : LineParts) : Type 0 where
+  pub good : IsGoodLine (layout file) line.bytes
+  pub within : IsWithinLimits file (lines ++ line.bytes ∷ [])
+
+-- the line behind these is kept with them, or refused by the fault that it has
+abbrev pub IsTaken : CountyFile → List (List ℕ) → LineParts → Result (Unit {0}) LoadFault → (List (List ℕ) → Type 0) → Type 0
+IsTaken file lines line (Ok done) keeps = IsNextOf file lines line × keeps (lines ++ line.bytes ∷ [])
+IsTaken file lines line (Err (Line of_file fault)) keeps = (of_file ≡ file) × IsLineFault (layout file) line fault
+IsTaken file lines line (Err (TooManyNames number)) keeps = (file ≡ Rt4) × (number ≡ line.number) × IsBeyond file lines line
+IsTaken file lines line (Err (TooManyRanges number)) keeps = (file ≡ Rt6) × (number ≡ line.number) × IsBeyond file lines line
+IsTaken file lines line (Err Memory) keeps = Unit {0}
+
+-- a file was read to its end without a fault, and its lines are kept
+abbrev pub KeepsFile : CountyFile → (List (List ℕ) → Type 0) → Reader → Reader → Type 0
+KeepsFile file keeps old new = (lines : List (List ℕ)) × keeps lines × ReadsFile file lines old new

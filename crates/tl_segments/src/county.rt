@@ -1,0 +1,94 @@
+//! The segments of a county's files.
+ghost use Rattle.std.specs.Prelude.{◌≡◌, IfErr, IfOk};
+ghost use Rattle.tl_fields.specs.Device.{reader};
+ghost use Rattle.tl_segments.specs.County.{HasTlids, IsCountyFault, LoadsCounty};
+ghost use Rattle.tl_segments.specs.Joining.{JoinedLines, segments_of};
+ghost use Rattle.tl_segments.specs.Loading.{IsFileFault, readers};
+ghost use Rattle.tl_segments.specs.Taking.{KeepsFile};
+ghost use Rattle.tl_segments.specs.Indexing.{IsIndexOf};
+ghost use Rattle.tl_segments.specs.declared.fault.CountyFile.TheVariants.{Rt1};
+
+use crate::fault::{CountyFile, LoadFault};
+use crate::index::Index;
+use crate::segment::Segment;
+use std::alloc::Allocator;
+use std::marker::Model;
+use tl_fields::CountedRead;
+use tl_records::{Line, read_line, rt1};
+
+/// The segments of a county, one of each line of its type 1 file, in their order. The TLID of each has a number. Contracts see it as a record
+/// with the field `segments`.
+#[derive(Drop)]
+pub struct County<A: Allocator> {
+    segments: Vec<Segment<A>, A>,
+}
+
+impl<A: Allocator> Model for County<A> {
+    ghost use Rattle.tl_segments.specs.County.{CountyParts, HasTlids};
+
+    ghost Value = { CountyParts };
+
+    ghost view = { λ county. record { segments = county.segments.items } };
+
+    ghost invariant = { λ county. HasTlids county.segments.items };
+}
+
+impl<A: Allocator + Copy> County<A> {
+    /// Reads the files of types 4, 5, 6 and 1, in this order, each to its end, or answers the first fault, at which the input then stands.
+    pub fn load<R: CountedRead>(
+        alloc: A,
+        rt1: &mut R,
+        rt4: &mut R,
+        rt5: &mut R,
+        rt6: &mut R,
+    ) -> Result<Self, LoadFault>
+        ensures ok { IfOk result (λ county. LoadsCounty county
+            (record { rt1 = reader R.remaining R.failed_reads rt1.old; joined = readers R.remaining R.failed_reads rt4.old rt5.old rt6.old })
+            (record { rt1 = reader R.remaining R.failed_reads rt1.new; joined = readers R.remaining R.failed_reads rt4.new rt5.new rt6.new })) }
+        ensures err { IfErr result (λ fault. IsCountyFault fault
+            (record { rt1 = reader R.remaining R.failed_reads rt1.old; joined = readers R.remaining R.failed_reads rt4.old rt5.old rt6.old })
+            (record { rt1 = reader R.remaining R.failed_reads rt1.new; joined = readers R.remaining R.failed_reads rt4.new rt5.new rt6.new })) }
+    {
+        let index = Index::load(alloc, rt4, rt5, rt6)?;
+        let segments = read_segments(alloc, &index, rt1)?;
+        Ok(County { segments })
+    }
+}
+
+impl<A: Allocator> County<A> {
+    /// The segments, in the order of the type 1 lines.
+    pub fn segments(&self) -> &[Segment<A>]
+        ensures value { result.now ≡ self.now.segments }
+        ensures tlids { HasTlids result.now }
+    {
+        self.segments.as_slice()
+    }
+}
+
+/// Reads a type 1 file to its end, up to the first fault, with what the index has of each line's TLID.
+fn read_segments<A: Allocator + Copy, R: CountedRead>(
+    alloc: A,
+    index: &Index<A>,
+    input: &mut R,
+) -> Result<Vec<Segment<A>, A>, LoadFault>
+    ensures ok { IfOk result (λ segments. KeepsFile Rt1
+        (λ lines. (joined : JoinedLines) → IsIndexOf index.now joined → segments.items ≡ segments_of joined lines)
+        (reader R.remaining R.failed_reads input.old) (reader R.remaining R.failed_reads input.new)) }
+    ensures err { IfErr result (λ fault. IsFileFault Rt1 fault
+        (reader R.remaining R.failed_reads input.old) (reader R.remaining R.failed_reads input.new)) }
+{
+    let file = CountyFile::Rt1;
+    let mut segments = Vec::new(alloc);
+    let mut line = Line::new();
+    loop {
+        match read_line(input, &mut line) {
+            Ok(Some(())) => {}
+            Ok(None) => return Ok(segments),
+            Err(fault) => return Err(LoadFault::Line { file, fault }),
+        }
+        match rt1(&line) {
+            Ok(record) => segments.push(index.segment(&record)?)?,
+            Err(fault) => return Err(LoadFault::Line { file, fault }),
+        }
+    }
+}

@@ -1,0 +1,109 @@
+//! What is joined to the type 1 lines of a county, by TLID.
+ghost use Rattle.std.specs.Prelude.{◌≡◌, ◌≤◌, ◌+◌, [], ◌++◌, length, IfErr, IfOk, OnOk};
+ghost use Rattle.tl_segments.specs.Joining.{JoinedLines, segment_of};
+ghost use Rattle.tl_segments.specs.Loading.{IsJoinedFault, readers};
+ghost use Rattle.tl_segments.specs.Tables.{HasShortLists, list_at, names_among};
+ghost use Rattle.tl_segments.specs.declared.segment.TheConstants.{NAME_LIMIT};
+
+use crate::county_file::read_file;
+use crate::fault::{CountyFile, LoadFault};
+use crate::feature_names::FeatureNames;
+use crate::grouped::Grouped;
+use crate::range::RangeFields;
+use crate::segment::Segment;
+use crate::tables::Features;
+use std::alloc::{AllocError, Allocator};
+use tl_fields::CountedRead;
+use tl_records::Rt1;
+
+/// The alternate names and the further ranges of a county's segments, by TLID: what its files of types 4, 5 and 6 have.
+#[derive(Drop)]
+pub struct Index<A: Allocator> {
+    alloc: A,
+    features: Grouped<Features, A>,
+    names: FeatureNames<A>,
+    ranges: Grouped<RangeFields, A>,
+    ghost few_names: { HasShortLists features },
+    ghost few_ranges: { HasShortLists ranges },
+}
+
+impl<A: Allocator + Copy> Index<A> {
+    ghost use Rattle.tl_segments.specs.Indexing.{IsIndexOf, LoadsIndex, names_in};
+
+    /// Reads the files of types 4, 5 and 6, in this order, each to its end, or answers the first fault, at which the input then stands.
+    pub fn load<R: CountedRead>(
+        alloc: A,
+        rt4: &mut R,
+        rt5: &mut R,
+        rt6: &mut R,
+    ) -> Result<Self, LoadFault>
+        ensures ok { IfOk result (λ index. LoadsIndex index
+            (readers R.remaining R.failed_reads rt4.old rt5.old rt6.old) (readers R.remaining R.failed_reads rt4.new rt5.new rt6.new)) }
+        ensures err { IfErr result (λ fault. IsJoinedFault fault
+            (readers R.remaining R.failed_reads rt4.old rt5.old rt6.old) (readers R.remaining R.failed_reads rt4.new rt5.new rt6.new)) }
+    {
+        let mut features = Grouped::new(alloc);
+        let mut names = FeatureNames::new(alloc);
+        let mut ranges = Grouped::new(alloc);
+        read_file(CountyFile::Rt4, &mut features, rt4)?;
+        read_file(CountyFile::Rt5, &mut names, rt5)?;
+        read_file(CountyFile::Rt6, &mut ranges, rt6)?;
+        Ok(Index {
+            alloc,
+            features,
+            names,
+            ranges,
+        })
+    }
+
+    /// The segment of a type 1 line, with the alternate names and the further ranges of its TLID. It asks for memory only where there are
+    /// any.
+    pub fn segment(&self, rt1: &Rt1<'_>) -> Result<Segment<A>, AllocError>
+        ensures { IfOk result (λ segment. (lines : JoinedLines) → IsIndexOf self.now lines → segment ≡ segment_of lines rt1.now.bytes) }
+    {
+        let mut segment = Segment::of(self.alloc, rt1.bytes());
+        let tlid = rt1.tlid_number();
+        self.push_names(tlid, &mut segment)?;
+        self.push_ranges(tlid, &mut segment)?;
+        Ok(segment)
+    }
+
+    fn push_names(&self, tlid: u64, segment: &mut Segment<A>) -> Result<(), AllocError>
+        requires { segment.old.names ≡ [] }
+        ensures { OnOk result (segment.new ≡ record segment.old { names = names_in self.now tlid }) }
+    {
+        let lines = self.features.list(tlid);
+        for features in lines {
+            self.push_names_among(features, segment)?;
+        }
+        Ok(())
+    }
+
+    fn push_names_among(
+        &self,
+        features: &Features,
+        segment: &mut Segment<A>,
+    ) -> Result<(), AllocError>
+        requires { length segment.old.names + 5 ≤ NAME_LIMIT }
+        ensures names { OnOk result (segment.new ≡ record segment.old { names = segment.old.names ++ names_among self.now.names features.now }) }
+        ensures few { OnOk result (length segment.new.names ≤ length segment.old.names + 5) }
+    {
+        for feat in features {
+            if let Some(name) = self.names.name(*feat) {
+                segment.push_name(name)?;
+            }
+        }
+        Ok(())
+    }
+
+    fn push_ranges(&self, tlid: u64, segment: &mut Segment<A>) -> Result<(), AllocError>
+        requires { segment.old.ranges ≡ [] }
+        ensures { OnOk result (segment.new ≡ record segment.old { ranges = list_at self.now.ranges tlid }) }
+    {
+        let ranges = self.ranges.list(tlid);
+        for range in ranges {
+            segment.push_range(range.as_range())?;
+        }
+        Ok(())
+    }
+}
