@@ -1,7 +1,7 @@
 -- What a run that is on its way comes to, and what a run that exits excludes.
 use Rattle.std.proofs.Common.{◌≡◌, ℕ, ◌≤◌, List, [], ◌∷◌, length, subst, arith}
 use Rattle.bpf_insn.specs.declared.instruction.Insn.{Insn}
-use Rattle.bpf_meaning.specs.Segment.{Contents}
+use Rattle.tl_segments.specs.Segment.{Contents}
 use Rattle.bpf_meaning.specs.State.{start}
 use Rattle.bpf_meaning.specs.Step.{Configuration, Running, Exited, Stuck, after}
 use Rattle.bpf_meaning.specs.Run.{FollowSteps, last_of, Answers, IsNeverStuck, Exits}

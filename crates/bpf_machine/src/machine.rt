@@ -1,9 +1,10 @@
 //! Runs of verified programs.
 ghost use Rattle.bpf_meaning.specs.Run.{Answers};
 
-use bpf_meaning::{Outcome, Segment, State, step};
+use bpf_meaning::{Outcome, State, step};
 use bpf_verify::Verified;
 use std::alloc::Allocator;
+use tl_segments::Segment;
 
 /// What a program ends with on a segment.
 #[derive(Clone, Copy, Debug, PartialEq, Eq)]
@@ -16,11 +17,11 @@ pub struct Answer {
 
 /// The answer of a verified program on a segment, whatever the segment. It takes no memory, and at most as many steps as the program has
 /// instructions.
-pub fn run<A: Allocator>(verified: &Verified<A>, segment: &Segment) -> Answer
+pub fn run<A: Allocator, B: Allocator>(verified: &Verified<A>, segment: &Segment<B>) -> Answer
     ensures { Answers verified.now.code segment.now result.r0 result.score }
 {
     let code = verified.code();
-    // Not read: that they are a whole record's is what a safe code needs.
+    // Not read: that the segment is whole is what a safe code needs.
     let _bytes = segment.bytes();
     let mut state = State::start();
     for _steps in 0..code.instructions().len() {

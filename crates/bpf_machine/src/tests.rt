@@ -1,13 +1,13 @@
-//! Programs worked by hand, or by another tool, on a record whose bytes are known. Each row has register 0 at the end, the program's text
-//! without its EXIT, and its words in hexadecimal.
+//! Programs worked by hand, or by another tool, on a record whose bytes are known. Each row has register 0 at the end, and the score if
+//! it isn't 0, the program's text without its EXIT, and its words in hexadecimal.
 
 use crate::{Answer, run};
 use bpf_flow::Flow;
 use bpf_insn::decode;
-use bpf_meaning::Segment;
 use bpf_verify::{Verified, verify};
 use std::alloc::Allocator;
 use std::test::Fail;
+use tl_segments::{Range, Segment};
 
 /// A line of record type 1: the 228 bytes of the layout, blank where nothing is named.
 const RECORD: &[u8; 228] =
@@ -23,7 +23,19 @@ const ANSWERS: &str = "\
 3; mov r0, 3 | ja +2 | lddw r0, 7; b700000003000000 0500020000000000 1800000007000000 0000000000000000 9500000000000000
 7; mov r0, 3 | jset32 r0, 4, +2 | lddw r0, 7; b700000003000000 4600020004000000 1800000007000000 0000000000000000 9500000000000000
 1; mov r2, 5 | mov r3, -1 | mov r0, 0 | jsgt r2, r3, +1 | exit | mov r0, 1; b702000005000000 b7030000ffffffff b700000000000000 6d32010000000000 9500000000000000 b700000001000000 9500000000000000
+1 score 7; mov r1, 7 | call 8 | mov r0, 1; b701000007000000 8500000008000000 b700000001000000 9500000000000000
+19; call 3 | mov r6, r0 | lsh r6, 4 | call 4 | add r0, r6; 8500000003000000 bf06000000000000 6706000004000000 8500000004000000 0f60000000000000 9500000000000000
 ";
+
+/// A further range.
+const FURTHER: Range<'static> = Range {
+    fraddl: b"        201",
+    toaddl: b"        299",
+    fraddr: b"        200",
+    toaddr: b"        298",
+    zipl: b"36068",
+    zipr: b"36068",
+};
 
 /// The verified program of words.
 fn verified_of<A: Allocator + Copy>(alloc: A, words: &str) -> Result<Verified<A>, Fail> {
@@ -36,12 +48,20 @@ fn verified_of<A: Allocator + Copy>(alloc: A, words: &str) -> Result<Verified<A>
 
 #[test]
 fn answers(rt: HostRuntime) -> Result<(), Fail> {
+    let mut segment = Segment::of(rt.alloc(), RECORD);
+    segment.push_name(b"Elm                           ")?;
+    segment.push_range(FURTHER)?;
+    segment.push_range(FURTHER)?;
     for row in ANSWERS.lines() {
         let mut columns = row.split("; ");
-        let r0 = columns.next().unwrap_or("").parse()?;
+        let expected = columns.next().unwrap_or("");
+        let (r0, score) = expected.split_once(" score ").unwrap_or((expected, "0"));
         let verified = verified_of(rt.alloc(), columns.last().unwrap_or(""))?;
-        let answer = run(&verified, &Segment::of(RECORD));
-        assert_eq!(rt; answer, Answer { r0, score: 0 }, "{row}");
+        let wanted = Answer {
+            r0: r0.parse()?,
+            score: score.parse()?,
+        };
+        assert_eq!(rt; run(&verified, &segment), wanted, "{row}");
     }
     Ok(())
 }

@@ -6,7 +6,7 @@ use Rattle.bpf_insn.specs.declared.instruction.Operation.TheVariants.{Move}
 use Rattle.bpf_insn.specs.declared.instruction.Width.TheVariants.{Bits64}
 use Rattle.bpf_insn.specs.declared.instruction.Source.TheVariants.{Immediate}
 use Rattle.bpf_insn.specs.declared.value.Value.TheVariants.{Number}
-use Rattle.bpf_meaning.specs.Segment.{Contents}
+use Rattle.tl_segments.specs.Segment.{Contents}
 use Rattle.bpf_meaning.specs.State.{start}
 use Rattle.bpf_meaning.specs.Step.{Running, Exited, Stuck, carry_out, after}
 use Rattle.bpf_meaning.specs.declared.effect.Change.TheVariants.{SetRegister}
@@ -25,7 +25,7 @@ move n = Alu Move Bits64 r0 (Immediate (pos n))
 one_answers : (segment : Contents) → Answers (move 1 ∷ Exit ∷ []) segment 1 0
 unfolding after
 one_answers segment = record {
-  run = Running (record (carry_out start (SetRegister r0 (Number 1))) { place = 1 }) ∷ Exited 1 0 ∷ [];
+  run = Running (record (carry_out segment start (SetRegister r0 (Number 1))) { place = 1 }) ∷ Exited 1 0 ∷ [];
   is_run = (refl, (refl, tt));
   exits = refl;
 }
@@ -47,7 +47,7 @@ two_rows first second = (
 zero_answers : (segment : Contents) → Answers (move 0 ∷ Exit ∷ []) segment 0 0
 unfolding after
 zero_answers segment = record {
-  run = Running (record (carry_out start (SetRegister r0 (Number 0))) { place = 1 }) ∷ Exited 0 0 ∷ [];
+  run = Running (record (carry_out segment start (SetRegister r0 (Number 0))) { place = 1 }) ∷ Exited 0 0 ∷ [];
   is_run = (refl, (refl, tt));
   exits = refl;
 }

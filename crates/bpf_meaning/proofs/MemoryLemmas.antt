@@ -1,5 +1,6 @@
 -- Marks beside bytes, and what is read and written of them.
 use Rattle.std.proofs.Common.{◌≡◌, ℕ, zero, suc, ◌+◌, ◌-◌, ◌*◌, ◌/◌, ◌%◌, ◌<◌, ◌≤◌, ◌^◌, Bool, true, false, List, [], ◌∷◌, ◌++◌, length, map, take, drop, replicate, Some, None, refl, sym, ap, ◌∙◌, arith, lit<, min, append_assoc, length-append}
+use Rattle.std.specs.Prelude.{not}
 use Rattle.std.specs.List.{list_any}
 use Rattle.std.proofs.lemmas.Bool.{false≢true}
 use Rattle.std.proofs.lemmas.List.{length-take, length-take-le, length-drop, length-map, length-replicate, drop-drop, take_at, drop_at}
@@ -9,7 +10,11 @@ use Rattle.std.proofs.Math.Nat.{pow-le-pow_right, pow-suc, one-le-pow, div-one, 
 use Rattle.std.proofs.lemmas.Nat.{pow-add}
 use Rattle.std.specs.Option.{option_map}
 use Rattle.std.specs.Int.{byte_at, bytes_low_first}
-use Rattle.bpf_meaning.specs.Memory.{FrameByte, FrameContents, Unwritten, Byte, frame_bytes, number_of, store}
+use Rattle.bpf_helpers.specs.Call.{bytes_read, second, third, write}
+use Rattle.bpf_helpers.specs.declared.signature.FrameUse.{FrameUse}
+use Rattle.bpf_helpers.specs.declared.signature.FrameUse.TheVariants.{Nothing, Writes, Reads}
+use Rattle.bpf_helpers.proofs.WriteLemmas.{write-nothing}
+use Rattle.bpf_meaning.specs.Memory.{FrameByte, FrameContents, Unwritten, Byte, all_written, frame_bytes, number_of, store, written_bytes}
 
 -- as many bytes as marks
 
@@ -92,23 +97,30 @@ pub length-bytes_low_first : (i n number : ℕ) → length (bytes_low_first i n 
 length-bytes_low_first i zero number = refl
 length-bytes_low_first i (suc n) number = let more = length-bytes_low_first (suc i) n number in omega arith
 
--- marks and bytes written from a place on, as many as of the number
-pub frame_bytes-put_mid : (marks : List Bool) (bytes : List ℕ) (at k count number : ℕ) → length marks ≡ length bytes → k ≡ count → frame_bytes (put_mid at k marks (replicate count true)) (put_mid at k bytes (bytes_low_first 0 count number)) ≡ store (frame_bytes marks bytes) at count number
-frame_bytes-put_mid marks bytes at k count number same is =
-    let front : length (take at marks) ≡ length (take at bytes) = length-take at marks ∙ ap (λ (n : ℕ). min at n) same ∙ sym (length-take at bytes) in
+-- a part of memory that was written in place
+put_mid_is_write : {A : Type 0} (memory new : List A) (at k : ℕ) → k ≡ length new → put_mid at k memory new ≡ write memory at new
+put_mid_is_write memory new at k is =
+    ap (λ rest. take at memory ++ (new ++ rest)) (ap (λ (n : ℕ). drop n (drop at memory)) is ∙ drop-drop (length new) at memory)
+    ∙ sym (append_assoc (take at memory) new (drop (at + length new) memory))
+
+-- what is stored is a number's low bytes, written from an offset on
+pub store_is_write : (memory : List FrameByte) (at count number : ℕ) → store memory at count number ≡ write memory at (map Byte (bytes_low_first 0 count number))
+store_is_write memory at count number =
     let low = bytes_low_first 0 count number in
-    let long : length low ≡ count = length-bytes_low_first 0 count number in
-    let middle : length (replicate count true) ≡ length low = length-replicate count true ∙ sym long in
-    frame_bytes-append (take at marks) (replicate count true ++ drop k (drop at marks)) (take at bytes) (low ++ drop k (drop at bytes)) front
-    ∙ ap (λ (l : List FrameByte). l ++ frame_bytes (replicate count true ++ drop k (drop at marks)) (low ++ drop k (drop at bytes))) (sym (take-frame_bytes at marks bytes))
+    let long : count ≡ length (map Byte low) = sym (length-map low Byte ∙ length-bytes_low_first 0 count number) in
+    ap (λ (n : ℕ). take at memory ++ map Byte low ++ drop (at + n) memory) long
+
+-- marks and bytes put in place
+frame_bytes-put_mid : (marks : List Bool) (bytes new : List ℕ) (at k count : ℕ) → length marks ≡ length bytes → length new ≡ count → frame_bytes (put_mid at k marks (replicate count true)) (put_mid at k bytes new) ≡ put_mid at k (frame_bytes marks bytes) (map Byte new)
+frame_bytes-put_mid marks bytes new at k count same long =
+    let front : length (take at marks) ≡ length (take at bytes) = length-take at marks ∙ ap (λ (n : ℕ). min at n) same ∙ sym (length-take at bytes) in
+    let middle : length (replicate count true) ≡ length new = length-replicate count true ∙ sym long in
+    frame_bytes-append (take at marks) (replicate count true ++ drop k (drop at marks)) (take at bytes) (new ++ drop k (drop at bytes)) front
+    ∙ ap (λ (l : List FrameByte). l ++ frame_bytes (replicate count true ++ drop k (drop at marks)) (new ++ drop k (drop at bytes))) (sym (take-frame_bytes at marks bytes))
     ∙ ap (λ (l : List FrameByte). take at (frame_bytes marks bytes) ++ l)
-    (frame_bytes-append (replicate count true) (drop k (drop at marks)) low (drop k (drop at bytes)) middle
-    ∙ ap (λ (l : List FrameByte). l ++ frame_bytes (drop k (drop at marks)) (drop k (drop at bytes))) (frame_bytes-replicate count low long)
-    ∙ ap (λ (l : List FrameByte). map Byte low ++ l) (sym (drop-frame_bytes k (drop at marks) (drop at bytes)) ∙ ap (λ (l : List FrameByte). drop k l) (sym (drop-frame_bytes at marks bytes)) ∙ rest (frame_bytes marks bytes)))
-    ∙ sym (append_assoc (take at (frame_bytes marks bytes)) (map Byte low) (drop (at + count) (frame_bytes marks bytes)))
-  where
-    rest : (memory : List FrameByte) → drop k (drop at memory) ≡ drop (at + count) memory
-    rest memory = ap (λ (n : ℕ). drop n (drop at memory)) is ∙ drop-drop count at memory
+    (frame_bytes-append (replicate count true) (drop k (drop at marks)) new (drop k (drop at bytes)) middle
+    ∙ ap (λ (l : List FrameByte). l ++ frame_bytes (drop k (drop at marks)) (drop k (drop at bytes))) (frame_bytes-replicate count new long)
+    ∙ ap (λ (l : List FrameByte). map Byte new ++ l) (sym (drop-frame_bytes k (drop at marks) (drop at bytes)) ∙ ap (λ (l : List FrameByte). drop k l) (sym (drop-frame_bytes at marks bytes))))
 
 -- the three at a frame's contents
 
@@ -130,15 +142,69 @@ written_is_number is_unmarked marks bytes memory at count k test other is same v
     ap number_of (part_of marks bytes memory at count k is view
     ∙ frame_bytes-all is_unmarked (mid_of at k marks) (mid_of at k bytes) test other (same_parts marks bytes at k same) any)
 
+contents : List FrameByte → FrameContents
+contents bytes = record { bytes = bytes }
+
+-- bytes written over those of a frame, and their marks
+pub call_writes : (marks : List Bool) (bytes : List ℕ) (frame : FrameContents) (at k : ℕ) (written new_bytes : List ℕ) (new_marks : List Bool) → length marks ≡ length bytes → k ≡ length written → length (mid_of at k marks) ≡ length written → record { bytes = frame_bytes marks bytes } ≡ frame → new_bytes ≡ write bytes at written → new_marks ≡ replicate (length (mid_of at k marks)) true → (let new : FrameContents = record { bytes = frame_bytes (put_mid at k marks new_marks) new_bytes } in new) ≡ record frame { bytes = write frame.bytes at (map Byte written) }
+unfolding contents
+call_writes marks bytes frame at k written new_bytes new_marks same is long view low all =
+    let all_are : new_marks ≡ replicate (length written) true = all ∙ ap (λ (n : ℕ). replicate n true) long in
+    let put : new_bytes ≡ put_mid at k bytes written = low ∙ sym (put_mid_is_write bytes written at k is) in
+    let many : k ≡ length (map Byte written) = is ∙ sym (length-map written Byte) in
+    ap (λ (l : List ℕ). contents (frame_bytes (put_mid at k marks new_marks) l)) put
+    ∙ ap (λ (l : List Bool). contents (frame_bytes (put_mid at k marks l) (put_mid at k bytes written))) all_are
+    ∙ ap contents (frame_bytes-put_mid marks bytes written at k (length written) same refl ∙ put_mid_is_write (frame_bytes marks bytes) (map Byte written) at k many)
+    ∙ ap (λ (f : FrameContents). contents (write f.bytes at (map Byte written))) view
+
+-- a frame over which nothing is written
+pub call_writes_nothing : (marks : List Bool) (bytes : List ℕ) (frame : FrameContents) (at : ℕ) (written new_bytes : List ℕ) → record { bytes = frame_bytes marks bytes } ≡ frame → written ≡ [] → new_bytes ≡ write bytes at written → (let new : FrameContents = record { bytes = frame_bytes marks new_bytes } in new) ≡ record frame { bytes = write frame.bytes at (map Byte written) }
+unfolding contents
+call_writes_nothing marks bytes frame at written new_bytes view none low =
+    ap (λ (l : List ℕ). contents (frame_bytes marks l)) (low ∙ ap (write bytes at) none ∙ write-nothing bytes at) ∙ view
+    ∙ ap contents (sym (ap (λ (l : List ℕ). write frame.bytes at (map Byte l)) none ∙ write-nothing frame.bytes at))
+
+-- the low bytes of a number, and their marks
 pub store_writes : (marks : List Bool) (bytes : List ℕ) (frame : FrameContents) (at count k number : ℕ) (new_bytes : List ℕ) (new_marks : List Bool) → length marks ≡ length bytes → k ≡ count → length (mid_of at k marks) ≡ count → count ≤ 8 → record { bytes = frame_bytes marks bytes } ≡ frame → new_bytes ≡ take count (bytes_low_first 0 8 number) → new_marks ≡ replicate (length (mid_of at k marks)) true → (let new : FrameContents = record { bytes = frame_bytes (put_mid at k marks new_marks) (put_mid at k bytes new_bytes) } in new) ≡ record frame { bytes = store frame.bytes at count number }
+unfolding contents
 store_writes marks bytes frame at count k number new_bytes new_marks same is long short view low all =
-    let low_is : new_bytes ≡ bytes_low_first 0 count number = low ∙ take-bytes_low_first 0 8 count number short in
-    let all_are : new_marks ≡ replicate count true = all ∙ ap (λ (n : ℕ). replicate n true) long in
-    let contents : List FrameByte → FrameContents = λ l. record { bytes = l } in
-    ap (λ (l : List ℕ). contents (frame_bytes (put_mid at k marks new_marks) (put_mid at k bytes l))) low_is
-    ∙ ap (λ (l : List Bool). contents (frame_bytes (put_mid at k marks l) (put_mid at k bytes (bytes_low_first 0 count number)))) all_are
-    ∙ ap contents (frame_bytes-put_mid marks bytes at k count number same is)
-    ∙ ap (λ (f : FrameContents). contents (store f.bytes at count number)) view
+    let written = bytes_low_first 0 count number in
+    let number_long : length written ≡ count = length-bytes_low_first 0 count number in
+    let low_is : new_bytes ≡ written = low ∙ take-bytes_low_first 0 8 count number short in
+    call_writes marks bytes frame at k written (put_mid at k bytes new_bytes) new_marks same (is ∙ sym number_long) (long ∙ sym number_long) view
+    (ap (put_mid at k bytes) low_is ∙ put_mid_is_write bytes written at k (is ∙ sym number_long)) all
+    ∙ ap contents (sym (store_is_write frame.bytes at count number))
+
+-- bytes of a frame that are all written are those that a call reads
+
+written-frame_bytes : (marks : List Bool) (bytes : List ℕ) → length marks ≡ length bytes → all_written (frame_bytes marks bytes) ≡ true → written_bytes (frame_bytes marks bytes) ≡ bytes
+written-frame_bytes [] [] same all = refl
+written-frame_bytes [] (byte ∷ bytes) same all = absurd (omega arith)
+written-frame_bytes (mark ∷ marks) [] same all = absurd (omega arith)
+written-frame_bytes (true ∷ marks) (byte ∷ bytes) same all = ap (λ (l : List ℕ). byte ∷ l) (written-frame_bytes marks bytes (omega arith) all)
+written-frame_bytes (false ∷ marks) (byte ∷ bytes) same all = absurd (false≢true all)
+
+pub read_alike : (marks : List Bool) (bytes : List ℕ) (frame : FrameContents) (lent : FrameUse) (arguments : List ℕ) → length marks ≡ length bytes → record { bytes = frame_bytes marks bytes } ≡ frame → all_written (bytes_read lent arguments frame.bytes) ≡ true → bytes_read lent arguments bytes ≡ written_bytes (bytes_read lent arguments frame.bytes)
+read_alike marks bytes frame Nothing arguments same view all = refl
+read_alike marks bytes frame Writes arguments same view all = refl
+read_alike marks bytes frame Reads arguments same view all =
+    let at = second arguments in
+    let count = third arguments in
+    let part : take count (drop at frame.bytes) ≡ frame_bytes (mid_of at count marks) (mid_of at count bytes) =
+    part_of marks bytes frame.bytes at count count refl (ap (λ (f : FrameContents). f.bytes) view) in
+    sym (ap written_bytes part ∙ written-frame_bytes (mid_of at count marks) (mid_of at count bytes) (same_parts marks bytes at count same) (sym (ap all_written part) ∙ all))
+
+-- they are all written where each has its mark
+pub all_written-marks : (is_unmarked : Bool → Bool) (marks : List Bool) (bytes : List ℕ) (memory : List FrameByte) (at count k : ℕ) → is_unmarked false ≡ true → is_unmarked true ≡ false → k ≡ count → length marks ≡ length bytes → frame_bytes marks bytes ≡ memory → not (list_any is_unmarked (mid_of at k marks)) ≡ all_written (take count (drop at memory))
+all_written-marks is_unmarked marks bytes memory at count k test other is same view =
+    by_marks (mid_of at k marks) (mid_of at k bytes) (same_parts marks bytes at k same) ∙ sym (ap all_written (part_of marks bytes memory at count k is view))
+  where
+    by_marks : (marks : List Bool) (bytes : List ℕ) → length marks ≡ length bytes → not (list_any is_unmarked marks) ≡ all_written (frame_bytes marks bytes)
+    by_marks [] [] same = refl
+    by_marks [] (byte ∷ bytes) same = absurd (omega arith)
+    by_marks (mark ∷ marks) [] same = absurd (omega arith)
+    by_marks (true ∷ marks) (byte ∷ bytes) same = rw other (by_marks marks bytes (omega arith))
+    by_marks (false ∷ marks) (byte ∷ bytes) same = rw test refl
 
 -- what was stored is loaded, and other bytes stay
 

@@ -1,7 +1,7 @@
 -- Runs are determined: two runs of one code on one segment agree as far as both go.
 use Rattle.std.proofs.Common.{◌≡◌, ℕ, ◌≤◌, ◌<◌, List, [], ◌∷◌, ◌++◌, length, refl, sym, ap, ◌∙◌, subst, arith, ◌+◌, length-append}
 use Rattle.bpf_insn.specs.declared.instruction.Insn.{Insn}
-use Rattle.bpf_meaning.specs.Segment.{Contents}
+use Rattle.tl_segments.specs.Segment.{Contents}
 use Rattle.bpf_meaning.specs.State.{start}
 use Rattle.bpf_meaning.specs.Step.{Configuration, Running, Exited, Stuck, after, configuration_of}
 use Rattle.bpf_meaning.specs.Run.{Step, HasOneNext, HasNoNext, FollowSteps, IsRun, last_of, end_of, Answers, IsTraced}

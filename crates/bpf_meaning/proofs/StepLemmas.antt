@@ -5,12 +5,13 @@ use Rattle.std.proofs.lemmas.Bool.Decides.{nat_tests}
 use Rattle.std.specs.Int.{FitsUnsignedBits}
 use Rattle.bpf_insn.specs.declared.instruction.LoadFormat.{LoadFormat}
 use Rattle.bpf_insn.specs.declared.instruction.LoadFormat.TheVariants as format
+use Rattle.bpf_insn.specs.Memory.{load_length}
 use Rattle.bpf_insn.specs.declared.value.Pointer.{Pointer as PointerParts}
 use Rattle.bpf_insn.specs.declared.value.Value.{Value}
 use Rattle.bpf_insn.specs.declared.value.Value.TheVariants.{Number}
-use Rattle.bpf_meaning.specs.Segment.{Contents}
+use Rattle.tl_segments.specs.Segment.{Contents}
 use Rattle.bpf_meaning.specs.Memory.{FrameByte, Byte, number_of}
-use Rattle.bpf_meaning.specs.Effect.{load_bytes, load_length, load_value, lie_within, load_number, pointer_in, area_bytes, ◌>>=◌}
+use Rattle.bpf_meaning.specs.Effect.{load_bytes, load_value, lie_within, load_number, pointer_in, area_bytes, ◌>>=◌}
 use Rattle.bpf_meaning.specs.declared.cause.Cause.{Cause}
 use Rattle.bpf_meaning.specs.declared.cause.Cause.TheVariants.{OutOfBounds}
 use Rattle.bpf_meaning.specs.declared.state.State.{State}

@@ -1,9 +1,10 @@
 -- The effects of instructions (RFC 9669, sections 4 and 5). What is checked before one is carried out, in which order, is this
 -- project's own.
-use Rattle.std.specs.Prelude.{ℕ, ◌+◌, ◌≤◌, ℤ, pos, negsuc, ◌+ℤ◌, ◌-ℤ◌, ◌&&◌, Bool, List, map, take, drop, length, unsigned_abs, int_le, nat_lt, Option, Some, None, Result, Ok, Err, is_some, if◌then◌else◌}
-use Rattle.std.specs.Int.{cast_signed, w32, w64}
+use Rattle.std.specs.Prelude.{ℕ, ◌+◌, ◌≤◌, ℤ, pos, negsuc, ◌+ℤ◌, ◌-ℤ◌, ◌&&◌, Bool, List, [], ◌∷◌, map, take, drop, get_or, length, unsigned_abs, int_le, nat_le, nat_lt, Option, Some, None, Result, Ok, Err, is_some, IsTrue, if◌then◌else◌}
+use Rattle.std.specs.Int.{cast_signed, cast_unsigned, w32, w64}
 use Rattle.bpf_insn.specs.Arithmetic.{result_of, negate, extension_of, byte_swap, low_bits, is_met, immediate_operand, wide_number, load_extension}
 use Rattle.bpf_insn.specs.Jump.{words}
+use Rattle.bpf_insn.specs.Memory.{load_length, store_length}
 use Rattle.bpf_insn.specs.Pointer.{is_offset}
 use Rattle.bpf_insn.specs.Code.{instruction_at, spelling, word_count}
 use Rattle.bpf_insn.specs.declared.instruction.Insn.{Insn}
@@ -16,26 +17,33 @@ use Rattle.bpf_insn.specs.declared.instruction.Source.{Source}
 use Rattle.bpf_insn.specs.declared.instruction.Source.TheVariants.{Immediate, Register}
 use Rattle.bpf_insn.specs.declared.instruction.Condition.{Condition}
 use Rattle.bpf_insn.specs.declared.instruction.LoadFormat.{LoadFormat}
-use Rattle.bpf_insn.specs.declared.instruction.LoadFormat.TheVariants.{Byte, HalfWord, Word, DoubleWord, SignedByte, SignedHalfWord, SignedWord}
 use Rattle.bpf_insn.specs.declared.instruction.StoreSize.{StoreSize}
-use Rattle.bpf_insn.specs.declared.instruction.StoreSize.TheVariants as store_size
 use Rattle.bpf_insn.specs.declared.register.WritableRegister.{WritableRegister}
 use Rattle.bpf_insn.specs.declared.value.Area.{Area}
 use Rattle.bpf_insn.specs.declared.value.Area.TheVariants.{Record, Frame}
 use Rattle.bpf_insn.specs.declared.value.Pointer.{Pointer as PointerParts}
 use Rattle.bpf_insn.specs.declared.value.Value.{Value}
 use Rattle.bpf_insn.specs.declared.value.Value.TheVariants.{Empty, Number, Pointer}
-use Rattle.bpf_meaning.specs.Segment.{Contents}
+use Rattle.tl_segments.specs.Segment.{Contents}
+use Rattle.bpf_kinds.specs.declared.interval.Interval.{Interval}
+use Rattle.bpf_helpers.specs.Call.{MeetsSignature, bytes_read, second, third}
+use Rattle.bpf_helpers.specs.Helper.{by_number, signature}
+use Rattle.bpf_helpers.specs.declared.helper.Helper.{Helper}
+use Rattle.bpf_helpers.specs.declared.signature.Argument.{Argument}
+use Rattle.bpf_helpers.specs.declared.signature.Argument.TheVariants as argument
+use Rattle.bpf_helpers.specs.declared.signature.FrameUse.{FrameUse}
+use Rattle.bpf_helpers.specs.declared.signature.FrameUse.TheVariants as frame_use
+use Rattle.bpf_helpers.specs.declared.signature.FrameUse.TheVariants.{Writes, Reads}
 use Rattle.bpf_meaning.specs.Memory as memory
-use Rattle.bpf_meaning.specs.Memory.{FrameByte, number_of}
+use Rattle.bpf_meaning.specs.Memory.{FrameByte, number_of, all_written}
 use Rattle.bpf_meaning.specs.State.{register_value}
 use Rattle.bpf_meaning.specs.declared.cause.Cause.{Cause}
-use Rattle.bpf_meaning.specs.declared.cause.Cause.TheVariants.{OutOfProgram, IntoWide, ReadsNothing, PointerArithmetic, LeavesArea, NotPointer, OutOfBounds, UnwrittenFrame, WritesRecord, StoresPointer, ComparesPointer, UnknownHelper, ExitNotNumber}
+use Rattle.bpf_meaning.specs.declared.cause.Cause.TheVariants.{OutOfProgram, IntoWide, ReadsNothing, PointerArithmetic, LeavesArea, NotPointer, OutOfBounds, UnwrittenFrame, WritesRecord, StoresPointer, ComparesPointer, UnknownHelper, BadArgument, ExitNotNumber}
 use Rattle.bpf_meaning.specs.declared.effect.Change.{Change}
-use Rattle.bpf_meaning.specs.declared.effect.Change.TheVariants.{Nothing, SetRegister, StoreBytes}
+use Rattle.bpf_meaning.specs.declared.effect.Change.TheVariants.{Nothing, SetRegister, StoreBytes, CallHelper}
 use Rattle.bpf_meaning.specs.declared.effect.Effect.{Effect}
 use Rattle.bpf_meaning.specs.declared.effect.Effect.TheVariants.{GoOn, End}
-use Rattle.bpf_meaning.specs.declared.frame.TheConstants.{FRAME_LENGTH}
+use Rattle.bpf_insn.specs.declared.memory.TheConstants.{FRAME_LENGTH}
 use Rattle.bpf_meaning.specs.declared.state.State.{State}
 
 -- one check after the other: the first that fails gives the cause
@@ -138,16 +146,6 @@ abbrev pub area_bytes : Contents → State → Area → List FrameByte
 area_bytes segment state Record = map memory.Byte segment.bytes
 area_bytes segment state Frame = state.frame.bytes
 
--- how many bytes a load reads (section 5.1)
-abbrev pub load_length : LoadFormat → ℕ
-load_length Byte = 1
-load_length HalfWord = 2
-load_length Word = 4
-load_length DoubleWord = 8
-load_length SignedByte = 1
-load_length SignedHalfWord = 2
-load_length SignedWord = 4
-
 -- what a load gives for the bytes' number, if they are all written
 abbrev pub load_number : LoadFormat → Option ℕ → Result Value Cause
 load_number format None = Err UnwrittenFrame
@@ -165,13 +163,6 @@ abbrev pub load_value : Contents → State → LoadFormat → ℕ → ℤ → Re
 load_value segment state format base offset =
     pointer_in state base >>= λ pointer. load_bytes format (area_bytes segment state pointer.area) (pointer.offset +ℤ offset)
 
--- how many bytes a store writes (section 5.1)
-abbrev pub store_length : StoreSize → ℕ
-store_length store_size.Byte = 1
-store_length store_size.HalfWord = 2
-store_length store_size.Word = 4
-store_length store_size.DoubleWord = 8
-
 -- an offset into the frame: the record is read-only
 abbrev pub frame_offset : Area → ℤ → Result ℤ Cause
 frame_offset Frame offset = Ok offset
@@ -187,6 +178,59 @@ abbrev pub store_change : State → StoreSize → ℕ → ℤ → Source → Res
 store_change state size base offset source =
     pointer_in state base >>= λ pointer. frame_offset pointer.area (pointer.offset +ℤ offset) >>= λ from.
     operand state source >>= number_or StoresPointer >>= λ number. store_at from size number
+
+-- a number lies in an interval that a prototype allows
+abbrev pub is_allowed : Interval → ℕ → Bool
+is_allowed x n = nat_le x.low n && nat_le n x.high
+
+-- A word for an argument: a number that its prototype allows, or a pointer into the frame as its offset in two's complement. Anything else is
+-- no such argument.
+abbrev pub argument_word : ℕ → Argument → Value → Result ℕ Cause
+argument_word number argument.Unused value = Ok 0
+argument_word number (argument.Number allowed) (Number n) = if is_allowed allowed n then Ok n else Err (BadArgument number)
+argument_word number argument.Frame (Pointer pointer) = frame_word pointer.area
+  where
+    frame_word : Area → Result ℕ Cause
+    frame_word Frame = Ok (cast_unsigned w64 pointer.offset)
+    frame_word Record = Err (BadArgument number)
+argument_word number wanted value = Err (BadArgument number)
+
+-- the argument with a number, counted from 1, which the register of that number holds; one that isn't used isn't read
+abbrev pub argument_in : State → ℕ → Argument → Result ℕ Cause
+argument_in state number argument.Unused = Ok 0
+argument_in state number (argument.Number allowed) = read state number >>= argument_word number (argument.Number allowed)
+argument_in state number argument.Frame = read state number >>= argument_word number argument.Frame
+
+-- the arguments that a prototype wants, in their order
+abbrev pub arguments_in : State → List Argument → Result (List ℕ) Cause
+arguments_in state wanted =
+    argument_in state 1 (get_or wanted 0 argument.Unused) >>= λ one.
+    argument_in state 2 (get_or wanted 1 argument.Unused) >>= λ two.
+    argument_in state 3 (get_or wanted 2 argument.Unused) >>= λ three. Ok (one ∷ two ∷ three ∷ [])
+
+-- the bytes of the frame that a call reads or writes lie within it
+abbrev pub lend_bytes : List ℕ → Result (List ℕ) Cause
+lend_bytes arguments =
+    if lie_within (cast_signed w64 (second arguments)) (third arguments) FRAME_LENGTH then Ok arguments else Err OutOfBounds
+
+-- bytes that it reads are written
+abbrev pub lend_written : State → List ℕ → Result (List ℕ) Cause
+lend_written state arguments = if all_written (bytes_read Reads arguments state.frame.bytes) then Ok arguments else Err UnwrittenFrame
+
+abbrev pub lend_frame : State → FrameUse → List ℕ → Result (List ℕ) Cause
+lend_frame state frame_use.Nothing arguments = Ok arguments
+lend_frame state Writes arguments = lend_bytes arguments
+lend_frame state Reads arguments = lend_bytes arguments >>= lend_written state
+
+-- the call of a helper function, once its arguments are what its prototype wants
+abbrev pub call_helper : State → Helper → Result Change Cause
+call_helper state helper =
+    arguments_in state (signature helper).arguments >>= lend_frame state (signature helper).frame >>= λ arguments. Ok (CallHelper helper arguments)
+
+-- a call by a number (section 4.3.1)
+abbrev pub call_change : State → Option Helper → Result Change Cause
+call_change state None = Err UnknownHelper
+call_change state (Some helper) = call_helper state helper
 
 -- The program goes on at a place, with a change, if an instruction begins there. A place within the code where none begins is a wide
 -- load's second word.
@@ -207,7 +251,7 @@ go_to code (negsuc before) = Err OutOfProgram
 abbrev pub jump : List Insn → ℕ → ℤ → Result Effect Cause
 jump code place distance = go_to code (pos (place + 1) +ℤ distance)
 
--- the effect of an instruction behind which the next one begins at this place. No helper function is known.
+-- the effect of an instruction behind which the next one begins at this place
 abbrev pub instruction_effect : List Insn → Contents → State → ℕ → Insn → Result Effect Cause
 instruction_effect code segment state next (Alu operation width destination source) =
     operation_value state operation width destination.number source >>= set_register code next destination
@@ -220,7 +264,8 @@ instruction_effect code segment state next (ByteSwap order width destination) =
 instruction_effect code segment state next (JumpIf condition width left right offset) =
     comparison state condition width left.number right >>= λ taken. if taken then jump code state.place offset else go_on code next Nothing
 instruction_effect code segment state next (Jump distance) = jump code state.place (words distance)
-instruction_effect code segment state next (Call immediate) = Err UnknownHelper
+instruction_effect code segment state next (Call immediate) =
+    call_change state (by_number (cast_unsigned w32 immediate)) >>= go_on code next
 instruction_effect code segment state next Exit = read state 0 >>= number_or ExitNotNumber >>= λ answer. Ok (End answer)
 instruction_effect code segment state next (Load format destination base offset) =
     load_value segment state format base.number offset >>= set_register code next destination
@@ -240,12 +285,18 @@ effect_of code segment state (Some insn) = instruction_effect code segment state
 abbrev pub effect : List Insn → Contents → State → Result Effect Cause
 effect code segment state = effect_of code segment state (instruction_at code state.place)
 
--- bytes that are stored lie within the frame
-abbrev pub LiesInFrame : Change → Type 0
-LiesInFrame Nothing = Unit {0}
-LiesInFrame (SetRegister register value) = Unit {0}
-LiesInFrame (StoreBytes at size number) = at + store_length size ≤ FRAME_LENGTH
+-- a call can be carried out: its arguments are what its prototype wants, and what it reads of the frame is written
+pub record CanBeCalled (state : State) (helper : Helper) (arguments : List ℕ) : Type 0 where
+  pub meets : MeetsSignature helper arguments
+  pub written : IsTrue (all_written (bytes_read (signature helper).frame arguments state.frame.bytes))
 
-abbrev pub WritesInFrame : Effect → Type 0
-WritesInFrame (GoOn change place) = LiesInFrame change
-WritesInFrame (End answer) = Unit {0}
+-- a change can be carried out: bytes that are stored lie within the frame, and a call can be carried out
+abbrev pub CanBeMade : State → Change → Type 0
+CanBeMade state Nothing = Unit {0}
+CanBeMade state (SetRegister register value) = Unit {0}
+CanBeMade state (StoreBytes at size number) = at + store_length size ≤ FRAME_LENGTH
+CanBeMade state (CallHelper helper arguments) = CanBeCalled state helper arguments
+
+abbrev pub CanBeCarriedOut : State → Effect → Type 0
+CanBeCarriedOut state (GoOn change place) = CanBeMade state change
+CanBeCarriedOut state (End answer) = Unit {0}

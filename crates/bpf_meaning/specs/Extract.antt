@@ -1,7 +1,7 @@
 -- The extract of segments: a row for each segment that the code answers with a number other than 0.
 use Rattle.std.specs.Prelude.{◌≡◌, ℕ, ◌+◌, ◌==◌, List, [], ◌∷◌, ◌++◌, decimal, if◌then◌else◌}
 use Rattle.bpf_insn.specs.declared.instruction.Insn.{Insn}
-use Rattle.bpf_meaning.specs.Segment.{Contents}
+use Rattle.tl_segments.specs.Segment.{Contents}
 use Rattle.bpf_meaning.specs.Run.{Answers}
 
 -- a row: the score in decimal, a tab, the record, a line feed

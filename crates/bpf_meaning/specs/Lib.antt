@@ -1,4 +1,3 @@
-pub mod Segment
 pub mod Memory
 pub mod State
 pub mod Cause

@@ -4,8 +4,8 @@ use Rattle.std.specs.Prelude.{◌≡◌, ℕ, pos, [], ◌∷◌, length, replic
 use Rattle.bpf_insn.specs.declared.value.Area.TheVariants as area
 use Rattle.bpf_insn.specs.declared.value.Value.{Value}
 use Rattle.bpf_insn.specs.declared.value.Value.TheVariants as value
-use Rattle.bpf_meaning.specs.Memory.{Unwritten}
-use Rattle.bpf_meaning.specs.declared.frame.TheConstants.{FRAME_LENGTH}
+use Rattle.bpf_meaning.specs.Memory.{IsByte, Unwritten}
+use Rattle.bpf_insn.specs.declared.memory.TheConstants.{FRAME_LENGTH}
 use Rattle.bpf_meaning.specs.declared.state.State.{State}
 use Rattle.bpf_meaning.specs.declared.state.TheConstants.{REGISTERS}
 
@@ -23,6 +23,10 @@ start = record {
 pub record IsWhole (state : State) : Type 0 where
   pub registers : length state.registers ≡ REGISTERS
   pub frame : length state.frame.bytes ≡ FRAME_LENGTH
+
+-- the frame's bytes are bytes, as those of every State of the code are
+pub record HoldsBytes (state : State) : Type 0 where
+  pub frame : (at : ℕ) → IsByte (get_or state.frame.bytes at Unwritten)
 
 -- what a register holds
 abbrev pub register_value : State → ℕ → Value

@@ -1,12 +1,18 @@
 -- Steps: an effect is carried out, and gives the next configuration.
-use Rattle.std.specs.Prelude.{◌≡◌, ℕ, List, slice_set, Result, Ok, Err}
+use Rattle.std.specs.Prelude.{◌≡◌, ℕ, List, ◌∷◌, ◌++◌, map, drop, replicate, slice_set, Result, Ok, Err}
 use Rattle.bpf_insn.specs.declared.instruction.Insn.{Insn}
-use Rattle.bpf_meaning.specs.Segment.{Contents}
-use Rattle.bpf_meaning.specs.Memory.{store}
-use Rattle.bpf_meaning.specs.Effect.{effect, store_length}
+use Rattle.tl_segments.specs.Segment.{Contents}
+use Rattle.bpf_insn.specs.Memory.{store_length}
+use Rattle.bpf_insn.specs.declared.value.Value.{Value}
+use Rattle.bpf_insn.specs.declared.value.Value.TheVariants.{Empty, Number}
+use Rattle.bpf_helpers.specs.Call.{Called, bytes_read, call, second, write}
+use Rattle.bpf_helpers.specs.Helper.{signature}
+use Rattle.bpf_helpers.specs.declared.helper.Helper.{Helper}
+use Rattle.bpf_meaning.specs.Memory.{Byte, store, written_bytes}
+use Rattle.bpf_meaning.specs.Effect.{effect}
 use Rattle.bpf_meaning.specs.declared.cause.Cause.{Cause}
 use Rattle.bpf_meaning.specs.declared.effect.Change.{Change}
-use Rattle.bpf_meaning.specs.declared.effect.Change.TheVariants.{Nothing, SetRegister, StoreBytes}
+use Rattle.bpf_meaning.specs.declared.effect.Change.TheVariants.{Nothing, SetRegister, StoreBytes, CallHelper}
 use Rattle.bpf_meaning.specs.declared.effect.Effect.{Effect}
 use Rattle.bpf_meaning.specs.declared.effect.Effect.TheVariants.{GoOn, End}
 use Rattle.bpf_meaning.specs.declared.outcome.Outcome.{Outcome}
@@ -19,26 +25,44 @@ pub data Configuration : Type 0 where
   Exited : (answer score : ℕ) → Configuration
   Stuck : (place : ℕ) (cause : Cause) → Configuration
 
+-- the registers after a call, which is this project's own: register 0 has the answer, registers 1 to 5 hold nothing, and the others are kept
+abbrev pub registers_after : ℕ → List Value → List Value
+registers_after answer registers = Number answer ∷ replicate 5 Empty ++ drop 6 registers
+
+-- the state after a call whose bytes are written at an offset
+abbrev pub state_after : State → ℕ → Called → State
+state_after state at called = record state {
+  registers = registers_after called.answer state.registers;
+  frame = record state.frame { bytes = write state.frame.bytes at (map Byte called.written) };
+  score = called.score;
+}
+
+-- what a call does on the segment, with what it reads of the frame
+abbrev pub called : Contents → State → Helper → List ℕ → Called
+called segment state helper arguments =
+    call helper segment arguments (written_bytes (bytes_read (signature helper).frame arguments state.frame.bytes)) state.score
+
 -- the state with a change
-abbrev pub carry_out : State → Change → State
-carry_out state Nothing = state
-carry_out state (SetRegister register value) = record state { registers = slice_set state.registers register.number value }
-carry_out state (StoreBytes at size number) =
+abbrev pub carry_out : Contents → State → Change → State
+carry_out segment state Nothing = state
+carry_out segment state (SetRegister register value) = record state { registers = slice_set state.registers register.number value }
+carry_out segment state (StoreBytes at size number) =
     record state { frame = record state.frame { bytes = store state.frame.bytes at (store_length size) number } }
+carry_out segment state (CallHelper helper arguments) = state_after state (second arguments) (called segment state helper arguments)
 
 -- what an effect leads to
-abbrev pub apply : State → Effect → Configuration
-apply state (GoOn change place) = Running (record (carry_out state change) { place = place })
-apply state (End answer) = Exited answer state.score
+abbrev pub apply : Contents → State → Effect → Configuration
+apply segment state (GoOn change place) = Running (record (carry_out segment state change) { place = place })
+apply segment state (End answer) = Exited answer state.score
 
 -- what a state leads to: its effect, or that the instruction at its place can't be carried out
-abbrev pub next_of : State → Result Effect Cause → Configuration
-next_of state (Ok effect) = apply state effect
-next_of state (Err cause) = Stuck state.place cause
+abbrev pub next_of : Contents → State → Result Effect Cause → Configuration
+next_of segment state (Ok effect) = apply segment state effect
+next_of segment state (Err cause) = Stuck state.place cause
 
 -- the configuration that comes after a running one
 unfoldable pub after : List Insn → Contents → State → Configuration
-after code segment state = next_of state (effect code segment state)
+after code segment state = next_of segment state (effect code segment state)
 
 -- the configuration that an outcome stands for, with the state where it goes on
 abbrev pub configuration_of : Outcome → State → Configuration

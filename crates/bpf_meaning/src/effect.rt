@@ -1,5 +1,6 @@
 //! What an instruction does once its checks have passed, as plain data.
 
+use bpf_helpers::Helper;
 use bpf_insn::{StoreSize, Value, WritableRegister};
 
 /// What an instruction does to a state.
@@ -25,5 +26,10 @@ pub enum Change {
         at: usize,
         size: StoreSize,
         number: u64,
+    },
+    /// A helper function is called with words: a pointer into the frame is its offset.
+    CallHelper {
+        helper: Helper,
+        arguments: [u64; 3],
     },
 }

@@ -1,12 +1,15 @@
 //! The program's own memory.
-ghost use Rattle.std.specs.Prelude.{◌≡◌, ◌+◌, ◌≤◌, length, take, drop, replicate};
-ghost use Rattle.bpf_meaning.specs.Memory.{Unwritten, number_of, store};
+ghost use Rattle.std.specs.Prelude.{◌≡◌, ◌+◌, ◌≤◌, IsTrue, length, map, take, drop, replicate};
+ghost use Rattle.bpf_helpers.specs.Call.{MeetsSignature, bytes_read, call, second, write};
+ghost use Rattle.bpf_helpers.specs.Helper.{signature};
+ghost use Rattle.bpf_meaning.specs.Memory.{Byte, Unwritten, all_written, number_of, store, written_bytes};
 
 use crate::memory::little_endian;
+use bpf_helpers::{FrameUse, Helper, call};
+use bpf_insn::FRAME_LENGTH;
+use std::alloc::Allocator;
 use std::marker::Model;
-
-/// How many bytes the frame has. Register 10 starts behind its last.
-pub const FRAME_LENGTH: usize = 512;
+use tl_segments::Segment;
 
 /// The program's own memory, by offset from 0. Contracts see it as a record with the field `bytes`, each of which is unwritten or a byte.
 #[derive(Debug, Drop)]
@@ -64,5 +67,42 @@ impl Frame {
         let bytes = number.to_le_bytes();
         self.bytes[at..at + count].copy_from_slice(&bytes[..count]);
         self.marks[at..at + count].fill(true);
+    }
+
+    /// Whether so many bytes from an offset on are written.
+    pub(crate) fn all_written(&self, at: usize, count: usize) -> bool
+        requires { at + count ≤ FRAME_LENGTH }
+        ensures { result ≡ all_written (take count (drop at self.now.bytes)) }
+    {
+        !self.marks[at..at + count].contains(&false)
+    }
+
+    /// Calls a helper function on a segment, which may read bytes that are written, and write others.
+    pub(crate) fn call<A: Allocator>(
+        &mut self,
+        helper: Helper,
+        arguments: [u64; 3],
+        segment: &Segment<A>,
+        score: &mut u64,
+    ) -> u64
+        requires meets { MeetsSignature helper arguments }
+        requires written { IsTrue (all_written (bytes_read (signature helper).frame arguments self.old.bytes)) }
+        ensures answer { result ≡ (call helper segment.now arguments
+            (written_bytes (bytes_read (signature helper).frame arguments self.old.bytes)) score.old).answer }
+        ensures frame { self.new ≡ record self.old {
+          bytes = write self.old.bytes (second arguments) (map Byte (call helper segment.now arguments
+              (written_bytes (bytes_read (signature helper).frame arguments self.old.bytes)) score.old).written);
+        } }
+        ensures score { score.new ≡ (call helper segment.now arguments
+            (written_bytes (bytes_read (signature helper).frame arguments self.old.bytes)) score.old).score }
+    {
+        let answer = call(helper, arguments, segment, &mut self.bytes, score);
+        if let FrameUse::Writes = helper.signature().frame {
+            // Not read: that its names are whole tells how many bytes were written.
+            let _bytes = segment.bytes();
+            let [_, at, count] = arguments;
+            self.marks[at as usize..at as usize + count as usize].fill(true);
+        }
+        answer
     }
 }

@@ -1,22 +1,21 @@
 //! Laws, each the contract of a function that does nothing.
-ghost use Rattle.std.specs.Prelude.{◌≡◌, ◌≤◌, ◌+◌, ◌%◌, ◌^◌, ◌++◌, ℕ, List, length, take, drop, Some};
+ghost use Rattle.std.specs.Prelude.{◌≡◌, ◌≤◌, ◌+◌, ◌%◌, ◌^◌, ◌++◌, ℕ, ℤ, List, length, take, drop, Some};
+ghost use Rattle.bpf_insn.specs.Code.{instruction_at};
 ghost use Rattle.bpf_insn.specs.declared.instruction.Insn.{Insn};
-ghost use Rattle.bpf_meaning.specs.Segment.{Contents};
+ghost use Rattle.bpf_insn.specs.declared.instruction.Insn.TheVariants.{Call};
+ghost use Rattle.bpf_insn.specs.declared.value.Value.TheVariants.{Empty};
+ghost use Rattle.tl_segments.specs.Segment.{Contents, IsSegment};
 ghost use Rattle.bpf_meaning.specs.Memory.{FrameByte, number_of, store};
-ghost use Rattle.bpf_meaning.specs.State.{IsWhole};
+ghost use Rattle.bpf_meaning.specs.State.{HoldsBytes, IsWhole, register_value};
 ghost use Rattle.bpf_meaning.specs.Step.{Configuration, Running, Exited, Stuck};
 ghost use Rattle.bpf_meaning.specs.Run.{Answers, HasNoNext, HasOneNext, IsRun, Step, end_of};
 ghost use Rattle.bpf_meaning.specs.declared.cause.Cause.{Cause};
-ghost use Rattle.bpf_meaning.specs.declared.frame.TheConstants.{FRAME_LENGTH};
-ghost use Rattle.bpf_meaning.specs.declared.segment.TheConstants.{RECORD_LENGTH};
 ghost use Rattle.bpf_meaning.specs.declared.state.State.{State};
 ghost use Rattle.bpf_meaning.specs.declared.state.TheConstants.{REGISTERS};
 
-/// How long the record, the frame and the list of registers are, in figures.
-pub fn lengths()
-    ensures segment { RECORD_LENGTH ≡ 228 }
-    ensures frame { FRAME_LENGTH ≡ 512 }
-    ensures registers { REGISTERS ≡ 11 }
+/// There are eleven registers.
+pub fn registers()
+    ensures { REGISTERS ≡ 11 }
 {}
 
 /// A running configuration has exactly one next, and one that has ended has none.
@@ -42,6 +41,24 @@ pub fn states_stay_whole()
         → IsWhole state → Step code segment (Running state) (Running there) → IsWhole there }
     ensures run { (code : List Insn) (segment : Contents) (run : List Configuration) (state : State)
         → IsRun code segment run → end_of run ≡ Running state → IsWhole state }
+{}
+
+/// The frame of each state that a run on a segment comes to holds bytes, and a step keeps it so.
+pub fn states_hold_bytes()
+    ensures step { (code : List Insn) (segment : Contents) (state there : State)
+        → IsSegment segment → HoldsBytes state → Step code segment (Running state) (Running there) → HoldsBytes there }
+    ensures run { (code : List Insn) (segment : Contents) (run : List Configuration) (state : State)
+        → IsSegment segment → IsRun code segment run → end_of run ≡ Running state → HoldsBytes state }
+{}
+
+/// A step over a call leaves registers 1 to 5 empty, and keeps those above them.
+pub fn calls_empty_registers()
+    ensures empty { (code : List Insn) (segment : Contents) (state there : State) (immediate : ℤ)
+        → instruction_at code state.place ≡ Some (Call immediate) → Step code segment (Running state) (Running there)
+        → (register : ℕ) → 1 ≤ register → register ≤ 5 → register_value there register ≡ Empty }
+    ensures kept { (code : List Insn) (segment : Contents) (state there : State) (immediate : ℤ)
+        → instruction_at code state.place ≡ Some (Call immediate) → Step code segment (Running state) (Running there)
+        → (register : ℕ) → 6 ≤ register → register_value there register ≡ register_value state register }
 {}
 
 /// Two runs of a code on a segment agree as far as both go: the longer one begins with the other.

@@ -1,41 +1,19 @@
 //! Loads and stores.
 ghost use Rattle.std.specs.Prelude.{◌≡◌, ◌+◌, ◌+ℤ◌, ◌^◌, ◌<◌, ◌≤◌, IsTrue, map, length, unsigned_abs, Some, MatchOption, false};
 ghost use Rattle.bpf_meaning.specs.Memory.{Byte, number_of};
-ghost use Rattle.bpf_meaning.specs.Effect.{lie_within, load_bytes, load_length, load_value, pointer_in, store_at, store_change, store_length};
+ghost use Rattle.bpf_meaning.specs.Effect.{lie_within, load_bytes, load_value, pointer_in, store_at, store_change};
 
 use crate::cause::Cause;
 use crate::effect::Change;
-use crate::frame::{FRAME_LENGTH, Frame};
+use crate::frame::Frame;
 use crate::operands::{number_or, operand};
-use crate::segment::Segment;
 use crate::state::State;
-use bpf_insn::{Area, LoadFormat, Pointer, Register, Source, StoreSize, Value};
-
-/// How many bytes a load reads (RFC 9669, section 5.1).
-pub fn load_length(format: LoadFormat) -> usize
-    ensures value { result ≡ load_length format }
-    ensures short { result ≤ 8 }
-{
-    match format {
-        LoadFormat::Byte | LoadFormat::SignedByte => 1,
-        LoadFormat::HalfWord | LoadFormat::SignedHalfWord => 2,
-        LoadFormat::Word | LoadFormat::SignedWord => 4,
-        LoadFormat::DoubleWord => 8,
-    }
-}
-
-/// How many bytes a store writes (RFC 9669, section 5.1).
-pub fn store_length(size: StoreSize) -> usize
-    ensures value { result ≡ store_length size }
-    ensures short { result ≤ 8 }
-{
-    match size {
-        StoreSize::Byte => 1,
-        StoreSize::HalfWord => 2,
-        StoreSize::Word => 4,
-        StoreSize::DoubleWord => 8,
-    }
-}
+use bpf_insn::{
+    Area, FRAME_LENGTH, LoadFormat, Pointer, Register, Source, StoreSize, Value, load_length,
+    store_length,
+};
+use std::alloc::Allocator;
+use tl_segments::Segment;
 
 /// An offset from which on so many bytes lie within the first ones, so many, of an area.
 fn offset_within(offset: i32, count: usize, bytes: usize) -> Option<usize>
@@ -110,8 +88,8 @@ fn offset_from(pointer: Pointer, offset: i16) -> i32
 }
 
 /// What a load gives.
-pub(crate) fn load_value(
-    segment: &Segment,
+pub(crate) fn load_value<A: Allocator>(
+    segment: &Segment<A>,
     state: &State,
     format: LoadFormat,
     base: Register,

@@ -3,10 +3,12 @@ ghost use Rattle.std.specs.Prelude.{◌≡◌, ◌≤◌};
 
 use crate::cause::Cause;
 use crate::effect::{Change, Effect};
-use crate::frame::{FRAME_LENGTH, Frame};
-use crate::memory::store_length;
+use crate::frame::Frame;
 use crate::outcome::Outcome;
-use bpf_insn::{Area, Pointer, Value};
+use bpf_helpers::Helper;
+use bpf_insn::{Area, FRAME_LENGTH, Pointer, Value, store_length};
+use std::alloc::Allocator;
+use tl_segments::Segment;
 
 /// How many registers there are.
 pub const REGISTERS: usize = 11;
@@ -25,8 +27,9 @@ pub struct State {
 
 impl State {
     ghost use Rattle.bpf_meaning.specs.State.{start};
-    ghost use Rattle.bpf_meaning.specs.Effect.{LiesInFrame, WritesInFrame, read};
-    ghost use Rattle.bpf_meaning.specs.Step.{apply, carry_out, configuration_of, KeepsAtEnd};
+    ghost use Rattle.bpf_meaning.specs.Effect.{CanBeCalled, CanBeMade, CanBeCarriedOut, read};
+    ghost use Rattle.bpf_helpers.specs.Call.{second};
+    ghost use Rattle.bpf_meaning.specs.Step.{apply, called, carry_out, configuration_of, state_after, KeepsAtEnd};
 
     /// The state in which a program starts, the same on every segment: register 1 points to the record's first byte, register 10
     /// behind the frame's last, and nothing else was written. It holds no memory of its own.
@@ -61,16 +64,16 @@ impl State {
         }
     }
 
-    /// Carries out an effect.
+    /// Carries out an effect on a segment.
     #[inline]
-    pub(crate) fn apply(&mut self, effect: Effect) -> Outcome
-        requires { WritesInFrame effect }
-        ensures next { configuration_of result self.new ≡ apply self.old effect }
+    pub(crate) fn apply<A: Allocator>(&mut self, segment: &Segment<A>, effect: Effect) -> Outcome
+        requires { CanBeCarriedOut self.old effect }
+        ensures next { configuration_of result self.new ≡ apply segment.now self.old effect }
         ensures ended { KeepsAtEnd result self.old self.new }
     {
         match effect {
             Effect::GoOn { change, place } => {
-                self.carry_out(change);
+                self.carry_out(segment, change);
                 self.place = place;
                 Outcome::Running
             }
@@ -82,9 +85,9 @@ impl State {
     }
 
     #[inline]
-    fn carry_out(&mut self, change: Change)
-        requires { LiesInFrame change }
-        ensures { self.new ≡ carry_out self.old change }
+    fn carry_out<A: Allocator>(&mut self, segment: &Segment<A>, change: Change)
+        requires { CanBeMade self.old change }
+        ensures { self.new ≡ carry_out segment.now self.old change }
     {
         match change {
             Change::Nothing => {}
@@ -94,6 +97,17 @@ impl State {
             Change::StoreBytes { at, size, number } => {
                 self.frame.store(at, store_length(size), number);
             }
+            Change::CallHelper { helper, arguments } => self.call(segment, helper, arguments),
         }
+    }
+
+    /// Calls a helper function: register 0 gets its answer, and registers 1 to 5 hold nothing afterwards.
+    fn call<A: Allocator>(&mut self, segment: &Segment<A>, helper: Helper, arguments: [u64; 3])
+        requires { CanBeCalled self.old helper arguments }
+        ensures { self.new ≡ state_after self.old (second arguments) (called segment.now self.old helper arguments) }
+    {
+        let answer = self.frame.call(helper, arguments, segment, &mut self.score);
+        self.registers[0] = Value::Number(answer);
+        self.registers[1..6].fill(Value::Empty);
     }
 }

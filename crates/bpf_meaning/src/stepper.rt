@@ -4,15 +4,19 @@ ghost use Rattle.bpf_meaning.specs.Run.{IsTraced};
 ghost use Rattle.bpf_meaning.specs.Step.{after, configuration_of, KeepsAtEnd};
 
 use crate::outcome::Outcome;
-use crate::segment::Segment;
 use crate::state::State;
 use crate::table::effect;
 use bpf_insn::Code;
 use std::alloc::Allocator;
+use tl_segments::Segment;
 
 /// Runs a code on a segment for at most so many steps, and tells what the last one led to. It takes no memory, and its time grows with
 /// the steps that it takes.
-pub fn trace<A: Allocator>(code: &Code<A>, segment: &Segment, limit: u64) -> Outcome
+pub fn trace<A: Allocator, B: Allocator>(
+    code: &Code<A>,
+    segment: &Segment<B>,
+    limit: u64,
+) -> Outcome
     ensures { IsTraced code.now segment.now limit result }
 {
     let mut state = State::start();
@@ -29,12 +33,16 @@ pub fn trace<A: Allocator>(code: &Code<A>, segment: &Segment, limit: u64) -> Out
 /// the program goes on, or as it was where the program has ended, so that a further step ends alike. It may be any state, also one that
 /// no run comes to.
 #[tactic(auto, unfolding(crate::specs::Step::after))]
-pub fn step<A: Allocator>(code: &Code<A>, segment: &Segment, state: &mut State) -> Outcome
+pub fn step<A: Allocator, B: Allocator>(
+    code: &Code<A>,
+    segment: &Segment<B>,
+    state: &mut State,
+) -> Outcome
     ensures next { configuration_of result state.new ≡ after code.now segment.now state.old }
     ensures ended { KeepsAtEnd result state.old state.new }
 {
     match effect(code, segment, state) {
-        Ok(effect) => state.apply(effect),
+        Ok(effect) => state.apply(segment, effect),
         Err(cause) => Outcome::Stuck {
             place: state.place,
             cause,

@@ -3,21 +3,23 @@ ghost use Rattle.std.specs.Prelude.{◌≡◌, ◌<◌};
 ghost use Rattle.bpf_insn.specs.declared.code.TheConstants.{WORD_LIMIT};
 ghost use Rattle.bpf_meaning.specs.Effect.{effect, instruction_effect};
 
+use crate::calls::call_change;
 use crate::cause::Cause;
 use crate::effect::{Change, Effect};
 use crate::memory::{load_value, store_change};
 use crate::operands::{comparison, number_in, number_or, operation_value};
 use crate::progress::{go_on, jump, set_register};
-use crate::segment::Segment;
 use crate::state::State;
+use bpf_helpers::Helper;
 use bpf_insn::{Code, Insn, Source, Value, negate, wide_number};
 use std::alloc::Allocator;
+use tl_segments::Segment;
 
 /// The effect of the instruction at the state's place, or the first check that fails. Nothing is carried out.
 #[inline]
-pub(crate) fn effect<A: Allocator>(
+pub(crate) fn effect<A: Allocator, B: Allocator>(
     code: &Code<A>,
-    segment: &Segment,
+    segment: &Segment<B>,
     state: &State,
 ) -> Result<Effect, Cause>
     ensures { result ≡ effect code.now segment.now state.now }
@@ -33,9 +35,9 @@ pub(crate) fn effect<A: Allocator>(
 
 /// The effect of an instruction behind which the next one begins at this place: one arm a row.
 #[inline]
-fn instruction_effect<A: Allocator>(
+fn instruction_effect<A: Allocator, B: Allocator>(
     code: &Code<A>,
-    segment: &Segment,
+    segment: &Segment<B>,
     state: &State,
     next: usize,
     insn: Insn,
@@ -92,7 +94,10 @@ fn instruction_effect<A: Allocator>(
             }
         }
         Insn::Jump(distance) => jump(code, state.place, distance.words()),
-        Insn::Call { .. } => Err(Cause::UnknownHelper),
+        Insn::Call { immediate } => {
+            let change = call_change(state, Helper::by_number(immediate.cast_unsigned()))?;
+            go_on(code, next, change)
+        }
         Insn::Exit => {
             let answer = number_or(Cause::ExitNotNumber, state.read(0)?)?;
             Ok(Effect::End { answer })

@@ -1,10 +1,11 @@
 //! Programs worked by hand, or by another tool, on a record whose bytes are known. Each table has a row a line: what comes of the program,
 //! its text, and its words in hexadecimal. What comes of it is its answer, the refusal where it's stuck, or `running`.
 
-use crate::{Outcome, Segment, State, step, trace};
+use crate::{Outcome, State, step, trace};
 use bpf_insn::{Code, Value, decode};
 use std::alloc::Allocator;
 use std::test::Fail;
+use tl_segments::{Range, Segment};
 
 /// A line of record type 1: the 228 bytes of the layout, blank where nothing is named.
 const RECORD: &[u8; 228] =
@@ -182,8 +183,128 @@ refused 47 place 0 StoresPointer; stxw [r10-8], r1 | exit; 631af8ff00000000 9500
 refused 47 place 0 StoresPointer; stxdw [r10+0], r10 | exit; 7baa000000000000 9500000000000000
 refused 48 place 1 ComparesPointer; mov r0, 0 | jeq r1, 0, +0 | exit; b700000000000000 1501000000000000 9500000000000000
 refused 48 place 1 ComparesPointer; mov r0, 0 | jne r0, r1, +0 | exit; b700000000000000 5d10000000000000 9500000000000000
-refused 49 place 0 UnknownHelper; call 1 | exit; 8500000001000000 9500000000000000
 refused 51 place 1 ExitNotNumber; mov r0, r1 | exit; bf10000000000000 9500000000000000
+";
+
+/// The same of calls of helper functions.
+const CALL_CAUSES: &str = "\
+refused 49 place 0 UnknownHelper; call 0 | exit; 8500000000000000 9500000000000000
+refused 49 place 0 UnknownHelper; call 10; 850000000a000000
+refused 49 place 0 UnknownHelper; call -2147483648 | exit; 8500000000000080 9500000000000000
+refused 49 place 0 UnknownHelper; call -1 | exit; 85000000ffffffff 9500000000000000
+refused 31 place 0 OutOfProgram; call 3; 8500000003000000
+refused 40 place 1 ReadsNothing(1); call 3 | call 1 | exit; 8500000003000000 8500000001000000 9500000000000000
+refused 50 place 0 BadArgument(1); call 1 | exit; 8500000001000000 9500000000000000
+refused 50 place 1 BadArgument(1); mov r1, r10 | call 1 | exit; bfa1000000000000 8500000001000000 9500000000000000
+refused 50 place 1 BadArgument(1); mov r1, 17 | call 1 | exit; b701000011000000 8500000001000000 9500000000000000
+refused 50 place 1 BadArgument(1); mov r1, -1 | call 1 | exit; b7010000ffffffff 8500000001000000 9500000000000000
+refused 40 place 1 ReadsNothing(1); call 3 | call 2 | exit; 8500000003000000 8500000002000000 9500000000000000
+refused 50 place 0 BadArgument(1); call 2 | exit; 8500000002000000 9500000000000000
+refused 50 place 1 BadArgument(1); mov r1, r10 | call 2 | exit; bfa1000000000000 8500000002000000 9500000000000000
+refused 50 place 1 BadArgument(1); mov r1, 17 | call 2 | exit; b701000011000000 8500000002000000 9500000000000000
+refused 40 place 1 ReadsNothing(1); call 3 | call 5 | exit; 8500000003000000 8500000005000000 9500000000000000
+refused 50 place 0 BadArgument(1); call 5 | exit; 8500000005000000 9500000000000000
+refused 50 place 1 BadArgument(1); mov r1, r10 | call 5 | exit; bfa1000000000000 8500000005000000 9500000000000000
+refused 40 place 1 ReadsNothing(2); mov r1, 0 | call 5 | exit; b701000000000000 8500000005000000 9500000000000000
+refused 50 place 2 BadArgument(2); mov r2, r1 | mov r1, 0 | call 5 | exit; bf12000000000000 b701000000000000 8500000005000000 9500000000000000
+refused 50 place 2 BadArgument(2); mov r1, 0 | mov r2, r10 | call 5 | exit; b701000000000000 bfa2000000000000 8500000005000000 9500000000000000
+refused 40 place 1 ReadsNothing(1); call 3 | call 6 | exit; 8500000003000000 8500000006000000 9500000000000000
+refused 50 place 0 BadArgument(1); call 6 | exit; 8500000006000000 9500000000000000
+refused 50 place 1 BadArgument(1); mov r1, r10 | call 6 | exit; bfa1000000000000 8500000006000000 9500000000000000
+refused 40 place 1 ReadsNothing(2); mov r1, 0 | call 6 | exit; b701000000000000 8500000006000000 9500000000000000
+refused 50 place 2 BadArgument(2); mov r1, 0 | mov r2, 0 | call 6 | exit; b701000000000000 b702000000000000 8500000006000000 9500000000000000
+refused 50 place 2 BadArgument(2); mov r2, r1 | mov r1, 0 | call 6 | exit; bf12000000000000 b701000000000000 8500000006000000 9500000000000000
+refused 40 place 2 ReadsNothing(3); mov r1, 0 | mov r2, r10 | call 6 | exit; b701000000000000 bfa2000000000000 8500000006000000 9500000000000000
+refused 50 place 3 BadArgument(3); mov r3, r1 | mov r1, 0 | mov r2, r10 | call 6 | exit; bf13000000000000 b701000000000000 bfa2000000000000 8500000006000000 9500000000000000
+refused 50 place 3 BadArgument(3); mov r1, 0 | mov r2, r10 | mov r3, r10 | call 6 | exit; b701000000000000 bfa2000000000000 bfa3000000000000 8500000006000000 9500000000000000
+refused 50 place 3 BadArgument(3); mov r1, 0 | mov r2, r10 | mov r3, 0 | call 6 | exit; b701000000000000 bfa2000000000000 b703000000000000 8500000006000000 9500000000000000
+refused 50 place 3 BadArgument(3); mov r1, 0 | mov r2, r10 | mov r3, 31 | call 6 | exit; b701000000000000 bfa2000000000000 b70300001f000000 8500000006000000 9500000000000000
+refused 40 place 1 ReadsNothing(1); call 3 | call 7 | exit; 8500000003000000 8500000007000000 9500000000000000
+refused 50 place 0 BadArgument(1); call 7 | exit; 8500000007000000 9500000000000000
+refused 50 place 1 BadArgument(1); mov r1, r10 | call 7 | exit; bfa1000000000000 8500000007000000 9500000000000000
+refused 40 place 1 ReadsNothing(2); mov r1, 0 | call 7 | exit; b701000000000000 8500000007000000 9500000000000000
+refused 50 place 2 BadArgument(2); mov r1, 0 | mov r2, 0 | call 7 | exit; b701000000000000 b702000000000000 8500000007000000 9500000000000000
+refused 50 place 2 BadArgument(2); mov r2, r1 | mov r1, 0 | call 7 | exit; bf12000000000000 b701000000000000 8500000007000000 9500000000000000
+refused 40 place 2 ReadsNothing(3); mov r1, 0 | mov r2, r10 | call 7 | exit; b701000000000000 bfa2000000000000 8500000007000000 9500000000000000
+refused 50 place 3 BadArgument(3); mov r3, r1 | mov r1, 0 | mov r2, r10 | call 7 | exit; bf13000000000000 b701000000000000 bfa2000000000000 8500000007000000 9500000000000000
+refused 50 place 3 BadArgument(3); mov r1, 0 | mov r2, r10 | mov r3, r10 | call 7 | exit; b701000000000000 bfa2000000000000 bfa3000000000000 8500000007000000 9500000000000000
+refused 50 place 3 BadArgument(3); mov r1, 0 | mov r2, r10 | mov r3, 0 | call 7 | exit; b701000000000000 bfa2000000000000 b703000000000000 8500000007000000 9500000000000000
+refused 50 place 5 BadArgument(3); stw [r10-4], 0x6e69616d | mov r1, 0 | mov r2, r10 | add r2, -4 | mov r3, 31 | call 7 | exit; 620afcff6d61696e b701000000000000 bfa2000000000000 07020000fcffffff b70300001f000000 8500000007000000 9500000000000000
+refused 40 place 1 ReadsNothing(1); call 3 | call 8 | exit; 8500000003000000 8500000008000000 9500000000000000
+refused 50 place 0 BadArgument(1); call 8 | exit; 8500000008000000 9500000000000000
+refused 50 place 1 BadArgument(1); mov r1, r10 | call 8 | exit; bfa1000000000000 8500000008000000 9500000000000000
+refused 40 place 1 ReadsNothing(1); call 3 | call 9 | exit; 8500000003000000 8500000009000000 9500000000000000
+refused 50 place 0 BadArgument(1); call 9 | exit; 8500000009000000 9500000000000000
+refused 50 place 1 BadArgument(1); mov r1, r10 | call 9 | exit; bfa1000000000000 8500000009000000 9500000000000000
+refused 50 place 1 BadArgument(1); mov r1, 4 | call 9 | exit; b701000004000000 8500000009000000 9500000000000000
+refused 50 place 1 BadArgument(1); mov r1, -1 | call 9 | exit; b7010000ffffffff 8500000009000000 9500000000000000
+refused 44 place 3 OutOfBounds; mov r1, 0 | mov r2, r10 | mov r3, 1 | call 6 | exit; b701000000000000 bfa2000000000000 b703000001000000 8500000006000000 9500000000000000
+refused 44 place 4 OutOfBounds; mov r1, 0 | mov r2, r10 | add r2, -29 | mov r3, 30 | call 6 | exit; b701000000000000 bfa2000000000000 07020000e3ffffff b70300001e000000 8500000006000000 9500000000000000
+refused 44 place 4 OutOfBounds; mov r1, 0 | mov r2, r10 | add r2, -513 | mov r3, 1 | call 6 | exit; b701000000000000 bfa2000000000000 07020000fffdffff b703000001000000 8500000006000000 9500000000000000
+refused 44 place 4 OutOfBounds; mov r1, 0 | mov r2, r10 | add r2, -513 | mov r3, 30 | call 6 | exit; b701000000000000 bfa2000000000000 07020000fffdffff b70300001e000000 8500000006000000 9500000000000000
+refused 44 place 3 OutOfBounds; mov r1, 0 | mov r2, r10 | mov r3, 1 | call 7 | exit; b701000000000000 bfa2000000000000 b703000001000000 8500000007000000 9500000000000000
+refused 44 place 4 OutOfBounds; mov r1, 0 | mov r2, r10 | add r2, -29 | mov r3, 30 | call 7 | exit; b701000000000000 bfa2000000000000 07020000e3ffffff b70300001e000000 8500000007000000 9500000000000000
+refused 44 place 4 OutOfBounds; mov r1, 0 | mov r2, r10 | add r2, -513 | mov r3, 1 | call 7 | exit; b701000000000000 bfa2000000000000 07020000fffdffff b703000001000000 8500000007000000 9500000000000000
+refused 45 place 5 UnwrittenFrame; sth [r10-2], 0 | mov r1, 0 | mov r2, r10 | add r2, -3 | mov r3, 3 | call 7 | exit; 6a0afeff00000000 b701000000000000 bfa2000000000000 07020000fdffffff b703000003000000 8500000007000000 9500000000000000
+refused 45 place 6 UnwrittenFrame; stb [r10-3], 0 | stb [r10-1], 0 | mov r1, 0 | mov r2, r10 | add r2, -3 | mov r3, 3 | call 7 | exit; 720afdff00000000 720affff00000000 b701000000000000 bfa2000000000000 07020000fdffffff b703000003000000 8500000007000000 9500000000000000
+refused 45 place 5 UnwrittenFrame; sth [r10-3], 0 | mov r1, 0 | mov r2, r10 | add r2, -3 | mov r3, 3 | call 7 | exit; 6a0afdff00000000 b701000000000000 bfa2000000000000 07020000fdffffff b703000003000000 8500000007000000 9500000000000000
+refused 45 place 4 UnwrittenFrame; mov r1, 0 | mov r2, r10 | add r2, -4 | mov r3, 4 | call 7 | exit; b701000000000000 bfa2000000000000 07020000fcffffff b703000004000000 8500000007000000 9500000000000000
+refused 45 place 5 UnwrittenFrame; mov r1, 0 | mov r2, r10 | add r2, -4 | mov r3, 3 | call 6 | ldxw r0, [r10-4] | exit; b701000000000000 bfa2000000000000 07020000fcffffff b703000003000000 8500000006000000 61a0fcff00000000 9500000000000000
+refused 40 place 1 ReadsNothing(1); call 3 | mov r0, r1 | exit; 8500000003000000 bf10000000000000 9500000000000000
+refused 40 place 2 ReadsNothing(2); mov r2, 1 | call 3 | mov r0, r2 | exit; b702000001000000 8500000003000000 bf20000000000000 9500000000000000
+refused 40 place 2 ReadsNothing(3); mov r3, 1 | call 3 | mov r0, r3 | exit; b703000001000000 8500000003000000 bf30000000000000 9500000000000000
+refused 40 place 2 ReadsNothing(4); mov r4, 1 | call 3 | mov r0, r4 | exit; b704000001000000 8500000003000000 bf40000000000000 9500000000000000
+refused 40 place 2 ReadsNothing(5); mov r5, 1 | call 3 | mov r0, r5 | exit; b705000001000000 8500000003000000 bf50000000000000 9500000000000000
+refused 40 place 6 ReadsNothing(1); stw [r10-4], 0x6e69616d | mov r1, 0 | mov r2, r10 | add r2, -4 | mov r3, 4 | call 7 | mov r0, r1 | exit; 620afcff6d61696e b701000000000000 bfa2000000000000 07020000fcffffff b703000004000000 8500000007000000 bf10000000000000 9500000000000000
+";
+
+/// What comes of calls on a segment with two alternate names and a further range.
+const CALLS: &str = "\
+123456789; mov r1, 0 | call 1 | exit; b701000000000000 8500000001000000 9500000000000000
+36067; mov r1, 6 | call 1 | exit; b701000006000000 8500000001000000 9500000000000000
+0; mov r1, 16 | call 1 | exit; b701000010000000 8500000001000000 9500000000000000
+1; mov r1, 6 | call 2 | exit; b701000006000000 8500000002000000 9500000000000000
+0; mov r1, 16 | call 2 | exit; b701000010000000 8500000002000000 9500000000000000
+2; call 3 | exit; 8500000003000000 9500000000000000
+2; call 4 | exit; 8500000004000000 9500000000000000
+1; mov r1, 0 | mov r2, 101 | call 5 | exit; b701000000000000 b702000065000000 8500000005000000 9500000000000000
+2; mov r1, 1 | mov r2, 300 | call 5 | exit; b701000001000000 b70200002c010000 8500000005000000 9500000000000000
+0; mov r1, 1 | mov r2, 101 | call 5 | exit; b701000001000000 b702000065000000 8500000005000000 9500000000000000
+0; mov r1, 2 | mov r2, 300 | call 5 | exit; b701000002000000 b70200002c010000 8500000005000000 9500000000000000
+0; mov r1, -1 | mov r2, -1 | call 5 | exit; b7010000ffffffff b7020000ffffffff 8500000005000000 9500000000000000
+1852399949; mov r1, 0 | mov r2, r10 | add r2, -4 | mov r3, 4 | call 6 | ldxw r0, [r10-4] | exit; b701000000000000 bfa2000000000000 07020000fcffffff b703000004000000 8500000006000000 61a0fcff00000000 9500000000000000
+544042053; mov r1, 1 | mov r2, r10 | add r2, -4 | mov r3, 4 | call 6 | ldxw r0, [r10-4] | exit; b701000001000000 bfa2000000000000 07020000fcffffff b703000004000000 8500000006000000 61a0fcff00000000 9500000000000000
+538976288; mov r1, 3 | mov r2, r10 | add r2, -4 | mov r3, 4 | call 6 | ldxw r0, [r10-4] | exit; b701000003000000 bfa2000000000000 07020000fcffffff b703000004000000 8500000006000000 61a0fcff00000000 9500000000000000
+1; mov r1, 2 | mov r2, r10 | add r2, -4 | mov r3, 4 | call 6 | exit; b701000002000000 bfa2000000000000 07020000fcffffff b703000004000000 8500000006000000 9500000000000000
+0; mov r1, 3 | mov r2, r10 | add r2, -4 | mov r3, 4 | call 6 | exit; b701000003000000 bfa2000000000000 07020000fcffffff b703000004000000 8500000006000000 9500000000000000
+0; mov r1, -1 | mov r2, r10 | add r2, -4 | mov r3, 4 | call 6 | exit; b7010000ffffffff bfa2000000000000 07020000fcffffff b703000004000000 8500000006000000 9500000000000000
+77; mov r1, 0 | mov r2, r10 | add r2, -1 | mov r3, 1 | call 6 | ldxb r0, [r10-1] | exit; b701000000000000 bfa2000000000000 07020000ffffffff b703000001000000 8500000006000000 71a0ffff00000000 9500000000000000
+77; mov r1, 0 | mov r2, r10 | add r2, -512 | mov r3, 30 | call 6 | ldxb r0, [r10-512] | exit; b701000000000000 bfa2000000000000 0702000000feffff b70300001e000000 8500000006000000 71a000fe00000000 9500000000000000
+32; mov r1, 0 | mov r2, r10 | add r2, -30 | mov r3, 30 | call 6 | ldxb r0, [r10-1] | exit; b701000000000000 bfa2000000000000 07020000e2ffffff b70300001e000000 8500000006000000 71a0ffff00000000 9500000000000000
+1291845633; stw [r10-4], 1 | mov r1, 0 | mov r2, r10 | add r2, -1 | mov r3, 1 | call 6 | ldxw r0, [r10-4] | exit; 620afcff01000000 b701000000000000 bfa2000000000000 07020000ffffffff b703000001000000 8500000006000000 61a0fcff00000000 9500000000000000
+1; stw [r10-4], 0x6e69616d | mov r1, 0 | mov r2, r10 | add r2, -4 | mov r3, 4 | call 7 | exit; 620afcff6d61696e b701000000000000 bfa2000000000000 07020000fcffffff b703000004000000 8500000007000000 9500000000000000
+0; stw [r10-4], 0x6e69616d | mov r1, 1 | mov r2, r10 | add r2, -4 | mov r3, 4 | call 7 | exit; 620afcff6d61696e b701000001000000 bfa2000000000000 07020000fcffffff b703000004000000 8500000007000000 9500000000000000
+1; stw [r10-4], 0x204d4c45 | mov r1, 1 | mov r2, r10 | add r2, -4 | mov r3, 3 | call 7 | exit; 620afcff454c4d20 b701000001000000 bfa2000000000000 07020000fcffffff b703000003000000 8500000007000000 9500000000000000
+0; stw [r10-4], 0x6e69616d | mov r1, 3 | mov r2, r10 | add r2, -4 | mov r3, 4 | call 7 | exit; 620afcff6d61696e b701000003000000 bfa2000000000000 07020000fcffffff b703000004000000 8500000007000000 9500000000000000
+1; stb [r10-1], 77 | mov r1, 0 | mov r2, r10 | add r2, -30 | mov r3, 30 | call 6 | mov r1, 0 | mov r2, r10 | add r2, -30 | mov r3, 30 | call 7 | exit; 720affff4d000000 b701000000000000 bfa2000000000000 07020000e2ffffff b70300001e000000 8500000006000000 b701000000000000 bfa2000000000000 07020000e2ffffff b70300001e000000 8500000007000000 9500000000000000
+0 score 7; mov r1, 7 | call 8 | exit; b701000007000000 8500000008000000 9500000000000000
+1 score 9; mov r1, 7 | call 8 | mov r1, 9 | call 8 | mov r0, 1 | exit; b701000007000000 8500000008000000 b701000009000000 8500000008000000 b700000001000000 9500000000000000
+18446744073709551615 score 18446744073709551615; mov r1, -13 | smod r1, 3 | mov r6, r1 | call 8 | mov r0, r6 | exit; b7010000f3ffffff 9701010003000000 bf16000000000000 8500000008000000 bf60000000000000 9500000000000000
+18446744073623051616 score 18446744073623051616; mov r1, 0 | call 9 | mov r1, r0 | mov r6, r0 | call 8 | mov r0, r6 | exit; b701000000000000 8500000009000000 bf01000000000000 bf06000000000000 8500000008000000 bf60000000000000 9500000000000000
+32410000; mov r1, 3 | call 9 | exit; b701000003000000 8500000009000000 9500000000000000
+11; mov r6, 5 | mov r9, 6 | call 3 | mov r0, r6 | add r0, r9 | exit; b706000005000000 b709000006000000 8500000003000000 bf60000000000000 0f90000000000000 9500000000000000
+49; mov r6, r1 | call 3 | ldxb r0, [r6+0] | exit; bf16000000000000 8500000003000000 7160000000000000 9500000000000000
+";
+
+/// What comes of calls on records with these addresses: FRADDL, TOADDL, FRADDR and TOADDR, which stand behind it.
+const ADDRESSES: &str = "\
+1;         199        101                      ; mov r1, 0 | mov r2, 151 | call 5 | exit; b701000000000000 b702000097000000 8500000005000000 9500000000000000
+0;         199        101                      ; mov r1, 0 | mov r2, 150 | call 5 | exit; b701000000000000 b702000096000000 8500000005000000 9500000000000000
+1;         100        199                      ; mov r1, 0 | mov r2, 150 | call 5 | exit; b701000000000000 b702000096000000 8500000005000000 9500000000000000
+3;         101        199        101        199; mov r1, 0 | mov r2, 151 | call 5 | exit; b701000000000000 b702000097000000 8500000005000000 9500000000000000
+0;      164-20     164-20                      ; mov r1, 1 | call 2 | exit; b701000001000000 8500000002000000 9500000000000000
+0;      164-20     164-20                      ; mov r1, 1 | call 1 | exit; b701000001000000 8500000001000000 9500000000000000
+0;      164-20     164-20                      ; mov r1, 0 | mov r2, 164 | call 5 | exit; b701000000000000 b7020000a4000000 8500000005000000 9500000000000000
 ";
 
 /// How many steps a program takes: the limit stands before the text.
@@ -220,25 +341,61 @@ fn code_of<A: Allocator + Copy>(alloc: A, words: &str) -> Result<Code<A>, Fail> 
     Ok(decode(alloc, &program)?)
 }
 
-/// Whether an outcome is the one that a row expects.
+/// Whether an outcome is the one that a row expects. A score of 0 isn't written.
 fn is_as_expected(outcome: Outcome, expected: &str) -> bool {
     match outcome {
         Outcome::Running => expected == "running",
-        Outcome::Exit { answer, score } => score == 0 && expected.parse() == Ok(answer),
+        Outcome::Exit { answer, score } => {
+            let (wanted, wanted_score) = expected.split_once(" score ").unwrap_or((expected, "0"));
+            wanted.parse() == Ok(answer) && wanted_score.parse() == Ok(score)
+        }
         Outcome::Stuck { place, cause } => cause.line(place).as_str() == expected,
     }
 }
 
+/// A segment with two alternate names and one further range.
+fn named_segment<A: Allocator + Copy>(alloc: A) -> Result<Segment<A>, Fail> {
+    let mut segment = Segment::of(alloc, RECORD);
+    segment.push_name(b"Elm                           ")?;
+    segment.push_name(b"Oak                           ")?;
+    segment.push_range(Range {
+        fraddl: b"        201",
+        toaddl: b"        299",
+        fraddr: b"        200",
+        toaddr: b"        300",
+        zipl: b"36068",
+        zipr: b"36068",
+    })?;
+    Ok(segment)
+}
+
 #[test]
 fn outcomes(rt: HostRuntime) -> Result<(), Fail> {
-    for table in [ANSWERS, OPERATIONS, MEMORY, CAUSES] {
+    let segment = named_segment(rt.alloc())?;
+    for table in [ANSWERS, OPERATIONS, MEMORY, CAUSES, CALLS, CALL_CAUSES] {
         for row in table.lines() {
             let mut columns = row.split("; ");
             let expected = columns.next().unwrap_or("");
             let code = code_of(rt.alloc(), columns.last().unwrap_or(""))?;
-            let outcome = trace(&code, &Segment::of(RECORD), 20);
+            let outcome = trace(&code, &segment, 20);
             assert!(rt; is_as_expected(outcome, expected), "{row}: {outcome:?}");
         }
+    }
+    Ok(())
+}
+
+#[test]
+fn calls_of_addresses(rt: HostRuntime) -> Result<(), Fail> {
+    for row in ADDRESSES.lines() {
+        let mut columns = row.split("; ");
+        let expected = columns.next().unwrap_or("");
+        let addresses = columns.next().unwrap_or("");
+        let code = code_of(rt.alloc(), columns.last().unwrap_or(""))?;
+        let mut record = *RECORD;
+        assert_eq!(rt; addresses.len(), 44, "{row}");
+        record[58..102].copy_from_slice(addresses.as_bytes());
+        let outcome = trace(&code, &Segment::of(rt.alloc(), &record), 20);
+        assert!(rt; is_as_expected(outcome, expected), "{row}: {outcome:?}");
     }
     Ok(())
 }
@@ -250,7 +407,7 @@ fn limits(rt: HostRuntime) -> Result<(), Fail> {
         let expected = columns.next().unwrap_or("");
         let limit = columns.next().unwrap_or("").parse()?;
         let code = code_of(rt.alloc(), columns.last().unwrap_or(""))?;
-        let outcome = trace(&code, &Segment::of(RECORD), limit);
+        let outcome = trace(&code, &Segment::of(rt.alloc(), RECORD), limit);
         assert!(rt; is_as_expected(outcome, expected), "{row}: {outcome:?}");
     }
     Ok(())
@@ -267,7 +424,7 @@ fn an_end_keeps_the_state(rt: HostRuntime) -> Result<(), Fail> {
         };
         let place = columns.next().unwrap_or("").parse()?;
         let code = code_of(rt.alloc(), columns.last().unwrap_or(""))?;
-        let segment = Segment::of(RECORD);
+        let segment = Segment::of(rt.alloc(), RECORD);
         let mut state = State::start();
         for _ in 0..10 {
             let _ = step(&code, &segment, &mut state);

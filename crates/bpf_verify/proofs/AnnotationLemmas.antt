@@ -9,10 +9,11 @@ use Rattle.bpf_kinds.specs.declared.kind.Kind.TheVariants.{Number, Record, Frame
 use Rattle.bpf_meaning.specs.declared.cause.Cause.TheVariants.{ExitNotNumber}
 use Rattle.std.proofs.Common.{IfOk, IfSome, rules}
 use Rattle.std.proofs.lemmas.Int.{ints}
-use Rattle.bpf_meaning.specs.declared.frame.TheConstants.{FRAME_LENGTH}
+use Rattle.bpf_insn.specs.declared.memory.TheConstants.{FRAME_LENGTH}
 use Rattle.std.specs.Prelude.{FitsSigned}
 use Rattle.std.specs.Int.{w16}
 use Rattle.std.proofs.lemmas.List.{length-replicate}
+use Rattle.bpf_frame.proofs.MarkLemmas.{unwritten_is_proper}
 use Rattle.bpf_kinds.specs.Kind as kind
 use Rattle.bpf_kinds.specs.Offsets as offsets
 use Rattle.bpf_insn.specs.Code.{spelling, instruction_at, index_at, place_of}
@@ -22,9 +23,9 @@ use Rattle.bpf_insn.specs.declared.instruction.Insn.TheVariants.{Exit}
 use Rattle.bpf_flow.specs.Flow.{IsForward, EndsInExit}
 use Rattle.bpf_meaning.specs.Effect.{◌>>=◌}
 use Rattle.bpf_meaning.specs.declared.cause.Cause.{Cause}
-use Rattle.bpf_verify.specs.Annotation.{Annotation, PassesAt, IsGoodUpTo, IsAccepted, IsRefusedAt}
+use Rattle.bpf_verify.specs.Annotation.{Annotation, PassesAt, IsGoodUpTo, HasGoodAnnotation, IsRefusedAt}
 use Rattle.bpf_verify.specs.Edges as edge
-use Rattle.bpf_verify.specs.Pass.{note_at, AreProper, first_notes, lead_on, target_index, index_of_target, visited, visited_insn}
+use Rattle.bpf_verify.specs.Pass.{note_at, AreProper, first_notes, lead_on, target_index, index_of_target, visit, visit_insn}
 use Rattle.bpf_verify.specs.State.{entry, kind_of, IsProperState, IsProper, IsWithin, AreProperEdges}
 use Rattle.bpf_verify.specs.StateLaws as laws
 use Rattle.bpf_verify.specs.declared.state.Edges.{Edges}
@@ -220,7 +221,7 @@ unfolding AllProper
 all_proper = (tt, (at_proper (pos 0) (search rules), (tt, (tt, (tt, (tt, (tt, (tt, (tt, (tt, (at_proper (pos FRAME_LENGTH) (search rules), tt)))))))))))
 
 entry_is_proper : IsProperState entry
-entry_is_proper = record { count = refl; kinds = each_proper entry.registers all_proper }
+entry_is_proper = record { count = refl; kinds = each_proper entry.registers all_proper; frame = unwritten_is_proper }
 
 first_proper : (count index : ℕ) → IsProper (get_or (replicate count Unreached) index Unreached)
 first_proper zero index = tt
@@ -276,37 +277,37 @@ later_target code index insn (Some distance) forward is below jumps to found =
     let later = there.later in omega arith
 
 pub visit_goes_on : (code : List Insn) (index : ℕ) (old new : List Note) → IsForward code → index < length code → IsOnItsWay code index old
-    → IfSome (slice_get code index) (λ insn. IfOk (edge.edges (note_at old index) insn) AreProperEdges) → visited code old index ≡ Ok new → IsOnItsWay code (index + 1) new
-visit_goes_on code index old new forward below way proper visit =
+    → IfSome (slice_get code index) (λ insn. IfOk (edge.edges (note_at old index) insn) AreProperEdges) → visit code old index ≡ Ok new → IsOnItsWay code (index + 1) new
+visit_goes_on code index old new forward below way proper goes =
     let insn = insn_at code index in
     let is = insn_at-is code index below in
     let target = target_index code (place_of code index) (jump_distance insn) in
-    let visit_insn : (edge.edges (note_at old index) insn >>= λ edges. Ok (lead_on old index target edges)) ≡ Ok new =
-    subst (λ (o : Option Insn). visited_insn code old index o ≡ Ok new) is visit in
-    let found = and_then (edge.edges (note_at old index) insn) (λ (edges : Edges). lead_on old index target edges) new visit_insn in
+    let here : (edge.edges (note_at old index) insn >>= λ edges. Ok (lead_on old index target edges)) ≡ Ok new =
+    subst (λ (o : Option Insn). visit_insn code old index o ≡ Ok new) is goes in
+    let found = and_then (edge.edges (note_at old index) insn) (λ (edges : Edges). lead_on old index target edges) new here in
     let are_proper = ok_part (edge.edges (note_at old index) insn) found.0 AreProperEdges found.1
     (of_some (slice_get code index) insn (λ (x : Insn). IfOk (edge.edges (note_at old index) x) AreProperEdges) is proper) in
     let takes = lead_on-takes old index target found.0 way.proper are_proper (later_target code index insn (jump_distance insn) forward is below refl) in
     subst (IsOnItsWay code (index + 1)) (sym found.2)
     (goes_on code index insn found.0 old (lead_on old index target found.0) forward is below way found.1 takes)
 
-pub visit_refuses : (code : List Insn) (index : ℕ) (notes : List Note) (cause : Cause) → index < length code → IsOnItsWay code index notes → visited code notes index ≡ Err cause → IsRefusedAt code (place_of code index) cause
-visit_refuses code index notes cause below way visit =
+pub visit_refuses : (code : List Insn) (index : ℕ) (notes : List Note) (cause : Cause) → index < length code → IsOnItsWay code index notes → visit code notes index ≡ Err cause → IsRefusedAt code (place_of code index) cause
+visit_refuses code index notes cause below way refuses =
     let insn = insn_at code index in
     let is = insn_at-is code index below in
     let target = target_index code (place_of code index) (jump_distance insn) in
-    let visit_insn : (edge.edges (note_at notes index) insn >>= λ edges. Ok (lead_on notes index target edges)) ≡ Err cause =
-    subst (λ (o : Option Insn). visited_insn code notes index o ≡ Err cause) is visit in
+    let here : (edge.edges (note_at notes index) insn >>= λ edges. Ok (lead_on notes index target edges)) ≡ Err cause =
+    subst (λ (o : Option Insn). visit_insn code notes index o ≡ Err cause) is refuses in
     record {
       annotation = annotation_of code notes;
       good = way.good;
       insn = insn;
       stands = instruction_at-place_of code index insn below is;
       fails = ap (λ (note : Note). edge.edges note insn) (annotation-at code notes index below)
-          ∙ and_fails (edge.edges (note_at notes index) insn) (λ (edges : Edges). lead_on notes index target edges) cause visit_insn;
+          ∙ and_fails (edge.edges (note_at notes index) insn) (λ (edges : Edges). lead_on notes index target edges) cause here;
     }
 
 -- at the end
 
-pub is_accepted : (code : List Insn) (notes : List Note) → IsOnItsWay code (length code) notes → IsAccepted code
-is_accepted code notes way = (annotation_of code notes, subst (λ (end : ℕ). IsGoodUpTo code end (annotation_of code notes)) (place_of-end code) way.good)
+pub has_good_annotation : (code : List Insn) (notes : List Note) → IsOnItsWay code (length code) notes → HasGoodAnnotation code
+has_good_annotation code notes way = (annotation_of code notes, subst (λ (end : ℕ). IsGoodUpTo code end (annotation_of code notes)) (place_of-end code) way.good)

@@ -1,4 +1,5 @@
 pub mod MoveLemmas
+pub mod CallLemmas
 pub mod CodeLemmas
 pub mod NoteLemmas
 pub mod AnnotationLemmas
@@ -6,7 +7,9 @@ pub mod SoundChecks
 pub mod SoundStates
 pub mod SoundArithmetic
 pub mod SoundComparison
+pub mod SoundMarks
 pub mod SoundMemory
+pub mod SoundCalls
 pub mod SoundInstructions
 pub mod SoundPlaces
 pub mod SoundSteps

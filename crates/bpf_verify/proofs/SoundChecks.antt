@@ -10,7 +10,7 @@ use Rattle.bpf_kinds.specs.declared.kind.Kind.{Kind}
 use Rattle.bpf_kinds.specs.declared.kind.Kind.TheVariants.{Number, Record, Frame, Nothing}
 use Rattle.bpf_meaning.specs.Effect as effect
 use Rattle.bpf_meaning.specs.Effect.{◌>>=◌}
-use Rattle.bpf_meaning.specs.State.{register_value}
+use Rattle.bpf_meaning.specs.State.{IsWhole, HoldsBytes, register_value}
 use Rattle.bpf_meaning.specs.declared.cause.Cause.{Cause}
 use Rattle.bpf_meaning.specs.declared.state.State.{State}
 use Rattle.bpf_verify.specs.Edges.{read_kind, read, number_or, number_in}
@@ -44,10 +44,12 @@ pub record HasValue (known : Kind) (held : Value) : Type 0 where
   pub proper : kind.IsProper known
   pub admits : kind.Admits known held
 
--- a proper abstract state and a state of which it is known
+-- a proper abstract state and a whole state of which it is known
 pub record HasState (known : AbstractState) (state : State) : Type 0 where
   pub proper : IsProperState known
   pub admits : AdmitsState known state
+  pub whole : IsWhole state
+  pub bytes : HoldsBytes state
 
 pub has_value : (known : AbstractState) (state : State) → HasState known state → (register : ℕ) → HasValue (kind_of known register) (register_value state register)
 has_value known state has register = record { proper = has.proper.kinds register; admits = has.admits.registers register }

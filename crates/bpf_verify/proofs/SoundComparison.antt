@@ -21,9 +21,10 @@ use Rattle.bpf_kinds.proofs.NarrowingLaws.{refine-keeps}
 use Rattle.bpf_meaning.specs.Effect as effect
 use Rattle.bpf_meaning.specs.State.{register_value}
 use Rattle.bpf_meaning.specs.declared.state.State.{State}
-use Rattle.bpf_verify.specs.Edges.{is_register, with_narrowed, narrowed_note, branch, branches, compare, comparison}
+use Rattle.bpf_verify.specs.Edges.{is_register, with_narrowed, narrowed_note, branch, compare, branches}
 use Rattle.bpf_verify.specs.State as known_state
 use Rattle.bpf_verify.specs.declared.state.AbstractState.{AbstractState}
+use Rattle.bpf_verify.specs.declared.comparison.Comparison.{Comparison}
 use Rattle.bpf_verify.specs.declared.state.Edges.{Edges}
 use Rattle.bpf_verify.specs.declared.state.Note.TheVariants.{Reached}
 use Rattle.bpf_verify.proofs.SoundArithmetic.{low_twice}
@@ -56,22 +57,32 @@ with_narrowed_admits known state admits left (Register register) both m n holds 
     register.number (Number both.right) (subst (kind.Admits (Number both.right)) (sym other) second)
 
 -- an edge of a conditional jump
-branch_admits : (known : AbstractState) (state : State) → HasState known state → (condition : Condition) (width : Width) (left : ℕ) (right : Source) (x y : Interval) (m n : ℕ) (taken : Bool) → Operands state left right x y m n → is_met condition width m n ≡ taken → known_state.Admits (branch known condition width left right x y taken) state
-branch_admits known state has condition width left right x y m n taken operands answer = by_test (is_register left right)
+branch_admits : (known : AbstractState) (state : State) → HasState known state → (comparison : Comparison) (x y : Interval) (m n : ℕ) (taken : Bool) → Operands state comparison.left.number comparison.right x y m n → is_met comparison.condition comparison.width m n ≡ taken → known_state.Admits (branch known comparison x y taken) state
+branch_admits known state has comparison x y m n taken operands answer = by_test (is_register left right)
   where
-    by_test : (same : Bool) → known_state.Admits (if same then Reached known else narrowed_note known left right (refine condition width x y taken)) state
+    left : ℕ
+    left = comparison.left.number
+
+    right : Source
+    right = comparison.right
+
+    by_test : (same : Bool) → known_state.Admits (if same then Reached known else narrowed_note known left right (refine comparison.condition comparison.width x y taken)) state
     by_test true = has.admits
     by_test false =
-        let kept = refine-keeps condition width x y m n taken operands.first.proper operands.second.proper operands.first.admits operands.second.admits answer in
+        let kept = refine-keeps comparison.condition comparison.width x y m n taken operands.first.proper operands.second.proper operands.first.admits operands.second.admits answer in
         subst (λ (refined : Option Narrowed). known_state.Admits (narrowed_note known left right refined) state) (sym kept.1)
         (with_narrowed_admits known state has.admits left right kept.0 m n operands.on_left operands.on_right kept.2 kept.3)
 
-branches_take : (known : AbstractState) (state : State) → HasState known state → (condition : Condition) (width : Width) (left : ℕ) (right : Source) (x y : Interval) (m n : ℕ) → Operands state left right x y m n → TakesEdge state (branches known condition width left right x y) (is_met condition width m n)
-branches_take known state has condition width left right x y m n operands = by_answer (is_met condition width m n) refl
+-- both edges, where the operands are numbers
+abbrev edges_of : AbstractState → Comparison → Interval → Interval → Edges
+edges_of known comparison x y = record { next = branch known comparison x y false; target = branch known comparison x y true }
+
+edges_take : (known : AbstractState) (state : State) → HasState known state → (comparison : Comparison) (x y : Interval) (m n : ℕ) → Operands state comparison.left.number comparison.right x y m n → TakesEdge state (edges_of known comparison x y) (is_met comparison.condition comparison.width m n)
+edges_take known state has comparison x y m n operands = by_answer (is_met comparison.condition comparison.width m n) refl
   where
-    by_answer : (taken : Bool) → is_met condition width m n ≡ taken → TakesEdge state (branches known condition width left right x y) taken
-    by_answer true answer = branch_admits known state has condition width left right x y m n true operands answer
-    by_answer false answer = branch_admits known state has condition width left right x y m n false operands answer
+    by_answer : (taken : Bool) → is_met comparison.condition comparison.width m n ≡ taken → TakesEdge state (edges_of known comparison x y) taken
+    by_answer true answer = branch_admits known state has comparison x y m n true operands answer
+    by_answer false answer = branch_admits known state has comparison x y m n false operands answer
 
 -- An immediate is compared as its low bits.
 
@@ -85,21 +96,24 @@ low_proper Bits64 n = record { ordered = omega arith; fits = omega arith }
 met_low : (condition : Condition) (width : Width) (m n : ℕ) → is_met condition width m (low_bits (operand_bits width) n) ≡ is_met condition width m n
 met_low condition width m n = ap (λ (k : ℕ). arithmetic.is_met_on condition (operand_bits width) (low_bits (operand_bits width) m) k) (low_twice width n)
 
-with_immediate : (known : AbstractState) (state : State) → HasState known state → (condition : Condition) (width : Width) (left : ℕ) (immediate : ℤ) (x : Kind) (v : Value) → IsReadOf (register_value state left) x v → Sound (TakesEdge state) (compare known condition width left (Immediate immediate) x (Number (single (low_bits (operand_bits width) (arithmetic.immediate_operand immediate))))) (effect.compare condition width v (value.Number (arithmetic.immediate_operand immediate)))
+abbrev with_source : Condition → Width → RegisterParts → Source → Comparison
+with_source condition width left right = record { condition = condition; width = width; left = left; right = right }
+
+with_immediate : (known : AbstractState) (state : State) → HasState known state → (condition : Condition) (width : Width) (left : RegisterParts) (immediate : ℤ) (x : Kind) (v : Value) → IsReadOf (register_value state left.number) x v → Sound (TakesEdge state) (compare known (with_source condition width left (Immediate immediate)) x (Number (single (low_bits (operand_bits width) (arithmetic.immediate_operand immediate))))) (effect.compare condition width v (value.Number (arithmetic.immediate_operand immediate)))
 with_immediate known state has condition width left immediate (Number x) (value.Number m) first =
     let n = arithmetic.immediate_operand immediate in
     let low = low_bits (operand_bits width) n in
-    subst (TakesEdge state (branches known condition width left (Immediate immediate) x (single low))) (met_low condition width m n)
-    (branches_take known state has condition width left (Immediate immediate) x (single low) m low
+    subst (TakesEdge state (edges_of known (with_source condition width left (Immediate immediate)) x (single low))) (met_low condition width m n)
+    (edges_take known state has (with_source condition width left (Immediate immediate)) x (single low) m low
     (record { first = record { proper = first.has.proper; admits = first.has.admits }; second = record { proper = low_proper width n; admits = single_admits low }; on_left = first.same; on_right = tt }))
 with_immediate known state has condition width left immediate (Number x) v first = absurd first.has.admits
 with_immediate known state has condition width left immediate (Record x) v first = tt
 with_immediate known state has condition width left immediate (Frame x) v first = tt
 with_immediate known state has condition width left immediate Nothing v first = tt
 
-with_register : (known : AbstractState) (state : State) → HasState known state → (condition : Condition) (width : Width) (left : ℕ) (right : RegisterParts) (x y : Kind) (v w : Value) → IsReadOf (register_value state left) x v → IsReadOf (register_value state right.number) y w → Sound (TakesEdge state) (compare known condition width left (Register right) x y) (effect.compare condition width v w)
+with_register : (known : AbstractState) (state : State) → HasState known state → (condition : Condition) (width : Width) (left right : RegisterParts) (x y : Kind) (v w : Value) → IsReadOf (register_value state left.number) x v → IsReadOf (register_value state right.number) y w → Sound (TakesEdge state) (compare known (with_source condition width left (Register right)) x y) (effect.compare condition width v w)
 with_register known state has condition width left right (Number x) (Number y) (value.Number m) (value.Number n) first second =
-    branches_take known state has condition width left (Register right) x y m n
+    edges_take known state has (with_source condition width left (Register right)) x y m n
     (record { first = record { proper = first.has.proper; admits = first.has.admits }; second = record { proper = second.has.proper; admits = second.has.admits }; on_left = first.same; on_right = second.same })
 with_register known state has condition width left right (Number x) (Number y) (value.Number m) w first second = absurd second.has.admits
 with_register known state has condition width left right (Number x) (Number y) v w first second = absurd first.has.admits
@@ -110,10 +124,10 @@ with_register known state has condition width left right (Record x) y v w first 
 with_register known state has condition width left right (Frame x) y v w first second = tt
 with_register known state has condition width left right Nothing y v w first second = tt
 
-pub comparison_sound : (known : AbstractState) (state : State) → HasState known state → (condition : Condition) (width : Width) (left : ℕ) (right : Source) → Sound (TakesEdge state) (comparison known condition width left right) (effect.comparison state condition width left right)
-comparison_sound known state has condition width left (Immediate immediate) =
-    then_sound (IsReadOf (register_value state left)) (TakesEdge state) _ _ _ _ (read_holds known state has left) (with_immediate known state has condition width left immediate)
-comparison_sound known state has condition width left (Register right) =
-    then_sound (IsReadOf (register_value state left)) (TakesEdge state) _ _ _ _ (read_holds known state has left) (λ x v first.
+pub branches_sound : (known : AbstractState) (state : State) → HasState known state → (condition : Condition) (width : Width) (left : RegisterParts) (right : Source) → Sound (TakesEdge state) (branches known (with_source condition width left right)) (effect.comparison state condition width left.number right)
+branches_sound known state has condition width left (Immediate immediate) =
+    then_sound (IsReadOf (register_value state left.number)) (TakesEdge state) _ _ _ _ (read_holds known state has left.number) (with_immediate known state has condition width left immediate)
+branches_sound known state has condition width left (Register right) =
+    then_sound (IsReadOf (register_value state left.number)) (TakesEdge state) _ _ _ _ (read_holds known state has left.number) (λ x v first.
     then_sound (IsReadOf (register_value state right.number)) (TakesEdge state) _ _ _ _ (read_holds known state has right.number) (λ y w second.
     with_register known state has condition width left right x y v w first second))

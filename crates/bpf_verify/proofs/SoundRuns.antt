@@ -3,11 +3,11 @@ use Rattle.std.proofs.Common.{◌≡◌, ℕ, zero, suc, ◌≤◌, List, [], �
 use Rattle.bpf_insn.specs.declared.instruction.Insn.{Insn}
 use Rattle.bpf_flow.specs.Flow.{IsForward}
 use Rattle.bpf_meaning.specs.Run.{FollowSteps, IsRun, last_of, end_of, Exits, IsSafe}
-use Rattle.bpf_meaning.specs.Segment.{Contents, IsSegment}
+use Rattle.tl_segments.specs.Segment.{Contents, IsSegment}
 use Rattle.bpf_meaning.specs.State.{start}
 use Rattle.bpf_meaning.specs.Step.{Configuration, Running, Exited, Stuck, after}
 use Rattle.bpf_meaning.specs.declared.state.State.{State}
-use Rattle.bpf_verify.specs.Annotation.{Annotation, IsAccepted}
+use Rattle.bpf_verify.specs.Annotation.{Annotation, HasGoodAnnotation}
 use Rattle.bpf_verify.proofs.SoundSteps.{IsVerified, IsOnItsWay, ComesTo, step_comes, starts}
 use Rattle.bpf_verify.proofs.SoundPlaces.{count_from, count_from-start, count_from-later}
 
@@ -76,7 +76,7 @@ exits code segment annotation verified =
     let x = exits_from code segment annotation verified (length code) start (starts code segment annotation verified) all in
     record { run = x.run; is_run = x.follow; answer = x.answer; score = x.score; exits = x.exits; short = x.short }
 
-pub good_is_safe : (code : List Insn) → IsForward code → IsAccepted code → IsSafe code
+pub good_is_safe : (code : List Insn) → IsForward code → HasGoodAnnotation code → IsSafe code
 good_is_safe code forward accepted = record {
   never_stuck = λ segment is run is_run place cause end. subst (IsAdmitted code accepted.0) end (end_admitted code segment accepted.0 (verified segment is) run is_run);
   exits = λ segment is. exits code segment accepted.0 (verified segment is);

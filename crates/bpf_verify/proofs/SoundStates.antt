@@ -7,7 +7,8 @@ use Rattle.bpf_insn.specs.declared.value.Value.TheVariants as value
 use Rattle.bpf_kinds.specs.Kind as kind
 use Rattle.bpf_kinds.specs.declared.kind.Kind.{Kind}
 use Rattle.bpf_kinds.specs.declared.kind.Kind.TheVariants.{Nothing}
-use Rattle.bpf_meaning.specs.State.{IsWhole, register_value}
+use Rattle.tl_segments.specs.Segment.{Contents}
+use Rattle.bpf_meaning.specs.State.{register_value}
 use Rattle.bpf_meaning.specs.Step.{carry_out}
 use Rattle.bpf_meaning.specs.declared.effect.Change.TheVariants.{SetRegister}
 use Rattle.bpf_meaning.specs.declared.state.State.{State}
@@ -26,9 +27,10 @@ set_admits (k ∷ kinds) (w ∷ values) (suc register) x v same a all zero = all
 set_admits (k ∷ kinds) (w ∷ values) (suc register) x v same a all (suc number) =
     set_admits kinds values register x v (omega arith) a (λ n. all (suc n)) number
 
-pub writes_admit : (known : AbstractState) (state : State) → HasState known state → IsWhole state → (register : WritableRegister) (x : Kind) (v : Value) → kind.Admits x v → AdmitsState (with_kind known register.number x) (carry_out state (SetRegister register v))
-writes_admit known state has whole register x v admits = record {
-  registers = set_admits known.registers state.registers register.number x v (let many = has.proper.count in let all = whole.registers in omega arith) admits has.admits.registers;
+pub writes_admit : (segment : Contents) (known : AbstractState) (state : State) → HasState known state → (register : WritableRegister) (x : Kind) (v : Value) → kind.Admits x v → AdmitsState (with_kind known register.number x) (carry_out segment state (SetRegister register v))
+writes_admit segment known state has register x v admits = record {
+  registers = set_admits known.registers state.registers register.number x v (let many = has.proper.count in let all = has.whole.registers in omega arith) admits has.admits.registers;
+  frame = has.admits.frame;
 }
 
 -- more is known of a register
@@ -41,4 +43,4 @@ set_keeps (k ∷ kinds) values (suc register) x a all (suc number) = set_keeps k
 
 pub narrows_keep : (known : AbstractState) (state : State) → AdmitsState known state → (register : ℕ) (x : Kind) → kind.Admits x (register_value state register) → AdmitsState (with_kind known register x) state
 narrows_keep known state admits register x a =
-    record { registers = set_keeps known.registers (register_value state) register x a admits.registers }
+    record { registers = set_keeps known.registers (register_value state) register x a admits.registers; frame = admits.frame }

@@ -1,5 +1,5 @@
 -- A step of a code that is accepted: what the annotation says of the place that it comes to admits the state there.
-use Rattle.std.proofs.Common.{◌≡◌, ℕ, zero, suc, ◌+◌, ◌<◌, inl, inr, ℤ, pos, IsSome, is_some, List, [], ◌∷◌, ◌++◌, length, get_or, Option, Some, None, Result, Ok, Err, refl, sym, ap, ◌∙◌, subst, arith}
+use Rattle.std.proofs.Common.{◌≡◌, ℕ, zero, suc, ◌+◌, ◌<◌, inl, inr, pos, IsSome, is_some, List, [], ◌∷◌, ◌++◌, length, get_or, Option, Some, None, Result, Ok, Err, refl, sym, ap, ◌∙◌, subst, arith}
 use Rattle.std.proofs.lemmas.Bool.{false≢true}
 use Rattle.std.proofs.lemmas.Int.{ints}
 use Rattle.bpf_insn.specs.Code.{instruction_at, spelling}
@@ -9,25 +9,27 @@ use Rattle.bpf_insn.specs.declared.value.Value.{Value}
 use Rattle.bpf_insn.specs.declared.value.Value.TheVariants as value
 use Rattle.bpf_insn.proofs.PlaceLemmas.{instruction_within}
 use Rattle.bpf_flow.specs.Flow.{IsForward}
+use Rattle.bpf_frame.proofs.MarkLemmas.{unwritten_admits}
 use Rattle.bpf_kinds.specs.Kind as kind
 use Rattle.bpf_kinds.specs.Offsets as offsets
-use Rattle.bpf_kinds.specs.declared.offsets.Offsets.{Offsets}
 use Rattle.bpf_kinds.specs.declared.kind.Kind.{Kind}
-use Rattle.bpf_kinds.specs.declared.kind.Kind.TheVariants.{Number, Record, Frame, Nothing}
+use Rattle.bpf_kinds.specs.declared.kind.Kind.TheVariants.{Nothing}
 use Rattle.bpf_meaning.specs.Effect.{effect_of, instruction_effect}
-use Rattle.bpf_meaning.specs.Segment.{Contents, IsSegment}
-use Rattle.bpf_meaning.specs.State.{IsWhole, start}
+use Rattle.tl_segments.specs.Segment.{Contents, IsSegment}
+use Rattle.bpf_meaning.specs.Memory.{is_written}
+use Rattle.bpf_meaning.specs.State.{IsWhole, HoldsBytes, start}
 use Rattle.bpf_meaning.specs.Step.{Configuration, Running, Exited, Stuck, after, carry_out, apply, next_of}
 use Rattle.bpf_meaning.specs.declared.cause.Cause.{Cause}
 use Rattle.bpf_meaning.specs.declared.effect.Change.{Change}
 use Rattle.bpf_meaning.specs.declared.effect.Effect.{Effect}
 use Rattle.bpf_meaning.specs.declared.effect.Effect.TheVariants.{GoOn, End}
-use Rattle.bpf_meaning.specs.declared.frame.TheConstants.{FRAME_LENGTH}
+use Rattle.bpf_insn.specs.declared.memory.TheConstants.{FRAME_LENGTH}
 use Rattle.bpf_meaning.specs.declared.state.State.{State}
-use Rattle.bpf_meaning.proofs.WholeLemmas.{step_whole}
+use Rattle.bpf_meaning.proofs.WholeLemmas.{step_whole, step_bytes, start_bytes}
 use Rattle.bpf_verify.specs.Annotation.{Annotation, PassesAt, IsGood}
 use Rattle.bpf_verify.specs.Edges.{edges}
-use Rattle.bpf_verify.specs.State.{entry, IsProper, Admits, AdmitsState, IsWithin}
+use Rattle.bpf_verify.specs.State.{entry, IsProper, Admits, AdmitsState}
+use Rattle.bpf_verify.specs.StateLaws.{admits_more}
 use Rattle.bpf_verify.specs.declared.state.Edges.{Edges}
 use Rattle.bpf_verify.specs.declared.state.Note.{Note}
 use Rattle.bpf_verify.specs.declared.state.Note.TheVariants.{Unreached, Reached}
@@ -35,34 +37,10 @@ use Rattle.bpf_verify.proofs.SoundChecks.{Sound}
 use Rattle.bpf_verify.proofs.SoundInstructions.{Follows, instruction_sound}
 use Rattle.bpf_verify.proofs.SoundPlaces.{is_followed}
 
--- what lies within admits no more
-
-offsets_within : (x y : Offsets) (offset : ℤ) → offsets.IsWithin x y → offsets.Admits x offset → offsets.Admits y offset
-offsets_within x y offset within admits =
-    let low = within.low in let high = within.high in let above = admits.above in let below = admits.below in
-    record { above = omega (arith, ints); below = omega (arith, ints) }
-
-kind_within : (x y : Kind) (held : Value) → kind.IsWithin x y → kind.Admits x held → kind.Admits y held
-kind_within (Number x) (Number y) (value.Number n) within admits =
-    let low = within.low in let high = within.high in let above = admits.above in let below = admits.below in
-    record { above = omega arith; below = omega arith }
-kind_within (Record x) (Record y) (value.Pointer pointer) within admits = (admits.0, offsets_within x y pointer.offset within admits.1)
-kind_within (Frame x) (Frame y) (value.Pointer pointer) within admits = (admits.0, offsets_within x y pointer.offset within admits.1)
-kind_within x Nothing held within admits = tt
-kind_within (Number x) (Number y) held within admits = absurd admits
-kind_within (Record x) (Record y) held within admits = absurd admits
-kind_within (Frame x) (Frame y) held within admits = absurd admits
-kind_within x y held within admits = absurd within
-
-note_within : (x y : Note) (state : State) → IsWithin x y → Admits x state → Admits y state
-note_within Unreached y state within admits = absurd admits
-note_within (Reached known) Unreached state within admits = absurd within
-note_within (Reached known) (Reached other) state within admits = record { registers = λ register. kind_within _ _ _ (within.registers register) (admits.registers register) }
-
 -- a state at another place
 elsewhere : (note : Note) (state : State) (place : ℕ) → Admits note state → Admits note (record state { place = place })
 elsewhere Unreached state place admits = absurd admits
-elsewhere (Reached known) state place admits = record { registers = admits.registers }
+elsewhere (Reached known) state place admits = record { registers = admits.registers; frame = admits.frame }
 
 -- a good annotation of a code that goes forward
 pub record IsVerified (code : List Insn) (segment : Contents) (annotation : Annotation) : Type 0 where
@@ -73,6 +51,7 @@ pub record IsVerified (code : List Insn) (segment : Contents) (annotation : Anno
 -- a state at an instruction, of which the annotation's note is known
 pub record IsOnItsWay (code : List Insn) (annotation : Annotation) (state : State) : Type 0 where
   pub whole : IsWhole state
+  pub bytes : HoldsBytes state
   pub insn : Insn
   pub stands : instruction_at code state.place ≡ Some insn
   pub admits : Admits (annotation state.place) state
@@ -88,48 +67,47 @@ found : (o : Option Insn) → IsSome o → (insn : Insn) × (o ≡ Some insn)
 found (Some insn) some = (insn, refl)
 found None some = absurd (false≢true some)
 
-arrives : (code : List Insn) (annotation : Annotation) (state : State) (change : Change) (place : ℕ) → IsWhole (record (carry_out state change) { place = place }) → state.place < place → IsSome (instruction_at code place) → Admits (annotation place) (carry_out state change) → ComesTo code annotation state (apply state (GoOn change place))
-arrives code annotation state change place whole later begins admits =
+arrives : (code : List Insn) (segment : Contents) (annotation : Annotation) (state : State) (change : Change) (place : ℕ) → IsWhole (record (carry_out segment state change) { place = place }) → HoldsBytes (record (carry_out segment state change) { place = place }) → state.place < place → IsSome (instruction_at code place) → Admits (annotation place) (carry_out segment state change) → ComesTo code annotation state (apply segment state (GoOn change place))
+arrives code segment annotation state change place whole bytes later begins admits =
     let next = found (instruction_at code place) begins in
-    (record { whole = whole; insn = next.0; stands = next.1; admits = elsewhere (annotation place) (carry_out state change) place admits }, later)
+    (record { whole = whole; bytes = bytes; insn = next.0; stands = next.1; admits = elsewhere (annotation place) (carry_out segment state change) place admits }, later)
 
 -- by what the instruction does
-effect_comes : (code : List Insn) (segment : Contents) (annotation : Annotation) (state : State) (insn : Insn) → IsWhole state → (passes : PassesAt annotation state.place insn) (concrete : Result Effect Cause) → after code segment state ≡ next_of state concrete → Sound (Follows code state insn (state.place + length (spelling insn))) (Ok passes.edges) concrete → ComesTo code annotation state (next_of state concrete)
-effect_comes code segment annotation state insn whole passes (Err cause) is sound = absurd sound
-effect_comes code segment annotation state insn whole passes (Ok (End answer)) is sound = tt
-effect_comes code segment annotation state insn whole passes (Ok (GoOn change place)) is (inl to) =
-    arrives code annotation state change place (step_whole code segment state _ whole (sym is)) (let next = to.is_next in omega arith) to.begins
-    (subst (λ (n : ℕ). Admits (annotation n) (carry_out state change)) (sym to.is_next) (note_within _ _ (carry_out state change) passes.next to.admits))
-effect_comes code segment annotation state insn whole passes (Ok (GoOn change place)) is (inr to) =
-    arrives code annotation state change place (step_whole code segment state _ whole (sym is)) to.later to.begins
-    (note_within _ _ (carry_out state change) (passes.target to.distance place to.jumps to.is_target) to.admits)
+effect_comes : (code : List Insn) (segment : Contents) (annotation : Annotation) (state : State) (insn : Insn) → IsSegment segment → IsWhole state → HoldsBytes state → (passes : PassesAt annotation state.place insn) (concrete : Result Effect Cause) → after code segment state ≡ next_of segment state concrete → Sound (Follows code segment state insn (state.place + length (spelling insn))) (Ok passes.edges) concrete → ComesTo code annotation state (next_of segment state concrete)
+effect_comes code segment annotation state insn is_segment whole bytes passes (Err cause) is sound = absurd sound
+effect_comes code segment annotation state insn is_segment whole bytes passes (Ok (End answer)) is sound = tt
+effect_comes code segment annotation state insn is_segment whole bytes passes (Ok (GoOn change place)) is (inl to) =
+    arrives code segment annotation state change place (step_whole code segment state _ whole (sym is)) (step_bytes code segment state _ is_segment bytes (sym is)) (let next = to.is_next in omega arith) to.begins
+    (subst (λ (n : ℕ). Admits (annotation n) (carry_out segment state change)) (sym to.is_next) (admits_more _ _ (carry_out segment state change) passes.next to.admits))
+effect_comes code segment annotation state insn is_segment whole bytes passes (Ok (GoOn change place)) is (inr to) =
+    arrives code segment annotation state change place (step_whole code segment state _ whole (sym is)) (step_bytes code segment state _ is_segment bytes (sym is)) to.later to.begins
+    (admits_more _ _ (carry_out segment state change) (passes.target to.distance place to.jumps to.is_target) to.admits)
 
-after_is : (code : List Insn) (segment : Contents) (state : State) (insn : Insn) → instruction_at code state.place ≡ Some insn → after code segment state ≡ next_of state (instruction_effect code segment state (state.place + length (spelling insn)) insn)
+after_is : (code : List Insn) (segment : Contents) (state : State) (insn : Insn) → instruction_at code state.place ≡ Some insn → after code segment state ≡ next_of segment state (instruction_effect code segment state (state.place + length (spelling insn)) insn)
 unfolding after
-after_is code segment state insn stands = ap (λ (found : Option Insn). next_of state (effect_of code segment state found)) stands
+after_is code segment state insn stands = ap (λ (found : Option Insn). next_of segment state (effect_of code segment state found)) stands
 
 pub step_comes : (code : List Insn) (segment : Contents) (annotation : Annotation) (state : State) → IsVerified code segment annotation → IsOnItsWay code annotation state → ComesTo code annotation state (after code segment state)
 step_comes code segment annotation state verified way =
     subst (ComesTo code annotation state) (sym is)
-    (effect_comes code segment annotation state way.insn way.whole passes _ is (by_note (annotation state.place) (verified.good.proper state.place) way.admits passes.passes))
+    (effect_comes code segment annotation state way.insn verified.is_segment way.whole way.bytes passes _ is (by_note (annotation state.place) (verified.good.proper state.place) way.admits passes.passes))
   where
     next : ℕ
     next = state.place + length (spelling way.insn)
 
-    is : after code segment state ≡ next_of state (instruction_effect code segment state next way.insn)
+    is : after code segment state ≡ next_of segment state (instruction_effect code segment state next way.insn)
     is = after_is code segment state way.insn way.stands
 
     passes : PassesAt annotation state.place way.insn
     passes = verified.good.passes state.place way.insn (instruction_within code state.place (ap is_some way.stands)) way.stands
 
-    by_note : (note : Note) → IsProper note → Admits note state → edges note way.insn ≡ Ok passes.edges → Sound (Follows code state way.insn next) (Ok passes.edges) (instruction_effect code segment state next way.insn)
+    by_note : (note : Note) → IsProper note → Admits note state → edges note way.insn ≡ Ok passes.edges → Sound (Follows code segment state way.insn next) (Ok passes.edges) (instruction_effect code segment state next way.insn)
     by_note Unreached proper admits e = absurd admits
     by_note (Reached known) proper admits e =
-        subst (λ (r : Result Edges Cause). Sound (Follows code state way.insn next) r (instruction_effect code segment state next way.insn)) e
+        subst (λ (r : Result Edges Cause). Sound (Follows code segment state way.insn next) r (instruction_effect code segment state next way.insn)) e
         (instruction_sound code segment known state way.insn next (record {
           is_segment = verified.is_segment;
-          has = record { proper = proper; admits = admits };
-          whole = way.whole;
+          has = record { proper = proper; admits = admits; whole = way.whole; bytes = way.bytes };
           followed = is_followed code verified.forward.last state.place way.insn way.stands;
           leads = λ distance. verified.forward.jumps state.place way.insn distance way.stands;
         }))
@@ -154,6 +132,7 @@ entry_admits_start : AdmitsState entry start
 entry_admits_start = record {
   registers = admits_each entry.registers start.registers
       (tt, ((refl, single_offset 0), (tt, (tt, (tt, (tt, (tt, (tt, (tt, (tt, ((refl, single_offset FRAME_LENGTH), tt)))))))))));
+  frame = unwritten_admits (is_written start.frame.bytes);
 }
 
 begins : (before : List Insn) → (insn : Insn) × (instruction_at (before ++ Exit ∷ []) 0 ≡ Some insn)
@@ -165,7 +144,8 @@ starts code segment annotation verified =
     let first = begins verified.forward.last.0 in
     record {
       whole = record { registers = refl; frame = refl };
+      bytes = start_bytes;
       insn = first.0;
       stands = ap (λ (c : List Insn). instruction_at c 0) verified.forward.last.1 ∙ first.1;
-      admits = note_within (Reached entry) (annotation 0) start verified.good.entry entry_admits_start;
+      admits = admits_more (Reached entry) (annotation 0) start verified.good.entry entry_admits_start;
     }

@@ -1,5 +1,5 @@
--- Annotations of a code: what is known before each instruction, by its place. Codes with one that is good to its end are those that are
--- accepted, which is this project's own rule.
+-- Annotations of a code: what is known before each instruction, by its place. Forward codes with one that is good to its end are those that
+-- are accepted, which is this project's own rule.
 use Rattle.std.specs.Prelude.{◌≡◌, ℕ, ℤ, pos, ◌+◌, ◌+ℤ◌, ◌<◌, List, length, Some, Ok, Err}
 use Rattle.bpf_insn.specs.Code.{instruction_at, spelling, word_count}
 use Rattle.bpf_insn.specs.Jump.{jump_distance}
@@ -35,8 +35,9 @@ pub record IsGoodUpTo (code : List Insn) (end : ℕ) (annotation : Annotation) :
 abbrev pub IsGood : List Insn → Annotation → Type 0
 IsGood code annotation = IsGoodUpTo code (word_count code) annotation
 
-abbrev pub IsAccepted : List Insn → Type 0
-IsAccepted code = (annotation : Annotation) × IsGood code annotation
+-- a code has an annotation that is good to its end
+abbrev pub HasGoodAnnotation : List Insn → Type 0
+HasGoodAnnotation code = (annotation : Annotation) × IsGood code annotation
 
 -- an annotation is good up to the instruction at a place, and there this check is the first that fails
 pub record IsRefusedAt (code : List Insn) (place : ℕ) (cause : Cause) : Type 0 where

@@ -1,7 +1,8 @@
 -- The abstract step: the first check of an instruction that fails for some of the values that are known before it, or what is known
 -- behind it. It goes as an instruction's effect does, with kinds in the place of values. Which checks there are is this project's own.
-use Rattle.std.specs.Prelude.{ℕ, ℤ, pos, ◌+ℤ◌, ◌&&◌, ◌==◌, Bool, true, false, int_le, Option, Some, None, Result, Ok, Err, if◌then◌else◌}
-use Rattle.std.specs.Int.{w32}
+use Rattle.std.specs.Prelude.{ℕ, zero, suc, ◌+◌, ℤ, pos, ◌+ℤ◌, ◌&&◌, ◌==◌, Bool, true, false, IsTrue, int_le, nat_le, unsigned_abs, List, [], ◌∷◌, ◌++◌, drop, replicate, get_or, Option, Some, None, Result, Ok, Err, if◌then◌else◌}
+use Rattle.std.specs.Int.{cast_unsigned, w32}
+use Rattle.std.specs.Ordering.{int_eq}
 use Rattle.bpf_insn.specs.Arithmetic as arithmetic
 use Rattle.bpf_insn.specs.Arithmetic.{operand_bits, low_bits}
 use Rattle.bpf_insn.specs.declared.instruction.Insn.{Insn}
@@ -12,12 +13,14 @@ use Rattle.bpf_insn.specs.declared.instruction.Width.{Width}
 use Rattle.bpf_insn.specs.declared.instruction.Width.TheVariants.{Bits32, Bits64}
 use Rattle.bpf_insn.specs.declared.instruction.Source.{Source}
 use Rattle.bpf_insn.specs.declared.instruction.Source.TheVariants.{Immediate, Register}
-use Rattle.bpf_insn.specs.declared.instruction.Condition.{Condition}
 use Rattle.bpf_insn.specs.declared.instruction.LoadFormat.{LoadFormat}
 use Rattle.bpf_insn.specs.declared.instruction.StoreSize.{StoreSize}
 use Rattle.bpf_insn.specs.declared.value.Area.{Area}
 use Rattle.bpf_insn.specs.declared.value.Area.TheVariants as area
+use Rattle.bpf_kinds.specs.Interval as interval
 use Rattle.bpf_kinds.specs.Interval.{single, cut}
+use Rattle.bpf_kinds.specs.Kind as kind
+use Rattle.bpf_kinds.specs.Offsets as pointer_offsets
 use Rattle.bpf_kinds.specs.Results.{alu, negate, extend, byte_swap, load, wide_number, immediate_operand}
 use Rattle.bpf_kinds.specs.Narrowing.{refine}
 use Rattle.bpf_kinds.specs.Moving.{near_distances, move_by, move_back_by}
@@ -26,16 +29,27 @@ use Rattle.bpf_kinds.specs.declared.kind.Kind.{Kind}
 use Rattle.bpf_kinds.specs.declared.kind.Kind.TheVariants.{Number, Record, Frame, Nothing}
 use Rattle.bpf_kinds.specs.declared.narrowing.Narrowed.{Narrowed}
 use Rattle.bpf_kinds.specs.declared.offsets.Offsets.{Offsets}
-use Rattle.bpf_meaning.specs.Effect.{load_length, store_length, ◌>>=◌}
+use Rattle.bpf_frame.specs.FrameMap.{all_written, mark}
+use Rattle.bpf_helpers.specs.Helper.{by_number, signature}
+use Rattle.bpf_helpers.specs.declared.helper.Helper.{Helper}
+use Rattle.bpf_helpers.specs.declared.signature.Argument.{Argument}
+use Rattle.bpf_helpers.specs.declared.signature.Argument.TheVariants as argument
+use Rattle.bpf_helpers.specs.declared.signature.FrameUse.{FrameUse}
+use Rattle.bpf_helpers.specs.declared.signature.FrameUse.TheVariants as frame_use
+use Rattle.bpf_helpers.specs.declared.signature.FrameUse.TheVariants.{Writes, Reads}
+use Rattle.bpf_insn.specs.Memory.{load_length, store_length}
+use Rattle.bpf_meaning.specs.Effect.{◌>>=◌}
 use Rattle.bpf_meaning.specs.declared.cause.Cause.{Cause}
-use Rattle.bpf_meaning.specs.declared.cause.Cause.TheVariants.{ReadsNothing, PointerArithmetic, LeavesArea, NotPointer, OutOfBounds, UnwrittenFrame, WritesRecord, StoresPointer, ComparesPointer, UnknownHelper, ExitNotNumber}
-use Rattle.bpf_meaning.specs.declared.frame.TheConstants.{FRAME_LENGTH}
-use Rattle.bpf_meaning.specs.declared.segment.TheConstants.{RECORD_LENGTH}
+use Rattle.bpf_meaning.specs.declared.cause.Cause.TheVariants.{ReadsNothing, PointerArithmetic, LeavesArea, NotPointer, OutOfBounds, UnwrittenFrame, WritesRecord, StoresPointer, ComparesPointer, UnknownHelper, BadArgument, ExitNotNumber}
+use Rattle.bpf_insn.specs.declared.memory.TheConstants.{FRAME_LENGTH}
+use Rattle.tl_segments.specs.declared.segment.TheConstants.{RECORD_LENGTH}
 use Rattle.bpf_verify.specs.State.{kind_of, with_kind}
 use Rattle.bpf_verify.specs.declared.state.AbstractState.{AbstractState}
 use Rattle.bpf_verify.specs.declared.state.Edges.{Edges}
 use Rattle.bpf_verify.specs.declared.state.Note.{Note}
 use Rattle.bpf_verify.specs.declared.state.Note.TheVariants.{Unreached, Reached}
+use Rattle.bpf_verify.specs.declared.calls.LentBytes.{LentBytes}
+use Rattle.bpf_verify.specs.declared.comparison.Comparison.{Comparison}
 use Rattle.bpf_verify.specs.declared.memory.Pointers.{Pointers}
 
 -- a kind that is read from a register
@@ -127,24 +141,21 @@ narrowed_note known left right None = Unreached
 narrowed_note known left right (Some both) = Reached (with_narrowed known left right both)
 
 -- an edge of a conditional jump; a register that is compared with itself tells nothing
-abbrev pub branch : AbstractState → Condition → Width → ℕ → Source → Interval → Interval → Bool → Note
-branch known condition width left right x y taken =
-    if is_register left right then Reached known else narrowed_note known left right (refine condition width x y taken)
-
-abbrev pub branches : AbstractState → Condition → Width → ℕ → Source → Interval → Interval → Edges
-branches known condition width left right x y = record {
-  next = branch known condition width left right x y false;
-  target = branch known condition width left right x y true;
-}
+abbrev pub branch : AbstractState → Comparison → Interval → Interval → Bool → Note
+branch known comparison x y taken =
+    if is_register comparison.left.number comparison.right
+    then Reached known
+    else narrowed_note known comparison.left.number comparison.right (refine comparison.condition comparison.width x y taken)
 
 -- both edges of a conditional jump: what it compares must be numbers, which is looked at when both operands were read
-abbrev pub compare : AbstractState → Condition → Width → ℕ → Source → Kind → Kind → Result Edges Cause
-compare known condition width left right (Number x) (Number y) = Ok (branches known condition width left right x y)
-compare known condition width left right x y = Err ComparesPointer
+abbrev pub compare : AbstractState → Comparison → Kind → Kind → Result Edges Cause
+compare known comparison (Number x) (Number y) =
+    Ok (record { next = branch known comparison x y false; target = branch known comparison x y true })
+compare known comparison x y = Err ComparesPointer
 
-abbrev pub comparison : AbstractState → Condition → Width → ℕ → Source → Result Edges Cause
-comparison known condition width left right =
-    read known left >>= λ x. compared_operand known width right >>= λ y. compare known condition width left right x y
+abbrev pub branches : AbstractState → Comparison → Result Edges Cause
+branches known comparison =
+    read known comparison.left.number >>= λ x. compared_operand known comparison.width comparison.right >>= λ y. compare known comparison x y
 
 -- the pointers in a register that is the base of a load or a store
 abbrev pub only_pointers : Kind → Result Pointers Cause
@@ -164,18 +175,28 @@ abbrev pub area_length : Area → ℕ
 area_length area.Record = RECORD_LENGTH
 area_length area.Frame = FRAME_LENGTH
 
--- bytes that are loaded: those of the record are written, and of the frame's it isn't known
-abbrev pub load_area : Area → LoadFormat → Result Kind Cause
-load_area area.Record format = Ok (Number (load format))
-load_area area.Frame format = Err UnwrittenFrame
+-- each byte of the frame that may be read has its mark, where so many are read at most, from each of the offsets on, with another offset
+-- added
+abbrev pub all_marked : AbstractState → Offsets → ℤ → ℕ → Bool
+all_marked known offsets offset zero = true
+all_marked known offsets offset (suc more) =
+    all_written known.frame.marks (unsigned_abs (offsets.low +ℤ offset)) (unsigned_abs (offsets.high +ℤ offset) + more)
+
+-- bytes that are loaded: those of the record are written, and those of the frame must have their marks
+abbrev pub load_area : AbstractState → LoadFormat → Pointers → ℤ → Result Kind Cause
+load_area known format pointers offset = of_area pointers.area
+  where
+    of_area : Area → Result Kind Cause
+    of_area area.Record = Ok (Number (load format))
+    of_area area.Frame = if all_marked known pointers.offsets offset (load_length format) then Ok (Number (load format)) else Err UnwrittenFrame
 
 -- a load: its bytes must lie within the area, and be written
-abbrev pub load_from : LoadFormat → Pointers → ℤ → Result Kind Cause
-load_from format pointers offset =
-    if lie_within pointers.offsets offset (load_length format) (area_length pointers.area) then load_area pointers.area format else Err OutOfBounds
+abbrev pub load_from : AbstractState → LoadFormat → Pointers → ℤ → Result Kind Cause
+load_from known format pointers offset =
+    if lie_within pointers.offsets offset (load_length format) (area_length pointers.area) then load_area known format pointers offset else Err OutOfBounds
 
 abbrev pub load_kind : AbstractState → LoadFormat → ℕ → ℤ → Result Kind Cause
-load_kind known format base offset = pointers_in known base >>= λ pointers. load_from format pointers offset
+load_kind known format base offset = pointers_in known base >>= λ pointers. load_from known format pointers offset
 
 -- offsets into the frame: the record is read-only
 abbrev pub frame_offsets : Pointers → Result Offsets Cause
@@ -185,15 +206,85 @@ frame_offsets pointers = frame_only pointers.area pointers.offsets
     frame_only area.Record offsets = Err WritesRecord
     frame_only area.Frame offsets = Ok offsets
 
--- what is known behind a store: its bytes must lie within the frame. Which of them are written isn't kept.
+-- what is known where so many bytes of the frame are written, from one of the offsets on, with another offset added: where that is one known
+-- offset they get their marks, and otherwise none does
+abbrev pub mark_bytes : AbstractState → Offsets → ℤ → ℕ → AbstractState
+mark_bytes known offsets offset count =
+    if int_eq offsets.low offsets.high
+    then record known { frame = record known.frame { marks = mark known.frame.marks (unsigned_abs (offsets.low +ℤ offset)) count } }
+    else known
+
+-- what is known behind a store: its bytes must lie within the frame
 abbrev pub store_at : AbstractState → Offsets → ℤ → StoreSize → Result AbstractState Cause
 store_at known offsets offset size =
-    if lie_within offsets offset (store_length size) FRAME_LENGTH then Ok known else Err OutOfBounds
+    if lie_within offsets offset (store_length size) FRAME_LENGTH then Ok (mark_bytes known offsets offset (store_length size)) else Err OutOfBounds
 
 abbrev pub store : AbstractState → StoreSize → ℕ → ℤ → Source → Result AbstractState Cause
 store known size base offset source =
     pointers_in known base >>= λ pointers. frame_offsets pointers >>= λ offsets.
     operand known source >>= number_or StoresPointer >>= λ x. store_at known offsets offset size
+
+-- the numbers of an interval lie in one that a prototype allows
+abbrev pub are_allowed : Interval → Interval → Bool
+are_allowed allowed x = nat_le allowed.low x.low && nat_le x.high allowed.high
+
+-- what is known of an argument all of whose values are what a prototype wants
+abbrev pub argument_kind : ℕ → Argument → Kind → Result Kind Cause
+argument_kind number argument.Unused kind = Ok Nothing
+argument_kind number (argument.Number allowed) (Number x) = if are_allowed allowed x then Ok (Number x) else Err (BadArgument number)
+argument_kind number argument.Frame (Frame offsets) = Ok (Frame offsets)
+argument_kind number wanted kind = Err (BadArgument number)
+
+-- each argument's kind is proper
+abbrev pub AreProper : List Kind → Type 0
+AreProper arguments = (at : ℕ) → kind.IsProper (get_or arguments at Nothing)
+
+-- the argument with a number, counted from 1, which the register of that number holds; one that isn't used isn't read
+abbrev pub argument_in : AbstractState → ℕ → Argument → Result Kind Cause
+argument_in known number argument.Unused = Ok Nothing
+argument_in known number (argument.Number allowed) = read known number >>= argument_kind number (argument.Number allowed)
+argument_in known number argument.Frame = read known number >>= argument_kind number argument.Frame
+
+-- the arguments that a prototype wants, in their order
+abbrev pub arguments_in : AbstractState → List Argument → Result (List Kind) Cause
+arguments_in known wanted =
+    argument_in known 1 (get_or wanted 0 argument.Unused) >>= λ one.
+    argument_in known 2 (get_or wanted 1 argument.Unused) >>= λ two.
+    argument_in known 3 (get_or wanted 2 argument.Unused) >>= λ three. Ok (one ∷ two ∷ three ∷ [])
+
+-- bytes of the frame that a call reads or writes, at the offsets of its second argument and as many as its third: they lie within the frame
+-- from the least offset on, and with the greatest count from the greatest one on
+abbrev pub lend_bytes : Kind → Kind → Result LentBytes Cause
+lend_bytes (Frame offsets) (Number count) =
+    if lie_within offsets (pos 0) count.high FRAME_LENGTH then Ok (record { offsets = offsets; count = count }) else Err OutOfBounds
+lend_bytes second third = Err OutOfBounds
+
+-- bytes of the frame that a call may read or write lie within it, as many as they may be
+pub record LieWithinFrame (bytes : LentBytes) : Type 0 where
+  pub offsets : pointer_offsets.IsProper bytes.offsets
+  pub count : interval.IsProper bytes.count
+  pub within : IsTrue (lie_within bytes.offsets (pos 0) bytes.count.high FRAME_LENGTH)
+
+-- bytes that a call reads must have their marks
+abbrev pub lend_read : AbstractState → LentBytes → Result AbstractState Cause
+lend_read known bytes = if all_marked known bytes.offsets (pos 0) bytes.count.high then Ok known else Err UnwrittenFrame
+
+-- what is known behind a call of the frame: of the bytes that it writes as many get their marks as are written in any case
+abbrev pub lend_frame : AbstractState → FrameUse → List Kind → Result AbstractState Cause
+lend_frame known frame_use.Nothing arguments = Ok known
+lend_frame known Writes arguments =
+    lend_bytes (get_or arguments 1 Nothing) (get_or arguments 2 Nothing) >>= λ bytes. Ok (mark_bytes known bytes.offsets (pos 0) bytes.count.low)
+lend_frame known Reads arguments = lend_bytes (get_or arguments 1 Nothing) (get_or arguments 2 Nothing) >>= lend_read known
+
+-- what is known behind a call: register 0 has an answer of the prototype's interval, registers 1 to 5 hold nothing, and the others are kept
+abbrev pub state_after : Interval → AbstractState → AbstractState
+state_after answer known = record known { registers = Number answer ∷ replicate 5 Nothing ++ drop 6 known.registers }
+
+-- a call of a helper function, if there is one
+abbrev pub call : AbstractState → Option Helper → Result AbstractState Cause
+call known None = Err UnknownHelper
+call known (Some helper) =
+    arguments_in known (signature helper).arguments >>= lend_frame known (signature helper).frame >>= λ after. Ok (state_after (signature helper).answer after)
 
 -- on to the next instruction alone, or to a jump's target alone, or to none
 abbrev pub go_on : AbstractState → Result Edges Cause
@@ -205,11 +296,15 @@ jump known = Ok (record { next = Unreached; target = Reached known })
 abbrev pub end : Interval → Result Edges Cause
 end answer = Ok (record { next = Unreached; target = Unreached })
 
+-- the end of the program, whose answer must be a number
+abbrev pub exit : AbstractState → Result Edges Cause
+exit known = read known 0 >>= number_or ExitNotNumber >>= end
+
 -- on to the next instruction with a register written
 abbrev pub set_register : AbstractState → ℕ → Kind → Result Edges Cause
 set_register known register kind = go_on (with_kind known register kind)
 
--- the edges of an instruction, a row each. No helper function is known.
+-- the edges of an instruction, a row each
 abbrev pub instruction_edges : AbstractState → Insn → Result Edges Cause
 instruction_edges known (Alu operation width destination source) =
     operation_kind known operation width destination.number source >>= set_register known destination.number
@@ -219,10 +314,11 @@ instruction_edges known (Negate width destination) =
     number_in known destination.number >>= λ x. set_register known destination.number (Number (negate width x))
 instruction_edges known (ByteSwap order width destination) =
     number_in known destination.number >>= λ x. set_register known destination.number (Number (byte_swap order width x))
-instruction_edges known (JumpIf condition width left right offset) = comparison known condition width left.number right
+instruction_edges known (JumpIf condition width left right offset) =
+    branches known (record { condition = condition; width = width; left = left; right = right })
 instruction_edges known (Jump distance) = jump known
-instruction_edges known (Call immediate) = Err UnknownHelper
-instruction_edges known Exit = read known 0 >>= number_or ExitNotNumber >>= end
+instruction_edges known (Call immediate) = call known (by_number (cast_unsigned w32 immediate)) >>= go_on
+instruction_edges known Exit = exit known
 instruction_edges known (Load format destination base offset) =
     load_kind known format base.number offset >>= set_register known destination.number
 instruction_edges known (StoreImmediate size base offset immediate) =

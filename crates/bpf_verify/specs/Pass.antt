@@ -45,11 +45,11 @@ lead_if notes (Some index) edge = lead notes index edge
 abbrev pub lead_on : List Note → ℕ → Option ℕ → Edges → List Note
 lead_on notes index target edges = lead_if (lead notes (index + 1) edges.next) target edges.target
 
-abbrev pub visited_insn : List Insn → List Note → ℕ → Option Insn → Result (List Note) Cause
-visited_insn code notes index None = Ok notes
-visited_insn code notes index (Some insn) =
+abbrev pub visit_insn : List Insn → List Note → ℕ → Option Insn → Result (List Note) Cause
+visit_insn code notes index None = Ok notes
+visit_insn code notes index (Some insn) =
     edge.edges (note_at notes index) insn >>= λ edges. Ok (lead_on notes index (target_index code (place_of code index) (jump_distance insn)) edges)
 
 -- what becomes of the notes at the instruction with an index, or its first check that fails
-abbrev pub visited : List Insn → List Note → ℕ → Result (List Note) Cause
-visited code notes index = visited_insn code notes index (slice_get code index)
+abbrev pub visit : List Insn → List Note → ℕ → Result (List Note) Cause
+visit code notes index = visit_insn code notes index (slice_get code index)

@@ -1,15 +1,16 @@
 -- Abstract states and notes stand in order, and joins are least upper bounds.
-use Rattle.std.proofs.Common.{◌≡◌, ℕ, suc, zero, List, [], ◌∷◌, length, get_or, sym, ap, ◌∙◌, subst, refl, rules, arith}
-use Rattle.std.specs.Simd.Lanes.{zip2}
+use Rattle.std.proofs.Common.{◌≡◌, ℕ, suc, zero, ◌<◌, List, [], ◌∷◌, length, get_or, sym, ap, ◌∙◌, subst, refl, rules, arith}
 use Rattle.std.proofs.lemmas.List.{ext_get_or}
-use Rattle.std.proofs.lemmas.Simd.{length-zip2}
+use Rattle.bpf_frame.specs.FrameMap.{Contents}
+use Rattle.bpf_frame.specs.OrderLaws as maps
 use Rattle.bpf_kinds.specs.Kind as kind
 use Rattle.bpf_insn.specs.declared.value.Value.{Value}
 use Rattle.bpf_kinds.specs.declared.kind.Kind.{Kind}
 use Rattle.bpf_kinds.specs.declared.kind.Kind.TheVariants.{Nothing}
+use Rattle.bpf_meaning.specs.Memory.{is_written}
 use Rattle.bpf_meaning.specs.State.{register_value}
 use Rattle.bpf_meaning.specs.declared.state.State.{State}
-use Rattle.bpf_verify.specs.State.{kind_of, IsProperState, AdmitsState, IsWithinState, join_states, IsProper, Admits, IsWithin, join}
+use Rattle.bpf_verify.specs.State.{kind_of, join_kinds, IsProperState, AdmitsState, IsWithinState, join_states, IsProper, Admits, IsWithin, join}
 use Rattle.bpf_verify.specs.declared.state.AbstractState.{AbstractState}
 use Rattle.bpf_verify.specs.declared.state.Note.{Note}
 use Rattle.bpf_verify.specs.declared.state.Note.TheVariants.{Unreached, Reached}
@@ -42,54 +43,82 @@ kind_admits_more = search rules
 
 -- states
 
-pub get_or-join : (xs ys : List Kind) (register : ℕ) → length xs ≡ length ys → get_or (zip2 kind.join xs ys) register Nothing ≡ kind.join (get_or xs register Nothing) (get_or ys register Nothing)
+length-join_kinds : (xs ys : List Kind) → length xs ≡ length ys → length (join_kinds xs ys) ≡ length xs
+length-join_kinds [] ys same = refl
+length-join_kinds (x ∷ xs) [] same = absurd (omega arith)
+length-join_kinds (x ∷ xs) (y ∷ ys) same = ap suc (length-join_kinds xs ys (omega arith))
+
+get_or-join : (xs ys : List Kind) (register : ℕ) → length xs ≡ length ys
+    → get_or (join_kinds xs ys) register Nothing ≡ kind.join (get_or xs register Nothing) (get_or ys register Nothing)
 get_or-join [] [] register same = refl
 get_or-join [] (y ∷ ys) register same = absurd (omega arith)
 get_or-join (x ∷ xs) [] register same = absurd (omega arith)
 get_or-join (x ∷ xs) (y ∷ ys) zero same = refl
 get_or-join (x ∷ xs) (y ∷ ys) (suc register) same = get_or-join xs ys register (omega arith)
 
+-- a list that has the joined kinds at each place is the join of two
+pub is_join_kinds : (xs ys joined : List Kind) (count : ℕ) → length xs ≡ count → length ys ≡ count → length joined ≡ count
+    → ((register : ℕ) → register < count → get_or joined register Nothing ≡ kind.join (get_or xs register Nothing) (get_or ys register Nothing))
+    → joined ≡ join_kinds xs ys
+is_join_kinds xs ys joined count length-xs length-ys length-joined same =
+    let same-length = length-xs ∙ sym length-ys in
+    ext_get_or Nothing joined (join_kinds xs ys) (length-joined ∙ sym (length-join_kinds xs ys same-length ∙ length-xs))
+    (λ register below. same register (omega arith) ∙ sym (get_or-join xs ys register same-length))
+
 -- the kinds of a join
 pub kind_of-join : (x y : AbstractState) (register : ℕ) → IsProperState x → IsProperState y → kind_of (join_states x y) register ≡ kind.join (kind_of x register) (kind_of y register)
 kind_of-join x y register proper-x proper-y = get_or-join x.registers y.registers register (proper-x.count ∙ sym proper-y.count)
 
 pub states_reflexive : (x : AbstractState) → IsWithinState x x
-states_reflexive x = record { registers = λ register. kind_reflexive (kind_of x register) }
+states_reflexive x = record { registers = λ register. kind_reflexive (kind_of x register); frame = maps.reflexive x.frame }
 
 pub states_transitive : (x y z : AbstractState) → IsWithinState x y → IsWithinState y z → IsWithinState x z
-states_transitive x y z below above = record { registers = λ register. kind_transitive _ _ _ (below.registers register) (above.registers register) }
+states_transitive x y z below above = record {
+  registers = λ register. kind_transitive _ _ _ (below.registers register) (above.registers register);
+  frame = maps.transitive x.frame y.frame z.frame below.frame above.frame;
+}
+
+same_state : (registers others : List Kind) (frame other : Contents) → registers ≡ others → frame ≡ other
+    → let x : AbstractState = record { registers = registers; frame = frame } in let y : AbstractState = record { registers = others; frame = other } in x ≡ y
+same_state registers others frame other same same_frame = cc
 
 pub states_antisymmetric : (x y : AbstractState) → IsProperState x → IsProperState y → IsWithinState x y → IsWithinState y x → x ≡ y
 states_antisymmetric x y proper-x proper-y below above =
-    let same = ext_get_or Nothing x.registers y.registers (proper-x.count ∙ sym proper-y.count)
-    (λ register _. kind_antisymmetric _ _ (below.registers register) (above.registers register)) in
-    ap (λ (registers : List Kind). let known : AbstractState = record { registers = registers } in known) same
+    same_state x.registers y.registers x.frame y.frame
+    (ext_get_or Nothing x.registers y.registers (proper-x.count ∙ sym proper-y.count)
+    (λ register _. kind_antisymmetric _ _ (below.registers register) (above.registers register)))
+    (maps.antisymmetric x.frame y.frame proper-x.frame proper-y.frame below.frame above.frame)
 
 pub join_states_is_proper : (x y : AbstractState) → IsProperState x → IsProperState y → IsProperState (join_states x y)
 join_states_is_proper x y proper-x proper-y = record {
-  count = length-zip2 kind.join x.registers y.registers (proper-x.count ∙ sym proper-y.count) ∙ proper-x.count;
+  count = length-join_kinds x.registers y.registers (proper-x.count ∙ sym proper-y.count) ∙ proper-x.count;
   kinds = λ register. subst kind.IsProper (sym (kind_of-join x y register proper-x proper-y)) (kind_join_is_proper _ _ (proper-x.kinds register) (proper-y.kinds register));
+  frame = maps.join_is_proper x.frame y.frame proper-x.frame proper-y.frame;
 }
 
 pub left_is_within_join_states : (x y : AbstractState) → IsProperState x → IsProperState y → IsWithinState x (join_states x y)
 left_is_within_join_states x y proper-x proper-y = record {
   registers = λ register. subst (kind.IsWithin (kind_of x register)) (sym (kind_of-join x y register proper-x proper-y)) (kind_left_is_within_join _ (kind_of y register));
+  frame = maps.left_is_within_join x.frame y.frame proper-x.frame proper-y.frame;
 }
 
 pub right_is_within_join_states : (x y : AbstractState) → IsProperState x → IsProperState y → IsWithinState y (join_states x y)
 right_is_within_join_states x y proper-x proper-y = record {
   registers = λ register. subst (kind.IsWithin (kind_of y register)) (sym (kind_of-join x y register proper-x proper-y)) (kind_right_is_within_join (kind_of x register) _);
+  frame = maps.right_is_within_join x.frame y.frame proper-x.frame proper-y.frame;
 }
 
 pub join_states_is_least : (x y z : AbstractState) → IsProperState x → IsProperState y → IsWithinState x z → IsWithinState y z → IsWithinState (join_states x y) z
 join_states_is_least x y z proper-x proper-y below-x below-y = record {
   registers = λ register. subst (λ (joined : Kind). kind.IsWithin joined (kind_of z register)) (sym (kind_of-join x y register proper-x proper-y))
       (kind_join_is_least _ _ _ (below-x.registers register) (below-y.registers register));
+  frame = maps.join_is_least x.frame y.frame z.frame proper-x.frame proper-y.frame below-x.frame below-y.frame;
 }
 
 pub states_admit_more : (x y : AbstractState) (state : State) → IsWithinState x y → AdmitsState x state → AdmitsState y state
 states_admit_more x y state below admits = record {
   registers = λ register. kind_admits_more _ _ (register_value state register) (below.registers register) (admits.registers register);
+  frame = maps.admits_more x.frame y.frame (is_written state.frame.bytes) below.frame admits.frame;
 }
 
 -- notes

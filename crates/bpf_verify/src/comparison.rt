@@ -1,9 +1,9 @@
 //! Conditional jumps: what is known on both edges of one.
-ghost use Rattle.std.specs.Prelude.{◌≡◌, ◌≤◌, IfOk};
+ghost use Rattle.std.specs.Prelude.{◌≡◌, IfOk};
 ghost use Rattle.bpf_kinds.specs.Interval as interval;
 ghost use Rattle.bpf_kinds.specs.Kind as kinds;
 ghost use Rattle.bpf_verify.specs.State.{AreProperEdges, IsProper, IsProperState};
-ghost use Rattle.bpf_verify.specs.Edges.{branch, compare, compared_operand, comparison, is_register, narrowed_note, with_narrowed};
+ghost use Rattle.bpf_verify.specs.Edges.{branch, branches, compare, compared_operand, with_narrowed};
 
 use crate::state::{AbstractState, Edges, Note};
 use bpf_insn::{Condition, Register, Source, Width, immediate_operand};
@@ -21,9 +21,9 @@ pub(crate) struct Comparison {
 
 impl Comparison {
     /// What is known on both edges of the jump.
-    pub fn edges(self, known: &AbstractState) -> Result<Edges, Cause>
+    pub fn branches(self, known: &AbstractState) -> Result<Edges, Cause>
         requires { IsProperState known.now }
-        ensures value { result ≡ comparison known.now self.condition self.width self.left.number self.right }
+        ensures value { result ≡ branches known.now self }
         ensures proper { IfOk result AreProperEdges }
     {
         let x = known.read(self.left.number)?;
@@ -54,7 +54,7 @@ impl Comparison {
         requires known { IsProperState known.now }
         requires left { kinds.IsProper x }
         requires right { kinds.IsProper y }
-        ensures value { result ≡ compare known.now self.condition self.width self.left.number self.right x y }
+        ensures value { result ≡ compare known.now self x y }
         ensures proper { IfOk result AreProperEdges }
     {
         match (x, y) {
@@ -71,7 +71,7 @@ impl Comparison {
         requires known { IsProperState known.now }
         requires left { interval.IsProper x }
         requires right { interval.IsProper y }
-        ensures value { result ≡ branch known.now self.condition self.width self.left.number self.right x y taken }
+        ensures value { result ≡ branch known.now self x y taken }
         ensures proper { IsProper result }
     {
         if self.right == Source::Register(self.left) {

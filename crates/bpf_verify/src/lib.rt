@@ -1,8 +1,10 @@
 //! The verifier: which programs can be stuck on no segment, found in one pass over what is known before each instruction.
 #![tactic(auto)]
 
+mod calls;
 mod comparison;
 mod fault;
+pub mod laws;
 mod memory;
 mod operands;
 mod pass;

@@ -1,14 +1,18 @@
 //! Loads and stores.
 ghost use Rattle.std.specs.Prelude.{◌≡◌, ◌≤◌, IfOk};
 ghost use Rattle.bpf_kinds.specs.Kind as kinds;
+ghost use Rattle.bpf_kinds.specs.Offsets as pointer_offsets;
 ghost use Rattle.bpf_verify.specs.State.{IsProperState};
-ghost use Rattle.bpf_verify.specs.Edges.{area_length, lie_within, load_area, load_from, load_kind, pointers_in, store, store_at};
+ghost use Rattle.bpf_verify.specs.Edges.{area_length, lie_within, load_from, load_kind, pointers_in, store, store_at};
 
 use crate::operands::{number_or, operand};
 use crate::state::AbstractState;
-use bpf_insn::{Area, LoadFormat, Register, Source, StoreSize};
+use bpf_insn::{
+    Area, FRAME_LENGTH, LoadFormat, Register, Source, StoreSize, load_length, store_length,
+};
 use bpf_kinds::{Kind, Offsets, load};
-use bpf_meaning::{Cause, FRAME_LENGTH, RECORD_LENGTH, load_length, store_length};
+use bpf_meaning::Cause;
+use tl_segments::RECORD_LENGTH;
 
 /// What is known of a pointer.
 #[derive(Clone, Copy)]
@@ -20,7 +24,8 @@ pub(crate) struct Pointers {
 /// The pointers in a register that is the base of a load or a store.
 fn pointers_in(known: &AbstractState, register: Register) -> Result<Pointers, Cause>
     requires { IsProperState known.now }
-    ensures { result ≡ pointers_in known.now register.number }
+    ensures value { result ≡ pointers_in known.now register.number }
+    ensures proper { IfOk result (λ pointers. pointer_offsets.IsProper pointers.offsets) }
 {
     match known.read(register.number)? {
         Kind::Record(offsets) => Ok(Pointers {
@@ -36,8 +41,8 @@ fn pointers_in(known: &AbstractState, register: Register) -> Result<Pointers, Ca
 }
 
 /// Whether so many bytes from each offset on, with another offset added, lie within the first ones, so many, of an area.
-fn lie_within(offsets: Offsets, offset: i16, count: usize, bytes: usize) -> bool
-    requires count { count ≤ 8 }
+pub(crate) fn lie_within(offsets: Offsets, offset: i16, count: usize, bytes: usize) -> bool
+    requires count { count ≤ 512 }
     requires bytes { bytes ≤ 512 }
     ensures { result ≡ lie_within offsets offset count bytes }
 {
@@ -69,21 +74,29 @@ pub(crate) fn load_kind(
     ensures proper { IfOk result kinds.IsProper }
 {
     let pointers = pointers_in(known, base)?;
-    load_from(format, pointers, offset)
+    load_from(known, format, pointers, offset)
 }
 
 /// What a load gives whose base holds these pointers.
-fn load_from(format: LoadFormat, pointers: Pointers, offset: i16) -> Result<Kind, Cause>
-    ensures value { result ≡ load_from format pointers offset }
+fn load_from(
+    known: &AbstractState,
+    format: LoadFormat,
+    pointers: Pointers,
+    offset: i16,
+) -> Result<Kind, Cause>
+    requires known { IsProperState known.now }
+    requires pointers { pointer_offsets.IsProper pointers.offsets }
+    ensures value { result ≡ load_from known.now format pointers offset }
     ensures proper { IfOk result kinds.IsProper }
 {
     let Pointers { area, offsets } = pointers;
-    if !lie_within(offsets, offset, load_length(format), area_length(area)) {
+    let count = load_length(format);
+    if !lie_within(offsets, offset, count, area_length(area)) {
         return Err(Cause::OutOfBounds);
     }
     match area {
-        Area::Record => Ok(Kind::Number(load(format))),
-        Area::Frame => Err(Cause::UnwrittenFrame),
+        Area::Frame if !known.all_marked(offsets, offset, count) => Err(Cause::UnwrittenFrame),
+        _ => Ok(Kind::Number(load(format))),
     }
 }
 
@@ -107,7 +120,7 @@ pub(crate) fn store(
     store_at(known, pointers.offsets, offset, size)
 }
 
-/// What is known behind a store of a number in the frame. Which of its bytes are written isn't kept.
+/// What is known behind a store of a number in the frame.
 fn store_at(
     known: &AbstractState,
     offsets: Offsets,
@@ -121,5 +134,5 @@ fn store_at(
     if !lie_within(offsets, offset, store_length(size), FRAME_LENGTH) {
         return Err(Cause::OutOfBounds);
     }
-    Ok(known.duplicate())
+    Ok(known.mark_bytes(offsets, offset, store_length(size)))
 }

@@ -1,12 +1,12 @@
 //! The one pass over a code.
-ghost use Rattle.std.specs.Prelude.{◌≡◌, ◌<◌, ◌-◌, length, IfOk, IfErr, IfSome, OnOk, Ok, Err, slice_get};
+ghost use Rattle.std.specs.Prelude.{◌≡◌, ◌<◌, length, IfOk, IfErr, IfSome, OnOk, Ok, Err, slice_get};
 ghost use Rattle.bpf_insn.specs.Code.{place_of};
 ghost use Rattle.bpf_insn.specs.Jump.{jump_distance};
 ghost use Rattle.bpf_meaning.specs.Run.{IsSafe};
 ghost use Rattle.bpf_verify.specs.State.{AreProperEdges, IsProper};
 ghost use Rattle.bpf_verify.specs.Edges.{edges};
-ghost use Rattle.bpf_verify.specs.Annotation.{IsAccepted, IsVerifyFault};
-ghost use Rattle.bpf_verify.specs.Pass.{AreProper, first_notes, lead, note_at, target_index, visited};
+ghost use Rattle.bpf_verify.specs.Annotation.{HasGoodAnnotation, IsVerifyFault};
+ghost use Rattle.bpf_verify.specs.Pass.{AreProper, first_notes, lead, note_at, target_index, visit};
 
 use crate::fault::VerifyFault;
 use crate::state::{AbstractState, Edges, Note};
@@ -21,7 +21,7 @@ use std::alloc::{AllocError, Allocator};
 /// Finds whether a code can be stuck on some segment, in one pass over its instructions in order: it refuses at the first that may be, by
 /// what is known before it. Its time grows with the instructions, and so does the memory that it takes for the pass.
 pub fn verify<A: Allocator + Copy>(alloc: A, flow: Flow<A>) -> Result<Verified<A>, VerifyFault>
-    ensures ok { IfOk result (λ verified. (verified.code ≡ flow.code) × IsAccepted flow.code) }
+    ensures ok { IfOk result (λ verified. (verified.code ≡ flow.code) × HasGoodAnnotation flow.code) }
     ensures safe { OnOk result (IsSafe flow.code) }
     ensures err { IfErr result (IsVerifyFault flow.code) }
 {
@@ -46,7 +46,7 @@ fn first_notes<A: Allocator>(alloc: A, count: usize) -> Result<Vec<Note, A>, All
 /// Visits each instruction in order.
 fn pass<A: Allocator>(flow: &Flow<A>, notes: &mut [Note]) -> Result<(), VerifyFault>
     requires { notes.old ≡ first_notes (length flow.now.code) }
-    ensures ok { OnOk result (IsAccepted flow.now.code) }
+    ensures ok { OnOk result (HasGoodAnnotation flow.now.code) }
     ensures err { IfErr result (IsVerifyFault flow.now.code) }
 {
     let code = flow.code();
@@ -64,9 +64,9 @@ fn visit<A: Allocator>(flow: &Flow<A>, index: usize, notes: &mut [Note]) -> Resu
     requires within { index < length flow.now.code }
     requires count { length notes.old ≡ length flow.now.code }
     requires proper { AreProper notes.old }
-    ensures ok { OnOk result (visited flow.now.code notes.old index ≡ Ok notes.new) }
+    ensures ok { OnOk result (visit flow.now.code notes.old index ≡ Ok notes.new) }
     ensures proper { IfSome (slice_get flow.now.code index) (λ insn. IfOk (edges (note_at notes.old index) insn) AreProperEdges) }
-    ensures err { IfErr result (λ cause. visited flow.now.code notes.old index ≡ Err cause) }
+    ensures err { IfErr result (λ cause. visit flow.now.code notes.old index ≡ Err cause) }
 {
     let insn = flow.code().instructions()[index];
     let edges = edges(&notes[index], insn)?;

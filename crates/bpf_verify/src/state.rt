@@ -1,20 +1,27 @@
-//! Abstract states: what is known of the registers before an instruction.
-ghost use Rattle.std.specs.Prelude.{◌≡◌, ◌≤◌, IfOk};
+//! Abstract states: what is known of the registers and of the frame before an instruction.
+ghost use Rattle.std.specs.Prelude.{◌≡◌, ◌≤◌, ◌≤ℤ◌, ◌+ℤ◌, pos, unsigned_abs, IsTrue, IfOk};
+ghost use Rattle.bpf_insn.specs.declared.memory.TheConstants.{FRAME_LENGTH};
+ghost use Rattle.bpf_kinds.specs.Interval as interval;
+ghost use Rattle.bpf_kinds.specs.Offsets as pointer_offsets;
 ghost use Rattle.bpf_meaning.specs.declared.state.State.{State};
 ghost use Rattle.bpf_kinds.specs.Kind as kinds;
 ghost use Rattle.bpf_verify.specs.State as state;
 ghost use Rattle.bpf_verify.specs.State.{IsProperState, entry, with_kind};
-ghost use Rattle.bpf_verify.specs.Edges.{read};
+ghost use Rattle.bpf_verify.specs.Edges.{all_marked, lie_within, mark_bytes, read, state_after};
 ghost use Rattle.bpf_verify.specs.StateLaws as laws;
 
-use bpf_kinds::{Kind, Offsets, Order};
-use bpf_meaning::{Cause, FRAME_LENGTH, REGISTERS};
+use bpf_frame::FrameMap;
+use bpf_insn::FRAME_LENGTH;
+use bpf_kinds::{Interval, Kind, Offsets, Order};
+use bpf_meaning::{Cause, REGISTERS};
 
 /// What is known before an instruction, whatever the segment.
 #[derive(Drop)]
 pub(crate) struct AbstractState {
     /// Registers 0 to 10.
     pub registers: [Kind; REGISTERS],
+    /// Which bytes of the frame are written.
+    pub frame: FrameMap,
 }
 
 /// What is known before the instruction at a place.
@@ -34,6 +41,14 @@ pub(crate) struct Edges {
     pub target: Note,
 }
 
+/// The frame's byte where a pointer points, with another offset added.
+fn byte_at(pointer: i16, offset: i16) -> usize
+    requires { pos 0 ≤ℤ (pointer +ℤ offset) }
+    ensures { result ≡ unsigned_abs (pointer +ℤ offset) }
+{
+    (i32::from(pointer) + i32::from(offset)) as usize
+}
+
 impl AbstractState {
     /// What is known at the start: register 1 points to the record's first byte, register 10 behind the frame's last.
     pub fn entry() -> Self
@@ -50,7 +65,10 @@ impl AbstractState {
             low: behind,
             high: behind,
         });
-        AbstractState { registers }
+        AbstractState {
+            registers,
+            frame: FrameMap::unwritten(),
+        }
     }
 
     /// The same once more.
@@ -59,6 +77,7 @@ impl AbstractState {
     {
         AbstractState {
             registers: self.registers,
+            frame: self.frame.duplicate(),
         }
     }
 
@@ -86,6 +105,48 @@ impl AbstractState {
         let mut known = self.duplicate();
         known.registers[usize::from(register)] = kind;
         known
+    }
+
+    /// The same with so many bytes of the frame written, from one of the offsets on, with another offset added. Only where that is one known
+    /// offset it's known which ones.
+    pub fn mark_bytes(&self, offsets: Offsets, offset: i16, count: usize) -> Self
+        requires proper { IsProperState self.now }
+        requires within { IsTrue (lie_within offsets offset count FRAME_LENGTH) }
+        ensures value { result ≡ mark_bytes self.now offsets offset count }
+        ensures proper { IsProperState result }
+    {
+        let mut known = self.duplicate();
+        if offsets.low == offsets.high {
+            known.frame.mark(byte_at(offsets.low, offset), count);
+        }
+        known
+    }
+
+    /// Whether each byte of the frame that may be read is written, where so many are read at most, from each of the offsets on, with another
+    /// offset added.
+    pub fn all_marked(&self, offsets: Offsets, offset: i16, count: usize) -> bool
+        requires proper { IsProperState self.now }
+        requires offsets { pointer_offsets.IsProper offsets }
+        requires within { IsTrue (lie_within offsets offset count FRAME_LENGTH) }
+        ensures { result ≡ all_marked self.now offsets offset count }
+    {
+        if count == 0 {
+            return true;
+        }
+        let last = byte_at(offsets.high, offset) + count - 1;
+        self.frame.all_written(byte_at(offsets.low, offset), last)
+    }
+
+    /// The same behind a call: register 0 has an answer of the interval, registers 1 to 5 hold nothing.
+    pub fn state_after(mut self, answer: Interval) -> Self
+        requires proper { IsProperState self }
+        requires answer { interval.IsProper answer }
+        ensures value { result ≡ state_after answer self }
+        ensures proper { IsProperState result }
+    {
+        self.registers[0] = Kind::Number(answer);
+        self.registers[1..6].fill(Kind::Nothing);
+        self
     }
 }
 
@@ -122,7 +183,7 @@ impl Order for AbstractState {
                 return false;
             }
         }
-        true
+        self.frame.leq(&other.frame)
     }
 
     fn join(&self, other: &AbstractState) -> AbstractState {
@@ -130,7 +191,10 @@ impl Order for AbstractState {
         for register in 0..REGISTERS {
             registers[register] = self.registers[register].join(&other.registers[register]);
         }
-        AbstractState { registers }
+        AbstractState {
+            registers,
+            frame: self.frame.join(&other.frame),
+        }
     }
 }
 

@@ -2,12 +2,14 @@
 ghost use Rattle.std.specs.Prelude.{◌≡◌, IfOk};
 ghost use Rattle.bpf_kinds.specs.Kind as kinds;
 ghost use Rattle.bpf_verify.specs.State.{AreProperEdges, IsProperState};
-ghost use Rattle.bpf_verify.specs.Edges.{end, go_on, instruction_edges, jump, set_register};
+ghost use Rattle.bpf_verify.specs.Edges.{exit, go_on, instruction_edges, jump, set_register};
 
+use crate::calls::call;
 use crate::comparison::Comparison;
 use crate::memory::{load_kind, store};
 use crate::operands::{number_in, number_or, operation_kind};
 use crate::state::{AbstractState, Edges, Note};
+use bpf_helpers::Helper;
 use bpf_insn::{Insn, Source, WritableRegister};
 use bpf_kinds::{Kind, byte_swap, extend, negate, wide_number};
 use bpf_meaning::Cause;
@@ -53,7 +55,7 @@ fn jump(known: &AbstractState) -> Result<Edges, Cause>
 /// The end of the program.
 fn exit(known: &AbstractState) -> Result<Edges, Cause>
     requires { IsProperState known.now }
-    ensures value { result ≡ instruction_edges known.now Insn.Exit }
+    ensures value { result ≡ exit known.now }
     ensures proper { IfOk result AreProperEdges }
 {
     number_or(Cause::ExitNotNumber, known.read(0)?)?;
@@ -113,10 +115,12 @@ pub(crate) fn instruction_edges(known: &AbstractState, insn: Insn) -> Result<Edg
                 left,
                 right,
             };
-            comparison.edges(known)
+            comparison.branches(known)
         }
         Insn::Jump(_) => jump(known),
-        Insn::Call { .. } => Err(Cause::UnknownHelper),
+        Insn::Call { immediate } => {
+            go_on(call(known, Helper::by_number(immediate.cast_unsigned()))?)
+        }
         Insn::Exit => exit(known),
         Insn::Load {
             format,

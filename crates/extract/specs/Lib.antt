@@ -1,8 +1,6 @@
 pub mod CountyFile
 pub mod ExtractFault
 pub mod Extracting
-pub mod LineFlaw
-pub mod Lines
 pub mod LoadFault
 pub mod Program
 pub mod ProgramFault

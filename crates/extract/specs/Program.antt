@@ -7,7 +7,7 @@ use Rattle.bpf_insn.specs.declared.instruction.Insn.{Insn}
 use Rattle.bpf_flow.specs.Flow as flow
 use Rattle.bpf_flow.specs.Flow.{IsForward}
 use Rattle.bpf_meaning.specs.Run.{IsSafe}
-use Rattle.bpf_verify.specs.Annotation.{IsAccepted, IsVerifyFault}
+use Rattle.bpf_verify.specs.Annotation.{HasGoodAnnotation, IsVerifyFault}
 use Rattle.bpf_verify.specs.declared.fault.VerifyFault.TheVariants as verify_fault
 use Rattle.extract.specs.declared.program.ProgramFault.{ProgramFault}
 use Rattle.extract.specs.declared.program.ProgramFault.TheVariants.{Code, Flow, Verify, Memory}
@@ -18,7 +18,7 @@ use Rattle.extract.specs.declared.program.ProgramFault.TheVariants.{Code, Flow, 
 pub record IsSafeProgram (program : List ℕ) (code : List Insn) : Type 0 where
   pub is_code : IsCodeOf program code
   pub forward : IsForward code
-  pub accepted : IsAccepted code
+  pub accepted : HasGoodAnnotation code
   pub safe : IsSafe code
 
 -- 10 to 18 are the first fault of the bytes, 30 to 33 the first fault of their code; 40 to 51 come of a forward code alone

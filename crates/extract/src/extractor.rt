@@ -5,16 +5,19 @@ ghost use Rattle.extract.specs.Extracting.{IsOutcome};
 ghost use Rattle.extract.specs.declared.program.ProgramFault.{ProgramFault};
 
 use crate::fault::ExtractFault;
-use crate::load::read_segments;
+use crate::load::{next_line, segment_of};
 use crate::program::accept;
-use crate::rows::write_rows;
+use crate::rows::write_row_if_chosen;
+use arrayvec::ArrayVec;
 use std::alloc::Allocator;
 use tl_fields::{CountedRead, CountedWrite};
+use tl_records::Line;
 
 /// Writes the rows of the segments of a type 1 file that a program chooses, in file order, and answers their number.
 ///
-/// The program is accepted first, then the file is read to its end, then the rows are written. Nothing is flushed, and no read or
-/// write is tried again, not after `Interrupted` either. The readers of types 4, 5 and 6 aren't read yet.
+/// The program is accepted first. Then the file is read line by line: a line's row is handed to the writer before the next line is read, and
+/// nothing of a line is kept behind its row. Nothing is flushed, and no read or write is tried again, not after `Interrupted` either. The
+/// readers of types 4, 5 and 6 aren't read yet.
 pub fn extract<A: Allocator + Copy, R: CountedRead, W: CountedWrite>(
     alloc: A,
     program: &[u8],
@@ -33,7 +36,12 @@ pub fn extract<A: Allocator + Copy, R: CountedRead, W: CountedWrite>(
     ensures others { (rt4.new ≡ rt4.old) × (rt5.new ≡ rt5.old) × (rt6.new ≡ rt6.old) }
 {
     let verified = accept(alloc, program)?;
-    let segments = read_segments(alloc, rt1)?;
-    let rows = write_rows(&verified, segments.as_slice(), out)?;
+    let mut line = Line::new();
+    let mut text = ArrayVec::new();
+    let mut rows = 0;
+    while let Some(()) = next_line(rt1, &mut line)? {
+        let segment = segment_of(alloc, &line)?;
+        rows += write_row_if_chosen(&verified, &segment, &mut text, out)?;
+    }
     Ok(rows)
 }

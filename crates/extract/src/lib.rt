@@ -3,7 +3,6 @@
 
 mod extractor;
 mod fault;
-pub mod laws;
 mod load;
 mod program;
 mod rows;
@@ -12,5 +11,6 @@ mod tests;
 
 pub use extractor::extract;
 pub use fault::ExtractFault;
-pub use load::{CountyFile, LineFault, LineFlaw, LoadFault};
+pub use load::{CountyFile, LoadFault};
 pub use program::{ProgramFault, accept};
+pub use rows::{LONGEST_ROW, row, row_text};

@@ -1,12 +1,16 @@
 //! Extracts worked by hand, and readers and writers that go wrong in mid-stream, through the public call. Tables are text, a row a line.
-use crate::extract;
-use crate::load::tests::{RECORD, bytes_of, is_as_expected};
+mod fixtures;
+
+use crate::{extract, row, row_text};
 use arrayvec::ArrayString;
+use fixtures::{RECORD, bytes_of, is_as_expected};
 use std::alloc::Allocator;
+use std::cell::Cell;
 use std::io;
-use std::io::{ErrorKind, Write};
+use std::io::{ErrorKind, Read, Write};
 use std::test::Fail;
-use tl_fields::{Burst, CountedWrite, Counting, Fuse};
+use tl_fields::{Burst, CountedRead, CountedWrite, Counting, Fuse};
+use tl_segments::Segment;
 
 // mov r0, 1 | exit
 const EVERY: &str = "b700000001000000 9500000000000000";
@@ -61,19 +65,19 @@ fn each_read_fails(rt: HostRuntime) -> Result<(), Fail> {
     let program = bytes_of(rt.alloc(), EVERY)?;
     let file = bytes_of(rt.alloc(), "RECORD 0a RECORD 0a")?;
     for passing in 0..459 {
-        let expected = match passing {
-            0..229 => "refused 5 rt1 line 1 Read",
-            229..458 => "refused 5 rt1 line 2 Read",
-            _ => "refused 5 rt1 line 3 Read",
+        let (expected, written) = match passing {
+            0..229 => ("refused 5 rt1 line 1 Read", 0),
+            229..458 => ("refused 5 rt1 line 2 Read", 231),
+            _ => ("refused 5 rt1 line 3 Read", 462),
         };
         for kind in [ErrorKind::BrokenPipe, ErrorKind::Interrupted] {
             let mut rt1 = reader(&file, passing, kind);
-            let mut out = Counting::new(Vec::new(rt.alloc()));
+            let mut out = Counting::new(Vec::with_capacity(rt.alloc(), 500)?);
             let given = row_count(rt.alloc(), &program, &mut rt1, &mut out);
             assert!(rt; is_as_expected(&given, expected), "{passing}");
             assert_eq!(rt;
                 (rt1.get_ref().calls, out.get_ref().len()),
-                (passing + 1, 0)
+                (passing + 1, written)
             );
         }
     }
@@ -97,10 +101,12 @@ fn each_write_fails(rt: HostRuntime) -> Result<(), Fail> {
         (1, Burst::TakesNothing, "refused 61 WriteZero"),
     ];
     for room in 0..=462 {
-        let rows = match room {
-            0 => 1,
-            1..=231 | 462 => 2,
-            _ => 3,
+        let (rows, reads) = match room {
+            0 => (1, 229),
+            1..231 => (2, 229),
+            231 => (2, 458),
+            232..462 => (3, 458),
+            _ => (2, 459),
         };
         for (step, burst, line) in devices {
             let mut rt1 = reader(&file, u64::MAX, ErrorKind::BrokenPipe);
@@ -116,7 +122,11 @@ fn each_write_fails(rt: HostRuntime) -> Result<(), Fail> {
             } else {
                 rows
             };
-            assert_eq!(rt; fuse.calls, calls, "{room} {step}");
+            assert_eq!(rt;
+                (fuse.calls, rt1.get_ref().calls),
+                (calls, reads),
+                "{room} {step}"
+            );
         }
     }
     Ok(())
@@ -191,21 +201,24 @@ RECORD 0d0a RECORD 0d0a; 2; 3009 RECORD 0a 3009 RECORD 0a
 RECORD 0d0a RECORD 0a RECORD; 3; 3009 RECORD 0a 3009 RECORD 0a 3009 RECORD 0a
 RECORD 0a ..19 ff80c3a9 23..; 2; 3009 RECORD 0a 3009 ..19 ff80c3a9 23.. 0a
 RECORD 0a ..19 0d 20..; 2; 3009 RECORD 0a 3009 ..19 0d 20.. 0a
-RECORD 0d0a ..227 0a RECORD; refused 1 rt1 line 2 WrongLength;
-RECORD 0a RECORD 200a RECORD; refused 1 rt1 line 2 WrongLength;
-RECORD 0a RECORD 20200a RECORD; refused 1 rt1 line 2 WrongLength;
-RECORD 0a RECORD 2020200a RECORD; refused 1 rt1 line 2 WrongLength;
-RECORD 0a 0a RECORD; refused 1 rt1 line 2 WrongLength;
-RECORD 0a 0a; refused 1 rt1 line 2 WrongLength;
-RECORD 0a 0d0a RECORD; refused 1 rt1 line 2 WrongLength;
-RECORD 0a RECORD 0d; refused 1 rt1 line 2 WrongLength;
-RECORD 0a RECORD 0d0d0a RECORD; refused 1 rt1 line 2 WrongLength;
-RECORD 0a RECORD 0a30; refused 1 rt1 line 3 WrongLength;
+..5 37 6.. 0a ..13 3930 15..; 2; 3009 ..5 37 6.. 0a 3009 ..13 3930 15.. 0a
+RECORD 0d0a ..227 0a RECORD; refused 1 rt1 line 2 WrongLength; 3009 RECORD 0a
+RECORD 0a RECORD 200a RECORD; refused 1 rt1 line 2 WrongLength; 3009 RECORD 0a
+RECORD 0a RECORD 20200a RECORD; refused 1 rt1 line 2 WrongLength; 3009 RECORD 0a
+RECORD 0a RECORD 2020200a RECORD; refused 1 rt1 line 2 WrongLength; 3009 RECORD 0a
+RECORD 0a 0a RECORD; refused 1 rt1 line 2 WrongLength; 3009 RECORD 0a
+RECORD 0a 0a; refused 1 rt1 line 2 WrongLength; 3009 RECORD 0a
+RECORD 0a 0d0a RECORD; refused 1 rt1 line 2 WrongLength; 3009 RECORD 0a
+RECORD 0a RECORD 0d; refused 1 rt1 line 2 WrongLength; 3009 RECORD 0a
+RECORD 0a RECORD 0d0d0a RECORD; refused 1 rt1 line 2 WrongLength; 3009 RECORD 0a
+RECORD 0a RECORD 0a30; refused 1 rt1 line 3 WrongLength; 3009 RECORD 0a 3009 RECORD 0a
 RECORD 0d RECORD 0a RECORD; refused 1 rt1 line 1 WrongLength;
-RECORD 0a 32 1..; refused 2 rt1 line 2 WrongType;
-RECORD 0a ..5 2020202020 2020202020 15..; refused 3 rt1 line 2 BadTlid;
-RECORD 0a ..5 2031323334 3536373878 15..; refused 3 rt1 line 2 BadTlid;
-RECORD 0a 3230303036 2020202020 2020202020 15..; refused 2 rt1 line 2 WrongType;";
+RECORD 0a 32 1..; refused 2 rt1 line 2 WrongType; 3009 RECORD 0a
+RECORD 0a 34 1.. 0a RECORD; refused 2 rt1 line 2 WrongType; 3009 RECORD 0a
+RECORD 0a ..5 2020202020 2020202020 15..; refused 3 rt1 line 2 BadTlid; 3009 RECORD 0a
+RECORD 0a ..5 2031323334 3536373878 15..; refused 3 rt1 line 2 BadTlid; 3009 RECORD 0a
+..14 2d 15.. 0a RECORD; refused 3 rt1 line 1 BadTlid;
+RECORD 0a 3230303036 2020202020 2020202020 15..; refused 2 rt1 line 2 WrongType; 3009 RECORD 0a";
 
 // The same for the programs that choose by the class's first letter.
 const NOT_ROADS_OF: &str = "; 0;
@@ -234,20 +247,107 @@ fn files(rt: HostRuntime) -> Result<(), Fail> {
     Ok(())
 }
 
+/// A reader of lines of 229 bytes that asks, before the first byte of each, whether the rows of all lines before it have been written.
+#[derive(Drop)]
+struct Asking<'a, 'b> {
+    bytes: &'a [u8],
+    taken: usize,
+    written: &'b Cell<usize>,
+    is_any_missing: bool,
+}
+
+impl<'a, 'b> Asking<'a, 'b> {
+    fn new(bytes: &'a [u8], written: &'b Cell<usize>) -> Counting<Asking<'a, 'b>> {
+        Counting::new(Asking {
+            bytes,
+            taken: 0,
+            written,
+            is_any_missing: false,
+        })
+    }
+}
+
+impl Read for Asking<'_, '_> {
+    fn read(&mut self, buf: &mut [u8]) -> io::Result<usize> {
+        let rows = self.taken / 229;
+        if self.taken % 229 == 0 && self.written.get() / 231 != rows {
+            self.is_any_missing = true;
+        }
+        let count = self.bytes.read(buf)?;
+        self.taken = self.taken.wrapping_add(count);
+        Ok(count)
+    }
+}
+
+/// A writer that tells how many bytes it was handed.
+#[derive(Drop)]
+struct Telling<'a> {
+    written: &'a Cell<usize>,
+}
+
+impl Write for Telling<'_> {
+    fn write(&mut self, buf: &[u8]) -> io::Result<usize> {
+        self.written.set(self.written.get().wrapping_add(buf.len()));
+        Ok(buf.len())
+    }
+
+    fn flush(&mut self) -> io::Result<()> {
+        Ok(())
+    }
+}
+
+#[test]
+fn rows_are_written_before_the_next_line_is_read(rt: HostRuntime) -> Result<(), Fail> {
+    let program = bytes_of(rt.alloc(), EVERY)?;
+    let file = bytes_of(rt.alloc(), "RECORD 0a RECORD 0a RECORD 0a")?;
+    let written = Cell::new(0);
+    let mut rt1 = Asking::new(file.as_slice(), &written);
+    let mut out = Counting::new(Telling { written: &written });
+    let rows = extract(
+        rt.alloc(),
+        &program,
+        &mut rt1,
+        &mut Asking::new(b"", &written),
+        &mut Asking::new(b"", &written),
+        &mut Asking::new(b"", &written),
+        &mut out,
+    )?;
+    assert_eq!(rt; (rows, written.get()), (3, 693));
+    assert_eq!(rt; rt1.get_ref().is_any_missing, false);
+    Ok(())
+}
+
+#[test]
+fn rows_of_scores(rt: HostRuntime) -> Result<(), Fail> {
+    let segment = Segment::of(rt.alloc(), RECORD);
+    let end = bytes_of(rt.alloc(), "09 RECORD 0a")?;
+    for digits in "0 42 18446744073709551615".split_whitespace() {
+        let score = digits.parse()?;
+        let mut text = Vec::new(rt.alloc());
+        text.extend_from_slice(digits.as_bytes())?;
+        text.extend_from_slice(&end)?;
+        let mut out = Counting::new(Vec::with_capacity(rt.alloc(), 250)?);
+        assert_eq!(rt; row_text(score, &segment).as_slice(), text.as_slice());
+        assert_eq!(rt; row(score, &segment, &mut out), Ok(()));
+        assert_eq!(rt; out.get_ref().as_slice(), text.as_slice());
+    }
+    Ok(())
+}
+
 // Want of memory is no excuse at the size of a county.
 #[test]
-fn a_county_of_70000_lines(rt: HostRuntime) -> Result<(), Fail> {
+fn a_county_of_20000_lines(rt: HostRuntime) -> Result<(), Fail> {
     let program = bytes_of(rt.alloc(), EVERY)?;
     let line = bytes_of(rt.alloc(), "RECORD 0a")?;
-    let mut file = Vec::with_capacity(rt.alloc(), 70_000 * 229)?;
-    for _ in 0..70_000 {
+    let mut file = Vec::with_capacity(rt.alloc(), 20_000 * 229)?;
+    for _ in 0..20_000 {
         file.extend_from_slice(&line)?;
     }
     let mut rt1 = Counting::new(file.as_slice());
     let mut rt4 = Counting::new(b"".as_slice());
     let mut rt5 = Counting::new(b"".as_slice());
     let mut rt6 = Counting::new(b"".as_slice());
-    let mut out = Counting::new(Vec::with_capacity(rt.alloc(), 70_000 * 231)?);
+    let mut out = Counting::new(Vec::with_capacity(rt.alloc(), 20_000 * 231)?);
     let rows = extract(
         rt.alloc(),
         &program,
@@ -259,7 +359,7 @@ fn a_county_of_70000_lines(rt: HostRuntime) -> Result<(), Fail> {
     )?;
     assert_eq!(rt;
         (rows, out.get_ref().len()),
-        (70_000, 70_000 * (RECORD.len() + 3))
+        (20_000, 20_000 * (RECORD.len() + 3))
     );
     Ok(())
 }

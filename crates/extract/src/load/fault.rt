@@ -1,7 +1,6 @@
 //! Why a file of a county can't be loaded, and the line of text that a refusal gets.
 ghost use Rattle.std.specs.Prelude.{◌≡◌, ◌≤◌, length};
 ghost use Rattle.extract.specs.CountyFile as county_file;
-ghost use Rattle.extract.specs.LineFlaw as line_flaw;
 ghost use Rattle.extract.specs.LoadFault as load_fault;
 ghost use Rattle.extract.specs.LoadFault.{file_line};
 ghost use Rattle.extract.specs.declared.load.fault.LoadFault.TheVariants.{Memory};
@@ -11,6 +10,7 @@ use bpf_insn::{memory_name, refusal_line};
 use itoa::Buffer;
 use std::alloc::{AllocError, AllocFailed};
 use thiserror::Error;
+use tl_records::LineFault;
 
 /// The files of a county that are read (TIGER/Line 2006), by their record types.
 #[derive(Clone, Copy, Debug, PartialEq, Eq)]
@@ -33,71 +33,6 @@ impl CountyFile {
             CountyFile::Rt5 => "rt5",
             CountyFile::Rt6 => "rt6",
         }
-    }
-}
-
-/// What is wrong with a line.
-#[derive(Clone, Copy, Debug, PartialEq, Eq, Error)]
-pub enum LineFlaw {
-    #[error("not the length of a record")]
-    WrongLength,
-    #[error("another record type")]
-    WrongType,
-    #[error("the TLID has no number")]
-    BadTlid,
-    #[error("the read failed")]
-    Read,
-    #[error("too many lines")]
-    TooManyLines,
-}
-
-impl LineFlaw {
-    pub fn number(self) -> u8
-        ensures { result ≡ line_flaw.number self }
-    {
-        match self {
-            LineFlaw::WrongLength => 1,
-            LineFlaw::WrongType => 2,
-            LineFlaw::BadTlid => 3,
-            LineFlaw::Read => 5,
-            LineFlaw::TooManyLines => 8,
-        }
-    }
-
-    pub fn name(self) -> &'static str
-        ensures value { result.now ≡ line_flaw.name self }
-        ensures short { length result.now ≤ 12 }
-    {
-        match self {
-            LineFlaw::WrongLength => "WrongLength",
-            LineFlaw::WrongType => "WrongType",
-            LineFlaw::BadTlid => "BadTlid",
-            LineFlaw::Read => "Read",
-            LineFlaw::TooManyLines => "TooManyLines",
-        }
-    }
-}
-
-/// Why a file's lines can't be read further. Lines are counted from 1.
-#[derive(Clone, Copy, Debug, PartialEq, Eq, Error)]
-#[error("line {line}: {flaw}")]
-pub struct LineFault {
-    pub line: u64,
-    pub flaw: LineFlaw,
-}
-
-impl LineFault {
-    pub fn number(self) -> u8
-        ensures { result ≡ line_flaw.number self.flaw }
-    {
-        self.flaw.number()
-    }
-
-    pub fn name(self) -> &'static str
-        ensures value { result.now ≡ line_flaw.name self.flaw }
-        ensures short { length result.now ≤ 12 }
-    {
-        self.flaw.name()
     }
 }
 

@@ -10,19 +10,19 @@ ONE EXIT | LINE \n LINE \n | 0\t LINE \n 0\t LINE \n | 0 |
 ONE EXIT |  |  | 0 |
 71 10 e3 00 00 00 00 00 EXIT | LINE \n | 0\t LINE \n | 0 |
 ONE EXIT | LINE \r\n LINE \n LINE | 0\t LINE \n 0\t LINE \n 0\t LINE \n | 0 |
-ONE EXIT | LINE \r\n LINE:227 \n LINE |  | 1 | refused 1 rt1 line 2 WrongLength
+ONE EXIT | LINE \r\n LINE:227 \n LINE | 0\t LINE \n | 1 | refused 1 rt1 line 2 WrongLength
 71 10 37 00 00 00 00 00 07 00 00 00 bf ff ff ff EXIT | LINE \n LINE@55=H01 \n LINE@55=___ \n | 0\t LINE@55=H01 \n 0\t LINE@55=___ \n | 0 |
 71 12 37 00 00 00 00 00 b7 00 00 00 00 00 00 00 55 02 01 00 41 00 00 00 ONE EXIT | LINE \n LINE@55=H01 \n LINE@55=___ \n | 0\t LINE \n | 0 |
 ONE EXIT 71 90 00 00 00 00 00 00 EXIT | LINE \n | 0\t LINE \n | 0 |
-ONE EXIT | LINE \n LINE:227 \n |  | 1 | refused 1 rt1 line 2 WrongLength
+ONE EXIT | LINE \n LINE:227 \n | 0\t LINE \n | 1 | refused 1 rt1 line 2 WrongLength
 ONE EXIT | LINE:229 \n LINE \n |  | 1 | refused 1 rt1 line 1 WrongLength
 ONE EXIT | LINE:230 \n |  | 1 | refused 1 rt1 line 1 WrongLength
 ONE EXIT | LINE:231 \n |  | 1 | refused 1 rt1 line 1 WrongLength
 ONE EXIT | LINE \r |  | 1 | refused 1 rt1 line 1 WrongLength
 ONE EXIT | LINE \r\r\n |  | 1 | refused 1 rt1 line 1 WrongLength
-ONE EXIT | LINE \n \n |  | 1 | refused 1 rt1 line 2 WrongLength
+ONE EXIT | LINE \n \n | 0\t LINE \n | 1 | refused 1 rt1 line 2 WrongLength
 ONE EXIT | \n LINE \n |  | 1 | refused 1 rt1 line 1 WrongLength
-ONE EXIT | LINE \n LINE@0=4 \n |  | 1 | refused 2 rt1 line 2 WrongType
+ONE EXIT | LINE \n LINE@0=4 \n | 0\t LINE \n | 1 | refused 2 rt1 line 2 WrongType
 ONE EXIT | LINE@5=__________ \n |  | 1 | refused 3 rt1 line 1 BadTlid
 ONE EXIT | LINE@5=_12_456789 \n |  | 1 | refused 3 rt1 line 1 BadTlid
 ONE EXIT | LINE@0=42345__________ \n |  | 1 | refused 2 rt1 line 1 WrongType

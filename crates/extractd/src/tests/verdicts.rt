@@ -67,12 +67,19 @@ lddw r0, 0x100000007\nmod32 r0, 0\njeq r0, 7, +1\nmov r0, 0\nexit | row
 mov r6, r1\nldxdw r0, [r1+0]\nand r0, 15\nadd r6, r0\nldxb r0, [r6+0]\nexit | row
 mov r6, r1\nldxdw r0, [r1+0]\nadd r6, r0\nldxb r0, [r6+0]\nexit | refused 41 place 2 PointerArithmetic
 mov r2, 1\nstxdw [r10-8], r2\nmov r0, r2\nexit | row
-mov r2, 1\nstxdw [r10-8], r2\nldxw r3, [r10-8]\nldxw r0, [r10-4]\nexit | refused 45 place 2 UnwrittenFrame
-mov r2, 1\nstxdw [r10-8], r2\nldxw r0, [r10-8]\nldxdw r0, [r10-12]\nexit | refused 45 place 2 UnwrittenFrame
+mov r2, 1\nstxdw [r10-8], r2\nldxw r3, [r10-8]\nldxw r0, [r10-4]\nexit | no row
+mov r2, 1\nstxdw [r10-8], r2\nldxw r0, [r10-8]\nldxdw r0, [r10-12]\nexit | refused 45 place 3 UnwrittenFrame
 stb [r10+0], 1\nexit | refused 44 place 0 OutOfBounds
 mov r0, 0\nstb [r1+0], 1\nexit | refused 46 place 1 WritesRecord
 stxdw [r10-8], r1\nexit | refused 47 place 0 StoresPointer
-call 1\nexit | refused 49 place 0 UnknownHelper
+call 1\nexit | refused 50 place 0 BadArgument(1)
+call 10\nexit | refused 49 place 0 UnknownHelper
+mov r6, r1\nmov r1, 0\ncall 1\nadd r6, r0\nldxb r0, [r6+0]\nexit | refused 41 place 3 PointerArithmetic
+mov r1, 0\nmov r2, r10\nadd r2, -4\nmov r3, 4\ncall 7\nexit | refused 45 place 4 UnwrittenFrame
+stw [r10-4], 0x6e69616d\nmov r1, 0\nmov r2, r10\nadd r2, -4\nmov r3, 31\ncall 7\nexit | refused 50 place 5 BadArgument(3)
+stw [r10-4], 0x6e69616d\nmov r1, 0\nmov r2, r10\nadd r2, -4\nmov r3, 4\ncall 7\nmov r0, r1\nexit | refused 40 place 6 ReadsNothing(1)
+mov r1, 0\nmov r2, r10\nadd r2, -4\nmov r3, 3\ncall 6\nldxw r0, [r10-4]\nexit | refused 45 place 5 UnwrittenFrame
+ldxb r3, [r1+55]\nand r3, 1\nmov r2, r10\nadd r2, -2\nadd r2, r3\nstb [r2+0], 7\nldxb r0, [r10-2]\nexit | refused 45 place 6 UnwrittenFrame
 mov r2, 1\nadd r2, -1\nadd r1, r2\nldxb r0, [r1+227]\nexit | row
 mov r2, -1\nadd r1, r2\nldxb r0, [r1+228]\nexit | row
 mov r2, -1\nadd r1, r2\nldxb r0, [r1+0]\nexit | refused 44 place 2 OutOfBounds
@@ -94,6 +101,25 @@ mov r0, 0\nldxb r2, [r1+55]\njsgt r2, 227, +2\nadd r1, r2\nldxb r0, [r1+0]\nexit
 ldxb r2, [r1+55]\nmov r3, r1\njeq r2, 65, +1\nmov r3, 0\nldxb r0, [r3+0]\nexit | refused 40 place 4 ReadsNothing(3)
 mov r0, r1\nexit | refused 51 place 1 ExitNotNumber
 mov r0, 0\njeq r1, 0, +0\nexit | refused 48 place 1 ComparesPointer
+";
+
+// Programs as text that call helper functions, a type 1 file, and its rows.
+const CALLS: &str = r"
+mov r1, -13\nsmod r1, 3\nmov r6, r1\ncall 8\nmov r0, r6\nexit | LINE \n LINE \n | 18446744073709551615\t LINE \n 18446744073709551615\t LINE \n
+mov r6, r1\nmov r1, 0\ncall 1\nand r0, 15\nadd r6, r0\nldxb r0, [r6+0]\nexit | LINE \n | 0\t LINE \n
+ldxb r0, [r1+55]\nmov r1, r0\njne r0, 65, +1\ncall 8\nmov r0, 1\nexit | LINE \n LINE@55=H \n | 65\t LINE \n 0\t LINE@55=H \n
+mov r1, 0\nmov r2, 151\ncall 5\nmov r1, r0\ncall 8\nmov r0, 1\nexit | LINE@66=199________101______________________ \n | 1\t LINE@66=199________101______________________ \n
+mov r1, 0\nmov r2, 150\ncall 5\nexit | LINE@66=199________101______________________ \n |
+mov r1, 0\nmov r2, 150\ncall 5\nmov r1, r0\ncall 8\nmov r0, 1\nexit | LINE@66=100________199______________________ \n | 1\t LINE@66=100________199______________________ \n
+mov r1, 1\ncall 2\nexit | LINE@63=164-20________199______________________ \n LINE \n | 0\t LINE \n
+mov r1, 1\ncall 1\nexit | LINE@63=164-20________199______________________ \n |
+mov r1, 0\nmov r2, 164\ncall 5\nexit | LINE@63=164-20________199______________________ \n |
+stw [r10-4], 0x6e69616d\nmov r1, 0\nmov r2, r10\nadd r2, -4\nmov r3, 4\ncall 7\nexit | LINE \n LINE@23=e \n | 0\t LINE \n
+mov r1, 0\ncall 9\nmov r1, r0\nmov r6, r0\ncall 8\nmov r0, r6\nexit | LINE \n | 18446744073623051616\t LINE \n
+mov r1, 0\nmov r2, r10\nadd r2, -4\nmov r3, 4\ncall 6\nldxw r1, [r10-4]\ncall 8\nmov r0, 1\nexit | LINE \n | 1852399949\t LINE \n
+mov r1, 1\nmov r2, r10\nadd r2, -4\nmov r3, 4\ncall 6\nldxw r1, [r10-4]\ncall 8\nmov r0, 1\nexit | LINE \n | 538976288\t LINE \n
+call 3\nexit | LINE \n |
+call 4\nmov r1, r0\ncall 8\nmov r0, 1\nexit | LINE \n | 1\t LINE \n
 ";
 
 /// Whether both commands refuse a program so. Every read of the type 1 file and every write to the output goes wrong, so that none is made.
@@ -161,6 +187,21 @@ fn verdicts(rt: HostRuntime) -> Result<(), Fail> {
             refusal => is_refused(rt.alloc(), program, refusal)?,
         };
         assert!(rt; holds, "{row}");
+    }
+    Ok(())
+}
+
+#[test]
+fn calls(rt: HostRuntime) -> Result<(), Fail> {
+    for row in CALLS.trim().lines() {
+        let source = text_of(rt.alloc(), cell(row, 0))?;
+        let source = MemoryFile::new("p.s", source.as_slice());
+        let missing = MemoryFile::missing(RT1);
+        let assembled = run_command(rt.alloc(), "asm --source p.s", source, missing)?;
+        let program = MemoryFile::new("p.bpf", assembled.written.as_slice());
+        let file = bytes_of(rt.alloc(), cell(row, 1))?;
+        let rows = bytes_of(rt.alloc(), cell(row, 2))?;
+        assert!(rt; is_accepted(rt.alloc(), program, &file, &rows)?, "{row}");
     }
     Ok(())
 }

@@ -1,0 +1,192 @@
+-- What calls of the helper functions answer, write and set.
+use Rattle.std.proofs.Common.{◌≡◌, ◌≢◌, ℕ, ℤ, pos, option_map, ◌==◌, if◌then◌else◌, Bool, true, false, ◌+◌, ◌*◌, ◌-◌, ◌^◌, ◌<◌, ◌≤◌, zero, suc, List, [], ◌∷◌, ◌++◌, All, length, get_or, take, drop, replicate, slice_index, slice_get, Option, Some, None, IfSome, is_some, refl, arith}
+use Rattle.std.specs.Int.{w64, cast_unsigned}
+use Rattle.std.proofs.lemmas.Grind.{common_steps}
+use Rattle.std.proofs.lemmas.List.Elements.{All-cons}
+use Rattle.std.proofs.lemmas.List.{length-replicate}
+use Rattle.tl_fields.specs.Coordinate.{coordinate_of, negative}
+use Rattle.tl_fields.specs.Number.{decimal_in, number_of, trim}
+use Rattle.tl_fields.proofs.NumberLemmas.{decimal_in-lt}
+use Rattle.tl_fields.specs.Field.{field_of}
+use Rattle.tl_segments.specs.Range.{AreBytes, lies_on}
+use Rattle.tl_segments.specs.Segment.{Contents, IsSegment, names_of, ranges_of}
+use Rattle.tl_segments.specs.declared.range.RangeFields.{RangeFields}
+use Rattle.tl_segments.proofs.SegmentLemmas.{AreBytes-field_of}
+use Rattle.bpf_kinds.specs.Interval.{Admits, between}
+use Rattle.bpf_helpers.specs.Call.{LieWithin, Meets, MeetsSignature, call, first, second, third, written_length}
+use Rattle.bpf_helpers.specs.Helper.{any, signature}
+use Rattle.bpf_helpers.specs.Meaning.{truth, bytes_at, field_number, or_zero, sides, is_name, first_bytes, coordinate_word, coordinate}
+use Rattle.bpf_helpers.specs.declared.fields.TheConstants.{FIELDS, COORDINATES}
+use Rattle.bpf_helpers.specs.declared.helper.Helper.{Helper}
+use Rattle.bpf_helpers.specs.declared.helper.Helper.TheVariants.{Field, Has, Names, Ranges, InRange, NameCopy, NameIs, Emit, Coord}
+use Rattle.bpf_helpers.specs.declared.signature.Argument.TheVariants.{Unused}
+use Rattle.bpf_helpers.specs.declared.signature.FrameUse.TheVariants.{Nothing, Writes, Reads}
+
+past-third : (helper : Helper) (at word : ℕ) → Meets (get_or (signature helper).arguments (suc (suc (suc at))) Unused) word
+past-third Field at word = tt
+past-third Has at word = tt
+past-third Names at word = tt
+past-third Ranges at word = tt
+past-third InRange at word = tt
+past-third NameCopy at word = tt
+past-third NameIs at word = tt
+past-third Emit at word = tt
+past-third Coord at word = tt
+
+-- three arguments meet a signature where each is what it wants and the frame's bytes lie within the frame
+pub MeetsSignature-three : (helper : Helper) (a b c : ℕ) → Meets (get_or (signature helper).arguments 0 Unused) a → Meets (get_or (signature helper).arguments 1 Unused) b → Meets (get_or (signature helper).arguments 2 Unused) c → LieWithin (signature helper).frame (a ∷ b ∷ c ∷ []) → MeetsSignature helper (a ∷ b ∷ c ∷ [])
+MeetsSignature-three helper a b c meets_a meets_b meets_c within = record { count = refl; each = each; within = within }
+  where
+    each : (at : ℕ) → Meets (get_or (signature helper).arguments at Unused) (get_or (a ∷ b ∷ c ∷ []) at 0)
+    each zero = meets_a
+    each (suc zero) = meets_b
+    each (suc (suc zero)) = meets_c
+    each (suc (suc (suc at))) = past-third helper at 0
+
+truth-bit : (b : Bool) → Admits (between 0 1) (truth b)
+truth-bit true = record { above = omega arith; below = omega arith }
+truth-bit false = record { above = omega arith; below = omega arith }
+
+or_zero-digits : (number : Option ℕ) → IfSome number (λ n. n < 10 ^ 11) → Admits (between 0 99999999999) (or_zero number)
+or_zero-digits None small = record { above = omega arith; below = omega arith }
+or_zero-digits (Some n) small = record { above = omega arith; below = omega arith }
+
+number-digits : (field : List ℕ) → Admits (between 0 99999999999) (or_zero (number_of field))
+unfolding number_of
+number-digits field = or_zero-digits (number_of field) (decimal_in-lt 11 (trim field))
+
+-- no field's number has more digits
+pub number-below : (field : List ℕ) (n : ℕ) → number_of field ≡ Some n → n ≤ 99999999999
+number-below field n is = let digits = number-digits field in (rw is at digits).below
+
+sides-bits : (house : ℕ) (range : Option RangeFields) → Admits (between 0 3) (sides house range)
+sides-bits house None = record { above = omega arith; below = omega arith }
+sides-bits house (Some range) =
+    let left = truth-bit (lies_on house range.fraddl range.toaddl) in
+    let right = truth-bit (lies_on house range.fraddr range.toaddr) in
+    record { above = omega arith; below = omega (arith, left.below, right.below) }
+
+positive-fits : (amount : Option ℕ) → IfSome amount (λ n. n < 10 ^ 9) → Admits any (coordinate_word (option_map pos amount))
+positive-fits None small = record { above = omega arith; below = omega arith }
+positive-fits (Some n) small = record { above = omega arith; below = omega arith }
+
+negative-fits : (amount : Option ℕ) → Admits any (coordinate_word (option_map negative amount))
+negative-fits None = record { above = omega arith; below = omega arith }
+negative-fits (Some zero) = record { above = omega arith; below = omega arith }
+negative-fits (Some (suc n)) = record { above = omega arith; below = omega arith }
+
+signed-fits : (text : List ℕ) (minus plus : Bool) → Admits any (coordinate_word (if minus then option_map negative (decimal_in 9 (drop 1 text)) else (if plus then option_map pos (decimal_in 9 (drop 1 text)) else option_map pos (decimal_in 9 text))))
+signed-fits text true plus = negative-fits (decimal_in 9 (drop 1 text))
+signed-fits text false true = positive-fits (decimal_in 9 (drop 1 text)) (decimal_in-lt 9 (drop 1 text))
+signed-fits text false false = positive-fits (decimal_in 9 text) (decimal_in-lt 9 text)
+
+coordinate-fits : (field : List ℕ) → Admits any (coordinate_word (coordinate_of field))
+unfolding coordinate_of
+coordinate-fits field = signed-fits (trim field) (slice_index (trim field) 0 == 45) (slice_index (trim field) 0 == 43)
+
+-- what a call answers is a number of the interval that the table has
+pub answer-admits : (helper : Helper) (segment : Contents) (arguments bytes : List ℕ) (score : ℕ) → IsSegment segment → MeetsSignature helper arguments → Admits (signature helper).answer (call helper segment arguments bytes score).answer
+answer-admits Field segment arguments bytes score is meets = number-digits (bytes_at segment (slice_get FIELDS (first arguments)))
+answer-admits Has segment arguments bytes score is meets = truth-bit _
+answer-admits Names segment arguments bytes score is meets = record { above = omega arith; below = is.few_names }
+answer-admits Ranges segment arguments bytes score is meets = let few = is.few_ranges in record { above = omega arith; below = omega arith }
+answer-admits InRange segment arguments bytes score is meets = sides-bits (second arguments) (slice_get (ranges_of segment) (first arguments))
+answer-admits NameCopy segment arguments bytes score is meets = truth-bit _
+answer-admits NameIs segment arguments bytes score is meets = truth-bit _
+answer-admits Emit segment arguments bytes score is meets = record { above = omega arith; below = omega arith }
+answer-admits Coord segment arguments bytes score is meets = coordinate-fits (bytes_at segment (slice_get COORDINATES (first arguments)))
+
+below-any : (helper : Helper) → (signature helper).answer.high < 2 ^ 64
+below-any Field = omega arith
+below-any Has = omega arith
+below-any Names = omega arith
+below-any Ranges = omega arith
+below-any InRange = omega arith
+below-any NameCopy = omega arith
+below-any NameIs = omega arith
+below-any Emit = omega arith
+below-any Coord = omega arith
+
+-- and a word
+pub answer-fits : (helper : Helper) (segment : Contents) (arguments bytes : List ℕ) (score : ℕ) → IsSegment segment → MeetsSignature helper arguments → (call helper segment arguments bytes score).answer < 2 ^ 64
+answer-fits helper segment arguments bytes score is meets =
+    let admits = answer-admits helper segment arguments bytes score is meets in
+    omega (arith, admits.below, below-any helper)
+
+-- the names of a segment are 30 bytes each
+names-bytes : (segment : Contents) → IsSegment segment → All (AreBytes 30) (names_of segment)
+names-bytes segment is = All-cons (AreBytes 30) (field_of segment.bytes 20 49) segment.names (AreBytes-field_of segment.bytes 228 20 49 is.bytes (omega arith) (omega arith) (omega arith)) is.names
+
+IfSome-slice_get : {X : Type 0} (P : X → Type 0) (xs : List X) (index : ℕ) → All P xs → IfSome (slice_get xs index) P
+IfSome-slice_get P [] index all = tt
+IfSome-slice_get P (x ∷ xs) zero all = all 0 x (omega arith)
+IfSome-slice_get P (x ∷ xs) (suc index) all = IfSome-slice_get P xs index (λ k d inside. all (suc k) d (omega arith))
+
+replicate-bytes : (count i : ℕ) → slice_index (replicate count 32) i < 2 ^ 8
+replicate-bytes zero i = omega arith
+replicate-bytes (suc count) zero = omega arith
+replicate-bytes (suc count) (suc i) = replicate-bytes count i
+
+take-bytes : (count : ℕ) (bytes : List ℕ) → ((i : ℕ) → slice_index bytes i < 2 ^ 8) → (i : ℕ) → slice_index (take count bytes) i < 2 ^ 8
+take-bytes zero bytes below i = omega arith
+take-bytes (suc count) [] below i = omega arith
+take-bytes (suc count) (byte ∷ bytes) below zero = below 0
+take-bytes (suc count) (byte ∷ bytes) below (suc i) = take-bytes count bytes (λ j. below (suc j)) i
+
+AreBytes-none : AreBytes 0 []
+AreBytes-none = record { length = refl; bytes = λ i. omega arith }
+
+AreBytes-first : (count : ℕ) (name : Option (List ℕ)) → IfSome name (AreBytes 30) → count ≤ 30 → AreBytes count (first_bytes count name)
+AreBytes-first count None are few = record { length = length-replicate count 32; bytes = replicate-bytes count }
+AreBytes-first count (Some name) are few = let long = are.length in record { length = grind (arith, common_steps); bytes = take-bytes count name are.bytes }
+
+-- what a call writes are bytes, as many as its third argument says where it writes at all
+pub written-bytes : (helper : Helper) (segment : Contents) (arguments bytes : List ℕ) (score : ℕ) → IsSegment segment → MeetsSignature helper arguments → AreBytes (written_length (signature helper).frame arguments) (call helper segment arguments bytes score).written
+written-bytes Field segment arguments bytes score is meets = AreBytes-none
+written-bytes Has segment arguments bytes score is meets = AreBytes-none
+written-bytes Names segment arguments bytes score is meets = AreBytes-none
+written-bytes Ranges segment arguments bytes score is meets = AreBytes-none
+written-bytes InRange segment arguments bytes score is meets = AreBytes-none
+written-bytes NameCopy segment arguments bytes score is meets = AreBytes-first (third arguments) (slice_get (names_of segment) (first arguments)) (IfSome-slice_get (AreBytes 30) (names_of segment) (first arguments) (names-bytes segment is)) (meets.each 2).below
+written-bytes NameIs segment arguments bytes score is meets = AreBytes-none
+written-bytes Emit segment arguments bytes score is meets = AreBytes-none
+written-bytes Coord segment arguments bytes score is meets = AreBytes-none
+
+pub written-length : (helper : Helper) (segment : Contents) (arguments bytes : List ℕ) (score : ℕ) → IsSegment segment → MeetsSignature helper arguments → length (call helper segment arguments bytes score).written ≡ written_length (signature helper).frame arguments
+written-length helper segment arguments bytes score is meets = (written-bytes helper segment arguments bytes score is meets).length
+
+-- and else nothing
+pub written-nothing : (helper : Helper) (segment : Contents) (arguments bytes : List ℕ) (score : ℕ) → (signature helper).frame ≢ Writes → (call helper segment arguments bytes score).written ≡ []
+written-nothing Field segment arguments bytes score not = refl
+written-nothing Has segment arguments bytes score not = refl
+written-nothing Names segment arguments bytes score not = refl
+written-nothing Ranges segment arguments bytes score not = refl
+written-nothing InRange segment arguments bytes score not = refl
+written-nothing NameCopy segment arguments bytes score not = absurd (not refl)
+written-nothing NameIs segment arguments bytes score not = refl
+written-nothing Emit segment arguments bytes score not = refl
+written-nothing Coord segment arguments bytes score not = refl
+
+-- the score stays, but for the one call that sets it
+pub score-stays : (helper : Helper) (segment : Contents) (arguments bytes : List ℕ) (score : ℕ) → helper ≢ Emit → (call helper segment arguments bytes score).score ≡ score
+score-stays Field segment arguments bytes score not = refl
+score-stays Has segment arguments bytes score not = refl
+score-stays Names segment arguments bytes score not = refl
+score-stays Ranges segment arguments bytes score not = refl
+score-stays InRange segment arguments bytes score not = refl
+score-stays NameCopy segment arguments bytes score not = refl
+score-stays NameIs segment arguments bytes score not = refl
+score-stays Emit segment arguments bytes score not = absurd (not refl)
+score-stays Coord segment arguments bytes score not = refl
+
+-- and is a word
+pub score-fits : (helper : Helper) (segment : Contents) (arguments bytes : List ℕ) (score : ℕ) → MeetsSignature helper arguments → score < 2 ^ 64 → (call helper segment arguments bytes score).score < 2 ^ 64
+score-fits Field segment arguments bytes score meets fits = fits
+score-fits Has segment arguments bytes score meets fits = fits
+score-fits Names segment arguments bytes score meets fits = fits
+score-fits Ranges segment arguments bytes score meets fits = fits
+score-fits InRange segment arguments bytes score meets fits = fits
+score-fits NameCopy segment arguments bytes score meets fits = fits
+score-fits NameIs segment arguments bytes score meets fits = fits
+score-fits Emit segment arguments bytes score meets fits = omega (arith, (meets.each 0).below)
+score-fits Coord segment arguments bytes score meets fits = fits

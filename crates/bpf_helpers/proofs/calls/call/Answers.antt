@@ -1,0 +1,16 @@
+-- What a call writes into the frame.
+use Rattle.std.proofs.Common.{◌≡◌, ◌≤◌, ◌+◌, ◌-◌, slice_get, get_or, length, arith, sym, refl}
+use Rattle.tl_segments.specs.Segment.{names_of}
+use Rattle.bpf_helpers.specs.Call.{first, second, third}
+use Rattle.bpf_helpers.proofs.WriteLemmas.{put_mid-first_bytes, write-nothing}
+use Rattle.bpf_helpers.proofs.calls.call.Goals as goal
+
+pub returns-in-NameCopy-clause-frame : goal.returns-in-NameCopy-clause-frame
+returns-in-NameCopy-clause-frame g c =
+    let within : second c.args.arguments + third c.args.arguments ≤ length c.args.frame.now =
+    let long : length c.args.frame.now ≡ 512 = omega arith in
+    rw long (let within = c.requires.within in rw c.in-NameCopy.is at within) in
+    rw c.in-NameCopy.is (put_mid-first_bytes c.args.frame.now c.name_copy.new.bytes (slice_get (names_of c.args.segment.now) (first c.args.arguments)) (second c.args.arguments) (third c.args.arguments) (second c.args.arguments + third c.args.arguments - second c.args.arguments) within refl c.name_copy.auto.bytes c.name_copy.ensures.bytes)
+
+pub returns-in-NameIs-clause-frame : goal.returns-in-NameIs-clause-frame
+returns-in-NameIs-clause-frame g c = rw c.in-NameIs.is (sym (write-nothing c.args.frame.now (second c.args.arguments)))

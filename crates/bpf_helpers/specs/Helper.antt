@@ -1,0 +1,58 @@
+-- The helper functions' table of prototypes: which there are is this project's own (RFC 9669, section 4.3.1, leaves it to the platform).
+use Rattle.std.specs.Prelude.{ℕ, ◌-◌, ◌^◌, ◌==◌, List, [], ◌∷◌, Option, codes}
+use Rattle.std.specs.List.{find}
+use Rattle.bpf_kinds.specs.Interval.{between, single}
+use Rattle.bpf_kinds.specs.declared.interval.Interval.{Interval}
+use Rattle.bpf_helpers.specs.declared.helper.Helper.{Helper}
+use Rattle.bpf_helpers.specs.declared.helper.Helper.TheVariants.{Field, Has, Names, Ranges, InRange, NameCopy, NameIs, Emit, Coord}
+use Rattle.bpf_helpers.specs.declared.helper.TheConstants.{HELPERS}
+use Rattle.bpf_helpers.specs.declared.signature.Argument.{Argument}
+use Rattle.bpf_helpers.specs.declared.signature.Argument.TheVariants.{Unused, Number, Frame}
+use Rattle.bpf_helpers.specs.declared.signature.FrameUse.TheVariants.{Nothing, Writes, Reads}
+use Rattle.bpf_helpers.specs.declared.signature.Signature.{Signature}
+
+-- any number of 64 bits
+abbrev pub any : Interval
+any = between 0 (2 ^ 64 - 1)
+
+-- no argument, one, and two, each a number of an interval
+abbrev pub none : List Argument
+none = Unused ∷ Unused ∷ Unused ∷ []
+
+abbrev pub one : Interval → List Argument
+one x = Number x ∷ Unused ∷ Unused ∷ []
+
+abbrev pub two : Interval → Interval → List Argument
+two x y = Number x ∷ Number y ∷ Unused ∷ []
+
+-- a name's number, bytes of the frame, and how many of them: as many as a name has at most
+abbrev pub name_and_bytes : List Argument
+name_and_bytes = Number any ∷ Frame ∷ Number (between 1 30) ∷ []
+
+-- the table of prototypes
+abbrev pub signature : Helper → Signature
+signature Field = record { number = 1; arguments = one (between 0 16); frame = Nothing; answer = between 0 99999999999 }
+signature Has = record { number = 2; arguments = one (between 0 16); frame = Nothing; answer = between 0 1 }
+signature Names = record { number = 3; arguments = none; frame = Nothing; answer = between 0 5000 }
+signature Ranges = record { number = 4; arguments = none; frame = Nothing; answer = between 1 1001 }
+signature InRange = record { number = 5; arguments = two any any; frame = Nothing; answer = between 0 3 }
+signature NameCopy = record { number = 6; arguments = name_and_bytes; frame = Writes; answer = between 0 1 }
+signature NameIs = record { number = 7; arguments = name_and_bytes; frame = Reads; answer = between 0 1 }
+signature Emit = record { number = 8; arguments = one any; frame = Nothing; answer = single 0 }
+signature Coord = record { number = 9; arguments = one (between 0 3); frame = Nothing; answer = any }
+
+-- the helper function that a number stands for, if there is one
+abbrev pub by_number : ℕ → Option Helper
+by_number number = find (λ helper. (signature helper).number == number) HELPERS
+
+-- its name, as the documents give it
+abbrev pub name : Helper → List ℕ
+name Field = codes "field"
+name Has = codes "has"
+name Names = codes "names"
+name Ranges = codes "ranges"
+name InRange = codes "in_range"
+name NameCopy = codes "name_copy"
+name NameIs = codes "name_is"
+name Emit = codes "emit"
+name Coord = codes "coord"

@@ -1,0 +1,59 @@
+-- What the helper functions tell of a segment (TIGER/Line 2006, record type 1 for fields and coordinates; types 1, 4 and 5 for names; types 1 and 6 for ranges).
+-- Which functions there are, and their answers, are this project's own.
+use Rattle.std.specs.Prelude.{ℕ, ℤ, ◌+◌, ◌*◌, Bool, true, false, List, [], ◌∷◌, length, take, replicate, slice_get, Option, Some, None}
+use Rattle.std.specs.Int.{w64, cast_unsigned}
+use Rattle.tl_fields.specs.Coordinate.{coordinate_of}
+use Rattle.tl_fields.specs.Number.{number_of}
+use Rattle.tl_records.specs.Layout.{field_at}
+use Rattle.tl_records.specs.declared.layout.Places.{Places}
+use Rattle.tl_segments.specs.Name.{name_equals}
+use Rattle.tl_segments.specs.Range.{lies_on}
+use Rattle.tl_segments.specs.Segment.{Contents, names_of, ranges_of}
+use Rattle.tl_segments.specs.declared.range.RangeFields.{RangeFields}
+use Rattle.bpf_helpers.specs.declared.fields.TheConstants.{FIELDS, COORDINATES}
+
+-- 1 for what holds
+abbrev pub truth : Bool → ℕ
+truth true = 1
+truth false = 0
+
+-- from one place of a record to another, counted from 1, both included
+abbrev pub places : ℕ → ℕ → Places
+places first last = record { 0 = first; 1 = last }
+
+-- the bytes of a record at some places; where there are none, no bytes
+abbrev pub bytes_at : Contents → Option Places → List ℕ
+bytes_at segment None = []
+bytes_at segment (Some places) = field_at places segment.bytes
+
+-- the number of the field with an id, if it has one
+abbrev pub field_number : Contents → ℕ → Option ℕ
+field_number segment id = number_of (bytes_at segment (slice_get FIELDS id))
+
+abbrev pub or_zero : Option ℕ → ℕ
+or_zero None = 0
+or_zero (Some n) = n
+
+-- on which sides of a range a house number lies: 1 for the left one, 2 for the right one, 3 for both
+abbrev pub sides : ℕ → Option RangeFields → ℕ
+sides house None = 0
+sides house (Some range) = truth (lies_on house range.fraddl range.toaddl) + 2 * truth (lies_on house range.fraddr range.toaddr)
+
+-- whether a name equals some bytes; one that isn't there equals none
+abbrev pub is_name : List ℕ → Option (List ℕ) → Bool
+is_name wanted None = false
+is_name wanted (Some name) = name_equals name wanted
+
+-- the first bytes of a name, so many; of one that isn't there blanks
+abbrev pub first_bytes : ℕ → Option (List ℕ) → List ℕ
+first_bytes count None = replicate count 32
+first_bytes count (Some name) = take count name
+
+-- a coordinate in two's complement, 0 where there is none
+abbrev pub coordinate_word : Option ℤ → ℕ
+coordinate_word None = 0
+coordinate_word (Some millionths) = cast_unsigned w64 millionths
+
+-- a coordinate of the segment's ends: 0 and 1 are where it begins, longitude and latitude, 2 and 3 where it ends
+abbrev pub coordinate : Contents → ℕ → ℕ
+coordinate segment which = coordinate_word (coordinate_of (bytes_at segment (slice_get COORDINATES which)))

@@ -1,0 +1,96 @@
+//! Calls of helper functions.
+ghost use Rattle.std.specs.Prelude.{◌≡◌, ◌≤◌, is_some, length, slice_get};
+ghost use Rattle.bpf_kinds.specs.Interval.{Admits};
+ghost use Rattle.bpf_helpers.specs.Call.{MeetsSignature, bytes_read, call, second, write};
+ghost use Rattle.bpf_helpers.specs.Helper.{signature};
+ghost use Rattle.bpf_helpers.specs.Meaning.{first_bytes, is_name, sides};
+ghost use Rattle.tl_segments.specs.Segment.{names_of, ranges_of};
+
+use crate::fields::{coordinate, field_number};
+use crate::helper::Helper;
+use bpf_insn::FRAME_LENGTH;
+use std::alloc::Allocator;
+use tl_segments::{NAME_LENGTH, Segment, lies_on, name_equals};
+
+/// What a helper function makes of its arguments, which a caller has checked by its signature. The arguments are words: a pointer into the
+/// frame is its offset. A call that copies a name writes the frame, and one that sets the score writes that; all others leave both as they
+/// were.
+pub fn call<A: Allocator>(
+    helper: Helper,
+    arguments: [u64; 3],
+    segment: &Segment<A>,
+    frame: &mut [u8; FRAME_LENGTH],
+    score: &mut u64,
+) -> u64
+    requires { MeetsSignature helper arguments }
+    ensures answer { result ≡ (call helper segment.now arguments (bytes_read (signature helper).frame arguments frame.old) score.old).answer }
+    ensures frame { frame.new ≡ write frame.old (second arguments)
+        (call helper segment.now arguments (bytes_read (signature helper).frame arguments frame.old) score.old).written }
+    ensures score { score.new ≡ (call helper segment.now arguments (bytes_read (signature helper).frame arguments frame.old) score.old).score }
+    ensures interval { Admits (signature helper).answer result }
+{
+    let [first, second, third] = arguments;
+    match helper {
+        Helper::Field => field_number(segment, first).unwrap_or(0),
+        Helper::Has => u64::from(field_number(segment, first).is_some()),
+        Helper::Names => segment.names(),
+        Helper::Ranges => segment.ranges(),
+        Helper::InRange => sides(segment, first, second),
+        Helper::NameCopy => {
+            let at = second as usize;
+            u64::from(name_copy(segment, first, &mut frame[at..at + third as usize]))
+        }
+        Helper::NameIs => {
+            let at = second as usize;
+            u64::from(is_name(segment, first, &frame[at..at + third as usize]))
+        }
+        Helper::Emit => {
+            *score = first;
+            0
+        }
+        Helper::Coord => coordinate(segment, first),
+    }
+}
+
+/// On which sides of a range a house number lies: 1 for the left one, 2 for the right one, 3 for both.
+fn sides<A: Allocator>(segment: &Segment<A>, number: u64, house: u64) -> u64
+    ensures value { result ≡ sides house (slice_get (ranges_of segment.now) number) }
+    ensures two_bits { result ≤ 3 }
+{
+    let Some(range) = segment.range(number) else {
+        return 0;
+    };
+    let left = u64::from(lies_on(house, range.fraddl, range.toaddl));
+    let right = u64::from(lies_on(house, range.fraddr, range.toaddr));
+    left + 2 * right
+}
+
+/// Copies the first bytes of a name, or blanks where the segment has no such name, and tells whether it has.
+fn name_copy<A: Allocator>(segment: &Segment<A>, number: u64, bytes: &mut [u8]) -> bool
+    requires { length bytes.old ≤ NAME_LENGTH }
+    ensures answer { result ≡ is_some (slice_get (names_of segment.now) number) }
+    ensures bytes { bytes.new ≡ first_bytes (length bytes.old) (slice_get (names_of segment.now) number) }
+{
+    match segment.name(number) {
+        Some(name) => {
+            bytes.copy_from_slice(&name[..bytes.len()]);
+            true
+        }
+        None => {
+            bytes.fill(b' ');
+            false
+        }
+    }
+}
+
+/// Whether a name equals some bytes; one that isn't there equals none.
+fn is_name<A: Allocator>(segment: &Segment<A>, number: u64, wanted: &[u8]) -> bool
+    requires some { 1 ≤ length wanted.now }
+    requires few { length wanted.now ≤ NAME_LENGTH }
+    ensures { result ≡ is_name wanted.now (slice_get (names_of segment.now) number) }
+{
+    match segment.name(number) {
+        Some(name) => name_equals(name, wanted),
+        None => false,
+    }
+}

@@ -1,0 +1,67 @@
+//! Which fields of a record of type 1 the helper functions know, by their places.
+ghost use Rattle.std.specs.Prelude.{◌≡◌, ◌<◌, ◌^◌, IfSome};
+ghost use Rattle.bpf_helpers.specs.Meaning.{bytes_at, coordinate, field_number};
+ghost use Rattle.tl_records.specs.Layout.{IsWithin};
+ghost use Rattle.tl_segments.specs.declared.segment.TheConstants.{RECORD_LENGTH};
+
+use std::alloc::Allocator;
+use tl_fields::{field, number};
+use tl_records::{Places, Rt1};
+use tl_segments::Segment;
+
+/// The fields that have an id, in the order of their ids (TIGER/Line 2006, record type 1).
+pub(crate) const FIELDS: [Places; 17] = [
+    Rt1::TLID,
+    Rt1::FRADDL,
+    Rt1::TOADDL,
+    Rt1::FRADDR,
+    Rt1::TOADDR,
+    Rt1::ZIPL,
+    Rt1::ZIPR,
+    Rt1::STATEL,
+    Rt1::STATER,
+    Rt1::COUNTYL,
+    Rt1::COUNTYR,
+    Rt1::PLACEL,
+    Rt1::PLACER,
+    Rt1::TRACTL,
+    Rt1::TRACTR,
+    Rt1::BLOCKL,
+    Rt1::BLOCKR,
+];
+
+/// The coordinates of the segment's ends: the longitude and the latitude of where it begins, and of where it ends.
+pub(crate) const COORDINATES: [Places; 4] = [Rt1::FRLONG, Rt1::FRLAT, Rt1::TOLONG, Rt1::TOLAT];
+
+/// The number of the field with an id, if it has one.
+#[inline]
+pub(crate) fn field_number<A: Allocator>(segment: &Segment<A>, id: u64) -> Option<u64>
+    ensures value { result ≡ field_number segment.now id }
+    ensures small { IfSome result (λ n. n < 10 ^ 11) }
+{
+    number(bytes_at(segment, FIELDS.get(id as usize).copied()))
+}
+
+/// A coordinate of the segment's ends in two's complement, 0 where there is none.
+#[inline]
+pub(crate) fn coordinate<A: Allocator>(segment: &Segment<A>, which: u64) -> u64
+    ensures { result ≡ coordinate segment.now which }
+{
+    let bytes = bytes_at(segment, COORDINATES.get(which as usize).copied());
+    match tl_fields::coordinate(bytes) {
+        Some(millionths) => millionths.cast_unsigned(),
+        None => 0,
+    }
+}
+
+/// The bytes of the segment's record at some places; where there are none, no bytes.
+#[inline]
+fn bytes_at<A: Allocator>(segment: &Segment<A>, places: Option<Places>) -> &[u8]
+    requires { IfSome places (λ p. IsWithin p RECORD_LENGTH) }
+    ensures { result.now ≡ bytes_at segment.now places }
+{
+    match places {
+        Some(places) => field(segment.bytes(), places.0, places.1),
+        None => &[],
+    }
+}

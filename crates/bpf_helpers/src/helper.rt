@@ -1,0 +1,134 @@
+//! The helper functions by their numbers: the table of prototypes.
+ghost use Rattle.std.specs.Prelude.{◌≡◌};
+ghost use Rattle.bpf_helpers.specs.Helper.{by_number, name, one, signature, two};
+ghost use Rattle.bpf_kinds.specs.Interval.{between};
+
+use crate::signature::{Argument, FrameUse, Signature};
+use bpf_kinds::Interval;
+
+/// A helper function.
+#[derive(Clone, Copy, Debug, PartialEq, Eq)]
+pub enum Helper {
+    /// The number of a field of the segment's type 1 record.
+    Field,
+    /// Whether a field has a number.
+    Has,
+    /// How many alternate names the segment has.
+    Names,
+    /// How many address ranges it has.
+    Ranges,
+    /// On which sides of a range a house number lies.
+    InRange,
+    /// Copies a name's first bytes into the frame.
+    NameCopy,
+    /// Whether a name equals bytes of the frame.
+    NameIs,
+    /// Sets the score.
+    Emit,
+    /// A coordinate of the segment's ends.
+    Coord,
+}
+
+/// All helper functions, in the order of their numbers.
+pub const HELPERS: [Helper; 9] = [
+    Helper::Field,
+    Helper::Has,
+    Helper::Names,
+    Helper::Ranges,
+    Helper::InRange,
+    Helper::NameCopy,
+    Helper::NameIs,
+    Helper::Emit,
+    Helper::Coord,
+];
+
+/// No argument.
+const NONE: [Argument; 3] = [Argument::Unused; 3];
+
+/// The numbers of fields.
+const IDS: Interval = Interval { low: 0, high: 16 };
+
+/// The numbers of coordinates.
+const ENDS: Interval = Interval { low: 0, high: 3 };
+
+/// Any number.
+const ANY: Interval = Interval {
+    low: 0,
+    high: u64::MAX,
+};
+
+/// A name's number, bytes of the frame, and how many of them.
+const NAME_AND_BYTES: [Argument; 3] = [
+    Argument::Number(ANY),
+    Argument::Frame,
+    Argument::Number(Interval { low: 1, high: 30 }),
+];
+
+impl Helper {
+    /// The helper function that programs call by a number, if there is one.
+    pub fn by_number(number: u32) -> Option<Helper>
+        ensures { result ≡ by_number number }
+    {
+        HELPERS
+            .iter()
+            .copied()
+            .find(|helper| helper.signature().number == number)
+    }
+
+    /// Its name, as the documents give it.
+    pub fn name(self) -> &'static str
+        ensures { result.now ≡ name self }
+    {
+        match self {
+            Helper::Field => "field",
+            Helper::Has => "has",
+            Helper::Names => "names",
+            Helper::Ranges => "ranges",
+            Helper::InRange => "in_range",
+            Helper::NameCopy => "name_copy",
+            Helper::NameIs => "name_is",
+            Helper::Emit => "emit",
+            Helper::Coord => "coord",
+        }
+    }
+
+    /// Its row of the table of prototypes.
+    pub fn signature(self) -> Signature
+        ensures { result ≡ signature self }
+    {
+        match self {
+            Helper::Field => row(1, one(IDS), FrameUse::Nothing, 0, 99_999_999_999),
+            Helper::Has => row(2, one(IDS), FrameUse::Nothing, 0, 1),
+            Helper::Names => row(3, NONE, FrameUse::Nothing, 0, 5000),
+            Helper::Ranges => row(4, NONE, FrameUse::Nothing, 1, 1001),
+            Helper::InRange => row(5, two(ANY, ANY), FrameUse::Nothing, 0, 3),
+            Helper::NameCopy => row(6, NAME_AND_BYTES, FrameUse::Writes, 0, 1),
+            Helper::NameIs => row(7, NAME_AND_BYTES, FrameUse::Reads, 0, 1),
+            Helper::Emit => row(8, one(ANY), FrameUse::Nothing, 0, 0),
+            Helper::Coord => row(9, one(ENDS), FrameUse::Nothing, 0, u64::MAX),
+        }
+    }
+}
+
+fn one(x: Interval) -> [Argument; 3]
+    ensures { result ≡ one x }
+{
+    [Argument::Number(x), Argument::Unused, Argument::Unused]
+}
+
+fn two(x: Interval, y: Interval) -> [Argument; 3]
+    ensures { result ≡ two x y }
+{
+    [Argument::Number(x), Argument::Number(y), Argument::Unused]
+}
+
+fn row(number: u32, arguments: [Argument; 3], frame: FrameUse, low: u64, high: u64) -> Signature
+    ensures { result ≡ record { number = number; arguments = arguments; frame = frame; answer = between low high } }
+{
+    Signature {
+        number,
+        arguments,
+        frame,
+        answer: Interval { low, high },
+    }
+}

@@ -1,0 +1,14 @@
+//! The helper functions that a program may call: their table of prototypes, and what each of them does on a street segment.
+#![tactic(auto)]
+
+mod calls;
+mod fields;
+mod helper;
+pub mod laws;
+mod signature;
+#[cfg(test)]
+mod tests;
+
+pub use calls::call;
+pub use helper::{HELPERS, Helper};
+pub use signature::{Argument, FrameUse, Signature};

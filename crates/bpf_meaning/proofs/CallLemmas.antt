@@ -1,0 +1,220 @@
+-- Calls of helper functions: what holds once their checks have passed, and what they leave of the frame.
+use Rattle.std.proofs.Common.{◌≡◌, ltb, ℕ, zero, suc, ◌+◌, ◌≤◌, ◌^◌, inl, inr, pos, Bool, true, false, ◌⊎◌, List, [], ◌∷◌, map, length, get_or, slice_get, Option, Some, None, Result, Ok, Err, if◌then◌else◌, refl, sym, ◌∙◌, subst, arith}
+use Rattle.std.specs.Prelude.{IsTrue}
+use Rattle.std.specs.Int.{cast_signed, w64}
+use Rattle.std.proofs.lemmas.Bool.{false≢true, cases_lt}
+use Rattle.std.proofs.lemmas.Bool.Decides.{nat_tests}
+use Rattle.std.proofs.lemmas.Int.{to_z_pos}
+use Rattle.std.proofs.lemmas.List.{length-map, length-replicate, length-take}
+use Rattle.bpf_insn.specs.declared.value.Value.{Value}
+use Rattle.bpf_insn.specs.declared.value.Value.TheVariants.{Empty, Number, Pointer}
+use Rattle.bpf_insn.specs.declared.memory.TheConstants.{FRAME_LENGTH}
+use Rattle.bpf_kinds.specs.Interval.{Admits}
+use Rattle.bpf_kinds.specs.declared.interval.Interval.{Interval}
+use Rattle.tl_segments.specs.Segment.{Contents, IsSegment, names_of}
+use Rattle.bpf_helpers.specs.Call.{Meets, LieWithin, bytes_read, call, first, second, third, write}
+use Rattle.bpf_helpers.specs.Meaning.{first_bytes}
+use Rattle.bpf_helpers.specs.Helper.{signature}
+use Rattle.bpf_helpers.proofs.CallLemmas.{written-bytes}
+use Rattle.bpf_helpers.proofs.WriteLemmas.{length-write, write-nothing}
+use Rattle.bpf_helpers.specs.declared.helper.Helper.{Helper}
+use Rattle.bpf_helpers.specs.declared.helper.Helper.TheVariants as helper
+use Rattle.bpf_helpers.specs.declared.signature.Argument.{Argument}
+use Rattle.bpf_helpers.specs.declared.signature.Argument.TheVariants as argument
+use Rattle.bpf_helpers.specs.declared.signature.FrameUse.{FrameUse}
+use Rattle.bpf_helpers.specs.declared.signature.FrameUse.TheVariants as frame_use
+use Rattle.bpf_meaning.specs.Memory.{FrameByte, Byte, all_written, is_written, written_bytes}
+use Rattle.bpf_meaning.specs.Effect.{read, argument_in, argument_word, arguments_in, is_allowed, lend_bytes, lend_frame, lend_written, lie_within, call_change, call_helper, CanBeMade, CanBeCalled, ◌>>=◌}
+use Rattle.bpf_meaning.specs.Step.{called}
+use Rattle.bpf_meaning.specs.declared.cause.Cause.{Cause}
+use Rattle.bpf_meaning.specs.declared.cause.Cause.TheVariants.{BadArgument, OutOfBounds, UnwrittenFrame}
+use Rattle.bpf_meaning.specs.declared.state.State.{State}
+use Rattle.bpf_meaning.proofs.FrameLemmas.{HoldBytes, bytes-map, bytes-write, written_stays}
+
+-- a fact of what the checks give, if they pass
+
+abbrev pub IfPasses : {A : Type 0} → (A → Type 0) → Result A Cause → Type 0
+IfPasses P (Ok x) = P x
+IfPasses P (Err cause) = Unit {0}
+
+pub then_passes : {A B : Type 0} (P : B → Type 0) (result : Result A Cause) (f : A → Result B Cause) → ((x : A) → IfPasses P (f x)) → IfPasses P (result >>= f)
+then_passes P (Ok x) f all = all x
+then_passes P (Err cause) f all = tt
+
+-- the same where the first checks say something, too
+pub then_keeps : {A B : Type 0} (P : A → Type 0) (Q : B → Type 0) (result : Result A Cause) (f : A → Result B Cause) → IfPasses P result → ((x : A) → P x → IfPasses Q (f x)) → IfPasses Q (result >>= f)
+then_keeps P Q (Ok x) f one all = all x one
+then_keeps P Q (Err cause) f one all = tt
+
+-- an argument that was checked is what the prototype wants
+
+allowed_admits : (x : Interval) (n : ℕ) → is_allowed x n ≡ true → Admits x n
+allowed_admits x n is = record { above = grind (arith, nat_tests); below = grind (arith, nat_tests) }
+
+any_frame : (result : Result ℕ Cause) → IfPasses (Meets argument.Frame) result
+any_frame (Ok n) = tt
+any_frame (Err cause) = tt
+
+word_meets : (number : ℕ) (wanted : Argument) (value : Value) → IfPasses (Meets wanted) (argument_word number wanted value)
+word_meets number argument.Unused value = tt
+word_meets number argument.Frame value = any_frame (argument_word number argument.Frame value)
+word_meets number (argument.Number allowed) Empty = tt
+word_meets number (argument.Number allowed) (Pointer pointer) = tt
+word_meets number (argument.Number allowed) (Number n) = by_test (is_allowed allowed n) refl
+  where
+    by_test : (inside : Bool) → is_allowed allowed n ≡ inside → IfPasses (Meets (argument.Number allowed)) (if inside then Ok n else Err (BadArgument number))
+    by_test true is = allowed_admits allowed n is
+    by_test false is = tt
+
+argument_meets : (state : State) (number : ℕ) (wanted : Argument) → IfPasses (Meets wanted) (argument_in state number wanted)
+argument_meets state number argument.Unused = tt
+argument_meets state number argument.Frame = then_passes (Meets argument.Frame) (read state number) _ (word_meets number argument.Frame)
+argument_meets state number (argument.Number allowed) = then_passes (Meets (argument.Number allowed)) (read state number) _ (word_meets number (argument.Number allowed))
+
+-- arguments are what is wanted of each
+pub record AreMet (wanted : List Argument) (arguments : List ℕ) : Type 0 where
+  pub count : length arguments ≡ 3
+  pub each : (at : ℕ) → Meets (get_or wanted at argument.Unused) (get_or arguments at 0)
+
+three_met : (a b c : Argument) (x y z : ℕ) → Meets a x → Meets b y → Meets c z → AreMet (a ∷ b ∷ c ∷ []) (x ∷ y ∷ z ∷ [])
+three_met a b c x y z one two three = record { count = refl; each = each }
+  where
+    each : (at : ℕ) → Meets (get_or (a ∷ b ∷ c ∷ []) at argument.Unused) (get_or (x ∷ y ∷ z ∷ []) at 0)
+    each zero = one
+    each (suc zero) = two
+    each (suc (suc zero)) = three
+    each (suc (suc (suc at))) = tt
+
+arguments_met : (state : State) (a b c : Argument) → IfPasses (AreMet (a ∷ b ∷ c ∷ [])) (arguments_in state (a ∷ b ∷ c ∷ []))
+arguments_met state a b c =
+    then_keeps (Meets a) _ (argument_in state 1 a) _ (argument_meets state 1 a) (λ x one.
+    then_keeps (Meets b) _ (argument_in state 2 b) _ (argument_meets state 2 b) (λ y two.
+    then_keeps (Meets c) _ (argument_in state 3 c) _ (argument_meets state 3 c) (λ z three.
+    three_met a b c x y z one two three)))
+
+-- bytes that are lent lie within the frame, and those that are read are written
+
+pub word_inside : (at count bytes : ℕ) → lie_within (cast_signed w64 at) count bytes ≡ true → at + count ≤ bytes
+word_inside at count bytes inside =
+    elim (cases_lt at (2 ^ 63)) [
+      | inl below ↦ let is : cast_signed w64 at ≡ pos at = to_z_pos w64 at below in pos_inside (rw is at inside)
+      | inr above ↦ absurd (false≢true (sym (negative_outside above) ∙ inside))
+    ]
+  where
+    pos_inside : lie_within (pos at) count bytes ≡ true → at + count ≤ bytes
+    pos_inside within = grind (arith, nat_tests)
+
+    negative_outside : 2 ^ 63 ≤ at → lie_within (cast_signed w64 at) count bytes ≡ false
+    negative_outside above = let test : ltb at (2 ^ 63) ≡ false = grind (arith, nat_tests) in rw test refl
+
+-- what a call takes, once it's checked
+pub record IsLent (state : State) (wanted : List Argument) (frame : FrameUse) (arguments : List ℕ) : Type 0 where
+  pub met : AreMet wanted arguments
+  pub within : LieWithin frame arguments
+  pub written : IsTrue (all_written (bytes_read frame arguments state.frame.bytes))
+
+bytes_lent : (state : State) (wanted : List Argument) (arguments : List ℕ) → AreMet wanted arguments → IfPasses (IsLent state wanted frame_use.Writes) (lend_bytes arguments)
+bytes_lent state wanted arguments met = by_test (lie_within (cast_signed w64 (second arguments)) (third arguments) FRAME_LENGTH) refl
+  where
+    by_test : (inside : Bool) → lie_within (cast_signed w64 (second arguments)) (third arguments) FRAME_LENGTH ≡ inside → IfPasses (IsLent state wanted frame_use.Writes) (if inside then Ok arguments else Err OutOfBounds)
+    by_test true is = record { met = met; within = word_inside (second arguments) (third arguments) FRAME_LENGTH is; written = refl }
+    by_test false is = tt
+
+written_lent : (state : State) (wanted : List Argument) (arguments : List ℕ) → IsLent state wanted frame_use.Writes arguments → IfPasses (IsLent state wanted frame_use.Reads) (lend_written state arguments)
+written_lent state wanted arguments lent = by_test (all_written (bytes_read frame_use.Reads arguments state.frame.bytes)) refl
+  where
+    by_test : (all : Bool) → all_written (bytes_read frame_use.Reads arguments state.frame.bytes) ≡ all → IfPasses (IsLent state wanted frame_use.Reads) (if all then Ok arguments else Err UnwrittenFrame)
+    by_test true is = record { met = lent.met; within = lent.within; written = is }
+    by_test false is = tt
+
+frame_lent : (state : State) (wanted : List Argument) (frame : FrameUse) (arguments : List ℕ) → AreMet wanted arguments → IfPasses (IsLent state wanted frame) (lend_frame state frame arguments)
+frame_lent state wanted frame_use.Nothing arguments met = record { met = met; within = tt; written = refl }
+frame_lent state wanted frame_use.Writes arguments met = bytes_lent state wanted arguments met
+frame_lent state wanted frame_use.Reads arguments met =
+    then_keeps (IsLent state wanted frame_use.Writes) _ (lend_bytes arguments) _ (bytes_lent state wanted arguments met) (written_lent state wanted)
+
+-- so a call whose checks have passed can be made
+
+abbrev wanted : Helper → ℕ → Argument
+wanted helper at = get_or (signature helper).arguments at argument.Unused
+
+three_wanted : (helper : Helper) → wanted helper 0 ∷ wanted helper 1 ∷ wanted helper 2 ∷ [] ≡ (signature helper).arguments
+three_wanted helper.Field = refl
+three_wanted helper.Has = refl
+three_wanted helper.Names = refl
+three_wanted helper.Ranges = refl
+three_wanted helper.InRange = refl
+three_wanted helper.NameCopy = refl
+three_wanted helper.NameIs = refl
+three_wanted helper.Emit = refl
+three_wanted helper.Coord = refl
+
+prototype_met : (state : State) (helper : Helper) → IfPasses (AreMet (signature helper).arguments) (arguments_in state (signature helper).arguments)
+prototype_met state helper =
+    subst (λ (all : List Argument). IfPasses (AreMet all) (arguments_in state all)) (three_wanted helper)
+    (arguments_met state (wanted helper 0) (wanted helper 1) (wanted helper 2))
+
+can_be_called : (state : State) (helper : Helper) (arguments : List ℕ) → IsLent state (signature helper).arguments (signature helper).frame arguments → CanBeCalled state helper arguments
+can_be_called state helper arguments lent = record { meets = record { count = lent.met.count; each = lent.met.each; within = lent.within }; written = lent.written }
+
+call_can_be_made : (state : State) (helper : Helper) → IfPasses (CanBeMade state) (call_helper state helper)
+call_can_be_made state helper =
+    then_keeps (IsLent state (signature helper).arguments (signature helper).frame) (CanBeMade state)
+    (arguments_in state (signature helper).arguments >>= lend_frame state (signature helper).frame) _
+    (then_keeps (AreMet (signature helper).arguments) _ (arguments_in state (signature helper).arguments) _ (prototype_met state helper)
+    (frame_lent state (signature helper).arguments (signature helper).frame))
+    (can_be_called state helper)
+
+pub called_can_be_made : (state : State) (found : Option Helper) → IfPasses (CanBeMade state) (call_change state found)
+called_can_be_made state None = tt
+called_can_be_made state (Some helper) = call_can_be_made state helper
+
+-- what a call writes lies within the frame, if it writes anything
+
+short_bytes : (count : ℕ) (name : Option (List ℕ)) → length (first_bytes count name) ≤ count
+short_bytes count None = let long : length (first_bytes count None) ≡ count = length-replicate count 32 in omega arith
+short_bytes count (Some name) = omega (arith, length-take count name)
+
+written_inside : (segment : Contents) (helper : Helper) (arguments bytes : List ℕ) (score : ℕ) → LieWithin (signature helper).frame arguments → ((call helper segment arguments bytes score).written ≡ []) ⊎ (second arguments + length (call helper segment arguments bytes score).written ≤ FRAME_LENGTH)
+written_inside segment helper.Field arguments bytes score within = inl refl
+written_inside segment helper.Has arguments bytes score within = inl refl
+written_inside segment helper.Names arguments bytes score within = inl refl
+written_inside segment helper.Ranges arguments bytes score within = inl refl
+written_inside segment helper.InRange arguments bytes score within = inl refl
+written_inside segment helper.NameCopy arguments bytes score within =
+    inr (let short = short_bytes (third arguments) (slice_get (names_of segment) (first arguments)) in omega arith)
+written_inside segment helper.NameIs arguments bytes score within = inl refl
+written_inside segment helper.Emit arguments bytes score within = inl refl
+written_inside segment helper.Coord arguments bytes score within = inl refl
+
+-- the frame after a call
+abbrev pub frame_after : Contents → State → Helper → List ℕ → List FrameByte
+frame_after segment state helper arguments = write state.frame.bytes (second arguments) (map Byte (called segment state helper arguments).written)
+
+-- a frame after a call has a fact that the one before has, if it keeps it where bytes are written within it
+after_call : (P : List FrameByte → Type 0) (segment : Contents) (state : State) (helper : Helper) (arguments : List ℕ) → CanBeCalled state helper arguments → length state.frame.bytes ≡ FRAME_LENGTH → P state.frame.bytes → ((at : ℕ) (bytes : List ℕ) → at + length bytes ≤ length state.frame.bytes → P (write state.frame.bytes at (map Byte bytes))) → P (frame_after segment state helper arguments)
+after_call P segment state helper arguments can long before within =
+    elim (written_inside segment helper arguments (written_bytes (bytes_read (signature helper).frame arguments state.frame.bytes)) state.score can.meets.within) [
+      | inl none ↦
+          subst (λ (bytes : List ℕ). P (write state.frame.bytes (second arguments) (map Byte bytes))) (sym none)
+          (subst P (sym (write-nothing state.frame.bytes (second arguments))) before)
+      | inr inside ↦ within (second arguments) (called segment state helper arguments).written (omega arith)
+    ]
+
+pub length-frame_after : (segment : Contents) (state : State) (helper : Helper) (arguments : List ℕ) → CanBeCalled state helper arguments → length state.frame.bytes ≡ FRAME_LENGTH → length (frame_after segment state helper arguments) ≡ FRAME_LENGTH
+length-frame_after segment state helper arguments can long =
+    after_call (λ memory. length memory ≡ FRAME_LENGTH) segment state helper arguments can long long
+    (λ at bytes within. let same = length-map bytes Byte in length-write state.frame.bytes (map Byte bytes) at (omega arith) ∙ long)
+
+-- no byte is unwritten by a call
+pub written_after_call : (segment : Contents) (state : State) (helper : Helper) (arguments : List ℕ) (i : ℕ) → CanBeCalled state helper arguments → length state.frame.bytes ≡ FRAME_LENGTH → IsTrue (is_written state.frame.bytes i) → IsTrue (is_written (frame_after segment state helper arguments) i)
+written_after_call segment state helper arguments i can long written =
+    after_call (λ memory. IsTrue (is_written memory i)) segment state helper arguments can long written
+    (λ at bytes within. written_stays state.frame.bytes at bytes i within written)
+
+-- where it held bytes, it does after a call
+pub bytes-frame_after : (segment : Contents) (state : State) (helper : Helper) (arguments : List ℕ) → IsSegment segment → CanBeCalled state helper arguments → HoldBytes state.frame.bytes → HoldBytes (frame_after segment state helper arguments)
+bytes-frame_after segment state helper arguments is can all =
+    let read = bytes_read (signature helper).frame arguments state.frame.bytes in
+    bytes-write state.frame.bytes (second arguments) (map Byte (called segment state helper arguments).written) all
+    (bytes-map (called segment state helper arguments).written (written-bytes helper segment arguments (written_bytes read) state.score is can.meets).bytes)

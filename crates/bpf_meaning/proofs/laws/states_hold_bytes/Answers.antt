@@ -1,0 +1,5 @@
+use Rattle.bpf_meaning.proofs.WholeLemmas.{step_bytes, run_bytes}
+use Rattle.bpf_meaning.proofs.laws.states_hold_bytes.Goals as goal
+
+pub returns : goal.returns
+returns c = record { step = step_bytes; run = run_bytes }

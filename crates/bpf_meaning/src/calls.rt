@@ -1,0 +1,111 @@
+//! Calls of helper functions: what is checked before one is carried out.
+ghost use Rattle.std.specs.Prelude.{◌≡◌, ◌≤◌, ◌+◌, IfOk};
+ghost use Rattle.bpf_helpers.specs.Call.{second, third};
+ghost use Rattle.bpf_insn.specs.declared.memory.TheConstants.{FRAME_LENGTH};
+ghost use Rattle.bpf_meaning.specs.Effect.{argument_in, argument_word, arguments_in, call_change, call_helper, is_allowed, lend_bytes, lend_frame, lend_written};
+
+use crate::cause::Cause;
+use crate::effect::Change;
+use crate::state::State;
+use bpf_helpers::{Argument, FrameUse, Helper};
+use bpf_insn::{Area, FRAME_LENGTH, Value};
+use bpf_kinds::Interval;
+
+/// A call by the number of a helper function, if there is one.
+pub(crate) fn call_change(state: &State, helper: Option<Helper>) -> Result<Change, Cause>
+    ensures { result ≡ call_change state.now helper }
+{
+    match helper {
+        Some(helper) => call_helper(state, helper),
+        None => Err(Cause::UnknownHelper),
+    }
+}
+
+/// The call of a helper function, once its arguments are what its prototype wants.
+fn call_helper(state: &State, helper: Helper) -> Result<Change, Cause>
+    ensures { result ≡ call_helper state.now helper }
+{
+    let signature = helper.signature();
+    let arguments = arguments_in(state, signature.arguments)?;
+    let arguments = lend_frame(state, signature.frame, arguments)?;
+    Ok(Change::CallHelper { helper, arguments })
+}
+
+/// The arguments that a prototype wants, in their order: each is read and looked at before the next one.
+fn arguments_in(state: &State, wanted: [Argument; 3]) -> Result<[u64; 3], Cause>
+    ensures { result ≡ arguments_in state.now wanted }
+{
+    let [first, second, third] = wanted;
+    let first = argument_in(state, 1, first)?;
+    let second = argument_in(state, 2, second)?;
+    let third = argument_in(state, 3, third)?;
+    Ok([first, second, third])
+}
+
+/// The argument with a number, counted from 1. One that isn't used isn't read.
+fn argument_in(state: &State, number: u8, wanted: Argument) -> Result<u64, Cause>
+    requires { number ≤ 10 }
+    ensures { result ≡ argument_in state.now number wanted }
+{
+    match wanted {
+        Argument::Unused => Ok(0),
+        _ => argument_word(number, wanted, state.read(number)?),
+    }
+}
+
+/// A word for an argument: a number, or the offset of a pointer into the frame in two's complement.
+fn argument_word(number: u8, wanted: Argument, value: Value) -> Result<u64, Cause>
+    ensures { result ≡ argument_word number wanted value }
+{
+    match (wanted, value) {
+        (Argument::Unused, _) => Ok(0),
+        (Argument::Number(allowed), Value::Number(n)) if is_allowed(allowed, n) => Ok(n),
+        (Argument::Frame, Value::Pointer(pointer)) if pointer.area == Area::Frame => {
+            Ok(i64::from(pointer.offset).cast_unsigned())
+        }
+        _ => Err(Cause::BadArgument(number)),
+    }
+}
+
+/// Whether a number lies in an interval that a prototype allows.
+fn is_allowed(allowed: Interval, n: u64) -> bool
+    ensures { result ≡ is_allowed allowed n }
+{
+    allowed.low <= n && n <= allowed.high
+}
+
+/// The arguments, once the bytes of the frame that a call reads or writes lie within it, and those that it reads are written.
+fn lend_frame(state: &State, frame: FrameUse, arguments: [u64; 3]) -> Result<[u64; 3], Cause>
+    ensures { result ≡ lend_frame state.now frame arguments }
+{
+    match frame {
+        FrameUse::Nothing => Ok(arguments),
+        FrameUse::Writes => lend_bytes(arguments),
+        FrameUse::Reads => lend_written(state, lend_bytes(arguments)?),
+    }
+}
+
+/// The arguments, once the bytes lie within the frame. An offset below 0 is a word above all others.
+fn lend_bytes(arguments: [u64; 3]) -> Result<[u64; 3], Cause>
+    ensures value { result ≡ lend_bytes arguments }
+    ensures within { IfOk result (λ arguments. second arguments + third arguments ≤ FRAME_LENGTH) }
+{
+    let [_, at, count] = arguments;
+    let bytes = FRAME_LENGTH as u64;
+    if at > bytes || count > bytes - at {
+        return Err(Cause::OutOfBounds);
+    }
+    Ok(arguments)
+}
+
+/// The arguments, once the bytes are written.
+fn lend_written(state: &State, arguments: [u64; 3]) -> Result<[u64; 3], Cause>
+    requires { second arguments + third arguments ≤ FRAME_LENGTH }
+    ensures { result ≡ lend_written state.now arguments }
+{
+    let [_, at, count] = arguments;
+    if !state.frame.all_written(at as usize, count as usize) {
+        return Err(Cause::UnwrittenFrame);
+    }
+    Ok(arguments)
+}
