@@ -9,12 +9,13 @@
 # - A block ```asm that a block ```hex follows is a program and its words: `asm` makes these of it, and of what `dis` writes of them.
 # - A block ```asm that a block ```verdict follows is a program and what `verify` says of it. In a block ```verdicts each line is a program,
 #   with `|` between its lines, and behind `;` what `verify` says of it.
+# - In a block ```answers each line is the beginning of a program, and behind `;` is what r0 holds at its end, on the segment of examples/one.
 # - A row of a table with bytes in its first cell and a refusal in its second is a program that `verify` and `run` refuse so; one with a
 #   place, an instruction and its bytes is a program of one instruction, and is tried as above.
 #
 # Then the program over files and outputs that are missing, faulty or full: each text of an error has to stand in docs/refusals.md.
 #
-# Prints what failed, and ends with 0 where nothing did, else with 1. It needs bash and coreutils, and takes a few seconds.
+# Prints what failed, and ends with 0 where nothing did, else with 1. It needs bash and coreutils, and takes less than a minute.
 
 set -u
 export LC_ALL=C
@@ -101,6 +102,16 @@ try_verdicts() {
     done <<< "$2"
 }
 
+# try_answers NAME ROWS: a program's r0 is made the score, which its row begins with.
+try_answers() {
+    local row wrote
+    while IFS= read -r row; do
+        { tr '|' '\n' <<< "${row%;*}"; printf 'mov r1, r0\ncall 8\nmov r0, 1\nexit\n'; } > try.s
+        wrote=$(extractd asm --source try.s 2>&1 > try.bpf && extractd run --program try.bpf --data examples/one 01001 2>&1 | cut -f 1)
+        if [ "$wrote" = "${row##*; }" ]; then pass; else fail "$1 shows" "$row" "and it is" "$wrote"; fi
+    done <<< "$2"
+}
+
 # try_refusal NAME BYTES LINE
 try_refusal() {
     local byte command wrote bytes=""
@@ -138,6 +149,7 @@ try_document() {
             hex) try_conversion "$1, line $begin" "$asm" "$text" ;;
             verdict) try_verdict "$1, line $begin" "$asm" "$text" ;;
             verdicts) try_verdicts "$1, line $begin" "$text" ;;
+            answers) try_answers "$1, line $begin" "$text" ;;
             esac
             kind=""
         else

@@ -1,0 +1,76 @@
+/* For programs in C that extractd runs: a segment's record, and the helper functions. */
+#ifndef EXTRACTD_H
+#define EXTRACTD_H
+
+#include <stddef.h>
+#include <stdint.h>
+
+/* A segment's record, of TIGER/Line record type 1: bytes without gaps, so that a field's place is one more than its offset.
+   docs/records.md says what the fields mean. */
+struct record {
+    uint8_t rt[1];         /* place 1 */
+    uint8_t version[4];    /* 2 */
+    uint8_t tlid[10];      /* 6 */
+    uint8_t side1[1];      /* 16 */
+    uint8_t source[1];     /* 17 */
+    uint8_t fedirp[2];     /* 18 */
+    uint8_t fename[30];    /* 20 */
+    uint8_t fetype[4];     /* 50 */
+    uint8_t fedirs[2];     /* 54 */
+    uint8_t cfcc[3];       /* 56 */
+    uint8_t fraddl[11];    /* 59 */
+    uint8_t toaddl[11];    /* 70 */
+    uint8_t fraddr[11];    /* 81 */
+    uint8_t toaddr[11];    /* 92 */
+    uint8_t imputed[4];    /* 103 */
+    uint8_t zipl[5];       /* 107 */
+    uint8_t zipr[5];       /* 112 */
+    uint8_t unnamed[14];   /* 117 */
+    uint8_t statel[2];     /* 131 */
+    uint8_t stater[2];     /* 133 */
+    uint8_t countyl[3];    /* 135 */
+    uint8_t countyr[3];    /* 138 */
+    uint8_t cousubl[5];    /* 141 */
+    uint8_t cousubr[5];    /* 146 */
+    uint8_t unnamed2[10];  /* 151 */
+    uint8_t placel[5];     /* 161 */
+    uint8_t placer[5];     /* 166 */
+    uint8_t tractl[6];     /* 171 */
+    uint8_t tractr[6];     /* 177 */
+    uint8_t blockl[4];     /* 183 */
+    uint8_t blockr[4];     /* 187 */
+    uint8_t frlong[10];    /* 191 */
+    uint8_t frlat[9];      /* 201 */
+    uint8_t tolong[10];    /* 210 */
+    uint8_t tolat[9];      /* 220 */
+};
+
+_Static_assert(sizeof(struct record) == 228, "a record has 228 bytes");
+_Static_assert(offsetof(struct record, cfcc) == 55, "CFCC begins at place 56");
+_Static_assert(offsetof(struct record, statel) == 130, "STATEL begins at place 131");
+_Static_assert(offsetof(struct record, frlong) == 190, "FRLONG begins at place 191");
+
+/* The fields that field and has know. */
+enum {
+    TLID, FRADDL, TOADDL, FRADDR, TOADDR, ZIPL, ZIPR, STATEL, STATER,
+    COUNTYL, COUNTYR, PLACEL, PLACER, TRACTL, TRACTR, BLOCKL, BLOCKR
+};
+
+/* The coordinates that coord knows. */
+enum { FRLONG, FRLAT, TOLONG, TOLAT };
+
+/* What in_range answers. */
+enum { NO_SIDE, LEFT, RIGHT, BOTH_SIDES };
+
+/* The helper functions, by their numbers. docs/helpers.md says what each is handed and answers. */
+static uint64_t (*const field)(uint64_t id) = (void *) 1;
+static uint64_t (*const has)(uint64_t id) = (void *) 2;
+static uint64_t (*const names)(void) = (void *) 3;
+static uint64_t (*const ranges)(void) = (void *) 4;
+static uint64_t (*const in_range)(uint64_t range, uint64_t house) = (void *) 5;
+static uint64_t (*const name_copy)(uint64_t name, void *bytes, uint64_t length) = (void *) 6;
+static uint64_t (*const name_is)(uint64_t name, const void *bytes, uint64_t length) = (void *) 7;
+static uint64_t (*const emit)(uint64_t score) = (void *) 8;
+static int64_t (*const coord)(uint64_t which) = (void *) 9;
+
+#endif
