@@ -1,6 +1,7 @@
 -- What calls of the helper functions answer, write and set.
-use Rattle.std.proofs.Common.{◌≡◌, ◌≢◌, ℕ, ℤ, pos, option_map, ◌==◌, if◌then◌else◌, Bool, true, false, ◌+◌, ◌*◌, ◌-◌, ◌^◌, ◌<◌, ◌≤◌, zero, suc, List, [], ◌∷◌, ◌++◌, All, length, get_or, take, drop, replicate, slice_index, slice_get, Option, Some, None, IfSome, is_some, refl, arith}
-use Rattle.std.specs.Int.{w64, cast_unsigned}
+use Rattle.std.proofs.Common.{◌≡◌, ◌≢◌, ℕ, pos, option_map, ◌==◌, if◌then◌else◌, Bool, true, false, cond, ◌^◌, ◌<◌, ◌≤◌, zero, suc, List, [], ◌∷◌, All, length, get_or, take, drop, replicate, slice_index, slice_get, Option, Some, None, IfSome, refl, arith}
+use Rattle.std.specs.List.{find}
+use Rattle.std.proofs.lemmas.Bool.{eqb-true}
 use Rattle.std.proofs.lemmas.Grind.{common_steps}
 use Rattle.std.proofs.lemmas.List.Elements.{All-cons}
 use Rattle.std.proofs.lemmas.List.{length-replicate}
@@ -14,13 +15,52 @@ use Rattle.tl_segments.specs.declared.range.RangeFields.{RangeFields}
 use Rattle.tl_segments.proofs.SegmentLemmas.{AreBytes-field_of}
 use Rattle.bpf_kinds.specs.Interval.{Admits, between}
 use Rattle.bpf_helpers.specs.Call.{LieWithin, Meets, MeetsSignature, call, first, second, third, written_length}
-use Rattle.bpf_helpers.specs.Helper.{any, signature}
-use Rattle.bpf_helpers.specs.Meaning.{truth, bytes_at, field_number, or_zero, sides, is_name, first_bytes, coordinate_word, coordinate}
+use Rattle.bpf_helpers.specs.Helper.{any, by_number, signature}
+use Rattle.bpf_helpers.specs.Meaning.{truth, bytes_at, or_zero, sides, first_bytes, coordinate_word}
 use Rattle.bpf_helpers.specs.declared.fields.TheConstants.{FIELDS, COORDINATES}
 use Rattle.bpf_helpers.specs.declared.helper.Helper.{Helper}
 use Rattle.bpf_helpers.specs.declared.helper.Helper.TheVariants.{Field, Has, Names, Ranges, InRange, NameCopy, NameIs, Emit, Coord}
-use Rattle.bpf_helpers.specs.declared.signature.Argument.TheVariants.{Unused}
-use Rattle.bpf_helpers.specs.declared.signature.FrameUse.TheVariants.{Nothing, Writes, Reads}
+use Rattle.bpf_helpers.specs.declared.helper.TheConstants.{HELPERS}
+use Rattle.bpf_helpers.specs.declared.signature.Argument.TheVariants.{Unused, Number, Frame}
+use Rattle.bpf_helpers.specs.declared.signature.FrameUse.TheVariants.{Nothing, Writes}
+
+-- what is found is the first element or passes the test further on
+found-by : {X : Type 0} (p : X → Bool) (y : X) (ys : List X) (x : X) (b : Bool) → p y ≡ b → (find p ys ≡ Some x → p x ≡ true) → cond b (Some y) (find p ys) ≡ Some x → p x ≡ true
+found-by p y ys x true is later found = cc
+found-by p y ys x false is later found = later found
+
+-- what is found passes the test
+found-passes : {X : Type 0} (p : X → Bool) (xs : List X) (x : X) → find p xs ≡ Some x → p x ≡ true
+found-passes p [] x e = cc
+found-passes p (y ∷ ys) x e = found-by p y ys x (p y) refl (found-passes p ys x) e
+
+-- a number that finds a helper function is the table's number of it
+pub by_number-own : (number : ℕ) (helper : Helper) → by_number number ≡ Some helper → (signature helper).number ≡ number
+by_number-own number helper found =
+    eqb-true (signature helper).number number (found-passes (λ helper. (signature helper).number == number) HELPERS helper found)
+
+-- what a call that reads or writes the frame wants as its second argument, and as its third
+pub frame-pointer : (helper : Helper) → (signature helper).frame ≢ Nothing → get_or (signature helper).arguments 1 Unused ≡ Frame
+frame-pointer NameCopy uses = refl
+frame-pointer NameIs uses = refl
+frame-pointer Field uses = absurd (uses refl)
+frame-pointer Has uses = absurd (uses refl)
+frame-pointer Names uses = absurd (uses refl)
+frame-pointer Ranges uses = absurd (uses refl)
+frame-pointer InRange uses = absurd (uses refl)
+frame-pointer Emit uses = absurd (uses refl)
+frame-pointer Coord uses = absurd (uses refl)
+
+pub frame-length : (helper : Helper) → (signature helper).frame ≢ Nothing → get_or (signature helper).arguments 2 Unused ≡ Number (between 1 30)
+frame-length NameCopy uses = refl
+frame-length NameIs uses = refl
+frame-length Field uses = absurd (uses refl)
+frame-length Has uses = absurd (uses refl)
+frame-length Names uses = absurd (uses refl)
+frame-length Ranges uses = absurd (uses refl)
+frame-length InRange uses = absurd (uses refl)
+frame-length Emit uses = absurd (uses refl)
+frame-length Coord uses = absurd (uses refl)
 
 past-third : (helper : Helper) (at word : ℕ) → Meets (get_or (signature helper).arguments (suc (suc (suc at))) Unused) word
 past-third Field at word = tt

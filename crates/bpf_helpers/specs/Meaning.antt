@@ -1,6 +1,6 @@
 -- What the helper functions tell of a segment (TIGER/Line 2006, record type 1 for fields and coordinates; types 1, 4 and 5 for names; types 1 and 6 for ranges).
 -- Which functions there are, and their answers, are this project's own.
-use Rattle.std.specs.Prelude.{ℕ, ℤ, ◌+◌, ◌*◌, Bool, true, false, List, [], ◌∷◌, length, take, replicate, slice_get, Option, Some, None}
+use Rattle.std.specs.Prelude.{ℕ, ℤ, ◌+◌, ◌*◌, Bool, true, false, List, [], take, replicate, slice_get, Option, Some, None}
 use Rattle.std.specs.Int.{w64, cast_unsigned}
 use Rattle.tl_fields.specs.Coordinate.{coordinate_of}
 use Rattle.tl_fields.specs.Number.{number_of}
@@ -8,7 +8,7 @@ use Rattle.tl_records.specs.Layout.{field_at}
 use Rattle.tl_records.specs.declared.layout.Places.{Places}
 use Rattle.tl_segments.specs.Name.{name_equals}
 use Rattle.tl_segments.specs.Range.{lies_on}
-use Rattle.tl_segments.specs.Segment.{Contents, names_of, ranges_of}
+use Rattle.tl_segments.specs.Segment.{Contents}
 use Rattle.tl_segments.specs.declared.range.RangeFields.{RangeFields}
 use Rattle.bpf_helpers.specs.declared.fields.TheConstants.{FIELDS, COORDINATES}
 

@@ -5,8 +5,8 @@ ghost use Rattle.bpf_helpers.specs.Helper.{by_number, signature};
 ghost use Rattle.bpf_helpers.specs.Meaning.{places};
 ghost use Rattle.bpf_helpers.specs.declared.helper.Helper.{Helper};
 ghost use Rattle.bpf_helpers.specs.declared.helper.Helper.TheVariants.{Field, Has, Names, Ranges, InRange, NameCopy, NameIs, Emit, Coord};
-ghost use Rattle.bpf_helpers.specs.declared.signature.Argument.TheVariants.{Unused, Number};
-ghost use Rattle.bpf_helpers.specs.declared.signature.FrameUse.TheVariants.{Writes};
+ghost use Rattle.bpf_helpers.specs.declared.signature.Argument.TheVariants.{Unused, Number, Frame};
+ghost use Rattle.bpf_helpers.specs.declared.signature.FrameUse.TheVariants.{Nothing, Writes};
 ghost use Rattle.bpf_kinds.specs.Interval.{Admits, between};
 ghost use Rattle.tl_fields.specs.Number.{number_of};
 ghost use Rattle.tl_segments.specs.Segment.{Contents, IsSegment};
@@ -14,9 +14,10 @@ ghost use Rattle.tl_segments.specs.Segment.{Contents, IsSegment};
 use crate::fields::{COORDINATES, FIELDS};
 use tl_segments::{NAME_LENGTH, NAME_LIMIT, RANGE_LIMIT};
 
-/// Each helper function is found by its own number, and no other number finds one.
+/// Each helper function is found by its own number, and by no other; any other number finds none.
 pub fn numbers()
     ensures own { (helper : Helper) → by_number (signature helper).number ≡ Some helper }
+    ensures only { (number : ℕ) (helper : Helper) → by_number number ≡ Some helper → (signature helper).number ≡ number }
     ensures none { by_number 0 ≡ None }
     ensures field { by_number 1 ≡ Some Field }
     ensures has { by_number 2 ≡ Some Has }
@@ -74,6 +75,14 @@ pub fn bounds()
     ensures ranges { (signature Ranges).answer ≡ between 1 (RANGE_LIMIT + 1) }
     ensures numbers { (field : List ℕ) (n : ℕ) → number_of field ≡ Some n → n ≤ (signature Field).answer.high }
     ensures greatest_number { number_of (codes "99999999999") ≡ Some (signature Field).answer.high }
+{}
+
+/// A call that does something with the frame wants, as its second and third argument, a pointer into the frame and a length of 1 to 30 bytes.
+pub fn frame_uses()
+    ensures pointer { (helper : Helper) → (signature helper).frame ≢ Nothing
+        → get_or (signature helper).arguments 1 Unused ≡ Frame }
+    ensures length { (helper : Helper) → (signature helper).frame ≢ Nothing
+        → get_or (signature helper).arguments 2 Unused ≡ Number (between 1 NAME_LENGTH) }
 {}
 
 /// A call with arguments that meet the signature answers a number of the interval that the table has, which is a word.

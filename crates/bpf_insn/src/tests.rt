@@ -1,6 +1,6 @@
 //! Words of RFC 9669 and what they give, through the public calls. Tables are text, a row a line.
+use crate::decode;
 use std::alloc::Allocator;
-use std::process::Abort;
 use std::test::Fail;
 
 mod arithmetic;
@@ -10,11 +10,9 @@ mod sizes;
 
 const EXIT: &[u8] = b"\x95\0\0\0\0\0\0\0";
 
-/// The two parts of a row, before and behind a sign.
-fn cut<'a>(rt: &impl Abort, row: &'a str, sign: &str) -> (&'a str, &'a str) {
-    let parts = row.split_once(sign);
-    assert!(rt; parts.is_some(), "{row}");
-    parts.unwrap_or((row, ""))
+/// The two parts of a row, before and behind a sign. A row without it has nothing behind.
+fn cut<'a>(row: &'a str, sign: &str) -> (&'a str, &'a str) {
+    row.split_once(sign).unwrap_or((row, ""))
 }
 
 /// The bytes of a row, each in hexadecimal digits.
@@ -24,4 +22,12 @@ fn bytes_of<A: Allocator>(alloc: A, row: &str) -> Result<Vec<u8, A>, Fail> {
         bytes.push(u8::from_str_radix(byte, 16)?)?;
     }
     Ok(bytes)
+}
+
+/// Whether bytes are refused with this line, or are a code where a row says `ok`.
+fn gives<A: Allocator + Copy>(alloc: A, bytes: &[u8], line: &str) -> bool {
+    match decode(alloc, bytes) {
+        Ok(_) => line == "ok",
+        Err(fault) => fault.line().as_str() == line,
+    }
 }

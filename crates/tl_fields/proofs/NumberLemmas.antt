@@ -1,5 +1,5 @@
 -- What follows from the digits of a field.
-use Rattle.std.proofs.Common.{◌≡◌, ℕ, Bool, ◌&&◌, nat_le, ◌+◌, ◌-◌, ◌*◌, ◌^◌, ◌<◌, ◌≤◌, true, false, List, length, get_or, take, if◌then◌else◌, Some, None, IfSome, refl, arith, rules}
+use Rattle.std.proofs.Common.{◌≡◌, ℕ, Bool, ◌&&◌, ◌==◌, nat_le, ◌+◌, ◌-◌, ◌*◌, ◌^◌, ◌<◌, ◌≤◌, true, false, List, [], ◌∷◌, length, get_or, take, drop, reverse, if◌then◌else◌, Some, None, IfSome, refl, subst, arith, rules}
 use Rattle.std.specs.List.{list_all}
 use Rattle.std.specs.Char.{is_ascii_digit, digit_value}
 use Rattle.std.specs.Str.Parse.{digits_value}
@@ -8,7 +8,9 @@ use Rattle.std.proofs.lemmas.Bool.Decides.{nat_tests}
 use Rattle.std.proofs.lemmas.Int.Digits.{digits_value_more}
 use Rattle.std.proofs.lemmas.List.Folds.{list_all_more}
 use Rattle.std.proofs.lemmas.Str.Parse.{IsNumeralModel, numerals_by_value, digits_value_short}
-use Rattle.tl_fields.specs.Number.{decimal_in, is_decimal}
+use Rattle.std.proofs.lemmas.List.{length-reverse, length-take}
+use Rattle.tl_fields.specs.Field.{field_of}
+use Rattle.tl_fields.specs.Number.{decimal_in, is_decimal, number_of, trim, without_blanks_before}
 
 digits_model : IsNumeralModel (λ ds. list_all is_ascii_digit ds ≡ true) (digits_value 10)
 digits_model = numerals_by_value _ (search rules)
@@ -40,3 +42,33 @@ decimal_in-few most ds some few = rw (le-leb 1 (length ds) some, le-leb (length 
 -- so many digits write a number below that power of ten
 pub decimal_in-lt : (most : ℕ) (ds : List ℕ) → IfSome (decimal_in most ds) (λ n. n < 10 ^ most)
 decimal_in-lt most ds = decimal_in-lt-by most ds _ refl
+
+without_blanks_before-le_by : (b : ℕ) (bs : List ℕ) (t : Bool) → length (without_blanks_before bs) ≤ length bs → length (if t then without_blanks_before bs else b ∷ bs) ≤ length (b ∷ bs)
+without_blanks_before-le_by b bs true short = omega arith
+without_blanks_before-le_by b bs false short = omega arith
+
+without_blanks_before-le : (bytes : List ℕ) → length (without_blanks_before bytes) ≤ length bytes
+without_blanks_before-le [] = omega arith
+without_blanks_before-le (b ∷ bs) = without_blanks_before-le_by b bs (b == 32) (without_blanks_before-le bs)
+
+trim-le : (bytes : List ℕ) → length (trim bytes) ≤ length bytes
+trim-le bytes =
+    let front = without_blanks_before bytes in
+    omega (arith, without_blanks_before-le bytes, without_blanks_before-le (reverse front), length-reverse front, length-reverse (without_blanks_before (reverse front)))
+
+decimal_in-short_by : (most k n : ℕ) (ds : List ℕ) (b : Bool) → length ds ≤ k → is_decimal most ds ≡ b → (if b then Some (digits_value 10 ds) else None) ≡ Some n → n < 10 ^ k
+decimal_in-short_by most k n ds true short is e =
+    let parts = and_parts (nat_le 1 (length ds) && nat_le (length ds) most) _ is in
+    let same : digits_value 10 ds ≡ n = cc in
+    subst (λ n. n < 10 ^ k) same (digits_value-lt ds k parts.1 short)
+decimal_in-short_by most k n ds false short is e = cc
+
+number_of-short : (field : List ℕ) (k n : ℕ) → length field ≤ k → number_of field ≡ Some n → n < 10 ^ k
+unfolding number_of
+number_of-short field k n short e =
+    decimal_in-short_by 11 k n (trim field) _ (omega (arith, trim-le field)) refl e
+
+-- the number of a field has no more digits than the field has places
+pub number_of_lt : (line : List ℕ) (first last n : ℕ) → number_of (field_of line first last) ≡ Some n → n < 10 ^ (last + 1 - first)
+number_of_lt line first last n e =
+    number_of-short (field_of line first last) (last + 1 - first) n (omega (arith, length-take (last + 1 - first) (drop (first - 1) line))) e

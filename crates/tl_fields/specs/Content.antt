@@ -1,6 +1,7 @@
 -- The content of a line: its bytes up to a line feed, read from a reader.
 use Rattle.std.specs.Prelude.{◌≡◌, ◌≢◌, ℕ, ◌≤◌, List, [], ◌∷◌, ◌++◌, length, All, Option, Some, None, Result, Ok, Err}
 use Rattle.std.specs.Io.KnownBytes.{Consumes, IsAtEnd}
+use Rattle.tl_fields.specs.Counted.{next_count}
 use Rattle.tl_fields.specs.Device.{Reader}
 use Rattle.tl_fields.specs.declared.content.Stop.{Stop}
 use Rattle.tl_fields.specs.declared.content.Stop.TheVariants.{LineFeed, EndOfInput, TooLong, ReadFailed}
@@ -26,3 +27,10 @@ IsContentRead content old new TooLong =
     (new.failed ≡ old.failed) × (taken : List ℕ) × HasNoLineFeed taken × (length taken ≡ 231) × Consumes old.left new.left taken
 IsContentRead content old new ReadFailed =
     (new.failed ≢ old.failed) × HasNoLineFeed content × (length content ≤ 230) × Consumes old.left new.left content
+
+-- a read that failed counts one, and where reading stopped for another reason the count is left
+abbrev pub AddsStop : Stop → ℕ → ℕ → Type 0
+AddsStop LineFeed old new = new ≡ old
+AddsStop EndOfInput old new = new ≡ old
+AddsStop TooLong old new = new ≡ old
+AddsStop ReadFailed old new = new ≡ next_count old

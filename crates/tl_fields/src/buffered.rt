@@ -1,9 +1,9 @@
 //! A reader over one with a buffer.
-ghost use Rattle.std.specs.Prelude.{◌≡◌, ◌∷◌, [], None, OnSome};
+ghost use Rattle.std.specs.Prelude.{◌≡◌, ◌∷◌, [], None, IfSome, OnSome};
 ghost use Rattle.std.specs.Io.{ReadsAtMost};
 ghost use Rattle.std.specs.Io.KnownBytes.{ReadConsumes};
 ghost use Rattle.tl_fields.specs.Buffered.{IsFrontRead};
-ghost use Rattle.tl_fields.specs.Content.{IsContentRead};
+ghost use Rattle.tl_fields.specs.Content.{AddsStop, IsContentRead};
 ghost use Rattle.tl_fields.specs.Counted.{AddsFailure, CountsFailure};
 
 use crate::content::{LINE_FEED, LONGEST_CONTENT, Stop};
@@ -17,6 +17,11 @@ use std::io::{BufRead, Read};
 ///
 /// The content of a line is searched for in the buffer, and a read of one byte goes past the copying of slices. The inner reader is called
 /// where its buffer is empty, as by reads of one byte.
+///
+/// As a [`Read`] it hands on no known bytes, since std's contract of a buffer says at its end nothing of bytes that aren't known: for a caller
+/// that is generic over readers its `remaining` is `None`, as that of a file is. So what such a caller promises where bytes are known is empty
+/// over it, and what it promises of failed reads, of order and of lengths holds. Where the inner reader's bytes are known, the clauses `taken`
+/// and `known` of its own calls give them. [`Counting`](crate::Counting) hands on what its reader has.
 #[derive(Drop)]
 pub struct Buffered<B> {
     reader: B,
@@ -45,9 +50,10 @@ impl<B: BufRead> Buffered<B> {
     // Takes what the buffer shows of a line, and tells why the line stops there, or that it goes on.
     #[inline]
     fn read_front(&mut self, content: &mut ArrayVec<u8, LONGEST_CONTENT>) -> Option<Stop>
-        ensures { IsFrontRead content.old.items content.new.items
+        ensures front { IsFrontRead content.old.items content.new.items
             (record { left = B.remaining self.old.reader; failed = self.old.failed_reads })
             (record { left = B.remaining self.new.reader; failed = self.new.failed_reads }) result }
+        ensures exact { IfSome result (λ stop. AddsStop stop self.old.failed_reads self.new.failed_reads) }
     {
         let front = match self.reader.fill_buf() {
             Ok(front) => front,
@@ -150,6 +156,7 @@ impl<B: BufRead> CountedRead for Buffered<B> {
         ensures known { OnSome (B.remaining self.old.reader) (IsContentRead content.new.items
             (record { left = B.remaining self.old.reader; failed = self.old.failed_reads })
             (record { left = B.remaining self.new.reader; failed = self.new.failed_reads }) result) }
+        ensures exact { AddsStop result self.old.failed_reads self.new.failed_reads }
     {
         content.clear();
         loop {

@@ -2,7 +2,7 @@
 ghost use Rattle.std.specs.Prelude.{◌≡◌, ℕ};
 ghost use Rattle.std.specs.Io.{ReadsAtMost, WritesAtMost};
 ghost use Rattle.std.specs.Io.KnownBytes.{Keeps, ReadConsumes, WriteAppends};
-ghost use Rattle.tl_fields.specs.Content.{IsByteRead, IsContentRead};
+ghost use Rattle.tl_fields.specs.Content.{AddsStop, IsByteRead, IsContentRead};
 ghost use Rattle.tl_fields.specs.Counted.{AddsFailure, AddsFlush, AddsWrite, CountsFailure, CountsFlush, CountsWrite, next_count};
 ghost use Rattle.tl_fields.specs.Device.{WriteCounts, reader};
 
@@ -145,6 +145,7 @@ impl<T: Read> Counting<T> {
         ensures read { IsByteRead
             (record { left = T.remaining self.old.inner; failed = self.old.failed_reads })
             (record { left = T.remaining self.new.inner; failed = self.new.failed_reads }) result }
+        ensures exact { AddsFailure result self.old.failed_reads self.new.failed_reads }
         ensures counts { self.new.counts ≡ self.old.counts }
     {
         let mut byte = [0];
@@ -235,7 +236,13 @@ impl<T: Read> CountedRead for Counting<T> {
 
     #[inline]
     #[tactic(auto, using(crate::proofs::ContentLemmas::none_so_far, crate::proofs::ContentLemmas::one_more, crate::proofs::ContentLemmas::no_more))]
-    fn read_content(&mut self, content: &mut ArrayVec<u8, LONGEST_CONTENT>) -> Stop {
+    fn read_content(&mut self, content: &mut ArrayVec<u8, LONGEST_CONTENT>) -> Stop
+        ensures content { IsContentRead content.new.items
+            (record { left = T.remaining self.old.inner; failed = self.old.failed_reads })
+            (record { left = T.remaining self.new.inner; failed = self.new.failed_reads }) result }
+        ensures exact { AddsStop result self.old.failed_reads self.new.failed_reads }
+        ensures counts { self.new.counts ≡ self.old.counts }
+    {
         content.clear();
         loop {
             match self.read_byte() {

@@ -5,19 +5,21 @@ use crate::{
 };
 use arrayvec::ArrayVec;
 use std::alloc::Global;
-use std::io::{BufReader, ErrorKind, Read, Write};
-use std::process::Abort;
+use std::io::{BufReader, ErrorKind};
 use std::test::Fail;
 
 // A line of record type 1: the 228 bytes of the layout, blank where nothing is named.
 const LINE: &[u8; 228] =
     b"10006 123456789    Main                                A41        101        199        100        198    3606736067                                                                          -086500000+32400000-086490000+32410000";
 
-/// The number that a column of a table holds.
-fn column(rt: &impl Abort, text: Option<&str>) -> usize {
-    let parsed = text.and_then(|text| text.trim().parse::<usize>().ok());
-    assert!(rt; parsed.is_some(), "{text:?} is no number");
-    parsed.unwrap_or(0)
+/// The first column of a row, and the others.
+fn cut(row: &str) -> (&str, &str) {
+    row.split_once('|').unwrap_or((row, ""))
+}
+
+/// The count that a column holds.
+fn count(column: &str) -> usize {
+    column.parse().unwrap_or(0)
 }
 
 // First place, last place, the bytes between them, and their number.
@@ -31,22 +33,24 @@ const FIELDS: &str = "1|1|1|1
 191|200|-086500000|
 220|228|+32410000|";
 
-#[test]
-fn fields_of_a_line(rt: HostRuntime) -> Result<(), Fail> {
-    for row in FIELDS.lines() {
-        let mut columns = row.split('|');
-        let (first, last) = (column(&rt, columns.next()), column(&rt, columns.next()));
-        assert!(rt; 1 <= first && first <= last && last <= LINE.len());
-        let bytes = field(LINE, first, last);
-        assert_eq!(rt;
-            Some(bytes),
-            columns.next().map(|text| text.as_bytes()),
-            "{row}"
-        );
-        let value = columns.next().and_then(|text| text.parse::<u64>().ok());
-        assert_eq!(rt; number(bytes), value, "{row}");
+/// Whether the field at these places of the line has these bytes and this number.
+fn is_field(first: usize, last: usize, text: &str, value: &str) -> bool {
+    if first < 1 || first > last || last > LINE.len() {
+        return false;
     }
-    Ok(())
+    let bytes = field(LINE, first, last);
+    bytes == text.as_bytes() && number(bytes) == value.parse().ok()
+}
+
+#[test]
+fn fields_of_a_line(rt: HostRuntime) {
+    for row in FIELDS.lines() {
+        let (first, rest) = cut(row);
+        let (last, rest) = cut(rest);
+        let (text, value) = cut(rest);
+        let is_right = is_field(count(first), count(last), text, value);
+        assert!(rt; is_right, "{row}");
+    }
 }
 
 // A field, and its number.
@@ -66,10 +70,8 @@ const NUMBERS: &str = "|
 #[test]
 fn numbers(rt: HostRuntime) {
     for row in NUMBERS.lines() {
-        let mut columns = row.split('|');
-        let text = columns.next().unwrap_or("");
-        let value = columns.next().and_then(|text| text.parse::<u64>().ok());
-        assert_eq!(rt; number(text.as_bytes()), value, "{row}");
+        let (text, value) = cut(row);
+        assert!(rt; number(text.as_bytes()) == value.parse().ok(), "{row}");
     }
 }
 
@@ -98,10 +100,8 @@ const COORDINATES: &str = "|
 #[test]
 fn coordinates(rt: HostRuntime) {
     for row in COORDINATES.lines() {
-        let mut columns = row.split('|');
-        let text = columns.next().unwrap_or("");
-        let value = columns.next().and_then(|text| text.parse::<i64>().ok());
-        assert_eq!(rt; coordinate(text.as_bytes()), value, "{row}");
+        let (text, value) = cut(row);
+        assert!(rt; coordinate(text.as_bytes()) == value.parse().ok(), "{row}");
     }
 }
 
@@ -116,10 +116,8 @@ const BLANKS: &str = "|true
 #[test]
 fn blanks(rt: HostRuntime) {
     for row in BLANKS.lines() {
-        let mut columns = row.split('|');
-        let text = columns.next().unwrap_or("");
-        let is_blank = columns.next() == Some("true");
-        assert_eq!(rt; blank(text.as_bytes()), is_blank, "{row}");
+        let (text, is_blank) = cut(row);
+        assert!(rt; blank(text.as_bytes()) == (is_blank == "true"), "{row}");
     }
 }
 
@@ -150,23 +148,22 @@ fn counts_of_a_reader(rt: HostRuntime) {
     let mut reader = Counting::new(Fuse::after_calls(inner, 1, FAILS));
     let mut byte = [0u8];
     for row in READS.lines() {
-        let mut columns = row.split('|');
-        let count = columns.next().and_then(|text| text.parse::<usize>().ok());
-        assert_eq!(rt; read_through(&mut reader, &mut byte), count, "{row}");
-        assert_eq!(rt;
-            Some(byte.as_slice()),
-            columns.next().map(|text| text.as_bytes()),
-            "{row}"
-        );
-        assert_eq!(rt;
-            reader.failed_reads() as usize,
-            column(&rt, columns.next()),
-            "{row}"
-        );
+        let (given, rest) = cut(row);
+        let (held, failures) = cut(rest);
+        let read = read_through(&mut reader, &mut byte);
+        let is_right = read == given.parse().ok()
+            && byte.as_slice() == held.as_bytes()
+            && failures.parse() == Ok(reader.failed_reads());
+        assert!(rt; is_right, "{row}");
     }
-    assert_eq!(rt; (reader.failed_writes(), reader.empty_writes()), (0, 0));
-    assert_eq!(rt; reader.get_ref().calls, 5);
-    assert_eq!(rt; reader.into_inner().inner.len(), 0);
+    assert!(rt;
+        (
+            reader.failed_writes(),
+            reader.empty_writes(),
+            reader.flushes()
+        ) == (0, 0, 0)
+    );
+    assert!(rt; reader.get_ref().calls == 5 && reader.into_inner().inner.is_empty());
 }
 
 // What is written, how many bytes of it are taken, and the failed and empty writes counted.
@@ -178,31 +175,24 @@ e|0|1|1
 e|0|1|2";
 
 #[test]
-fn counts_of_a_writer(rt: HostRuntime) -> Result<(), Fail> {
+fn counts_of_a_writer(rt: HostRuntime) {
     let mut room = [0u8; 4];
     let inner: &mut [u8] = &mut room;
     let mut writer = Counting::new(Fuse::after_calls(inner, 1, FAILS));
     for row in WRITES.lines() {
-        let mut columns = row.split('|');
-        let text = columns.next().unwrap_or("");
-        let count = columns.next().and_then(|text| text.parse::<usize>().ok());
-        assert_eq!(rt; write_through(&mut writer, text.as_bytes()), count, "{row}");
-        assert_eq!(rt;
-            writer.failed_writes() as usize,
-            column(&rt, columns.next()),
-            "{row}"
-        );
-        assert_eq!(rt;
-            writer.empty_writes() as usize,
-            column(&rt, columns.next()),
-            "{row}"
-        );
+        let (text, rest) = cut(row);
+        let (taken, rest) = cut(rest);
+        let (failed, empty) = cut(rest);
+        let written = write_through(&mut writer, text.as_bytes());
+        let is_right = written == taken.parse().ok()
+            && failed.parse() == Ok(writer.failed_writes())
+            && empty.parse() == Ok(writer.empty_writes());
+        assert!(rt; is_right, "{row}");
     }
-    writer.flush()?;
-    assert_eq!(rt; (writer.flushes(), writer.failed_reads()), (1, 0));
-    assert_eq!(rt; writer.get_ref().calls, 7);
-    assert_eq!(rt; room.as_slice(), b"abcd".as_slice());
-    Ok(())
+    let is_flushed = flush_through(&mut writer);
+    assert!(rt; is_flushed && (writer.flushes(), writer.failed_reads()) == (1, 0));
+    assert!(rt; writer.get_ref().calls == 7);
+    assert!(rt; room.as_slice() == b"abcd".as_slice());
 }
 
 // Whether each flush succeeds, and the flushes and failures counted.
@@ -217,32 +207,28 @@ fn counts_of_flushes(rt: HostRuntime) {
     let inner: &mut [u8] = &mut room;
     let mut writer = Counting::new(Fuse::after_calls(inner, 1, FAILS));
     for row in FLUSHES.lines() {
-        let mut columns = row.split('|');
-        let is_done = columns.next() == Some("true");
-        assert_eq!(rt; flush_through(&mut writer), is_done, "{row}");
-        assert_eq!(rt;
-            writer.flushes() as usize,
-            column(&rt, columns.next()),
-            "{row}"
-        );
-        assert_eq!(rt;
-            writer.failed_writes() as usize,
-            column(&rt, columns.next()),
-            "{row}"
-        );
+        let (is_done, rest) = cut(row);
+        let (flushes, failed) = cut(rest);
+        let is_flushed = flush_through(&mut writer);
+        let is_right = is_flushed == (is_done == "true")
+            && flushes.parse() == Ok(writer.flushes())
+            && failed.parse() == Ok(writer.failed_writes());
+        assert!(rt; is_right, "{row}");
     }
-    assert_eq!(rt; (writer.failed_reads(), writer.empty_writes()), (0, 0));
-    assert_eq!(rt; writer.get_ref().calls, 4);
+    assert!(rt; (writer.failed_reads(), writer.empty_writes()) == (0, 0));
+    assert!(rt; writer.get_ref().calls == 4);
 }
 
-// How many bytes the lines of a file have, CR in them, and the last one without an end.
+// How many bytes the lines of a file have. The last one has no end.
 const LENGTHS: &str = "0 231 230 2";
 
-/// A file of lines of these lengths.
+/// A file of lines of these lengths, of bytes that change along a line, CR among them.
 fn file_of(alloc: Global, lengths: &str) -> Result<Vec<u8>, Fail> {
     let mut file = Vec::new(alloc);
     for length in lengths.split(' ') {
-        file.resize(file.len() + length.parse::<u8>()? as usize, b'\r')?;
+        for place in 0..length.parse::<u8>()? {
+            file.push(place | 1)?;
+        }
         file.push(b'\n')?;
     }
     file.pop();
@@ -266,14 +252,21 @@ fn reads_alike(alloc: Global, bytes: &[u8], size: usize) -> Result<bool, Fail> {
     Ok(false)
 }
 
+/// Whether that holds of each beginning of a file.
+fn beginnings_read_alike(alloc: Global, file: &[u8], size: usize) -> Result<bool, Fail> {
+    for length in 0..=file.len() {
+        if !reads_alike(alloc, file.get(..length).unwrap_or(b""), size)? {
+            return Ok(false);
+        }
+    }
+    Ok(true)
+}
+
 #[test]
 fn contents_through_buffers(rt: HostRuntime) -> Result<(), Fail> {
     let file = file_of(rt.alloc(), LENGTHS)?;
     for size in 1..=300 {
-        for length in 0..=file.len() {
-            let front = file.get(..length).unwrap_or(b"");
-            assert!(rt; reads_alike(rt.alloc(), front, size)?, "{size} {length}");
-        }
+        assert!(rt; beginnings_read_alike(rt.alloc(), &file, size)?, "{size}");
     }
     Ok(())
 }
@@ -286,65 +279,78 @@ const FAILURES: &str = "1|0|0
 3|3|9
 300|0|0";
 
+/// Why a line's bytes stop through a buffer over a device that fails after so many calls, how many there are, and the calls of the device.
+fn read_to_failure(alloc: Global, size: usize, calls: u64) -> Result<(Stop, usize, u64), Fail> {
+    let device = Fuse::after_calls(b"abcdefghijkl\n".as_slice(), calls, FAILS);
+    let mut reader = Buffered::new(BufReader::with_capacity(alloc, size, device)?);
+    let mut content = ArrayVec::new();
+    let stop = reader.read_content(&mut content);
+    Ok((stop, content.len(), reader.get_ref().get_ref().calls))
+}
+
 #[test]
 fn contents_up_to_a_failure(rt: HostRuntime) -> Result<(), Fail> {
     for row in FAILURES.lines() {
-        let mut columns = row.split('|');
-        let size = column(&rt, columns.next());
-        let calls = column(&rt, columns.next()) as u64;
-        let device = Fuse::after_calls(b"abcdefghijkl\n".as_slice(), calls, FAILS);
-        let mut reader = Buffered::new(BufReader::with_capacity(rt.alloc(), size, device)?);
-        let mut content = ArrayVec::new();
-        let stop = reader.read_content(&mut content);
-        let given = (stop, content.len(), reader.get_ref().get_ref().calls);
-        let read = column(&rt, columns.next());
-        assert_eq!(rt;
-            given,
-            (Stop::ReadFailed, read, calls.saturating_add(1)),
-            "{row}"
-        );
+        let (size, rest) = cut(row);
+        let (calls, read) = cut(rest);
+        let calls = count(calls) as u64;
+        let given = read_to_failure(rt.alloc(), count(size), calls)?;
+        let expected = (Stop::ReadFailed, count(read), calls.saturating_add(1));
+        assert!(rt; given == expected, "{row}");
     }
     Ok(())
 }
 
-// How many bytes are taken before the write that goes wrong, and the calls up to and with it.
-const TEXTS: &str = "0|1
-1|2
-4|2
-5|1";
+// How a device goes wrong after so many bytes, the calls of it, and what comes of writing `abcde`: the bytes that are there, and the fault.
+const TEXTS: &str = "fails|0|1||Write
+fails|1|2|a|Write
+fails|4|2|abcd|Write
+fails|5|1|abcde|
+takes nothing|0|1||WriteZero
+takes nothing|1|2|a|WriteZero
+takes nothing|4|2|abcd|WriteZero
+takes nothing|5|1|abcde|";
+
+/// What comes of writing `abcde` to a device that goes wrong: the fault, the calls, and the room for the bytes.
+fn written(bytes: usize, burst: Burst) -> (Result<(), WriteFault>, u64, [u8; 8]) {
+    let mut room = [0u8; 8];
+    let inner: &mut [u8] = &mut room;
+    let mut writer = Counting::new(Fuse::after_bytes(inner, bytes, burst));
+    let outcome = write_whole(&mut writer, b"abcde");
+    let calls = writer.get_ref().calls;
+    (outcome, calls, room)
+}
+
+/// Whether an outcome has the fault with this name, or none where the name is empty.
+fn is_fault(outcome: Result<(), WriteFault>, name: &str) -> bool {
+    match outcome {
+        Ok(()) => name.is_empty(),
+        Err(fault) => fault.name() == name,
+    }
+}
+
+/// Whether a room begins with these bytes, and has none behind them.
+fn begins_with(room: &[u8], bytes: &[u8]) -> bool {
+    room.get(..bytes.len()) == Some(bytes) && room.get(bytes.len()) == Some(&0)
+}
 
 #[test]
 fn texts_are_written_whole(rt: HostRuntime) {
     for row in TEXTS.lines() {
-        let mut columns = row.split('|');
-        let taken = column(&rt, columns.next());
-        let calls = column(&rt, columns.next()) as u64;
-        for burst in [FAILS, Burst::TakesNothing] {
-            let mut room = [0u8; 8];
-            let inner: &mut [u8] = &mut room;
-            let mut writer = Counting::new(Fuse::after_bytes(inner, taken, burst));
-            let given = write_whole(&mut writer, b"abcde");
-            let expected = match burst {
-                _ if taken == 5 => Ok(()),
-                Burst::TakesNothing => Err(WriteFault::WriteZero),
-                Burst::Fails(_) => Err(WriteFault::Write),
-            };
-            assert_eq!(rt; given, expected, "{row}");
-            assert_eq!(rt; writer.get_ref().calls, calls, "{row}");
-            assert_eq!(rt;
-                room.as_slice().get(..taken),
-                b"abcde".as_slice().get(..taken),
-                "{row}"
-            );
-            assert_eq!(rt; room.as_slice().get(taken), Some(&0), "{row}");
-        }
+        let (way, rest) = cut(row);
+        let (taken, rest) = cut(rest);
+        let (calls, rest) = cut(rest);
+        let (bytes, name) = cut(rest);
+        let burst = if way == "fails" {
+            FAILS
+        } else {
+            Burst::TakesNothing
+        };
+        let (outcome, made, room) = written(count(taken), burst);
+        let is_right = is_fault(outcome, name)
+            && calls.parse() == Ok(made)
+            && begins_with(&room, bytes.as_bytes());
+        assert!(rt; is_right, "{row}");
     }
-    assert_eq!(rt;
-        (WriteFault::Write.number(), WriteFault::Write.name()),
-        (60, "Write")
-    );
-    assert_eq!(rt;
-        (WriteFault::WriteZero.number(), WriteFault::WriteZero.name()),
-        (61, "WriteZero")
-    );
+    assert!(rt; (WriteFault::Write.number(), WriteFault::WriteZero.number()) == (60, 61));
 }

@@ -1,14 +1,19 @@
 -- Reading a line, where the reader's bytes are known and where they aren't.
-use Rattle.std.proofs.Common.{◌≡◌, ◌≢◌, ℕ, ◌≤◌, inl, inr, List, [], ◌∷◌, ◌++◌, length, Option, Some, None, ap, ◌∙◌, append_assoc, length-append, arith}
+use Rattle.std.proofs.Common.{◌≡◌, ◌≢◌, ℕ, ◌≤◌, inl, inr, List, [], ◌∷◌, ◌++◌, length, Option, Some, None, ap, subst, ◌∙◌, append_assoc, length-append, arith}
 use Rattle.std.proofs.lemmas.List.{append-nil}
+use Rattle.std.proofs.lemmas.List.Elements.{All-pop}
 use Rattle.std.specs.Io.KnownBytes.{Consumes, IsAtEnd}
 use Rattle.tl_fields.specs.Content.{HasNoLineFeed}
 use Rattle.tl_records.specs.Lines.{missing, WhereKnown, IsNextLine, BeginsTooLong, FailsWithin, IsWithoutReturn}
 use Rattle.tl_records.proofs.LineLemmas.{ended_by_lf}
 
-line_short : (content line : List ℕ) → length content ≤ 230 → IsWithoutReturn content line → length line ≤ 230
+pub line_short : (content line : List ℕ) → length content ≤ 230 → IsWithoutReturn content line → length line ≤ 230
 line_short content line short (inl e) = omega (arith, ap length e, length-append line (13 ∷ []))
 line_short content line short (inr (e, n)) = omega (arith, ap length e)
+
+pub line_whole : (content line : List ℕ) → HasNoLineFeed content → IsWithoutReturn content line → HasNoLineFeed line
+line_whole content line p (inl e) = (All-pop (λ b. b ≢ 10) content line (Some 13) e p).0
+line_whole content line p (inr (e, n)) = subst (λ s. HasNoLineFeed s) e p
 
 -- a line that ended with LF
 pub line_by_lf : (bytes left : Option (List ℕ)) (content line : List ℕ) → HasNoLineFeed content → length content ≤ 230 → Consumes bytes left (content ++ 10 ∷ []) → IsWithoutReturn content line → WhereKnown bytes left (IsNextLine line)

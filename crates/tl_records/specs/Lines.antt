@@ -73,10 +73,10 @@ IsUnreadLine number Read old new = (new.failed ≢ old.failed) × WhereKnown old
 IsUnreadLine number TooManyLines old new = (new.failed ≡ old.failed) × (number ≡ 2 ^ 32 - 1) × WhereKnown old.left new.left HasOneMore
 IsUnreadLine number flaw old new = ⊥
 
--- what reading the next line does to the line and the reader
+-- what reading the next line does to the line and the reader; a line has no line feed and at most 230 bytes, whatever reader it came from
 abbrev pub IsLineRead : LineParts → LineParts → Reader → Reader → Result (Option (Unit {0})) LineFault → Type 0
 IsLineRead line new_line old new (Ok (Some done)) =
-    (new.failed ≡ old.failed) × (line.number < 2 ^ 32 - 1) × (new_line.number ≡ line.number + 1) × WhereKnown old.left new.left (IsNextLine new_line.bytes)
+    (new.failed ≡ old.failed) × (line.number < 2 ^ 32 - 1) × (new_line.number ≡ line.number + 1) × WhereKnown old.left new.left (IsNextLine new_line.bytes) × HasNoLineFeed new_line.bytes × (length new_line.bytes ≤ 230)
 IsLineRead line new_line old new (Ok None) =
     (new.failed ≡ old.failed) × (new_line ≡ emptied line) × IsAtEnd new.left × WhereKnown old.left new.left (λ file rest. file ≡ [])
 IsLineRead line new_line old new (Err fault) =

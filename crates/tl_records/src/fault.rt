@@ -56,7 +56,9 @@ impl LineFlaw {
 #[derive(Clone, Copy, Debug, PartialEq, Eq, Error)]
 #[error("line {line}: {flaw}")]
 pub struct LineFault {
+    /// The number of the line, counted from 1: at most 2^32, which is that of the first line without a number in 32 bits.
     pub line: u64,
+    /// What is wrong with it, or with reading it.
     pub flaw: LineFlaw,
 }
 

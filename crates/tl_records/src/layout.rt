@@ -26,6 +26,7 @@ pub struct Layout {
 
 /// Record type 1: a street segment's own record.
 impl Rt1<'_> {
+    /// What the lines of record type 1 are like.
     pub const LAYOUT: Layout = Layout {
         length: 228,
         tag: b'1',
@@ -33,73 +34,106 @@ impl Rt1<'_> {
         without_number: LineFlaw::BadTlid,
     };
 
+    /// The record type, always `1`.
     pub const RT: Places = Places(1, 1);
 
+    /// The version number.
     pub const VERSION: Places = Places(2, 5);
 
+    /// The TIGER/Line ID, the permanent number of the segment.
     pub const TLID: Places = Places(6, 15);
 
+    /// The single-side source code.
     pub const SIDE1: Places = Places(16, 16);
 
+    /// The linear segment source code.
     pub const SOURCE: Places = Places(17, 17);
 
+    /// The direction before the feature's name.
     pub const FEDIRP: Places = Places(18, 19);
 
+    /// The feature's name.
     pub const FENAME: Places = Places(20, 49);
 
+    /// The feature's type.
     pub const FETYPE: Places = Places(50, 53);
 
+    /// The direction behind the feature's name.
     pub const FEDIRS: Places = Places(54, 55);
 
+    /// The census feature class code.
     pub const CFCC: Places = Places(56, 58);
 
+    /// The start address on the left.
     pub const FRADDL: Places = Places(59, 69);
 
+    /// The end address on the left.
     pub const TOADDL: Places = Places(70, 80);
 
+    /// The start address on the right.
     pub const FRADDR: Places = Places(81, 91);
 
+    /// The end address on the right.
     pub const TOADDR: Places = Places(92, 102);
 
+    /// The ZIP Code on the left.
     pub const ZIPL: Places = Places(107, 111);
 
+    /// The ZIP Code on the right.
     pub const ZIPR: Places = Places(112, 116);
 
+    /// The FIPS state code on the left.
     pub const STATEL: Places = Places(131, 132);
 
+    /// The FIPS state code on the right.
     pub const STATER: Places = Places(133, 134);
 
+    /// The FIPS county code on the left.
     pub const COUNTYL: Places = Places(135, 137);
 
+    /// The FIPS county code on the right.
     pub const COUNTYR: Places = Places(138, 140);
 
+    /// The FIPS 55 code of the county subdivision on the left.
     pub const COUSUBL: Places = Places(141, 145);
 
+    /// The FIPS 55 code of the county subdivision on the right.
     pub const COUSUBR: Places = Places(146, 150);
 
+    /// The FIPS 55 code of the place on the left.
     pub const PLACEL: Places = Places(161, 165);
 
+    /// The FIPS 55 code of the place on the right.
     pub const PLACER: Places = Places(166, 170);
 
+    /// The census tract code on the left.
     pub const TRACTL: Places = Places(171, 176);
 
+    /// The census tract code on the right.
     pub const TRACTR: Places = Places(177, 182);
 
+    /// The census block number on the left.
     pub const BLOCKL: Places = Places(183, 186);
 
+    /// The census block number on the right.
     pub const BLOCKR: Places = Places(187, 190);
 
+    /// The longitude of the start.
     pub const FRLONG: Places = Places(191, 200);
 
+    /// The latitude of the start.
     pub const FRLAT: Places = Places(201, 209);
 
+    /// The longitude of the end.
     pub const TOLONG: Places = Places(210, 219);
 
+    /// The latitude of the end.
     pub const TOLAT: Places = Places(220, 228);
 }
 
 /// Record type 4: the numbers of a segment's alternate names.
 impl Rt4<'_> {
+    /// What the lines of record type 4 are like.
     pub const LAYOUT: Layout = Layout {
         length: 58,
         tag: b'4',
@@ -107,27 +141,37 @@ impl Rt4<'_> {
         without_number: LineFlaw::BadTlid,
     };
 
+    /// The record type, always `4`.
     pub const RT: Places = Places(1, 1);
 
+    /// The version number.
     pub const VERSION: Places = Places(2, 5);
 
+    /// The TIGER/Line ID of the segment.
     pub const TLID: Places = Places(6, 15);
 
+    /// The number of the record among those of the segment.
     pub const RTSQ: Places = Places(16, 18);
 
+    /// The number of the first alternate name.
     pub const FEAT1: Places = Places(19, 26);
 
+    /// The number of the second alternate name.
     pub const FEAT2: Places = Places(27, 34);
 
+    /// The number of the third alternate name.
     pub const FEAT3: Places = Places(35, 42);
 
+    /// The number of the fourth alternate name.
     pub const FEAT4: Places = Places(43, 50);
 
+    /// The number of the fifth alternate name.
     pub const FEAT5: Places = Places(51, 58);
 }
 
 /// Record type 5: a feature's name, by its number.
 impl Rt5<'_> {
+    /// What the lines of record type 5 are like.
     pub const LAYOUT: Layout = Layout {
         length: 56,
         tag: b'5',
@@ -135,23 +179,31 @@ impl Rt5<'_> {
         without_number: LineFlaw::BadFeature,
     };
 
+    /// The record type, always `5`.
     pub const RT: Places = Places(1, 1);
 
+    /// The version number.
     pub const VERSION: Places = Places(2, 5);
 
+    /// The number of the feature's name.
     pub const FEAT: Places = Places(11, 18);
 
+    /// The direction before the feature's name.
     pub const FEDIRP: Places = Places(19, 20);
 
+    /// The feature's name.
     pub const FENAME: Places = Places(21, 50);
 
+    /// The feature's type.
     pub const FETYPE: Places = Places(51, 54);
 
+    /// The direction behind the feature's name.
     pub const FEDIRS: Places = Places(55, 56);
 }
 
 /// Record type 6: a further address range of a segment.
 impl Rt6<'_> {
+    /// What the lines of record type 6 are like.
     pub const LAYOUT: Layout = Layout {
         length: 76,
         tag: b'6',
@@ -159,23 +211,33 @@ impl Rt6<'_> {
         without_number: LineFlaw::BadTlid,
     };
 
+    /// The record type, always `6`.
     pub const RT: Places = Places(1, 1);
 
+    /// The version number.
     pub const VERSION: Places = Places(2, 5);
 
+    /// The TIGER/Line ID of the segment.
     pub const TLID: Places = Places(6, 15);
 
+    /// The number of the record among those of the segment.
     pub const RTSQ: Places = Places(16, 18);
 
+    /// The start address on the left.
     pub const FRADDL: Places = Places(19, 29);
 
+    /// The end address on the left.
     pub const TOADDL: Places = Places(30, 40);
 
+    /// The start address on the right.
     pub const FRADDR: Places = Places(41, 51);
 
+    /// The end address on the right.
     pub const TOADDR: Places = Places(52, 62);
 
+    /// The ZIP Code on the left.
     pub const ZIPL: Places = Places(67, 71);
 
+    /// The ZIP Code on the right.
     pub const ZIPR: Places = Places(72, 76);
 }

@@ -1,5 +1,5 @@
 //! The lines of a file of records.
-ghost use Rattle.std.specs.Prelude.{◌≡◌, ◌-◌, ◌^◌, []};
+ghost use Rattle.std.specs.Prelude.{◌≡◌, ◌-◌, ◌^◌, ◌≤◌, [], length};
 ghost use Rattle.tl_fields.specs.Device.{reader};
 ghost use Rattle.tl_records.specs.Lines.{IsLineRead, IsWithoutReturn};
 
@@ -45,7 +45,8 @@ impl Line {
     /// The bytes of the line, without its end.
     #[inline]
     pub fn bytes(&self) -> &[u8]
-        ensures { result.now ≡ self.now.bytes }
+        ensures value { result.now ≡ self.now.bytes }
+        ensures short { length result.now ≤ 230 }
     {
         self.content.as_slice()
     }

@@ -1,5 +1,5 @@
 //! Record type 1: a street segment's own record.
-ghost use Rattle.std.specs.Prelude.{◌≡◌, ◌+◌, ◌-◌, Some, length};
+ghost use Rattle.std.specs.Prelude.{◌≡◌, ◌+◌, ◌-◌, ◌^◌, ◌<◌, Some, length};
 ghost use Rattle.tl_fields.specs.Field.{field_of};
 ghost use Rattle.tl_fields.specs.Number.{number_of};
 ghost use Rattle.tl_records.specs.Layout.{IsWithin, field_at};
@@ -56,9 +56,10 @@ impl<'a> Rt1<'a> {
         field(self.line, places.0, places.1)
     }
 
-    /// The number of TLID.
+    /// The number of TLID, of 10 digits at most.
     pub fn tlid_number(&self) -> u64
-        ensures { number_of (field_of self.now.bytes 6 15) ≡ Some result }
+        ensures value { number_of (field_of self.now.bytes 6 15) ≡ Some result }
+        ensures small { result < 10 ^ 10 }
     {
         self.tlid_number
     }

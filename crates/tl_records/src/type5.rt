@@ -1,5 +1,5 @@
 //! Record type 5: a feature's name, by its number.
-ghost use Rattle.std.specs.Prelude.{◌≡◌, ◌+◌, ◌-◌, Some, length};
+ghost use Rattle.std.specs.Prelude.{◌≡◌, ◌+◌, ◌-◌, ◌^◌, ◌<◌, Some, length};
 ghost use Rattle.tl_fields.specs.Field.{field_of};
 ghost use Rattle.tl_fields.specs.Number.{number_of};
 ghost use Rattle.tl_records.specs.Layout.{IsWithin, field_at};
@@ -56,9 +56,10 @@ impl<'a> Rt5<'a> {
         field(self.line, places.0, places.1)
     }
 
-    /// The number of FEAT.
+    /// The number of FEAT, of 8 digits at most.
     pub fn feat_number(&self) -> u64
-        ensures { number_of (field_of self.now.bytes 11 18) ≡ Some result }
+        ensures value { number_of (field_of self.now.bytes 11 18) ≡ Some result }
+        ensures small { result < 10 ^ 8 }
     {
         self.feat_number
     }

@@ -4,6 +4,7 @@ use crate::{
     ByteOrder, Condition, LoadFormat, Operation, SignExtension, SwapWidth, Width,
     immediate_operand, negate, wide_number,
 };
+use std::alloc::Allocator;
 use std::test::Fail;
 
 const OPERATIONS: [Operation; 14] = [
@@ -76,30 +77,29 @@ ExclusiveOr 1 ffffffff fffffffe 0 7fffffff ffffffff ffffffff fffffff0 fffffff0 2
 Move 0 ffffffff 1 ffffffff ffffffff 7fffffff 80000000 3 fffffffd 21
 ArithmeticShiftRight 1 0 ffffffff ffffffff ffffffff ffffffff 7fffffff fffffffe 0 6";
 
-// Two operands, and the answer of each condition.
-const COMPARISONS_64: &str = "0,0 10100010101
-0,1 00001001111
-1,0 01101110000
-1,ffffffffffffffff 00011111100
-ffffffffffffffff,1 01111000011
-ffffffffffffffff,ffffffffffffffff 10110010101
-8000000000000000,7fffffffffffffff 01101000011
-7fffffffffffffff,8000000000000000 00001111100
-8000000000000000,0 01101000011
-8000000000000000,ffffffffffffffff 00011001111
-7fffffffffffffff,ffffffffffffffff 00011111100";
-
-const COMPARISONS_32: &str = "0,8765432100000000 10100010101
-0,8765432100000001 00001001111
-1,8765432100000000 01101110000
-1,87654321ffffffff 00011111100
-ffffffff,8765432100000001 01111000011
-ffffffff,87654321ffffffff 10110010101
-80000000,876543217fffffff 01101000011
-7fffffff,8765432180000000 00001111100
-80000000,8765432100000000 01101000011
-80000000,87654321ffffffff 00011001111
-7fffffff,87654321ffffffff 00011111100";
+// A width, two operands, and the answer of each condition.
+const COMPARISONS: &str = "64 0,0 10100010101
+64 0,1 00001001111
+64 1,0 01101110000
+64 1,ffffffffffffffff 00011111100
+64 ffffffffffffffff,1 01111000011
+64 ffffffffffffffff,ffffffffffffffff 10110010101
+64 8000000000000000,7fffffffffffffff 01101000011
+64 7fffffffffffffff,8000000000000000 00001111100
+64 8000000000000000,0 01101000011
+64 8000000000000000,ffffffffffffffff 00011001111
+64 7fffffffffffffff,ffffffffffffffff 00011111100
+32 0,8765432100000000 10100010101
+32 0,8765432100000001 00001001111
+32 1,8765432100000000 01101110000
+32 1,87654321ffffffff 00011111100
+32 ffffffff,8765432100000001 01111000011
+32 ffffffff,87654321ffffffff 10110010101
+32 80000000,876543217fffffff 01101000011
+32 7fffffff,8765432180000000 00001111100
+32 80000000,8765432100000000 01101000011
+32 80000000,87654321ffffffff 00011001111
+32 7fffffff,87654321ffffffff 00011111100";
 
 /// What changes one number.
 #[derive(Clone, Copy, Debug)]
@@ -173,101 +173,115 @@ Order(Swapped, Bits16): 1=100 102030405060788=8807
 Order(Swapped, Bits32): 1=1000000 102030405060788=88070605
 Order(Swapped, Bits64): 1=100000000000000 102030405060788=8807060504030201";
 
-// Immediates, and the operands that they make.
+// Immediates and the operands that they make, then the immediates of a wide load's two words and its number.
 const IMMEDIATES: &str = "1=1
 -1=ffffffffffffffff
 -2147483648=ffffffff80000000
-2147483647=7fffffff";
-
-// The immediates of a wide load's two words, and its number.
-const WIDE_NUMBERS: &str = "1,0=1
+2147483647=7fffffff
+1,0=1
 0,1=100000000
 -1,0=ffffffff
 0,-1=ffffffff00000000
 -2147483648,2147483647=7fffffff80000000
 305419896,2059198192=7abcdef012345678";
 
-fn number(text: &str) -> Result<u64, Fail> {
-    Ok(u64::from_str_radix(text, 16)?)
+/// The number that hexadecimal digits write.
+fn number(text: &str) -> u64 {
+    u64::from_str_radix(text, 16).unwrap_or(0)
+}
+
+/// Whether hexadecimal digits write this number.
+fn writes(text: &str, number: u64) -> bool {
+    u64::from_str_radix(text, 16) == Ok(number)
+}
+
+/// What each operation gives at each pair of operands, a line an operation.
+fn results<A: Allocator + Copy>(alloc: A, width: Width, operands: &str) -> Result<String<A>, Fail> {
+    let mut table = String::new(alloc);
+    for operation in OPERATIONS {
+        write!(table, "{operation:?}")?;
+        for pair in operands.split_whitespace() {
+            let (x, y) = cut(pair, ",");
+            write!(table, " {:x}", operation.apply(width, number(x), number(y)))?;
+        }
+        table.push('\n')?;
+    }
+    Ok(table)
 }
 
 #[test]
 fn operations(rt: HostRuntime) -> Result<(), Fail> {
-    let tables = [
-        (Width::Bits64, OPERANDS_64, RESULTS_64),
-        (Width::Bits32, OPERANDS_32, RESULTS_32),
-    ];
-    for (width, operands, results) in tables {
-        let mut rows = results.lines();
-        for operation in OPERATIONS {
-            let mut found = format!(in rt.alloc(); "{operation:?}")?;
-            for pair in operands.split_whitespace() {
-                let (x, y) = cut(&rt, pair, ",");
-                let result = operation.apply(width, number(x)?, number(y)?);
-                write!(found, " {result:x}")?;
-            }
-            assert_eq!(rt; Some(found.as_str()), rows.next());
-        }
-        assert_eq!(rt; rows.next(), None);
-    }
+    let found_64 = results(rt.alloc(), Width::Bits64, OPERANDS_64)?;
+    let found_32 = results(rt.alloc(), Width::Bits32, OPERANDS_32)?;
+    assert!(rt; found_64.as_str().trim_end() == RESULTS_64, "{found_64}");
+    assert!(rt; found_32.as_str().trim_end() == RESULTS_32, "{found_32}");
     Ok(())
 }
 
-#[test]
-fn conditions(rt: HostRuntime) -> Result<(), Fail> {
-    let tables = [
-        (Width::Bits64, COMPARISONS_64),
-        (Width::Bits32, COMPARISONS_32),
-    ];
-    for (width, rows) in tables {
-        for row in rows.lines() {
-            let (operands, want) = cut(&rt, row, " ");
-            let (x, y) = cut(&rt, operands, ",");
-            let (x, y) = (number(x)?, number(y)?);
-            let mut found = String::new(rt.alloc());
-            for condition in CONDITIONS {
-                found.push(if condition.holds(width, x, y) {
-                    '1'
-                } else {
-                    '0'
-                })?;
-            }
-            assert_eq!(rt; found.as_str(), want, "{row}");
+/// Whether the conditions' answers at two operands are these digits, 1 for one that holds.
+fn answers_are(width: Width, operands: &str, digits: &str) -> bool {
+    let (x, y) = cut(operands, ",");
+    let (x, y) = (number(x), number(y));
+    let mut digits = digits.bytes();
+    for condition in CONDITIONS {
+        if digits.next() != Some(b'0' + u8::from(condition.holds(width, x, y))) {
+            return false;
         }
     }
-    Ok(())
+    digits.next().is_none()
+}
+
+#[test]
+fn conditions(rt: HostRuntime) {
+    for row in COMPARISONS.lines() {
+        let (bits, comparison) = cut(row, " ");
+        let (operands, digits) = cut(comparison, " ");
+        let width = match bits {
+            "64" => Width::Bits64,
+            _ => Width::Bits32,
+        };
+        assert!(rt; answers_are(width, operands, digits), "{row}");
+    }
+}
+
+/// What a case makes of each number of a row, written as the row is.
+fn applied<A: Allocator + Copy>(alloc: A, case: Case, row: &str) -> Result<String<A>, Fail> {
+    let mut found = format!(in alloc; "{case:?}:")?;
+    for pair in cut(row, ": ").1.split_whitespace() {
+        let (x, _) = cut(pair, "=");
+        write!(found, " {x}={:x}", case.apply(number(x)))?;
+    }
+    Ok(found)
 }
 
 #[test]
 fn numbers(rt: HostRuntime) -> Result<(), Fail> {
     let mut rows = NUMBERS.lines();
     for case in CASES {
-        let (name, pairs) = cut(&rt, rows.next().unwrap_or(""), ": ");
-        assert_eq!(rt; format!(in rt.alloc(); "{case:?}")?.as_str(), name);
-        for pair in pairs.split_whitespace() {
-            let (x, want) = cut(&rt, pair, "=");
-            assert_eq!(rt; case.apply(number(x)?), number(want)?, "{name} {pair}");
-        }
+        let row = rows.next().unwrap_or("");
+        let found = applied(rt.alloc(), case, row)?;
+        assert!(rt; found.as_str() == row, "{row}");
     }
-    assert_eq!(rt; rows.next(), None);
+    assert!(rt; rows.next().is_none());
     Ok(())
 }
 
+/// The number that immediates make: one of its own, or two of a wide load.
+fn immediate_number(immediates: &str) -> u64 {
+    match immediates.split_once(',') {
+        Some((first, next)) => wide_number(immediate(first), immediate(next)),
+        None => immediate_operand(immediate(immediates)),
+    }
+}
+
+fn immediate(text: &str) -> i32 {
+    text.parse().unwrap_or(0)
+}
+
 #[test]
-fn immediates(rt: HostRuntime) -> Result<(), Fail> {
+fn immediates(rt: HostRuntime) {
     for row in IMMEDIATES.lines() {
-        let (immediate, want) = cut(&rt, row, "=");
-        assert_eq!(rt;
-            immediate_operand(immediate.parse::<i32>()?),
-            number(want)?,
-            "{row}"
-        );
+        let (immediates, want) = cut(row, "=");
+        assert!(rt; writes(want, immediate_number(immediates)), "{row}");
     }
-    for row in WIDE_NUMBERS.lines() {
-        let (immediates, want) = cut(&rt, row, "=");
-        let (first, next) = cut(&rt, immediates, ",");
-        let found = wide_number(first.parse::<i32>()?, next.parse::<i32>()?);
-        assert_eq!(rt; found, number(want)?, "{row}");
-    }
-    Ok(())
 }

@@ -1,8 +1,7 @@
 //! Each opcode of the instruction table, with its bytes written out and the instruction that they are.
-use super::{EXIT, bytes_of, cut};
+use super::{EXIT, bytes_of, cut, gives};
 use crate::{Code, Insn, decode, encode};
 use std::alloc::Allocator;
-use std::process::Abort;
 use std::test::Fail;
 
 // Bytes, and the instruction.
@@ -173,46 +172,54 @@ de 84 0 80 0 0 0 0 | JumpIf { condition: SignedLessOrEqual, width: Bits32, left:
 18 07 0 0 01 02 03 04 0 0 0 0 fe ff ff ff | WideLoad { destination: WritableRegister { number: 7 }, immediate: 67305985, next_immediate: -2 }
 18 03 0 0 ff ff ff 7f 0 0 0 0 0 0 0 80 | WideLoad { destination: WritableRegister { number: 3 }, immediate: 2147483647, next_immediate: -2147483648 }";
 
+/// Whether these words are the instruction of a row: read with an exit behind it, looked at place by place, and written again.
+fn is_instruction<A: Allocator + Copy>(alloc: A, words: &str, want: &str) -> Result<bool, Fail> {
+    let mut bytes = bytes_of(alloc, words)?;
+    let count = bytes.len() / 8;
+    bytes.extend_from_slice(EXIT)?;
+    let code = decode(alloc, &bytes)?;
+    let found = format!(in alloc; "{:?}", code.instructions())?;
+    let encoded = encode(alloc, &code)?;
+    let inside = found
+        .as_str()
+        .strip_prefix('[')
+        .and_then(|text| text.strip_suffix(", Exit]"));
+    Ok(inside == Some(want) && encoded.as_slice() == bytes.as_slice() && is_laid_out(&code, count))
+}
+
+/// Whether a code is an instruction of so many words and an exit behind it, at each place.
+fn is_laid_out<A: Allocator>(code: &Code<A>, count: usize) -> bool {
+    code.words() == count.saturating_add(1)
+        && answers_at(code, 0, Some(0), count)
+        && answers_at(code, count, Some(1), 1)
+        && (count == 1 || answers_at(code, 1, None, 0))
+        && answers_at(code, count.saturating_add(1), None, 0)
+        && answers_at(code, usize::MAX, None, 0)
+}
+
+/// Whether at a place the instruction with this index begins, of so many words, or none.
+fn answers_at<A: Allocator>(
+    code: &Code<A>,
+    place: usize,
+    index: Option<usize>,
+    words: usize,
+) -> bool {
+    let found = index.and_then(|index| code.instructions().get(index).copied());
+    code.index_at(place) == index
+        && code.at(place) == found
+        && found.is_none_or(|instruction| instruction.words() == words)
+        && index.is_none_or(|index| index >= code.instructions().len()
+            || code.place(index) == place)
+}
+
 #[test]
 fn instructions(rt: HostRuntime) -> Result<(), Fail> {
     for row in INSTRUCTIONS.lines() {
-        if row.starts_with('#') {
-            continue;
-        }
-        let (words, want) = cut(&rt, row, " | ");
-        let mut bytes = bytes_of(rt.alloc(), words)?;
-        let count = bytes.len() / 8;
-        bytes.extend_from_slice(EXIT)?;
-        let code = decode(rt.alloc(), &bytes)?;
-        assert_eq!(rt; code.instructions().len(), 2, "{row}");
-        let found = format!(in rt.alloc(); "{:?}", code.instructions()[0])?;
-        assert_eq!(rt; found.as_str(), want);
-        assert_eq!(rt;
-            encode(rt.alloc(), &code)?.as_slice(),
-            bytes.as_slice(),
-            "{row}"
-        );
-        answers_by_place(&rt, &code, count, row);
+        let (words, want) = cut(row, " | ");
+        let is_right = row.starts_with('#') || is_instruction(rt.alloc(), words, want)?;
+        assert!(rt; is_right, "{row}");
     }
     Ok(())
-}
-
-/// Looks at an instruction of so many words, and an exit behind it up to the end.
-fn answers_by_place<A: Allocator>(rt: &impl Abort, code: &Code<A>, count: usize, row: &str) {
-    assert_eq!(rt; code.instructions().len(), 2, "{row}");
-    let instruction = code.instructions()[0];
-    assert_eq!(rt; instruction.words(), count, "{row}");
-    assert_eq!(rt; code.words(), count + 1, "{row}");
-    assert_eq!(rt; (code.place(0), code.place(1)), (0, count), "{row}");
-    for place in [0, 1, count, count + 1, usize::MAX] {
-        let (index, found) = match place {
-            0 => (Some(0), Some(instruction)),
-            _ if place == count => (Some(1), Some(Insn::Exit)),
-            _ => (None, None),
-        };
-        assert_eq!(rt; code.index_at(place), index, "{row} at {place}");
-        assert_eq!(rt; code.at(place), found, "{row} at {place}");
-    }
 }
 
 // The opcodes of the instruction table, class by class.
@@ -225,31 +232,39 @@ const OPCODES: &str = "18
 06 16 1e 26 2e 36 3e 46 4e 56 5e 66 6e 76 7e a6 ae b6 be c6 ce d6 de
 07 0f 17 1f 27 2f 37 3f 47 4f 57 5f 67 6f 77 7f 87 97 9f a7 af b7 bf c7 cf d7";
 
+/// A word with this opcode, or two for a wide load.
+fn bytes_with<A: Allocator>(alloc: A, opcode: u8) -> Result<Vec<u8, A>, Fail> {
+    // Bits to keep, which a byte swap needs.
+    let immediate = if matches!(opcode, 0xd4 | 0xd7 | 0xdc) {
+        16
+    } else {
+        0
+    };
+    let mut bytes = vec![in alloc; opcode, 0, 0, 0, immediate, 0, 0, 0]?;
+    if opcode == 0x18 {
+        bytes.extend_from_slice(&[0; 8])?;
+    }
+    Ok(bytes)
+}
+
+/// Whether bytes are one instruction, which is written as the same bytes.
+fn is_one_instruction<A: Allocator + Copy>(alloc: A, bytes: &[u8]) -> Result<bool, Fail> {
+    let code = decode(alloc, bytes)?;
+    let encoded = encode(alloc, &code)?;
+    Ok(code.instructions().len() == 1 && encoded.as_slice() == bytes)
+}
+
 #[test]
 fn opcodes(rt: HostRuntime) -> Result<(), Fail> {
     let known = bytes_of(rt.alloc(), OPCODES)?;
     for opcode in 0..=u8::MAX {
-        // Bits to keep, which a byte swap needs.
-        let immediate = if matches!(opcode, 0xd4 | 0xd7 | 0xdc) {
-            16
+        let bytes = bytes_with(rt.alloc(), opcode)?;
+        let is_right = if known.contains(&opcode) {
+            is_one_instruction(rt.alloc(), &bytes)?
         } else {
-            0
+            gives(rt.alloc(), &bytes, "refused 13 place 0 UnknownOpcode")
         };
-        let mut bytes = vec![in rt.alloc(); opcode, 0, 0, 0, immediate, 0, 0, 0]?;
-        if opcode == 0x18 {
-            bytes.extend_from_slice(&[0; 8])?;
-        }
-        match decode(rt.alloc(), &bytes) {
-            Ok(code) => {
-                assert!(rt; known.contains(&opcode), "{opcode}");
-                assert_eq!(rt; code.instructions().len(), 1);
-                assert_eq!(rt; encode(rt.alloc(), &code)?.as_slice(), bytes.as_slice());
-            }
-            Err(fault) => {
-                assert!(rt; !known.contains(&opcode), "{opcode}");
-                assert_eq!(rt; fault.line().as_str(), "refused 13 place 0 UnknownOpcode");
-            }
-        }
+        assert!(rt; is_right, "{opcode}");
     }
     Ok(())
 }

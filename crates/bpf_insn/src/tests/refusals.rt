@@ -1,8 +1,6 @@
 //! Bytes that are no code, and the lines that say why.
-use super::{EXIT, bytes_of, cut};
-use crate::decode;
+use super::{EXIT, bytes_of, cut, gives};
 use std::alloc::Allocator;
-use std::process::Abort;
 use std::test::Fail;
 
 // Bytes, and the line of their refusal.
@@ -312,14 +310,10 @@ d7 0 01 0 0 0 0 0 | refused 16 place 0 BadWidth
 #[test]
 fn refusals(rt: HostRuntime) -> Result<(), Fail> {
     for row in REFUSALS.lines() {
-        if row.starts_with('#') {
-            continue;
-        }
-        let (bytes, line) = cut(&rt, row, "| ");
-        match decode(rt.alloc(), &bytes_of(rt.alloc(), bytes)?) {
-            Ok(_) => assert!(rt; false, "{row}"),
-            Err(fault) => assert_eq!(rt; fault.line().as_str(), line, "{row}"),
-        }
+        let (words, line) = cut(row, "| ");
+        let bytes = bytes_of(rt.alloc(), if row.starts_with('#') { "" } else { words })?;
+        let is_right = row.starts_with('#') || gives(rt.alloc(), &bytes, line);
+        assert!(rt; is_right, "{row}");
     }
     Ok(())
 }
@@ -509,36 +503,52 @@ be 0 01 0 0 0 0 0
 ce 0 01 0 0 0 0 0
 de 0 01 0 0 0 0 0";
 
-#[test]
-fn registers(rt: HostRuntime) -> Result<(), Fail> {
-    let bad_register = Some("refused 14 place 0 BadRegister");
-    for register in 11..16 {
-        gives_with(&rt, rt.alloc(), register, WRITERS, bad_register)?;
-        gives_with(&rt, rt.alloc(), register, READERS, bad_register)?;
-        gives_with(&rt, rt.alloc(), register * 16, TWO_REGISTERS, bad_register)?;
+// A registers byte, the words that it is put into, and what each of them gives.
+const REGISTERS: &str = "0b writers refused 14 place 0 BadRegister
+0b readers refused 14 place 0 BadRegister
+b0 both refused 14 place 0 BadRegister
+0c writers refused 14 place 0 BadRegister
+0c readers refused 14 place 0 BadRegister
+c0 both refused 14 place 0 BadRegister
+0d writers refused 14 place 0 BadRegister
+0d readers refused 14 place 0 BadRegister
+d0 both refused 14 place 0 BadRegister
+0e writers refused 14 place 0 BadRegister
+0e readers refused 14 place 0 BadRegister
+e0 both refused 14 place 0 BadRegister
+0f writers refused 14 place 0 BadRegister
+0f readers refused 14 place 0 BadRegister
+f0 both refused 14 place 0 BadRegister
+0a writers refused 18 place 0 WritesFramePointer
+0a readers ok
+a0 both ok";
+
+fn words_of(name: &str) -> &'static str {
+    match name {
+        "writers" => WRITERS,
+        "readers" => READERS,
+        _ => TWO_REGISTERS,
     }
-    let writes = Some("refused 18 place 0 WritesFramePointer");
-    gives_with(&rt, rt.alloc(), 0x0a, WRITERS, writes)?;
-    gives_with(&rt, rt.alloc(), 0x0a, READERS, None)?;
-    gives_with(&rt, rt.alloc(), 0xa0, TWO_REGISTERS, None)
 }
 
-/// Puts a registers byte into words, and looks at what each of them gives.
-fn gives_with<A: Allocator + Copy>(
-    rt: &impl Abort,
-    alloc: A,
-    registers: u8,
-    words: &str,
-    want: Option<&str>,
-) -> Result<(), Fail> {
-    for row in words.lines() {
-        let mut bytes = bytes_of(alloc, row)?;
-        assert_eq!(rt; bytes.len(), 8, "{row}");
-        bytes[1] = registers;
-        bytes.extend_from_slice(EXIT)?;
-        match decode(alloc, &bytes) {
-            Ok(_) => assert_eq!(rt; None, want, "{row}"),
-            Err(fault) => assert_eq!(rt; Some(fault.line().as_str()), want, "{row}"),
+/// A word with this registers byte, and an exit behind it.
+fn bytes_with<A: Allocator>(alloc: A, word: &str, registers: &str) -> Result<Vec<u8, A>, Fail> {
+    let mut bytes = bytes_of(alloc, word)?;
+    if let Some(byte) = bytes.get_mut(1) {
+        *byte = u8::from_str_radix(registers, 16)?;
+    }
+    bytes.extend_from_slice(EXIT)?;
+    Ok(bytes)
+}
+
+#[test]
+fn registers(rt: HostRuntime) -> Result<(), Fail> {
+    for row in REGISTERS.lines() {
+        let (registers, rest) = cut(row, " ");
+        let (name, line) = cut(rest, " ");
+        for word in words_of(name).lines() {
+            let bytes = bytes_with(rt.alloc(), word, registers)?;
+            assert!(rt; gives(rt.alloc(), &bytes, line), "{row}: {word}");
         }
     }
     Ok(())

@@ -1,5 +1,5 @@
 -- What a call writes into the frame.
-use Rattle.std.proofs.Common.{◌≡◌, ◌≤◌, ◌+◌, ◌-◌, slice_get, get_or, length, arith, sym, refl}
+use Rattle.std.proofs.Common.{◌≡◌, ◌≤◌, ◌+◌, ◌-◌, slice_get, length, arith, sym, refl}
 use Rattle.tl_segments.specs.Segment.{names_of}
 use Rattle.bpf_helpers.specs.Call.{first, second, third}
 use Rattle.bpf_helpers.proofs.WriteLemmas.{put_mid-first_bytes, write-nothing}

@@ -1,5 +1,5 @@
 use Rattle.std.proofs.Common.{◌≡◌, arith, ap}
-use Rattle.tl_records.proofs.ReadLemmas.{line_by_lf}
+use Rattle.tl_records.proofs.ReadLemmas.{line_by_lf, line_short, line_whole}
 use Rattle.tl_records.specs.Lines.{LineParts}
 use Rattle.tl_records.proofs.lines.read_line.Goals as goal
 
@@ -8,4 +8,5 @@ returns-in-LineFeed g c =
     let content = c.read_content.new.content.items in
     let read = c.in-LineFeed.ensures in
     let number : c.line.inside.number ≡ c.args.line.now.number = ap (λ (line : LineParts). line.number) c.line.view_is in
-    (read.0, omega arith, omega arith, line_by_lf _ _ content _ read.1 read.2 read.3 c.take_off_return.ensures)
+    let without = c.take_off_return.ensures in
+    (read.0, omega arith, omega arith, line_by_lf _ _ content _ read.1 read.2 read.3 without, line_whole content _ read.1 without, line_short content _ read.2 without)

@@ -6,8 +6,8 @@ use Rattle.std.specs.Io.KnownBytes.{Consumes}
 use Rattle.tl_fields.proofs.BufferLemmas.{at_line_feed, without_line_feed, whole_taken}
 use Rattle.tl_fields.proofs.buffered.Buffered.read_front.Goals as goal
 
-pub returns-then-count-room : goal.returns-then-count-room
-returns-then-count-room g c =
+pub returns-then-count-room-clause-front : goal.returns-then-count-room-clause-front
+returns-then-count-room-clause-front g c =
     let front = c.in-Ok.front.now in
     let count = c.min.result in
     let rested = c.fill_buf.follows.lender-at-none in
@@ -17,8 +17,8 @@ returns-then-count-room g c =
     let taken = Consumes_shown _ _ _ _ front (length (take count front)) (omega arith) c.in-Ok.ensures.front c.in-Ok.ensures.end filled.0 filled.1 c.consume.ensures.bytes in
     (refl, take count front, without_line_feed (take count front) c.in_default.ensures, omega (arith, c.min.ensures), whole_taken _ _ front count within taken.0)
 
-pub returns-in_default : goal.returns-in_default
-returns-in_default g c =
+pub returns-in_default-clause-front : goal.returns-in_default-clause-front
+returns-in_default-clause-front g c =
     let front = c.in-Ok.front.now in
     let count = c.min.result in
     let rested = c.fill_buf.follows.lender-at-none in
@@ -31,8 +31,8 @@ returns-in_default g c =
     let some : 0 < length (take count front) = grind (arith, nat_tests) in
     (refl, take count front, (items, without_line_feed (take count front) c.in_default.ensures, omega (arith, len)), some, whole_taken _ _ front count within taken.0)
 
-pub returns : goal.returns
-returns g c =
+pub returns-clause-front : goal.returns-clause-front
+returns-clause-front g c =
     let front = c.in-Ok.front.now in
     let count = c.min.result in
     let place = c.in-Some.length in

@@ -3,11 +3,11 @@ use Rattle.std.proofs.lemmas.Bool.Decides.{nat_tests}
 use Rattle.tl_fields.proofs.ContentLemmas.{one_more}
 use Rattle.tl_fields.proofs.counted.CountingCountedRead.read_content.Goals as goal
 
-pub returns-then-is_full : goal.returns-then-is_full
-returns-then-is_full g c =
+pub returns-then-is_full-clause-content : goal.returns-then-is_full-clause-content
+returns-then-is_full-clause-content g c =
     let content = c.loop-byte.content.items in
     let byte = c.in-Ok-Some.byte in
-    let so_far = c.loop-byte.invariant in
+    let so_far = c.loop-byte.invariant.0 in
     let read = rw c.in-Ok-Some.field-0-is at c.in-Ok-Some.ensures.read in
     let other : byte ≢ 10 = omega arith in
     let full : length content ≡ 230 = grind (arith, nat_tests) in
