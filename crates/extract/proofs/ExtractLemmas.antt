@@ -1,45 +1,51 @@
 -- Extracting line by line: what was read and written so far, and the outcome at each end.
-use Rattle.std.proofs.Common.{◌≡◌, ℕ, ◌+◌, ◌<◌, ◌≤◌, ◌^◌, List, [], ◌∷◌, ◌++◌, Some, None, Ok, Err, refl, sym, ap, ◌∙◌, subst, arith}
-use Rattle.std.proofs.lemmas.List.{map-append}
+use Rattle.std.proofs.Common.{◌≡◌, ◌≢◌, ℕ, ◌+◌, ◌<◌, ◌≤◌, ◌^◌, inl, inr, List, [], ◌∷◌, ◌++◌, Some, None, Ok, Err, refl, sym, ap, ◌∙◌, subst, arith}
 use Rattle.std.specs.Io.KnownBytes.{Appends}
 use Rattle.tl_fields.specs.Device.{Reader, Writer}
 use Rattle.tl_fields.specs.declared.writing.WriteFault.{WriteFault}
 use Rattle.tl_fields.proofs.KnownBytesLemmas.{Appends-refl, Appends-append}
-use Rattle.tl_records.specs.Lines.{LineParts, IsLineRead}
-use Rattle.tl_records.specs.Records.{IsLineFault}
-use Rattle.tl_records.specs.declared.fault.LineFault.{LineFault}
-use Rattle.tl_records.specs.declared.type1.TheConstants.Rt1.{LAYOUT}
+use Rattle.tl_records.specs.Lines.{LineParts}
 use Rattle.bpf_insn.specs.declared.instruction.Insn.{Insn}
+use Rattle.tl_segments.specs.County.{CountyReaders}
+use Rattle.tl_segments.specs.Indexing.{IsIndexOf, IsSegmentRead}
+use Rattle.tl_segments.specs.Joining.{JoinedLines, segments_of}
+use Rattle.tl_segments.specs.Loading.{Readers, ReadsJoined, IsJoinedFault, in_rt4, in_rt5, in_rt6}
 use Rattle.tl_segments.specs.Segment.{Contents}
+use Rattle.tl_segments.specs.declared.fault.CountyFile.TheVariants.{Rt1}
+use Rattle.tl_segments.specs.declared.fault.LoadFault.{LoadFault}
+use Rattle.tl_segments.specs.declared.fault.LoadFault.TheVariants as load_fault
+use Rattle.tl_segments.specs.declared.index.Index.{Index}
+use Rattle.tl_segments.proofs.JoiningLemmas.{segments_push}
+use Rattle.tl_segments.proofs.ReadingLemmas.{IsReadSoFar, none_read, good_line_more, all_read, at_next_fault}
 use Rattle.bpf_meaning.specs.Extract.{IsExtract, row_if_chosen}
-use Rattle.extract.specs.ExtractFault.{of_load}
-use Rattle.extract.specs.Extracting.{HasWritten, IsOutcome}
-use Rattle.extract.specs.LoadFault.{IsOfLine}
-use Rattle.extract.specs.Program.{IsSafeProgram}
+use Rattle.extract.specs.ExtractFault.{of_program, of_load}
+use Rattle.extract.specs.Extracting.{HasWritten, AreUnfailed, before_rt1, in_rt1, IsOutcome}
+use Rattle.extract.specs.Program.{IsSafeProgram, IsProgramFault}
 use Rattle.extract.specs.Rows.{WritesRow}
-use Rattle.extract.specs.Segments.{IsGoodLine, IsFirstFault, segment_of, segments_of}
-use Rattle.extract.specs.declared.fault.ExtractFault.TheVariants.{Write}
-use Rattle.extract.specs.declared.load.fault.CountyFile.{CountyFile}
-use Rattle.extract.specs.declared.load.fault.CountyFile.TheVariants.{Rt1}
-use Rattle.extract.specs.declared.load.fault.LoadFault.{LoadFault}
-use Rattle.extract.specs.declared.load.fault.LoadFault.TheVariants as load_fault
+use Rattle.extract.specs.declared.fault.ExtractFault.TheVariants.{Program, Write}
+use Rattle.extract.specs.declared.program.ProgramFault.{ProgramFault}
+use Rattle.extract.specs.declared.program.ProgramFault.TheVariants as program_fault
 use Rattle.extract.proofs.RowLemmas.{extract_push, chosen_count-le}
-use Rattle.extract.proofs.SegmentLemmas.{AreRead, none_read, one_line_more, all_read, at_flaw, at_fault}
 
--- Lines were read so far, all good, and all of the extract of their segments was written: so many rows, at most one a line. Nothing failed.
-pub record IsExtractedSoFar (code : List Insn) (rows : ℕ) (line : LineParts) (rt1 rt1' : Reader) (out out' : Writer) : Type 0 where
+-- Lines were read so far, all good, segments made of them with what the index has, and all of the extract of these written: so many rows, at
+-- most one a line. Nothing failed.
+pub record IsExtractedSoFar {A : Type 0} (index : Index A) (code : List Insn) (rows : ℕ) (line : LineParts) (rt1 rt1' : Reader) (out out' : Writer) : Type 0 where
   pub lines : List (List ℕ)
-  pub read : AreRead lines line rt1 rt1'
+  pub read : IsReadSoFar Rt1 lines line rt1 rt1'
+  pub segments : List Contents
+  pub made : (joined : JoinedLines) → IsIndexOf index joined → segments ≡ segments_of joined lines
   pub text : List ℕ
-  pub is_extract : IsExtract code (segments_of lines) text rows
+  pub is_extract : IsExtract code segments text rows
   pub few : rows ≤ line.number
   pub written : Appends out.held out'.held text
   pub counts : out'.counts ≡ out.counts
 
-pub nothing_so_far : (code : List Insn) (rows : ℕ) (line : LineParts) (rt1 : Reader) (out : Writer) → rows ≡ 0 → line.number ≡ 0 → IsExtractedSoFar code rows line rt1 rt1 out out
-nothing_so_far code rows line rt1 out none zeroth = record {
+pub nothing_so_far : {A : Type 0} (index : Index A) (code : List Insn) (rows : ℕ) (line : LineParts) (rt1 : Reader) (out : Writer) → rows ≡ 0 → line.number ≡ 0 → IsExtractedSoFar index code rows line rt1 rt1 out out
+nothing_so_far index code rows line rt1 out none zeroth = record {
   lines = [];
-  read = none_read line rt1 zeroth;
+  read = none_read Rt1 line rt1 zeroth;
+  segments = [];
+  made = λ joined of_joined. refl;
   text = [];
   is_extract = (refl, none);
   few = omega (arith, none);
@@ -47,90 +53,134 @@ nothing_so_far code rows line rt1 out none zeroth = record {
   counts = refl;
 }
 
--- the segments of lines with one line more
-segments_push : (lines : List (List ℕ)) (line : List ℕ) → segments_of (lines ++ line ∷ []) ≡ segments_of lines ++ segment_of line ∷ []
-segments_push lines line = map-append segment_of lines (line ∷ [])
+-- a refused program
+pub program_outcome : (program : List ℕ) (fault : ProgramFault) (readers : CountyReaders) (out : Writer) → IsProgramFault program fault → IsOutcome program (Err (of_program fault)) readers readers out out
+program_outcome program (program_fault.Code fault) readers out is =
+    record { first = is; has_number = λ e. cc; unread = refl; unwritten = refl }
+program_outcome program (program_fault.Flow fault) readers out is =
+    record { first = is; has_number = λ e. cc; unread = refl; unwritten = refl }
+program_outcome program (program_fault.Verify fault) readers out is =
+    record { first = is; has_number = λ e. cc; unread = refl; unwritten = refl }
+program_outcome program program_fault.Memory readers out is = record {
+  written = inl (refl, refl);
+  counts = refl;
+  reads = record { rt1 = refl; rt4 = refl; rt5 = refl; rt6 = refl };
+}
 
-module _ (code : List Insn) (rows : ℕ) (line new_line : LineParts) (rt1 now rt1' : Reader) (out between : Writer) (so_far : IsExtractedSoFar code rows line rt1 now out between) where
-  -- a line more, and its row if it is chosen
-  pub one_row_more : (more : ℕ) (done : Unit {0}) (segment : Contents) (out' : Writer) → IsLineRead line new_line now rt1' (Ok (Some done)) → IsGoodLine new_line.bytes → segment ≡ segment_of new_line.bytes → WritesRow code segment (Ok more) between out' → IsExtractedSoFar code (rows + more) new_line rt1 rt1' out out'
-  one_row_more more done segment out' next good made (answer, score, answers, counted, appended, counts) = record {
+-- where memory is wanting for what is joined to type 1 lines, no read failed
+joined_unfailed : (rt1 : Reader) (old new : Readers) → IsJoinedFault load_fault.Memory old new → AreUnfailed (record { rt1 = rt1; joined = old }) (record { rt1 = rt1; joined = new })
+joined_unfailed rt1 old new (in_rt4 wants rt5 rt6) =
+    record { rt1 = refl; rt4 = wants; rt5 = ap (λ (r : Reader). r.failed) rt5; rt6 = ap (λ (r : Reader). r.failed) rt6 }
+joined_unfailed rt1 old new (in_rt5 rt4 wants rt6) =
+    record { rt1 = refl; rt4 = rt4.1.reads; rt5 = wants; rt6 = ap (λ (r : Reader). r.failed) rt6 }
+joined_unfailed rt1 old new (in_rt6 rt4 rt5 wants) =
+    record { rt1 = refl; rt4 = rt4.1.reads; rt5 = rt5.1.reads; rt6 = wants }
+
+-- a refused file that is joined to that of type 1
+pub joined_outcome : (program : List ℕ) (code : List Insn) (fault : LoadFault) (rt1 : Reader) (old new : Readers) (out : Writer) → IsSafeProgram program code → IsJoinedFault fault old new → IsOutcome program (Err (of_load fault)) (record { rt1 = rt1; joined = old }) (record { rt1 = rt1; joined = new }) out out
+joined_outcome program code (load_fault.Line file fault) rt1 old new out safe is =
+    before_rt1 (code, safe) (λ e. cc) is refl refl
+joined_outcome program code (load_fault.TooManyNames line) rt1 old new out safe is =
+    before_rt1 (code, safe) (λ e. cc) is refl refl
+joined_outcome program code (load_fault.TooManyRanges line) rt1 old new out safe is =
+    before_rt1 (code, safe) (λ e. cc) is refl refl
+joined_outcome program code load_fault.Memory rt1 old new out safe is =
+    record { written = inl (refl, refl); counts = refl; reads = joined_unfailed rt1 old new is }
+
+-- a file's fault is none of the program
+pub of_load-not_program : (fault : LoadFault) (of : ProgramFault) → of_load fault ≢ Program of
+of_load-not_program (load_fault.Line file fault) of e = cc
+of_load-not_program (load_fault.TooManyNames line) of e = cc
+of_load-not_program (load_fault.TooManyRanges line) of e = cc
+of_load-not_program load_fault.Memory of e = cc
+
+module _ {A : Type 0} (index : Index A) (code : List Insn) (rows : ℕ) (line new_line : LineParts) (rt1 now rt1' : Reader) (out between : Writer) (so_far : IsExtractedSoFar index code rows line rt1 now out between) where
+  -- a segment more, and its row if it is chosen
+  pub one_row_more : (more : ℕ) (segment : Contents) (out' : Writer) → IsSegmentRead index line new_line now rt1' (Ok (Some segment)) → WritesRow code segment (Ok more) between out' → IsExtractedSoFar index code (rows + more) new_line rt1 rt1' out out'
+  one_row_more more segment out' next (answer, score, answers, counted, appended, counts) = record {
     lines = so_far.lines ++ new_line.bytes ∷ [];
-    read = one_line_more so_far.lines line new_line rt1 now rt1' so_far.read done next good;
+    read = good_line_more so_far.lines line new_line rt1 now rt1' so_far.read next.0;
+    segments = so_far.segments ++ segment ∷ [];
+    made = λ joined of_joined.
+        ap (λ segments. segments ++ segment ∷ []) (so_far.made joined of_joined)
+        ∙ ap (λ segment. segments_of joined so_far.lines ++ segment ∷ []) (next.1 joined of_joined)
+        ∙ sym (segments_push joined so_far.lines new_line.bytes);
     text = so_far.text ++ row_if_chosen answer score segment;
     is_extract =
-        subst (λ (segments : List Contents). IsExtract code segments (so_far.text ++ row_if_chosen answer score segment) (rows + more)) (ap (λ (s : Contents). segments_of so_far.lines ++ s ∷ []) made ∙ sym (segments_push so_far.lines new_line.bytes))
-        (subst (λ (n : ℕ). IsExtract code (segments_of so_far.lines ++ segment ∷ []) (so_far.text ++ row_if_chosen answer score segment) (rows + n)) (sym counted)
-        (extract_push code (segments_of so_far.lines) segment so_far.text rows answer score so_far.is_extract answers));
-    few = omega (arith, so_far.few, next.2, counted, chosen_count-le answer);
+        subst (λ (n : ℕ). IsExtract code (so_far.segments ++ segment ∷ []) (so_far.text ++ row_if_chosen answer score segment) (rows + n)) (sym counted)
+        (extract_push code so_far.segments segment so_far.text rows answer score so_far.is_extract answers);
+    few = omega (arith, so_far.few, next.0.0.2, counted, chosen_count-le answer);
     written = Appends-append out.held between.held out'.held so_far.text (row_if_chosen answer score segment) so_far.written appended;
     counts = counts ∙ so_far.counts;
   }
 
-  -- a line more can still be counted
-  pub fits : (more : ℕ) (done : Unit {0}) (segment : Contents) (out' : Writer) → IsLineRead line new_line now rt1' (Ok (Some done)) → WritesRow code segment (Ok more) between out' → rows + more < 2 ^ 64
-  fits more done segment out' next (answer, score, answers, counted, appended, counts) =
-      omega (arith, so_far.few, next.1, counted, chosen_count-le answer)
+  -- a row more can still be counted
+  pub fits : (more : ℕ) (segment : Contents) (out' : Writer) → IsSegmentRead index line new_line now rt1' (Ok (Some segment)) → WritesRow code segment (Ok more) between out' → rows + more < 2 ^ 64
+  fits more segment out' next (answer, score, answers, counted, appended, counts) =
+      omega (arith, so_far.few, next.0.0.1, counted, chosen_count-le answer)
 
-  module _ (program : List ℕ) (is : IsSafeProgram program code) where
-    has_written : HasWritten program so_far.lines out between
+  module _ (program : List ℕ) (safe : IsSafeProgram program code) (joined : JoinedLines) (of_joined : IsIndexOf index joined) (old new : Readers) (reads_joined : ReadsJoined joined old new) where
+    has_written : HasWritten program joined so_far.lines out between
     has_written = record {
       code = code;
-      is_program = is;
+      is_program = safe;
       text = so_far.text;
       rows = rows;
-      is_extract = so_far.is_extract;
+      is_extract = subst (λ (segments : List Contents). IsExtract code segments so_far.text rows) (so_far.made joined of_joined) so_far.is_extract;
       written = so_far.written;
       counts = so_far.counts;
     }
 
     -- the file ended
-    pub end_outcome : IsLineRead line new_line now rt1' (Ok None) → IsOutcome program (Ok rows) rt1 rt1' out between
+    pub end_outcome : IsSegmentRead index line new_line now rt1' (Ok None) → IsOutcome program (Ok rows) (record { rt1 = rt1; joined = old }) (record { rt1 = rt1'; joined = new }) out between
     end_outcome next = record {
       code = code;
-      is_program = is;
-      segments = segments_of so_far.lines;
-      loads = all_read so_far.lines line new_line rt1 now rt1' so_far.read next;
+      is_program = safe;
+      county = record { segments = so_far.segments };
+      loads = record {
+        joined = joined;
+        lines = so_far.lines;
+        segments = so_far.made joined of_joined;
+        reads_joined = reads_joined;
+        rt1 = all_read Rt1 so_far.lines line new_line rt1 now rt1' so_far.read next;
+      };
       text = so_far.text;
       is_extract = so_far.is_extract;
       written = so_far.written;
       counts = so_far.counts;
     }
 
-    -- a line is refused
-    refused : (file : CountyFile) (fault : LineFault) → file ≡ Rt1 → IsFirstFault fault so_far.lines rt1 rt1' → IsOutcome program (Err (of_load (load_fault.Line file fault))) rt1 rt1' out between
-    refused file fault of first = record {
-      line = fault;
-      is_line = ap (λ (file : CountyFile). load_fault.Line file fault) of;
-      lines = so_far.lines;
-      first = first;
-      before = has_written;
-    }
-
-    -- the next line can't be read
-    pub unread_outcome : (fault : LoadFault) → IsOfLine Rt1 fault (λ unread. IsLineRead line new_line now rt1' (Err unread)) → IsOutcome program (Err (of_load fault)) rt1 rt1' out between
-    unread_outcome (load_fault.Line file fault) unread =
-        refused file fault unread.0 (at_fault so_far.lines line new_line rt1 now rt1' so_far.read fault unread.1)
-    unread_outcome load_fault.Memory unread = absurd unread
-
-    -- the next line has a flaw
-    pub flaw_outcome : (fault : LoadFault) (done : Unit {0}) → IsLineRead line new_line now rt1' (Ok (Some done)) → IsOfLine Rt1 fault (IsLineFault LAYOUT new_line) → IsOutcome program (Err (of_load fault)) rt1 rt1' out between
-    flaw_outcome (load_fault.Line file fault) done next flawed =
-        refused file fault flawed.0 (at_flaw so_far.lines line new_line rt1 now rt1' so_far.read fault done next flawed.1)
-    flaw_outcome load_fault.Memory done next flawed = absurd flawed
+    -- the next segment can't be made
+    pub fault_outcome : (fault : LoadFault) → IsSegmentRead index line new_line now rt1' (Err fault) → IsOutcome program (Err (of_load fault)) (record { rt1 = rt1; joined = old }) (record { rt1 = rt1'; joined = new }) out between
+    fault_outcome (load_fault.Line file fault) next =
+        in_rt1 joined so_far.lines fault (ap (λ file. load_fault.Line file fault) next.0) reads_joined (at_next_fault so_far.lines line new_line rt1 now rt1' so_far.read fault next.1) has_written
+    fault_outcome (load_fault.TooManyNames number) next = absurd next
+    fault_outcome (load_fault.TooManyRanges number) next = absurd next
+    fault_outcome load_fault.Memory next =
+        let more = good_line_more so_far.lines line new_line rt1 now rt1' so_far.read next in
+        record {
+          written = inr (record {
+            joined = joined;
+            reads_joined = reads_joined;
+            lines = so_far.lines;
+            line = new_line.bytes;
+            reads = more.reads;
+            before = has_written;
+          });
+          counts = so_far.counts;
+          reads = record { rt1 = more.reads.reads; rt4 = reads_joined.rt4.reads; rt5 = reads_joined.rt5.reads; rt6 = reads_joined.rt6.reads };
+        }
 
     -- the writer fails
-    pub write_outcome : (fault : WriteFault) (done : Unit {0}) (segment : Contents) (out' : Writer) → IsLineRead line new_line now rt1' (Ok (Some done)) → IsGoodLine new_line.bytes → segment ≡ segment_of new_line.bytes → WritesRow code segment (Err fault) between out' → IsOutcome program (Err (Write fault)) rt1 rt1' out out'
+    pub write_outcome : (fault : WriteFault) (segment : Contents) (out' : Writer) → IsSegmentRead index line new_line now rt1' (Ok (Some segment)) → WritesRow code segment (Err fault) between out' → IsOutcome program (Err (Write fault)) (record { rt1 = rt1; joined = old }) (record { rt1 = rt1'; joined = new }) out out'
     unfolding has_written
-    write_outcome fault done segment out' next good made row =
-        let more = one_line_more so_far.lines line new_line rt1 now rt1' so_far.read done next good in
-        record {
-          lines = so_far.lines;
-          line = new_line.bytes;
-          good = more.good;
-          read = more.known;
-          reads = more.unfailed;
-          between = between;
-          before = has_written;
-          row = subst (λ (s : Contents). WritesRow code s (Err fault) between out') made row;
-        }
+    write_outcome fault segment out' next row = record {
+      joined = joined;
+      reads_joined = reads_joined;
+      lines = so_far.lines;
+      line = new_line.bytes;
+      reads = (good_line_more so_far.lines line new_line rt1 now rt1' so_far.read next.0).reads;
+      between = between;
+      before = has_written;
+      row = subst (λ (s : Contents). WritesRow code s (Err fault) between out') (next.1 joined of_joined) row;
+    }

@@ -3,11 +3,11 @@ use Rattle.std.specs.Prelude.{ℕ, List, Option, Some, None}
 use Rattle.bpf_insn.specs.Refusal.{memory_name, refusal_line}
 use Rattle.tl_fields.specs.Writing as write_fault
 use Rattle.extract.specs.ProgramFault as program_fault
-use Rattle.extract.specs.LoadFault as load_fault
+use Rattle.tl_segments.specs.LoadFault as load_fault
 use Rattle.extract.specs.declared.program.ProgramFault.{ProgramFault}
 use Rattle.extract.specs.declared.program.ProgramFault.TheVariants as program_variant
-use Rattle.extract.specs.declared.load.fault.LoadFault.{LoadFault}
-use Rattle.extract.specs.declared.load.fault.LoadFault.TheVariants as load_variant
+use Rattle.tl_segments.specs.declared.fault.LoadFault.{LoadFault}
+use Rattle.tl_segments.specs.declared.fault.LoadFault.TheVariants as load_variant
 use Rattle.extract.specs.declared.fault.ExtractFault.{ExtractFault}
 use Rattle.extract.specs.declared.fault.ExtractFault.TheVariants.{Program, Load, Write, Memory}
 

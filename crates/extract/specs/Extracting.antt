@@ -1,88 +1,105 @@
 -- What an extract promises: a case a branch of its outcome.
-use Rattle.std.specs.Prelude.{◌≡◌, ◌≢◌, ◌⊎◌, ℕ, List, [], ◌∷◌, ◌++◌, All, IfSome, Option, Result, Ok, Err}
+use Rattle.std.specs.Prelude.{◌≡◌, ◌≢◌, ◌⊎◌, ℕ, List, [], ◌∷◌, ◌++◌, Result, Ok, Err}
 use Rattle.std.specs.Io.KnownBytes.{Appends}
-use Rattle.tl_fields.specs.Device.{Reader, Writer}
+use Rattle.tl_fields.specs.Device.{Writer}
 use Rattle.tl_fields.specs.declared.writing.WriteFault.{WriteFault}
-use Rattle.tl_records.specs.Lines.{AreFirstLines, WhereKnown}
 use Rattle.tl_records.specs.declared.fault.LineFault.{LineFault}
+use Rattle.tl_segments.specs.County.{CountyParts, CountyReaders, LoadsCounty}
+use Rattle.tl_segments.specs.Joining.{JoinedLines, segment_of, segments_of}
+use Rattle.tl_segments.specs.Loading.{IsFirstFault, IsJoinedFault, ReadsJoined, ReadsLines}
+use Rattle.tl_segments.specs.declared.fault.CountyFile.TheVariants.{Rt1}
+use Rattle.tl_segments.specs.declared.fault.LoadFault.{LoadFault}
+use Rattle.tl_segments.specs.declared.fault.LoadFault.TheVariants as load_fault
 use Rattle.bpf_insn.specs.declared.instruction.Insn.{Insn}
-use Rattle.tl_segments.specs.Segment.{Contents}
 use Rattle.bpf_meaning.specs.Extract.{IsExtract}
 use Rattle.extract.specs.Program.{IsSafeProgram, IsProgramFault}
 use Rattle.extract.specs.Rows.{WritesRow}
-use Rattle.extract.specs.Segments.{IsGoodLine, LoadsSegments, IsFirstFault, HasMoreAfter, segment_of, segments_of}
 use Rattle.extract.specs.declared.fault.ExtractFault.{ExtractFault}
 use Rattle.extract.specs.declared.fault.ExtractFault.TheVariants.{Program, Load, Write, Memory}
-use Rattle.extract.specs.declared.load.fault.CountyFile.TheVariants.{Rt1}
-use Rattle.extract.specs.declared.load.fault.LoadFault.{LoadFault}
-use Rattle.extract.specs.declared.load.fault.LoadFault.TheVariants.{Line}
 use Rattle.extract.specs.declared.program.ProgramFault.{ProgramFault}
 use Rattle.extract.specs.declared.program.ProgramFault.TheVariants as program_fault
 
--- The program is safe, and for the segments of all lines of the reader, which was read to its end, exactly the rows that the program's
+-- The program is safe, and for the segments of the county's files, which were all read to their ends, exactly the rows that the program's
 -- meaning chooses were written, in file order with their scores, behind what the writer held, so many. Nothing failed.
-pub record IsExtracted (program : List ℕ) (rows : ℕ) (rt1 rt1' : Reader) (out out' : Writer) : Type 0 where
+pub record IsExtracted (program : List ℕ) (rows : ℕ) (old new : CountyReaders) (out out' : Writer) : Type 0 where
   pub code : List Insn
   pub is_program : IsSafeProgram program code
-  pub segments : List Contents
-  pub loads : LoadsSegments segments rt1 rt1'
+  pub county : CountyParts
+  pub loads : LoadsCounty county old new
   pub text : List ℕ
-  pub is_extract : IsExtract code segments text rows
+  pub is_extract : IsExtract code county.segments text rows
   pub written : Appends out.held out'.held text
   pub counts : out'.counts ≡ out.counts
 
 -- The program is refused, and nothing was read or written.
-pub record IsProgramRefusal (program : List ℕ) (fault : ProgramFault) (rt1 rt1' : Reader) (out out' : Writer) : Type 0 where
+pub record IsProgramRefusal (program : List ℕ) (fault : ProgramFault) (old new : CountyReaders) (out out' : Writer) : Type 0 where
   pub first : IsProgramFault program fault
   pub has_number : fault ≢ program_fault.Memory
-  pub unread : rt1' ≡ rt1
+  pub unread : new ≡ old
   pub unwritten : out' ≡ out
 
--- the program is safe, and the extract of these lines was written whole; no write failed
-pub record HasWritten (program : List ℕ) (lines : List (List ℕ)) (out out' : Writer) : Type 0 where
+-- some code makes the program safe
+abbrev pub HasSafeCode : List ℕ → Type 0
+HasSafeCode program = (code : List Insn) × IsSafeProgram program code
+
+-- The program is safe, and the extract of these type 1 lines, with what the others join to them, was written whole; no write failed.
+pub record HasWritten (program : List ℕ) (joined : JoinedLines) (lines : List (List ℕ)) (out out' : Writer) : Type 0 where
   pub code : List Insn
   pub is_program : IsSafeProgram program code
   pub text : List ℕ
   pub rows : ℕ
-  pub is_extract : IsExtract code (segments_of lines) text rows
+  pub is_extract : IsExtract code (segments_of joined lines) text rows
   pub written : Appends out.held out'.held text
   pub counts : out'.counts ≡ out.counts
 
--- A line of the type 1 file is refused: it comes behind good lines, of which all of the extract was written.
-pub record IsLoadRefusal (program : List ℕ) (fault : LoadFault) (rt1 rt1' : Reader) (out out' : Writer) : Type 0 where
-  pub line : LineFault
-  pub is_line : fault ≡ Line Rt1 line
-  pub lines : List (List ℕ)
-  pub first : IsFirstFault line lines rt1 rt1'
-  pub before : HasWritten program lines out out'
+-- A file is refused, by the first fault of the county's files in the order in which they are read: of type 4, 5 or 6, where nothing of type
+-- 1 was read and nothing was written; or of type 1, behind good lines of which all of the extract was written.
+pub data IsLoadRefusal (program : List ℕ) (fault : LoadFault) (old new : CountyReaders) (out out' : Writer) : Type 0 where
+  before_rt1 : HasSafeCode program → fault ≢ load_fault.Memory → IsJoinedFault fault old.joined new.joined → new.rt1 ≡ old.rt1 → out' ≡ out
+      → IsLoadRefusal program fault old new out out'
+  in_rt1 : (joined : JoinedLines) (lines : List (List ℕ)) (line : LineFault) → fault ≡ load_fault.Line Rt1 line
+      → ReadsJoined joined old.joined new.joined → IsFirstFault Rt1 line lines old.rt1 new.rt1 → HasWritten program joined lines out out'
+      → IsLoadRefusal program fault old new out out'
 
 -- A write failed: all of the extract of good lines was written, and then a beginning of the row of the line behind them, which is good as
 -- well. Nothing was read behind that line, and no read failed.
-pub record IsWriteRefusal (program : List ℕ) (fault : WriteFault) (rt1 rt1' : Reader) (out out' : Writer) : Type 0 where
+pub record IsWriteRefusal (program : List ℕ) (fault : WriteFault) (old new : CountyReaders) (out out' : Writer) : Type 0 where
+  pub joined : JoinedLines
+  pub reads_joined : ReadsJoined joined old.joined new.joined
   pub lines : List (List ℕ)
   pub line : List ℕ
-  pub good : All IsGoodLine (lines ++ line ∷ [])
-  pub read : WhereKnown rt1.left rt1'.left (λ file rest. AreFirstLines file (lines ++ line ∷ []) rest)
-  pub reads : rt1'.failed ≡ rt1.failed
+  pub reads : ReadsLines Rt1 (lines ++ line ∷ []) old.rt1 new.rt1
   pub between : Writer
-  pub before : HasWritten program lines out between
-  pub row : WritesRow before.code (segment_of line) (Err fault) between out'
+  pub before : HasWritten program joined lines out between
+  pub row : WritesRow before.code (segment_of joined line) (Err fault) between out'
 
--- all of the extract of good lines was written, fewer than the file has
-abbrev pub StopsBeforeEnd : List ℕ → Option (List ℕ) → Writer → Writer → Type 0
-StopsBeforeEnd program file out out' =
-    (lines : List (List ℕ)) × All IsGoodLine lines × IfSome file (λ bytes. HasMoreAfter bytes lines) × HasWritten program lines out out'
+-- Memory is wanting for the segment of a good line of type 1: all of the extract of the good lines before it was written, and nothing was read
+-- behind it.
+pub record StopsAtLine (program : List ℕ) (old new : CountyReaders) (out out' : Writer) : Type 0 where
+  pub joined : JoinedLines
+  pub reads_joined : ReadsJoined joined old.joined new.joined
+  pub lines : List (List ℕ)
+  pub line : List ℕ
+  pub reads : ReadsLines Rt1 (lines ++ line ∷ []) old.rt1 new.rt1
+  pub before : HasWritten program joined lines out out'
 
--- Memory was wanting, and nothing was read or written, or all of the extract of the lines before was. No read or write failed.
-pub record IsMemoryRefusal (program : List ℕ) (rt1 rt1' : Reader) (out out' : Writer) : Type 0 where
-  pub written : (rt1' ≡ rt1) × (out' ≡ out) ⊎ StopsBeforeEnd program rt1.left out out'
+-- no read of any of the files failed
+pub record AreUnfailed (old new : CountyReaders) : Type 0 where
+  pub rt1 : new.rt1.failed ≡ old.rt1.failed
+  pub rt4 : new.joined.rt4.failed ≡ old.joined.rt4.failed
+  pub rt5 : new.joined.rt5.failed ≡ old.joined.rt5.failed
+  pub rt6 : new.joined.rt6.failed ≡ old.joined.rt6.failed
+
+-- Memory is wanting: nothing of type 1 was read and nothing was written, or it stops at a line of type 1. No read or write failed.
+pub record IsMemoryRefusal (program : List ℕ) (old new : CountyReaders) (out out' : Writer) : Type 0 where
+  pub written : (new.rt1 ≡ old.rt1) × (out' ≡ out) ⊎ StopsAtLine program old new out out'
   pub counts : out'.counts ≡ out.counts
-  pub reads : rt1'.failed ≡ rt1.failed
+  pub reads : AreUnfailed old new
 
--- what an extract does to the reader of the type 1 file and to the writer, by its outcome
-abbrev pub IsOutcome : List ℕ → Result ℕ ExtractFault → Reader → Reader → Writer → Writer → Type 0
-IsOutcome program (Ok rows) rt1 rt1' out out' = IsExtracted program rows rt1 rt1' out out'
-IsOutcome program (Err (Program fault)) rt1 rt1' out out' = IsProgramRefusal program fault rt1 rt1' out out'
-IsOutcome program (Err (Load fault)) rt1 rt1' out out' = IsLoadRefusal program fault rt1 rt1' out out'
-IsOutcome program (Err (Write fault)) rt1 rt1' out out' = IsWriteRefusal program fault rt1 rt1' out out'
-IsOutcome program (Err Memory) rt1 rt1' out out' = IsMemoryRefusal program rt1 rt1' out out'
+-- what an extract does to the readers of the county's files and to the writer, by its outcome
+abbrev pub IsOutcome : List ℕ → Result ℕ ExtractFault → CountyReaders → CountyReaders → Writer → Writer → Type 0
+IsOutcome program (Ok rows) old new out out' = IsExtracted program rows old new out out'
+IsOutcome program (Err (Program fault)) old new out out' = IsProgramRefusal program fault old new out out'
+IsOutcome program (Err (Load fault)) old new out out' = IsLoadRefusal program fault old new out out'
+IsOutcome program (Err (Write fault)) old new out out' = IsWriteRefusal program fault old new out out'
+IsOutcome program (Err Memory) old new out out' = IsMemoryRefusal program old new out out'

@@ -1,23 +1,30 @@
-//! The extract of a type 1 file.
-ghost use Rattle.std.specs.Prelude.{◌≡◌, Err};
+//! The extract of a county's files.
+ghost use Rattle.std.specs.Prelude.{◌≡◌, ◌≢◌, ℕ, List, Err};
 ghost use Rattle.tl_fields.specs.Device.{reader, writer};
+ghost use Rattle.tl_segments.specs.Indexing.{IsIndexOf};
+ghost use Rattle.tl_segments.specs.Joining.{JoinedLines};
+ghost use Rattle.tl_segments.specs.Loading.{Readers, ReadsJoined, readers};
 ghost use Rattle.extract.specs.Extracting.{IsOutcome};
+ghost use Rattle.extract.specs.Program.{IsSafeProgram};
 ghost use Rattle.extract.specs.declared.program.ProgramFault.{ProgramFault};
 
 use crate::fault::ExtractFault;
-use crate::load::{next_line, segment_of};
 use crate::program::accept;
 use crate::rows::write_row_if_chosen;
 use arrayvec::ArrayVec;
+use bpf_verify::Verified;
 use std::alloc::Allocator;
 use tl_fields::{CountedRead, CountedWrite};
 use tl_records::Line;
+use tl_segments::Index;
 
-/// Writes the rows of the segments of a type 1 file that a program chooses, in file order, and answers their number.
+/// Writes the rows of the segments of a county's files that a program chooses, in the order of the type 1 file, and answers their number.
 ///
-/// The program is accepted first. Then the file is read line by line: a line's row is handed to the writer before the next line is read, and
-/// nothing of a line is kept behind its row. Nothing is flushed, and no read or write is tried again, not after `Interrupted` either. The
-/// readers of types 4, 5 and 6 aren't read yet.
+/// The program is accepted first. Then the files of types 4, 5 and 6 are read, in this order, each to its end, and kept as far as segments
+/// need them. The type 1 file is then read line by line: a line's row is handed to the writer before the next line is read, and nothing of a
+/// line is kept behind its row. So the first fault is answered of the program, of type 4, 5, 6, and of type 1, in this order; with a fault of
+/// line n of type 1 the rows of all lines before it were written, and with any fault before that nothing was. Nothing is flushed, and no read
+/// or write is tried again, not after `Interrupted` either.
 pub fn extract<A: Allocator + Copy, R: CountedRead, W: CountedWrite>(
     alloc: A,
     program: &[u8],
@@ -28,20 +35,37 @@ pub fn extract<A: Allocator + Copy, R: CountedRead, W: CountedWrite>(
     out: &mut W,
 ) -> Result<u64, ExtractFault>
     ensures outcome { IsOutcome program.now result
-        (reader R.remaining R.failed_reads rt1.old) (reader R.remaining R.failed_reads rt1.new)
+        (record { rt1 = reader R.remaining R.failed_reads rt1.old; joined = readers R.remaining R.failed_reads rt4.old rt5.old rt6.old })
+        (record { rt1 = reader R.remaining R.failed_reads rt1.new; joined = readers R.remaining R.failed_reads rt4.new rt5.new rt6.new })
         (writer W.contents W.counts out.old) (writer W.contents W.counts out.new) }
-    // A refused program leaves both as they were, in all that they are.
+    // A refused program leaves all as they were, in all that they are.
     ensures untouched { (fault : ProgramFault) → result ≡ Err (ExtractFault.Program fault)
-        → (rt1.new ≡ rt1.old) × (out.new ≡ out.old) }
-    ensures others { (rt4.new ≡ rt4.old) × (rt5.new ≡ rt5.old) × (rt6.new ≡ rt6.old) }
+        → (rt1.new ≡ rt1.old) × (rt4.new ≡ rt4.old) × (rt5.new ≡ rt5.old) × (rt6.new ≡ rt6.old) × (out.new ≡ out.old) }
 {
     let verified = accept(alloc, program)?;
+    let index = Index::load(alloc, rt4, rt5, rt6)?;
+    write_rows(&verified, &index, rt1, out)
+}
+
+/// Writes the rows of the lines of a type 1 file that are chosen, each before the next line is read, and answers their number.
+fn write_rows<A: Allocator + Copy, R: CountedRead, W: CountedWrite>(
+    verified: &Verified<A>,
+    index: &Index<A>,
+    rt1: &mut R,
+    out: &mut W,
+) -> Result<u64, ExtractFault>
+    ensures outcome { (program : List ℕ) → IsSafeProgram program verified.now.code → (lines : JoinedLines) → IsIndexOf index.now lines
+        → (old new : Readers) → ReadsJoined lines old new → IsOutcome program result
+        (record { rt1 = reader R.remaining R.failed_reads rt1.old; joined = old })
+        (record { rt1 = reader R.remaining R.failed_reads rt1.new; joined = new })
+        (writer W.contents W.counts out.old) (writer W.contents W.counts out.new) }
+    ensures not_program { (fault : ProgramFault) → result ≢ Err (ExtractFault.Program fault) }
+{
     let mut line = Line::new();
     let mut text = ArrayVec::new();
     let mut rows = 0;
-    while let Some(()) = next_line(rt1, &mut line)? {
-        let segment = segment_of(alloc, &line)?;
-        rows += write_row_if_chosen(&verified, &segment, &mut text, out)?;
+    while let Some(segment) = index.next_segment(rt1, &mut line)? {
+        rows += write_row_if_chosen(verified, &segment, &mut text, out)?;
     }
     Ok(rows)
 }

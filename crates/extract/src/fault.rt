@@ -4,12 +4,12 @@ ghost use Rattle.extract.specs.ExtractFault as extract_fault;
 ghost use Rattle.extract.specs.ExtractFault.{of_program, of_load};
 ghost use Rattle.extract.specs.declared.fault.ExtractFault.TheVariants.{Write};
 
-use crate::load::LoadFault;
 use crate::program::ProgramFault;
 use arrayvec::ArrayString;
 use bpf_insn::{memory_name, refusal_line};
 use thiserror::Error;
 use tl_fields::WriteFault;
+use tl_segments::LoadFault;
 
 /// Why there is no extract, or no whole one: each branch is the fault of one part of the work, and none is want of memory.
 #[derive(Clone, Copy, Debug, PartialEq, Eq, Error)]

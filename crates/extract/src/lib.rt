@@ -3,7 +3,6 @@
 
 mod extractor;
 mod fault;
-mod load;
 mod program;
 mod rows;
 #[cfg(test)]
@@ -11,6 +10,5 @@ mod tests;
 
 pub use extractor::extract;
 pub use fault::ExtractFault;
-pub use load::{CountyFile, LoadFault};
 pub use program::{ProgramFault, accept};
 pub use rows::{LONGEST_ROW, row, row_text};

@@ -1,1 +1,3 @@
+mod CountyLemmas
 mod FailureLemmas
+mod TraceLemmas

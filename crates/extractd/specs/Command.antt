@@ -6,15 +6,17 @@ use Rattle.extractd.specs.Assemble as assemble
 use Rattle.extractd.specs.Disassemble as disassemble
 use Rattle.extractd.specs.Failure.{SaysLine, refusal_status}
 use Rattle.extractd.specs.Run as run
+use Rattle.extractd.specs.Trace as trace
 use Rattle.extractd.specs.Verify as verify
 use Rattle.extractd.specs.declared.commands.Request.{Request}
-use Rattle.extractd.specs.declared.commands.Request.TheVariants.{Run, Verify, Assemble, Disassemble}
+use Rattle.extractd.specs.declared.commands.Request.TheVariants.{Run, Trace, Verify, Assemble, Disassemble}
 use Rattle.extractd.specs.declared.failure.Failure.{Failure}
 use Rattle.extractd.specs.declared.failure.Failure.TheVariants.{Refusal}
 
 -- what was asked for was written, whole
 abbrev pub IsWritten : Request → (List ℕ → Option (List ℕ)) → Writer → Writer → Type 0
 IsWritten (Run asked) known out out' = run.IsWritten asked known out out'
+IsWritten (Trace asked) known out out' = trace.IsWritten asked known out out'
 IsWritten (Verify asked) known out out' = verify.IsWritten asked known out out'
 IsWritten (Assemble asked) known out out' = assemble.IsWritten asked known out out'
 IsWritten (Disassemble asked) known out out' = disassemble.IsWritten asked known out out'
@@ -22,12 +24,13 @@ IsWritten (Disassemble asked) known out out' = disassemble.IsWritten asked known
 -- what was asked for was refused by a library, with this number and line
 abbrev pub IsRefused : Request → (List ℕ → Option (List ℕ)) → Option ℕ → List ℕ → Writer → Writer → Type 0
 IsRefused (Run asked) known number line out out' = run.IsRefused asked known number line out out'
+IsRefused (Trace asked) known number line out out' = trace.IsRefused asked known number line out out'
 IsRefused (Verify asked) known number line out out' = verify.IsRefused asked known number line out out'
 IsRefused (Assemble asked) known number line out out' = assemble.IsRefused asked known number line out out'
 IsRefused (Disassemble asked) known number line out out' = disassemble.IsRefused asked known number line out out'
 
--- How a request is carried out: it is written; or refused by a library; or neither, where a file or the output can't be used, or memory
--- is wanting.
+-- How a request is carried out: it is written; or refused by a library; or neither, where a file or the output can't be used, a line isn't
+-- there, or memory is wanting.
 abbrev pub IsCarriedOut : Request → (List ℕ → Option (List ℕ)) → Result (Unit {0}) Failure → Writer → Writer → Type 0
 IsCarriedOut request known (Ok done) out out' = IsWritten request known out out'
 IsCarriedOut request known (Err (Refusal number line)) out out' = refusal_status number ≡ 1 → IsRefused request known number line.bytes out out'

@@ -6,16 +6,17 @@ use Rattle.tl_fields.specs.declared.writing.WriteFault.{WriteFault}
 use Rattle.extractd.specs.declared.files.FileFault.{FileFault}
 use Rattle.extractd.specs.declared.files.FileFault.TheVariants.{Unusable, Memory}
 use Rattle.extractd.specs.declared.failure.Failure.{Failure}
-use Rattle.extractd.specs.declared.failure.Failure.TheVariants.{Refusal}
+use Rattle.extractd.specs.declared.failure.Failure.TheVariants.{Refusal, NoLine}
 
 -- 4 for want of memory, which has no number, 3 where a read or a write failed, else 1
 abbrev pub refusal_status : Option ℕ → ℕ
 refusal_status None = 4
 refusal_status (Some number) = if number == 5 || number == 60 || number == 61 then 3 else 1
 
--- a file or an output that can't be used is 3
+-- a line that the file doesn't have is a fault of usage, 2; a file or an output that can't be used is 3
 abbrev pub status : Failure → ℕ
 status (Refusal number line) = refusal_status number
+status (NoLine line) = 2
 status failure = 3
 
 abbrev pub file_status : FileFault → ℕ
@@ -35,3 +36,8 @@ Says failure errors errors' = ⊤
 abbrev pub TellsOpens : {T : Type 0} → Result T Failure → ℕ → ℕ → Type 0
 TellsOpens (Ok value) failed failed' = failed' ≡ failed
 TellsOpens (Err failure) failed failed' = status failure ≢ 3 → failed' ≡ failed
+
+-- what stands where the failure is a fault of usage
+abbrev pub KeepsOnUsage : {T W : Type 0} → Result T Failure → W → W → Type 0
+KeepsOnUsage (Ok value) out out' = ⊤
+KeepsOnUsage (Err failure) out out' = status failure ≡ 2 → out' ≡ out

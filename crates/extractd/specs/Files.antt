@@ -1,5 +1,6 @@
 -- The files that a command reads: what opening one counts, and what an input has left.
 use Rattle.std.specs.Prelude.{◌≡◌, ◌≢◌, ℕ, List, [], Option, Some, ⊤, Result, Ok, Err}
+use Rattle.std.specs.Option.{option_map_or}
 use Rattle.std.specs.IoError.{error_kind}
 use Rattle.std.specs.declared.io.Error.{Error}
 use Rattle.std.specs.declared.io.ErrorKind.TheVariants.{OutOfMemory}
@@ -13,6 +14,10 @@ abbrev pub CountsOpen : {R : Type 0} → Result R Error → ℕ → ℕ → Type
 CountsOpen (Ok reader) failed failed' = failed' ≡ failed
 CountsOpen (Err error) failed failed' =
     (error_kind error ≡ OutOfMemory → failed' ≡ failed) × (error_kind error ≢ OutOfMemory → failed' ≢ failed)
+
+-- the bytes that an opened reader has left, where they are known: none where there is no file
+abbrev pub remaining_if_there : {R : Type 0} → (R → Option (List ℕ)) → Option R → Option (List ℕ)
+remaining_if_there remaining opened = option_map_or remaining opened (Some [])
 
 -- no open has failed, but where the file can't be used
 abbrev pub TellsOpens : {T : Type 0} → Result T FileFault → ℕ → ℕ → Type 0

@@ -1,6 +1,8 @@
 pub mod Files
 pub mod Failure
+pub mod County
 pub mod Run
+pub mod Trace
 pub mod Verify
 pub mod Assemble
 pub mod Disassemble

@@ -20,6 +20,8 @@ pub enum ArgumentsFault<'a> {
     Missing(&'static str),
     /// This county isn't five digits.
     Code(&'a str),
+    /// This value of the option isn't 1 to 19 digits.
+    Number { name: &'static str, text: &'a str },
     Memory,
 }
 
@@ -42,6 +44,12 @@ impl ArgumentsFault<'_> {
             ArgumentsFault::Missing(name) => write!(errors, "error: {name} is missing\n"),
             ArgumentsFault::Code(code) => {
                 write!(errors, "error: CODE is five digits, and \"{code}\" isn't\n")
+            }
+            ArgumentsFault::Number { name, text } => {
+                write!(
+                    errors,
+                    "error: --{name} is 1 to 19 digits, and \"{text}\" isn't\n"
+                )
             }
             ArgumentsFault::Memory => {
                 Failure::memory().report(errors);

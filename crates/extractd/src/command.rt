@@ -6,15 +6,15 @@ ghost use Rattle.extractd.specs.declared.commands.Request.{Request};
 
 use crate::arguments::read_arguments;
 use crate::commands::Request;
-use crate::failure::{DONE, Failure};
+use crate::failure::{DONE, Failure, USAGE};
 use crate::files::Files;
 use std::alloc::Global;
 use tl_fields::CountedWrite;
 
 /// Does what the arguments after the program's name ask for, and answers the exit status.
 ///
-/// 0 is done, also where no row was chosen; 1 refused; 2 usage, also a call for help; 3 a file or an output that can't be used, also
-/// a source that isn't UTF-8; 4 want of memory. `out` has been flushed by then. What is wrong stands on `errors`; a write to it that
+/// 0 is done, also where no row was chosen; 1 refused; 2 usage, also a call for help, and a line that the file doesn't have; 3 a file or an
+/// output that can't be used, also a source that isn't UTF-8; 4 want of memory. But for 2 `out` has been flushed by then. What is wrong stands on `errors`; a write to it that
 /// fails changes nothing.
 pub fn command<F: Files, W: CountedWrite, E: CountedWrite>(
     alloc: Global,
@@ -56,15 +56,20 @@ fn answer<F: Files, W: CountedWrite, E: CountedWrite>(
     ensures refused { result ≡ 1 → IsRefusal request.entry (F.bytes files.old)
         (writer W.contents W.counts out.old) (writer W.contents W.counts out.new)
         (writer E.contents E.counts errors.old) (writer E.contents E.counts errors.new) }
-    ensures usage { result ≢ 2 }
+    ensures usage { result ≡ 2 → out.new ≡ out.old }
     ensures opens { result ≢ 3 → F.failed_opens files.new ≡ F.failed_opens files.old }
 {
     match request.carry_out(alloc, files, out) {
         Ok(()) => flush(out, errors),
         Err(failure) => {
             failure.report(errors);
+            let status = failure.status();
+            // A fault of usage leaves the output alone.
+            if status == USAGE {
+                return status;
+            }
             let _ = out.flush_counted();
-            failure.status()
+            status
         }
     }
 }

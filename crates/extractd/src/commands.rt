@@ -1,7 +1,7 @@
 //! The commands: their arguments, and what one is asked for.
 ghost use Rattle.tl_fields.specs.Device.{writer};
 ghost use Rattle.extractd.specs.Command.{IsCarriedOut};
-ghost use Rattle.extractd.specs.Failure.{TellsOpens};
+ghost use Rattle.extractd.specs.Failure.{KeepsOnUsage, TellsOpens};
 
 // How a help ends, behind its examples.
 macro_rules! help_end {
@@ -22,12 +22,14 @@ macro_rules! help_end {
 mod assemble;
 mod disassemble;
 mod run;
+mod trace;
 mod verify;
 
 use crate::arguments::ArgumentsFault;
 use crate::commands::assemble::Assemble;
 use crate::commands::disassemble::Disassemble;
 use crate::commands::run::Run;
+use crate::commands::trace::Trace;
 use crate::commands::verify::Verify;
 use crate::failure::Failure;
 use crate::files::Files;
@@ -39,6 +41,7 @@ use tl_fields::CountedWrite;
 #[derive(Clone, Copy, Debug)]
 pub enum Request<'a> {
     Run(Run<'a>),
+    Trace(Trace<'a>),
     Verify(Verify<'a>),
     Assemble(Assemble<'a>),
     Disassemble(Disassemble<'a>),
@@ -49,6 +52,7 @@ impl<'a> Request<'a> {
     fn of_command(name: &str, matches: &ArgMatches<'a>) -> Result<Request<'a>, ArgumentsFault<'a>> {
         match name {
             "run" => Ok(Request::Run(Run::from_matches(matches)?)),
+            "trace" => Ok(Request::Trace(Trace::from_matches(matches)?)),
             "verify" => Ok(Request::Verify(Verify::from_matches(matches)?)),
             "asm" => Ok(Request::Assemble(Assemble::from_matches(matches)?)),
             "dis" => Ok(Request::Disassemble(Disassemble::from_matches(matches)?)),
@@ -73,10 +77,12 @@ impl<'a> Request<'a> {
     ) -> Result<(), Failure<'a>>
         ensures outcome { IsCarriedOut self.entry (F.bytes files.old) result
             (writer W.contents W.counts out.old) (writer W.contents W.counts out.new) }
+        ensures usage { KeepsOnUsage result out.old out.new }
         ensures opens { TellsOpens result (F.failed_opens files.old) (F.failed_opens files.new) }
     {
         match self {
             Request::Run(run) => run.carry_out(alloc, files, out),
+            Request::Trace(trace) => trace.carry_out(alloc, files, out),
             Request::Verify(verify) => verify.carry_out(alloc, files, out),
             Request::Assemble(assemble) => assemble.carry_out(alloc, files, out),
             Request::Disassemble(disassemble) => disassemble.carry_out(alloc, files, out),
@@ -95,6 +101,7 @@ pub fn program_command<'a>(alloc: Global) -> Result<Command<'a>, AllocError> {
         .after_help(help_end!(
             "Examples:
   extractd run --program street.bpf --data tiger 01001 > rows.tsv
+  extractd trace --program street.bpf --data tiger --line 12 --limit 4096 01001
   extractd verify --program street.bpf
   extractd asm --source street.s > street.bpf
   extractd dis --program street.bpf"
@@ -103,6 +110,7 @@ pub fn program_command<'a>(alloc: Global) -> Result<Command<'a>, AllocError> {
         .disable_help_subcommand(true)
         .subcommand_required(true)
         .subcommand(run::command(alloc)?)?
+        .subcommand(trace::command(alloc)?)?
         .subcommand(verify::command(alloc)?)?
         .subcommand(assemble::command(alloc)?)?
         .subcommand(disassemble::command(alloc)?)
@@ -121,4 +129,39 @@ fn option<'a>(alloc: Global, name: &'a str, value: &'a str, help: &'a str) -> Ar
 /// The value of an argument that has to be given.
 fn value<'a>(matches: &ArgMatches<'a>, name: &'static str) -> Result<&'a str, ArgumentsFault<'a>> {
     matches.get_str(name).ok_or(ArgumentsFault::Missing(name))
+}
+
+/// The argument `CODE`, a county, which has to be given.
+fn county_option<'a>(alloc: Global) -> Arg<'a> {
+    Arg::new(alloc, "code")
+        .value_name("CODE")
+        .help("The county, five digits")
+        .required(true)
+        .action(ArgAction::Set)
+}
+
+/// The county's code: five digits.
+fn code<'a>(matches: &ArgMatches<'a>) -> Result<&'a str, ArgumentsFault<'a>> {
+    let code = value(matches, "code")?;
+    if code.len() != 5 || !are_digits(code) {
+        return Err(ArgumentsFault::Code(code));
+    }
+    Ok(code)
+}
+
+// A number has as many digits at most, so that each is below 2^64.
+const MOST_DIGITS: usize = 19;
+
+/// The number of an option that has to be given: 1 to 19 digits.
+fn number<'a>(matches: &ArgMatches<'a>, name: &'static str) -> Result<u64, ArgumentsFault<'a>> {
+    let text = value(matches, name)?;
+    if text.len() > MOST_DIGITS || !are_digits(text) {
+        return Err(ArgumentsFault::Number { name, text });
+    }
+    text.parse()
+        .map_err(|_| ArgumentsFault::Number { name, text })
+}
+
+fn are_digits(text: &str) -> bool {
+    text.bytes().all(|byte| byte.is_ascii_digit())
 }

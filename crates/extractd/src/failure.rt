@@ -4,6 +4,7 @@ ghost use Rattle.std.specs.Io.KnownBytes.{Appends};
 ghost use Rattle.tl_fields.specs.Device.{writer};
 ghost use Rattle.extractd.specs.Failure.{Says, file_status, refusal_status, status};
 
+use crate::county::name_end;
 use crate::files::FileFault;
 use arrayvec::{ArrayString, ArrayVec};
 use bpf_insn::{memory_name, refusal_line};
@@ -11,6 +12,7 @@ use std::alloc::AllocError;
 use std::io::{ErrorKind, Write};
 use std::{fmt, io};
 use tl_fields::{CountedWrite, write_whole};
+use tl_segments::CountyFile;
 
 pub const DONE: u8 = 0;
 
@@ -35,15 +37,20 @@ pub enum Failure<'a> {
         name: &'a str,
         error: io::Error,
     },
-    /// A county's type 1 file, in the folder of the data, can't be opened.
-    Rt1 {
+    /// A county's file, in the folder of the data, can't be opened.
+    CountyFile {
         data: &'a str,
         code: &'a str,
+        file: CountyFile,
         error: io::Error,
     },
     /// The program text of this name isn't UTF-8.
     NotUtf8 {
         name: &'a str,
+    },
+    /// The type 1 file doesn't have this line, counted from 1.
+    NoLine {
+        line: u64,
     },
     /// The output can't be flushed.
     Output(io::Error),
@@ -70,12 +77,17 @@ impl<'a> Failure<'a> {
         }
     }
 
-    /// What is wrong with a county's type 1 file, in the folder of the data.
-    pub fn of_rt1(data: &'a str, code: &'a str, fault: FileFault) -> Self
+    /// What is wrong with a county's file, in the folder of the data.
+    pub fn of_county_file(data: &'a str, code: &'a str, file: CountyFile, fault: FileFault) -> Self
         ensures { status result ≡ file_status fault }
     {
         match fault {
-            FileFault::Unusable(error) => Failure::Rt1 { data, code, error },
+            FileFault::Unusable(error) => Failure::CountyFile {
+                data,
+                code,
+                file,
+                error,
+            },
             FileFault::Memory => Failure::memory(),
         }
     }
@@ -86,6 +98,7 @@ impl<'a> Failure<'a> {
     {
         match self {
             Failure::Refusal { number, .. } => refusal_status(*number),
+            Failure::NoLine { .. } => USAGE,
             _ => UNUSABLE,
         }
     }
@@ -102,10 +115,19 @@ impl<'a> Failure<'a> {
             Failure::File { name, error } => {
                 write!(errors, "error: {name}: {}\n", Reason(*error))
             }
-            Failure::Rt1 { data, code, error } => {
-                write!(errors, "error: {data}/TGR{code}.RT1: {}\n", Reason(*error))
+            Failure::CountyFile {
+                data,
+                code,
+                file,
+                error,
+            } => {
+                let end = name_end(*file);
+                write!(errors, "error: {data}/TGR{code}{end}: {}\n", Reason(*error))
             }
             Failure::NotUtf8 { name } => write!(errors, "error: {name}: not UTF-8\n"),
+            Failure::NoLine { line } => {
+                write!(errors, "error: the type 1 file has no line {line}\n")
+            }
             Failure::Output(error) => {
                 write!(
                     errors,
@@ -149,7 +171,7 @@ fn with_line_end(line: ArrayString<64>) -> ArrayVec<u8, 65>
 /// Writes the text whole, or refuses by what the output did.
 pub fn write<'a, W: CountedWrite>(out: &mut W, text: &[u8]) -> Result<(), Failure<'a>>
     ensures ok { IfOk result (λ _. Appends (W.contents out.old) (W.contents out.new) text.now × (W.counts out.new ≡ W.counts out.old)) }
-    ensures err { IfErr result (λ failure. status failure ≢ 1) }
+    ensures err { IfErr result (λ failure. (status failure ≢ 1) × (status failure ≢ 2)) }
 {
     match write_whole(out, text) {
         Ok(()) => Ok(()),

@@ -3,7 +3,7 @@ ghost use Rattle.std.specs.Prelude.{◌≡◌, ℕ, List, Option, IfOk, None, Ok
 ghost use Rattle.std.specs.Io.{ReadsAtMost};
 ghost use Rattle.std.specs.Io.KnownBytes.{Keeps, ReadConsumes};
 ghost use Rattle.tl_fields.specs.Counted.{CountsFailure};
-ghost use Rattle.extractd.specs.Files.{TellsOpens};
+ghost use Rattle.extractd.specs.Files.{TellsOpens, input_remaining};
 ghost use Rattle.extractd.specs.declared.files.FileFault.TheVariants.{Memory};
 
 use arrayvec::ArrayVec;
@@ -31,11 +31,11 @@ impl From<AllocError> for FileFault {
 
 /// The files, by name.
 pub trait Files {
-    ghost use Rattle.extractd.specs.Files.{CountsOpen};
+    ghost use Rattle.extractd.specs.Files.{CountsOpen, remaining_if_there};
 
     type Reader: CountedRead + Drop;
 
-    // The bytes of the file of a name, where they are known.
+    // The bytes of the file of a name, where they are known: none of a file that isn't there.
     ghost bytes: { Self → List ℕ → Option (List ℕ) } = { λ _ _. None };
 
     // How many opens failed, but for want of memory, modulo 2^64.
@@ -44,6 +44,12 @@ pub trait Files {
     /// Opens a file for reading. The reader that it gives has a buffer of its own.
     fn open(&mut self, name: &str) -> io::Result<Self::Reader>
         ensures known { IfOk result (λ reader. Keeps (bytes self.old name.now) (Self.Reader.remaining reader)) }
+        ensures stay { (other : List ℕ) → bytes self.new other ≡ bytes self.old other }
+        ensures failures { CountsOpen result (failed_opens self.old) (failed_opens self.new) };
+
+    /// Opens a file for reading, where there is one of the name. Any other open that fails is an error.
+    fn open_if_there(&mut self, name: &str) -> io::Result<Option<Self::Reader>>
+        ensures known { IfOk result (λ opened. Keeps (bytes self.old name.now) (remaining_if_there Self.Reader.remaining opened)) }
         ensures stay { (other : List ℕ) → bytes self.new other ≡ bytes self.old other }
         ensures failures { CountsOpen result (failed_opens self.old) (failed_opens self.new) };
 }
@@ -85,6 +91,19 @@ impl<R: rt::Files + AllocGlobal> Files for SystemFiles<'_, R> {
             }
         }
     }
+
+    fn open_if_there(&mut self, name: &str) -> io::Result<Option<Buffered<BufReader<R::File>>>> {
+        match open_buffered(self.runtime, name) {
+            Ok(reader) => Ok(Some(reader)),
+            Err(error) if error.kind() == ErrorKind::NotFound => Ok(None),
+            Err(error) => {
+                if error.kind() != ErrorKind::OutOfMemory {
+                    count_one(&mut self.failed_opens);
+                }
+                Err(error)
+            }
+        }
+    }
 }
 
 fn open_buffered<R: rt::Files + AllocGlobal>(
@@ -104,6 +123,20 @@ pub fn open<F: Files>(files: &mut F, name: &str) -> Result<F::Reader, FileFault>
 {
     match files.open(name) {
         Ok(reader) => Ok(reader),
+        Err(error) if error.kind() == ErrorKind::OutOfMemory => Err(FileFault::Memory),
+        Err(error) => Err(FileFault::Unusable(error)),
+    }
+}
+
+/// Opens a file where there is one of the name. Where there is none the input is empty.
+pub fn open_if_there<F: Files>(files: &mut F, name: &str) -> Result<Input<F::Reader>, FileFault>
+    ensures known { IfOk result (λ input. Keeps (F.bytes files.old name.now) (input_remaining F.Reader.remaining input)) }
+    ensures stay { (other : List ℕ) → F.bytes files.new other ≡ F.bytes files.old other }
+    ensures opens { TellsOpens result (F.failed_opens files.old) (F.failed_opens files.new) }
+{
+    match files.open_if_there(name) {
+        Ok(Some(reader)) => Ok(Input::Opened(reader)),
+        Ok(None) => Ok(Input::Nothing),
         Err(error) if error.kind() == ErrorKind::OutOfMemory => Err(FileFault::Memory),
         Err(error) => Err(FileFault::Unusable(error)),
     }

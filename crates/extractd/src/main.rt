@@ -4,6 +4,7 @@
 mod arguments;
 mod command;
 mod commands;
+mod county;
 mod failure;
 mod files;
 #[cfg(test)]

@@ -1,6 +1,7 @@
 //! Commands over files in memory. Expected rows, lines and statuses were worked by hand.
 mod arguments;
 mod conversions;
+mod counties;
 mod devices;
 mod fixtures;
 mod readers;

@@ -9,7 +9,7 @@ use Rattle.std.proofs.lemmas.List.Elements.{filter-append}
 use Rattle.std.proofs.lemmas.List.Folds.{find-append}
 use Rattle.tl_records.specs.Layout.{field_at}
 use Rattle.tl_records.specs.declared.type5.TheConstants.Rt5.{FENAME}
-use Rattle.tl_segments.specs.Joining.{number_in, has_number, lines_with, feature_name, FewHaveEach}
+use Rattle.tl_segments.specs.Joining.{JoinedLines, number_in, has_number, lines_with, feature_name, segment_of, segments_of, FewHaveEach}
 use Rattle.tl_segments.specs.Tables.{AddsAt, AddsNameAt, KeepsNames, list_at, name_at}
 use Rattle.tl_segments.specs.declared.fault.CountyFile.{CountyFile}
 use Rattle.tl_segments.specs.declared.fault.CountyFile.TheVariants.{Rt5}
@@ -75,3 +75,7 @@ names-push old new lines line feat is keeps adds q =
 -- a list that is full is that of as many lines
 pub keeps-full : {V A : Type 0} (file : CountyFile) (f : List ℕ → V) (table : Grouped V A) (lines : List (List ℕ)) (number : ℕ) → list_at table number ≡ map f (lines_with file number lines) → LINE_LIMIT ≤ length (list_at table number) → LINE_LIMIT ≤ length (lines_with file number lines)
 keeps-full file f table lines number keeps full = omega (arith, ap length keeps, length-map (lines_with file number lines) f)
+
+-- the segment of one line more
+pub segments_push : (joined : JoinedLines) (lines : List (List ℕ)) (line : List ℕ) → segments_of joined (lines ++ line ∷ []) ≡ segments_of joined lines ++ segment_of joined line ∷ []
+segments_push joined lines line = map-append (segment_of joined) lines (line ∷ [])

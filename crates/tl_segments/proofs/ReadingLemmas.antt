@@ -1,9 +1,11 @@
 -- Reading a county's file line by line, where the reader's bytes are known and where they aren't.
-use Rattle.std.proofs.Common.{◌≡◌, ◌≢◌, ℕ, ◌+◌, ◌<◌, ◌≤◌, ◌^◌, List, [], ◌∷◌, ◌++◌, length, Option, Some, None, IfSome, Ok, Err, refl, sym, ap, ◌∙◌, subst, length-append, arith}
+use Rattle.std.proofs.Common.{◌≡◌, ◌≢◌, ℕ, ◌+◌, ◌<◌, ◌≤◌, ◌^◌, Bool, true, false, ◌==◌, if◌then◌else◌, inl, inr, List, [], ◌∷◌, ◌++◌, length, slice_index, Option, Some, None, is_some, IfSome, Ok, Err, refl, sym, ap, ◌∙◌, subst, length-append, arith}
 use Rattle.std.proofs.lemmas.Bool.Decides.{nat_tests}
 use Rattle.std.proofs.lemmas.List.Elements.{All-nil, All-head, All-tail, All-push}
 use Rattle.tl_fields.specs.Content.{HasNoLineFeed}
 use Rattle.tl_fields.specs.Device.{Reader}
+use Rattle.tl_fields.specs.Number.{number_of}
+use Rattle.tl_records.specs.Layout.{field_at}
 use Rattle.tl_records.specs.Lines.{LineParts, IsEnded, by_lf, by_cr_lf, missing, IsFirstLine, AreFirstLines, AreLines, WhereKnown, IsNextLine, BeginsTooLong, FailsWithin, most_bytes, HasOneMore, IsLineRead, IsUnreadLine}
 use Rattle.tl_records.specs.Records.{IsGoodLine, IsLineFault, line_flaw}
 use Rattle.tl_records.specs.declared.fault.LineFault.{LineFault}
@@ -12,12 +14,14 @@ use Rattle.tl_records.specs.declared.fault.LineFlaw.TheVariants.{WrongLength, Wr
 use Rattle.tl_records.specs.declared.layout.Layout.{Layout}
 use Rattle.tl_records.proofs.LineLemmas.{cr_lf, has_first_line}
 use Rattle.tl_segments.specs.CountyFile.{layout}
+use Rattle.tl_segments.specs.Indexing.{ReadsGoodLine, IsNextFault, IsSegmentRead}
 use Rattle.tl_segments.specs.Joining.{IsWithinLimits}
-use Rattle.tl_segments.specs.Loading.{AreGoodLines, ReadsFile, BeginsWith, HasMoreAfter, HasFlawAfter, ComesAfter, IsFirstFault, IsOneTooMany, IsFileFault}
+use Rattle.tl_segments.specs.Loading.{ReadsFile, ReadsLines, BeginsWith, HasMoreAfter, HasFlawAfter, FailsAfter, MayHave, ComesAfter, IsFirstFault, IsOneTooMany, IsFileFault}
 use Rattle.tl_segments.specs.Taking.{IsBeyond, IsNextOf, IsTaken}
 use Rattle.tl_segments.specs.declared.fault.CountyFile.{CountyFile}
 use Rattle.tl_segments.specs.declared.fault.CountyFile.TheVariants.{Rt1, Rt4, Rt5, Rt6}
 use Rattle.tl_segments.specs.declared.fault.LoadFault.{LoadFault}
+use Rattle.tl_segments.specs.declared.index.Index.{Index}
 use Rattle.tl_segments.specs.declared.fault.LoadFault.TheVariants.{Line, TooManyNames, TooManyRanges, Memory}
 
 -- what two calls say of known bytes, one after the other, says this of those before both
@@ -69,20 +73,33 @@ wrong_length_of row line short long = grind (arith, nat_tests)
 pub wrong_length : (file : CountyFile) (line : List ℕ) → 230 ≤ length line → line_flaw (layout file) line ≡ Some WrongLength
 wrong_length file line long = wrong_length_of (layout file) line (layout_short file) long
 
-not_flaw_of : (row : Layout) (line : List ℕ) (flaw : LineFlaw) → flaw ≢ WrongLength → flaw ≢ WrongType → flaw ≢ row.without_number → line_flaw row line ≡ Some flaw → ⊥
-not_flaw_of row line flaw a b c e = grind (arith, nat_tests, e)
+may_have_by : (file : CountyFile) (flaw : LineFlaw) (long typed numbered : Bool) → (if long then (if typed then (if numbered then None else Some (layout file).without_number) else Some WrongType) else Some WrongLength) ≡ Some flaw → MayHave file flaw
+may_have_by file flaw true true true e = cc
+may_have_by file flaw true true false e = inr (inr (cc))
+may_have_by file flaw true false numbered e = inr (inl (cc))
+may_have_by file flaw false typed numbered e = inl (cc)
 
-not_read : (file : CountyFile) (line : List ℕ) → line_flaw (layout file) line ≡ Some Read → ⊥
-not_read Rt1 line e = not_flaw_of (layout Rt1) line Read (λ e. cc) (λ e. cc) (λ e. cc) e
-not_read Rt4 line e = not_flaw_of (layout Rt4) line Read (λ e. cc) (λ e. cc) (λ e. cc) e
-not_read Rt5 line e = not_flaw_of (layout Rt5) line Read (λ e. cc) (λ e. cc) (λ e. cc) e
-not_read Rt6 line e = not_flaw_of (layout Rt6) line Read (λ e. cc) (λ e. cc) (λ e. cc) e
+-- the flaw of a line is one of its file's
+may_have : (file : CountyFile) (line : List ℕ) (flaw : LineFlaw) → line_flaw (layout file) line ≡ Some flaw → MayHave file flaw
+may_have file line flaw e =
+    may_have_by file flaw (length line == (layout file).length) (slice_index line 0 == (layout file).tag) (is_some (number_of (field_at (layout file).number line))) e
 
-not_too_many : (file : CountyFile) (line : List ℕ) → line_flaw (layout file) line ≡ Some TooManyLines → ⊥
-not_too_many Rt1 line e = not_flaw_of (layout Rt1) line TooManyLines (λ e. cc) (λ e. cc) (λ e. cc) e
-not_too_many Rt4 line e = not_flaw_of (layout Rt4) line TooManyLines (λ e. cc) (λ e. cc) (λ e. cc) e
-not_too_many Rt5 line e = not_flaw_of (layout Rt5) line TooManyLines (λ e. cc) (λ e. cc) (λ e. cc) e
-not_too_many Rt6 line e = not_flaw_of (layout Rt6) line TooManyLines (λ e. cc) (λ e. cc) (λ e. cc) e
+-- none of them is a read that failed, or a line that is too many
+not_read : (file : CountyFile) → MayHave file Read → ⊥
+not_read file (inl e) = cc
+not_read file (inr (inl e)) = cc
+not_read Rt1 (inr (inr e)) = cc
+not_read Rt4 (inr (inr e)) = cc
+not_read Rt5 (inr (inr e)) = cc
+not_read Rt6 (inr (inr e)) = cc
+
+not_too_many : (file : CountyFile) → MayHave file TooManyLines → ⊥
+not_too_many file (inl e) = cc
+not_too_many file (inr (inl e)) = cc
+not_too_many Rt1 (inr (inr e)) = cc
+not_too_many Rt4 (inr (inr e)) = cc
+not_too_many Rt5 (inr (inr e)) = cc
+not_too_many Rt6 (inr (inr e)) = cc
 
 not_empty : (file taken rest : List ℕ) → file ≡ taken ++ rest → length taken ≡ 231 → file ≢ []
 not_empty file taken rest e long none = omega (arith, length-append taken rest, ap length (sym none ∙ e))
@@ -103,13 +120,17 @@ too_long_after file bytes mid rest lines before (taken, e, p, long) =
 one_more_not_empty : (file rest : List ℕ) → HasOneMore file rest → file ≢ []
 one_more_not_empty file rest (byte, e) none = cc
 
--- the lines that were read so far, all good and within the limits
+-- a first line isn't read of nothing
+first_line_of_some : (file line rest : List ℕ) → IsEnded file line rest → file ≢ []
+first_line_of_some file line rest (by_lf e n) none = omega (arith, length-append line (10 ∷ rest), ap length (sym none ∙ e))
+first_line_of_some file line rest (by_cr_lf e) none = omega (arith, length-append line (13 ∷ 10 ∷ rest), ap length (sym none ∙ e))
+first_line_of_some file line rest (missing e f n) none = n (sym e ∙ none)
+
+-- these lines were read so far, and this was the last one of them
 pub record IsReadSoFar (file : CountyFile) (lines : List (List ℕ)) (line : LineParts) (old new : Reader) : Type 0 where
-  pub good : AreGoodLines file lines
+  pub reads : ReadsLines file lines old new
   pub counted : line.number ≡ length lines
   pub small : line.number < 2 ^ 32
-  pub unfailed : new.failed ≡ old.failed
-  pub known : WhereKnown old.left new.left (λ bytes rest. AreFirstLines bytes lines rest)
 
 -- the same of lines that are kept
 pub record KeepsSoFar (file : CountyFile) (keeps : List (List ℕ) → Type 0) (line : LineParts) (old new : Reader) : Type 0 where
@@ -130,38 +151,48 @@ none_beyond Rt6 = λ number. omega arith
 
 pub none_read : (file : CountyFile) (line : LineParts) (input : Reader) → line.number ≡ 0 → IsReadSoFar file [] line input input
 none_read file line input zeroth = record {
-  good = record { good = All-nil (IsGoodLine (layout file)); within = none_beyond file };
+  reads = record {
+    good = record { good = All-nil (IsGoodLine (layout file)); within = none_beyond file };
+    known = known_start input.left;
+    reads = refl;
+  };
   counted = zeroth;
   small = omega arith;
-  unfailed = refl;
-  known = known_start input.left;
 }
 
 module _ (file : CountyFile) (lines : List (List ℕ)) (line new_line : LineParts) (old now new : Reader) (read : IsReadSoFar file lines line old now) where
   -- a good line more
   pub one_line_more : (done : Unit {0}) → IsLineRead line new_line now new (Ok (Some done)) → IsNextOf file lines new_line → IsReadSoFar file (lines ++ new_line.bytes ∷ []) new_line old new
   one_line_more done next good = record {
-    good = record { good = All-push (IsGoodLine (layout file)) lines new_line.bytes read.good.good good.good; within = good.within };
+    reads = record {
+      good = record { good = All-push (IsGoodLine (layout file)) lines new_line.bytes read.reads.good.good good.good; within = good.within };
+      known = known_both old.left now.left new.left (λ bytes rest. AreFirstLines bytes lines rest) (IsNextLine new_line.bytes) (λ bytes rest. AreFirstLines bytes (lines ++ new_line.bytes ∷ []) rest) (λ bytes mid rest a b. AreFirstLines-push lines bytes mid new_line.bytes rest a b.0) read.reads.known next.3;
+      reads = next.0 ∙ read.reads.reads;
+    };
     counted = omega (arith, next.2, read.counted, length-append lines (new_line.bytes ∷ []));
     small = omega (arith, next.1, next.2);
-    unfailed = next.0 ∙ read.unfailed;
-    known = known_both old.left now.left new.left (λ bytes rest. AreFirstLines bytes lines rest) (IsNextLine new_line.bytes) (λ bytes rest. AreFirstLines bytes (lines ++ new_line.bytes ∷ []) rest) (λ bytes mid rest a b. AreFirstLines-push lines bytes mid new_line.bytes rest a b.0) read.known next.3;
   }
+
+  -- more follows the lines before
+  pub more_follows : (done : Unit {0}) → IsLineRead line new_line now new (Ok (Some done)) → IfSome old.left (λ bytes. HasMoreAfter bytes lines)
+  more_follows done next =
+      known_then old.left now.left new.left (λ bytes rest. AreFirstLines bytes lines rest) (IsNextLine new_line.bytes) (λ bytes. HasMoreAfter bytes lines) (λ bytes mid rest a b. (mid, a, first_line_of_some mid new_line.bytes rest b.0.ended)) read.reads.known next.3
 
   -- the input ended
   pub all_read : IsLineRead line new_line now new (Ok None) → ReadsFile file lines old new
   all_read next = record {
-    good = read.good;
+    good = read.reads.good;
     few = omega (arith, read.counted, read.small);
-    known = known_then old.left now.left new.left (λ bytes rest. AreFirstLines bytes lines rest) (λ bytes rest. bytes ≡ []) (λ bytes. AreLines bytes lines) (λ bytes mid rest a b. subst (λ rest. AreFirstLines bytes lines rest) b a) read.known next.3;
+    known = known_then old.left now.left new.left (λ bytes rest. AreFirstLines bytes lines rest) (λ bytes rest. bytes ≡ []) (λ bytes. AreLines bytes lines) (λ bytes mid rest a b. subst (λ rest. AreFirstLines bytes lines rest) b a) read.reads.known next.3;
     at_end = next.2;
-    reads = next.0 ∙ read.unfailed;
+    reads = next.0 ∙ read.reads.reads;
   }
 
   -- a line with a flaw
-  flaw_after : (flaw : LineFlaw) (number : ℕ) (done : Unit {0}) → IsLineRead line new_line now new (Ok (Some done)) → number ≡ new_line.number → line_flaw (layout file) new_line.bytes ≡ Some flaw → (number < 2 ^ 32) × IfSome old.left (λ bytes. HasFlawAfter file flaw bytes lines) × (new.failed ≡ old.failed)
+  flaw_after : (flaw : LineFlaw) (number : ℕ) (done : Unit {0}) → IsLineRead line new_line now new (Ok (Some done)) → number ≡ new_line.number → line_flaw (layout file) new_line.bytes ≡ Some flaw → (number < 2 ^ 32) × MayHave file flaw × IfSome old.left (λ bytes. HasFlawAfter file flaw bytes lines) × (new.failed ≡ old.failed)
   flaw_after flaw number done next at flawed = (
     omega (arith, at, next.1, next.2),
+    may_have file new_line.bytes flaw flawed,
     known_then old.left now.left new.left (λ bytes rest. AreFirstLines bytes lines rest) (IsNextLine new_line.bytes) (λ bytes. HasFlawAfter file flaw bytes lines) (λ bytes mid rest a b. record {
       after = mid;
       line = new_line.bytes;
@@ -169,8 +200,8 @@ module _ (file : CountyFile) (lines : List (List ℕ)) (line new_line : LinePart
       before = a;
       first = b.0;
       flawed = flawed;
-    }) read.known next.3,
-    next.0 ∙ read.unfailed,
+    }) read.reads.known next.3,
+    next.0 ∙ read.reads.reads,
   )
 
   flaw_comes : (flaw : LineFlaw) (number : ℕ) (done : Unit {0}) → IsLineRead line new_line now new (Ok (Some done)) → number ≡ new_line.number → line_flaw (layout file) new_line.bytes ≡ Some flaw → ComesAfter file flaw number lines old new
@@ -178,13 +209,12 @@ module _ (file : CountyFile) (lines : List (List ℕ)) (line new_line : LinePart
   flaw_comes WrongType number done next at flawed = flaw_after WrongType number done next at flawed
   flaw_comes BadTlid number done next at flawed = flaw_after BadTlid number done next at flawed
   flaw_comes BadFeature number done next at flawed = flaw_after BadFeature number done next at flawed
-  flaw_comes Read number done next at flawed = absurd (not_read file new_line.bytes flawed)
-  flaw_comes TooManyLines number done next at flawed = absurd (not_too_many file new_line.bytes flawed)
+  flaw_comes Read number done next at flawed = absurd (not_read file (may_have file new_line.bytes Read flawed))
+  flaw_comes TooManyLines number done next at flawed = absurd (not_too_many file (may_have file new_line.bytes TooManyLines flawed))
 
-  pub at_flaw : (fault : LineFault) (done : Unit {0}) → IsLineRead line new_line now new (Ok (Some done)) → IsLineFault (layout file) new_line fault → IsFirstFault file fault old new
+  pub at_flaw : (fault : LineFault) (done : Unit {0}) → IsLineRead line new_line now new (Ok (Some done)) → IsLineFault (layout file) new_line fault → IsFirstFault file fault lines old new
   at_flaw fault done next flawed = record {
-    lines = lines;
-    good = read.good;
+    good = read.reads.good;
     counted = omega (arith, flawed.0, next.2, read.counted);
     follows = flaw_comes fault.flaw fault.line done next flawed.0 flawed.1;
   }
@@ -194,47 +224,64 @@ module _ (file : CountyFile) (lines : List (List ℕ)) (line new_line : LinePart
   at_beyond number done next at beyond = record {
     lines = lines;
     line = new_line.bytes;
-    good = read.good;
+    good = read.reads.good;
     line_good = beyond.good;
     beyond = beyond.beyond;
     counted = omega (arith, at, next.2, read.counted);
     small = omega (arith, at, next.1, next.2);
-    known = known_then old.left now.left new.left (λ bytes rest. AreFirstLines bytes lines rest) (IsNextLine new_line.bytes) (λ bytes. BeginsWith bytes (lines ++ new_line.bytes ∷ [])) (λ bytes mid rest a b. (rest, AreFirstLines-push lines bytes mid new_line.bytes rest a b.0)) read.known next.3;
-    reads = next.0 ∙ read.unfailed;
+    known = known_then old.left now.left new.left (λ bytes rest. AreFirstLines bytes lines rest) (IsNextLine new_line.bytes) (λ bytes. BeginsWith bytes (lines ++ new_line.bytes ∷ [])) (λ bytes mid rest a b. (rest, AreFirstLines-push lines bytes mid new_line.bytes rest a b.0)) read.reads.known next.3;
+    reads = next.0 ∙ read.reads.reads;
   }
 
   -- a line that isn't taken
   pub not_taken : (keeps : List (List ℕ) → Type 0) (fault : LoadFault) (done : Unit {0}) → IsLineRead line new_line now new (Ok (Some done)) → IsTaken file lines new_line (Err fault) keeps → IsFileFault file fault old new
-  not_taken keeps (Line of_file fault) done next taken = (taken.0, at_flaw fault done next taken.1)
+  not_taken keeps (Line of_file fault) done next taken = (taken.0, lines, at_flaw fault done next taken.1)
   not_taken keeps (TooManyNames number) done next taken = (taken.0, at_beyond number done next taken.1 taken.2)
   not_taken keeps (TooManyRanges number) done next taken = (taken.0, at_beyond number done next taken.1 taken.2)
-  not_taken keeps Memory done next taken = next.0 ∙ read.unfailed
+  not_taken keeps Memory done next taken = next.0 ∙ read.reads.reads
 
   -- a line that couldn't be read
   unread_comes : (flaw : LineFlaw) (number : ℕ) → number ≡ line.number + 1 → IsUnreadLine line.number flaw now new → ComesAfter file flaw number lines old new
   unread_comes WrongLength number at unread = (
     omega (arith, at, unread.1),
-    known_then old.left now.left new.left (λ bytes rest. AreFirstLines bytes lines rest) BeginsTooLong (λ bytes. HasFlawAfter file WrongLength bytes lines) (λ bytes mid rest a b. too_long_after file bytes mid rest lines a b) read.known unread.2,
-    unread.0 ∙ read.unfailed,
+    inl refl,
+    known_then old.left now.left new.left (λ bytes rest. AreFirstLines bytes lines rest) BeginsTooLong (λ bytes. HasFlawAfter file WrongLength bytes lines) (λ bytes mid rest a b. too_long_after file bytes mid rest lines a b) read.reads.known unread.2,
+    unread.0 ∙ read.reads.reads,
   )
   unread_comes Read number at unread = (
     omega (arith, at, read.small),
-    known_then old.left now.left new.left (λ bytes rest. AreFirstLines bytes lines rest) (FailsWithin (most_bytes line.number)) (λ bytes. BeginsWith bytes lines) (λ bytes mid rest a b. (mid, a)) read.known unread.1,
-    λ e. unread.0 (e ∙ sym read.unfailed),
+    known_both old.left now.left new.left (λ bytes rest. AreFirstLines bytes lines rest) (FailsWithin (most_bytes line.number)) (FailsAfter lines) (λ bytes mid rest a b. (mid, a, subst (λ (n : ℕ). FailsWithin (most_bytes n) mid rest) read.counted b)) read.reads.known unread.1,
+    λ e. unread.0 (e ∙ sym read.reads.reads),
   )
   unread_comes TooManyLines number at unread = (
     omega (arith, at, unread.1),
-    known_then old.left now.left new.left (λ bytes rest. AreFirstLines bytes lines rest) HasOneMore (λ bytes. HasMoreAfter bytes lines) (λ bytes mid rest a b. (mid, a, λ none. one_more_not_empty mid rest b none)) read.known unread.2,
-    unread.0 ∙ read.unfailed,
+    known_then old.left now.left new.left (λ bytes rest. AreFirstLines bytes lines rest) HasOneMore (λ bytes. HasMoreAfter bytes lines) (λ bytes mid rest a b. (mid, a, λ none. one_more_not_empty mid rest b none)) read.reads.known unread.2,
+    unread.0 ∙ read.reads.reads,
   )
   unread_comes WrongType number at unread = absurd unread
   unread_comes BadTlid number at unread = absurd unread
   unread_comes BadFeature number at unread = absurd unread
 
-  pub at_fault : (fault : LineFault) → IsLineRead line new_line now new (Err fault) → IsFirstFault file fault old new
+  pub at_fault : (fault : LineFault) → IsLineRead line new_line now new (Err fault) → IsFirstFault file fault lines old new
   at_fault fault next = record {
-    lines = lines;
-    good = read.good;
+    good = read.reads.good;
     counted = omega (arith, next.1, read.counted);
     follows = unread_comes fault.flaw fault.line next.1 next.2;
   }
+
+module _ (lines : List (List ℕ)) (line new_line : LineParts) (old now new : Reader) (read : IsReadSoFar Rt1 lines line old now) where
+  -- a good line of type 1 more
+  pub good_line_more : ReadsGoodLine line new_line now new → IsReadSoFar Rt1 (lines ++ new_line.bytes ∷ []) new_line old new
+  good_line_more next = one_line_more Rt1 lines line new_line old now new read tt next.0 (record { good = next.1; within = tt })
+
+  -- the next line has a fault
+  pub at_next_fault : (fault : LineFault) → IsNextFault fault line new_line now new → IsFirstFault Rt1 fault lines old new
+  at_next_fault fault (inl next) = at_fault Rt1 lines line new_line old now new read fault next
+  at_next_fault fault (inr (next, flawed)) = at_flaw Rt1 lines line new_line old now new read fault tt next flawed
+
+  -- why the segment of the next line can't be made is why the file can't be loaded
+  pub no_segment : {A : Type 0} (index : Index A) (fault : LoadFault) → IsSegmentRead index line new_line now new (Err fault) → IsFileFault Rt1 fault old new
+  no_segment index (Line file fault) next = (next.0, lines, at_next_fault fault next.1)
+  no_segment index (TooManyNames number) next = absurd next
+  no_segment index (TooManyRanges number) next = absurd next
+  no_segment index Memory next = next.0.0 ∙ read.reads.reads

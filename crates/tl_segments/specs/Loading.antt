@@ -1,12 +1,12 @@
 -- What loading a county's files does to their readers, and the first fault of a file.
-use Rattle.std.specs.Prelude.{◌≡◌, ◌≢◌, ℕ, ◌+◌, ◌^◌, ◌<◌, ◌≤◌, List, [], ◌∷◌, ◌++◌, length, All, Option, Some, IfSome}
+use Rattle.std.specs.Prelude.{◌≡◌, ◌≢◌, ℕ, ◌+◌, ◌^◌, ◌<◌, ◌≤◌, ◌⊎◌, List, [], ◌∷◌, ◌++◌, length, All, Option, Some, IfSome}
 use Rattle.std.specs.Io.KnownBytes.{IsAtEnd}
 use Rattle.tl_fields.specs.Device.{Reader, reader}
-use Rattle.tl_records.specs.Lines.{IsFirstLine, AreFirstLines, AreLines}
+use Rattle.tl_records.specs.Lines.{IsFirstLine, AreFirstLines, AreLines, FailsWithin, WhereKnown, most_bytes}
 use Rattle.tl_records.specs.Records.{IsGoodLine, line_flaw}
 use Rattle.tl_records.specs.declared.fault.LineFault.{LineFault}
 use Rattle.tl_records.specs.declared.fault.LineFlaw.{LineFlaw}
-use Rattle.tl_records.specs.declared.fault.LineFlaw.TheVariants.{Read, TooManyLines}
+use Rattle.tl_records.specs.declared.fault.LineFlaw.TheVariants.{WrongLength, WrongType, Read, TooManyLines}
 use Rattle.tl_segments.specs.CountyFile.{layout}
 use Rattle.tl_segments.specs.Joining.{JoinedLines, IsWithinLimits}
 use Rattle.tl_segments.specs.declared.fault.CountyFile.{CountyFile}
@@ -26,6 +26,13 @@ pub record ReadsFile (file : CountyFile) (lines : List (List ℕ)) (old new : Re
   pub few : length lines < 2 ^ 32
   pub known : IfSome old.left (λ bytes. AreLines bytes lines)
   pub at_end : IsAtEnd new.left
+  pub reads : new.failed ≡ old.failed
+
+-- These are the first lines of a file that was read so far, without a fault: no read failed, and where the reader's bytes are known the rest
+-- is left.
+pub record ReadsLines (file : CountyFile) (lines : List (List ℕ)) (old new : Reader) : Type 0 where
+  pub good : AreGoodLines file lines
+  pub known : WhereKnown old.left new.left (λ bytes rest. AreFirstLines bytes lines rest)
   pub reads : new.failed ≡ old.failed
 
 -- a file was read to its end without a fault
@@ -49,20 +56,27 @@ pub record HasFlawAfter (file : CountyFile) (flaw : LineFlaw) (bytes : List ℕ)
   pub first : IsFirstLine after line rest
   pub flawed : line_flaw (layout file) line ≡ Some flaw
 
+-- behind these first lines of a file's bytes a read failed, in the line that comes next
+abbrev pub FailsAfter : List (List ℕ) → List ℕ → List ℕ → Type 0
+FailsAfter lines bytes rest = (after : List ℕ) × AreFirstLines bytes lines after × FailsWithin (most_bytes (length lines)) after rest
+
+-- the flaws that a line of the file may have of its own: its length, its record type, or the number that it must have
+abbrev pub MayHave : CountyFile → LineFlaw → Type 0
+MayHave file flaw = (flaw ≡ WrongLength) ⊎ (flaw ≡ WrongType) ⊎ (flaw ≡ (layout file).without_number)
+
 -- What holds where the line of this number, behind these lines, has this flaw. Lines are numbered below 2^32: only a read fails there too,
 -- and the line that is too many stands there. Where the reader's bytes are known they have the line, and a read has failed where that is the
 -- flaw, and nowhere else.
 abbrev pub ComesAfter : CountyFile → LineFlaw → ℕ → List (List ℕ) → Reader → Reader → Type 0
 ComesAfter file Read number lines old new =
-    (number ≤ 2 ^ 32) × IfSome old.left (λ bytes. BeginsWith bytes lines) × (new.failed ≢ old.failed)
+    (number ≤ 2 ^ 32) × WhereKnown old.left new.left (FailsAfter lines) × (new.failed ≢ old.failed)
 ComesAfter file TooManyLines number lines old new =
     (number ≡ 2 ^ 32) × IfSome old.left (λ bytes. HasMoreAfter bytes lines) × (new.failed ≡ old.failed)
 ComesAfter file flaw number lines old new =
-    (number < 2 ^ 32) × IfSome old.left (λ bytes. HasFlawAfter file flaw bytes lines) × (new.failed ≡ old.failed)
+    (number < 2 ^ 32) × MayHave file flaw × IfSome old.left (λ bytes. HasFlawAfter file flaw bytes lines) × (new.failed ≡ old.failed)
 
--- the first fault of a file is a line's own: lines without a fault come before it
-pub record IsFirstFault (file : CountyFile) (fault : LineFault) (old new : Reader) : Type 0 where
-  pub lines : List (List ℕ)
+-- the first fault of a file is a line's own: these lines come before it, without a fault
+pub record IsFirstFault (file : CountyFile) (fault : LineFault) (lines : List (List ℕ)) (old new : Reader) : Type 0 where
   pub good : AreGoodLines file lines
   pub counted : fault.line ≡ length lines + 1
   pub follows : ComesAfter file fault.flaw fault.line lines old new
@@ -82,7 +96,7 @@ pub record IsOneTooMany (file : CountyFile) (number : ℕ) (old new : Reader) : 
 
 -- why a file can't be loaded: this is its first fault, or memory is wanting and no read failed
 abbrev pub IsFileFault : CountyFile → LoadFault → Reader → Reader → Type 0
-IsFileFault file (Line of_file fault) old new = (of_file ≡ file) × IsFirstFault file fault old new
+IsFileFault file (Line of_file fault) old new = (of_file ≡ file) × (lines : List (List ℕ)) × IsFirstFault file fault lines old new
 IsFileFault file (TooManyNames line) old new = (file ≡ Rt4) × IsOneTooMany file line old new
 IsFileFault file (TooManyRanges line) old new = (file ≡ Rt6) × IsOneTooMany file line old new
 IsFileFault file Memory old new = new.failed ≡ old.failed

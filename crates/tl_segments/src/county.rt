@@ -8,13 +8,13 @@ ghost use Rattle.tl_segments.specs.Taking.{KeepsFile};
 ghost use Rattle.tl_segments.specs.Indexing.{IsIndexOf};
 ghost use Rattle.tl_segments.specs.declared.fault.CountyFile.TheVariants.{Rt1};
 
-use crate::fault::{CountyFile, LoadFault};
+use crate::fault::LoadFault;
 use crate::index::Index;
 use crate::segment::Segment;
 use std::alloc::Allocator;
 use std::marker::Model;
 use tl_fields::CountedRead;
-use tl_records::{Line, read_line, rt1};
+use tl_records::Line;
 
 /// The segments of a county, one of each line of its type 1 file, in their order. The TLID of each has a number. Contracts see it as a record
 /// with the field `segments`.
@@ -77,18 +77,10 @@ fn read_segments<A: Allocator + Copy, R: CountedRead>(
     ensures err { IfErr result (λ fault. IsFileFault Rt1 fault
         (reader R.remaining R.failed_reads input.old) (reader R.remaining R.failed_reads input.new)) }
 {
-    let file = CountyFile::Rt1;
     let mut segments = Vec::new(alloc);
     let mut line = Line::new();
-    loop {
-        match read_line(input, &mut line) {
-            Ok(Some(())) => {}
-            Ok(None) => return Ok(segments),
-            Err(fault) => return Err(LoadFault::Line { file, fault }),
-        }
-        match rt1(&line) {
-            Ok(record) => segments.push(index.segment(&record)?)?,
-            Err(fault) => return Err(LoadFault::Line { file, fault }),
-        }
+    while let Some(segment) = index.next_segment(input, &mut line)? {
+        segments.push(segment)?;
     }
+    Ok(segments)
 }

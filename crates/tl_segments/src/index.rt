@@ -1,8 +1,11 @@
 //! What is joined to the type 1 lines of a county, by TLID.
 ghost use Rattle.std.specs.Prelude.{◌≡◌, ◌≤◌, ◌+◌, [], ◌++◌, length, IfErr, IfOk, OnOk};
+ghost use Rattle.tl_fields.specs.Device.{reader};
 ghost use Rattle.tl_segments.specs.Joining.{JoinedLines, segment_of};
 ghost use Rattle.tl_segments.specs.Loading.{IsJoinedFault, readers};
 ghost use Rattle.tl_segments.specs.Tables.{HasShortLists, list_at, names_among};
+ghost use Rattle.tl_segments.specs.declared.fault.CountyFile.TheVariants as county_file;
+ghost use Rattle.tl_segments.specs.declared.fault.LoadFault.TheVariants as load_fault;
 ghost use Rattle.tl_segments.specs.declared.segment.TheConstants.{NAME_LIMIT};
 
 use crate::county_file::read_file;
@@ -14,7 +17,7 @@ use crate::segment::Segment;
 use crate::tables::Features;
 use std::alloc::{AllocError, Allocator};
 use tl_fields::CountedRead;
-use tl_records::Rt1;
+use tl_records::{Line, LineFault, Rt1, read_line, rt1};
 
 /// The alternate names and the further ranges of a county's segments, by TLID: what its files of types 4, 5 and 6 have.
 #[derive(Drop)]
@@ -28,7 +31,7 @@ pub struct Index<A: Allocator> {
 }
 
 impl<A: Allocator + Copy> Index<A> {
-    ghost use Rattle.tl_segments.specs.Indexing.{IsIndexOf, LoadsIndex, names_in};
+    ghost use Rattle.tl_segments.specs.Indexing.{IsIndexOf, IsSegmentRead, LoadsIndex, names_in};
 
     /// Reads the files of types 4, 5 and 6, in this order, each to its end, or answers the first fault, at which the input then stands.
     pub fn load<R: CountedRead>(
@@ -66,6 +69,28 @@ impl<A: Allocator + Copy> Index<A> {
         self.push_names(tlid, &mut segment)?;
         self.push_ranges(tlid, &mut segment)?;
         Ok(segment)
+    }
+
+    /// Reads the next line of a type 1 file into `line` and gives its segment, `None` at the end of the input. A line without an alternate name
+    /// and a further range takes no memory.
+    #[inline]
+    pub fn next_segment<R: CountedRead>(
+        &self,
+        input: &mut R,
+        line: &mut Line,
+    ) -> Result<Option<Segment<A>>, LoadFault>
+        ensures { IsSegmentRead self.now line.old line.new
+            (reader R.remaining R.failed_reads input.old) (reader R.remaining R.failed_reads input.new) result }
+    {
+        match read_line(input, line) {
+            Ok(Some(())) => {}
+            Ok(None) => return Ok(None),
+            Err(fault) => return Err(rt1_fault(fault)),
+        }
+        match rt1(line) {
+            Ok(record) => Ok(Some(self.segment(&record)?)),
+            Err(fault) => Err(rt1_fault(fault)),
+        }
     }
 
     fn push_names(&self, tlid: u64, segment: &mut Segment<A>) -> Result<(), AllocError>
@@ -106,4 +131,12 @@ impl<A: Allocator + Copy> Index<A> {
         }
         Ok(())
     }
+}
+
+#[cold]
+fn rt1_fault(fault: LineFault) -> LoadFault
+    ensures { result ≡ load_fault.Line county_file.Rt1 fault }
+{
+    let file = CountyFile::Rt1;
+    LoadFault::Line { file, fault }
 }

@@ -1,7 +1,8 @@
 //! `verify`: whether a program is accepted.
+ghost use Rattle.std.specs.Prelude.{◌≢◌, IfErr};
 ghost use Rattle.tl_fields.specs.Device.{writer};
 ghost use Rattle.extractd.specs.Command.{IsCarriedOut};
-ghost use Rattle.extractd.specs.Failure.{TellsOpens};
+ghost use Rattle.extractd.specs.Failure.{TellsOpens, status};
 ghost use Rattle.extractd.specs.declared.commands.Request.{Request};
 
 use super::{option, value};
@@ -48,6 +49,7 @@ impl<'a> Verify<'a> {
     ) -> Result<(), Failure<'a>>
         ensures outcome { IsCarriedOut (Request.Verify self.entry) (F.bytes files.old) result
             (writer W.contents W.counts out.old) (writer W.contents W.counts out.new) }
+        ensures usage { IfErr result (λ failure. status failure ≢ 2) }
         ensures opens { TellsOpens result (F.failed_opens files.old) (F.failed_opens files.new) }
     {
         let program = match read_file(alloc, files, self.program) {

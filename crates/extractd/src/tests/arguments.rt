@@ -40,12 +40,24 @@ dis p.bpf | error:
 dis --source p.s | error:
 dis --program p.bpf 01001 | error:
 dis --program p.bpf --program p.bpf | error:
-trace --program p.bpf --data d --line 1 --limit 1 01001 | error:
+trace --program p.bpf --data d --line 1 01001 | error:
+trace --program p.bpf --data d --limit 1 01001 | error:
+trace --program p.bpf --line 1 --limit 1 01001 | error:
+trace --data d --line 1 --limit 1 01001 | error:
+trace --program p.bpf --data d --line 1 --limit 1 | error:
+trace --program p.bpf --data d --line 1 --line 1 --limit 1 01001 | error:
+trace --program p.bpf --data d --line 1 --limit 1 1001 | error: CODE is five digits, and "1001" isn't
+trace --program p.bpf --data d --line '' --limit 1 01001 | error: --line is 1 to 19 digits, and "" isn't
+trace --program p.bpf --data d --line +1 --limit 1 01001 | error: --line is 1 to 19 digits, and "+1" isn't
+trace --program p.bpf --data d --line 1a --limit 1 01001 | error: --line is 1 to 19 digits, and "1a" isn't
+trace --program p.bpf --data d --line 1 --limit 10000000000000000000 01001 | error: --limit is 1 to 19 digits, and "10000000000000000000" isn't
+trace --program p.bpf --data d --line 1 --limit -1 01001 | error:
 geocode --data d --number 1 --name Main 01001 | error:
 serve --data d --port 8080 01001 | error:
 help | error:
 --help | Extracts the TIGER/Line street segments
 run --help | Writes the rows
+trace --help | Says what
 verify --help | Says whether
 asm --help | Writes the BPF
 dis --help | Writes a program
@@ -60,7 +72,7 @@ fn usage_faults(rt: HostRuntime) -> Result<(), Fail> {
         ..MemoryFile::new("p.bpf", b"")
     };
     for row in FAULTS.trim().lines() {
-        let ending = run_command(rt.alloc(), cell(row, 0), closed, closed)?;
+        let ending = run_command(rt.alloc(), cell(row, 0), &[closed])?;
         let front = cell(row, 1);
         assert_eq!(rt; (ending.status, ending.written.len()), (2, 0), "{row}");
         assert!(rt;
@@ -75,17 +87,20 @@ fn usage_faults(rt: HostRuntime) -> Result<(), Fail> {
 // What a text for the user has somewhere in it: the program's name in a usage line, its version, an example of each command.
 const PARTS: &str = r#"
 run | Usage: extractd run --program <FILE> --data <DIR> <CODE>
+trace | Usage: extractd trace --program <FILE> --data <DIR> --line <N> --limit <L> <CODE>
 verify | Usage: extractd verify --program <FILE>
 asm | Usage: extractd asm --source <FILE>
 dis | Usage: extractd dis --program <FILE>
 frob | Usage: extractd <COMMAND>
 --help | extractd run --program street.bpf --data tiger 01001 > rows.tsv
+--help | extractd trace --program street.bpf --data tiger --line 12 --limit 4096 01001
 --help | extractd verify --program street.bpf
 --help | extractd asm --source street.s > street.bpf
 --help | extractd dis --program street.bpf
 --help | extractd 0.1.0
 --help | 4  out of memory
 run --help | extractd run --program street.bpf --data tiger 01001 > rows.tsv
+trace --help | stuck place P cause N
 verify --help | extractd verify --program street.bpf
 asm --help | extractd asm --source street.s > street.bpf
 dis --help | extractd dis --program street.bpf
@@ -94,8 +109,7 @@ dis --help | extractd dis --program street.bpf
 #[test]
 fn usage_texts(rt: HostRuntime) -> Result<(), Fail> {
     for row in PARTS.trim().lines() {
-        let missing = MemoryFile::missing("p.bpf");
-        let ending = run_command(rt.alloc(), cell(row, 0), missing, missing)?;
+        let ending = run_command(rt.alloc(), cell(row, 0), &[])?;
         let said = str::from_utf8(ending.said.as_slice()).unwrap_or("");
         assert_eq!(rt; ending.status, 2, "{row}");
         assert!(rt; said.contains(cell(row, 1)), "{row}");

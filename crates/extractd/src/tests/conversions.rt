@@ -36,12 +36,7 @@ fn assembled_texts(rt: HostRuntime) -> Result<(), Fail> {
         let source = text_of(rt.alloc(), cell(row, 0))?;
         let words = bytes_of(rt.alloc(), cell(row, 1))?;
         let file = MemoryFile::new("p.s", source.as_slice());
-        let ending = run_command(
-            rt.alloc(),
-            "asm --source p.s",
-            file,
-            MemoryFile::missing("other"),
-        )?;
+        let ending = run_command(rt.alloc(), "asm --source p.s", &[file])?;
         assert_eq!(rt; Ok(ending.status), cell(row, 2).parse(), "{row}");
         assert_eq!(rt; ending.said, line_of(rt.alloc(), cell(row, 3))?, "{row}");
         assert_eq!(rt; ending.written, words, "{row}");
@@ -64,12 +59,7 @@ fn disassembled_programs(rt: HostRuntime) -> Result<(), Fail> {
         let program = bytes_of(rt.alloc(), cell(row, 0))?;
         let text = text_of(rt.alloc(), cell(row, 1))?;
         let file = MemoryFile::new("p.bpf", program.as_slice());
-        let ending = run_command(
-            rt.alloc(),
-            "dis --program p.bpf",
-            file,
-            MemoryFile::missing("other"),
-        )?;
+        let ending = run_command(rt.alloc(), "dis --program p.bpf", &[file])?;
         assert_eq!(rt; Ok(ending.status), cell(row, 2).parse(), "{row}");
         assert_eq!(rt; ending.said, line_of(rt.alloc(), cell(row, 3))?, "{row}");
         assert_eq!(rt; ending.written, text, "{row}");

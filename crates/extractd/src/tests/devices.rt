@@ -1,8 +1,9 @@
 //! Files and outputs that fail, and files past every buffer's and piece's length.
 use super::fixtures::{
-    MemoryFile, bytes_of, cell, line_of, output, repetition, run_command, status_of,
+    MemoryFile, bytes_in, bytes_of, cell, file_of, line_of, output, repetition, run_command,
+    status_of,
 };
-use std::alloc::{AllocError, Global};
+use std::alloc::Global;
 use std::io::ErrorKind;
 use std::test::Fail;
 use tl_fields::{Burst, Fuse};
@@ -34,6 +35,10 @@ run --program p.bpf --data d 01001 | ONE EXIT | LINE \n | empty 0 | 3 | refused 
 run --program p.bpf --data d 01001 | ONE EXIT | LINE \n | write 1 | 3 | error: the output can't be written: no space left
 run --program p.bpf --data d 01001 | EXIT | LINE \n | write 0 | 1 | refused 40 place 0 ReadsNothing(0)
 run --program p.bpf --data d 01001 | missing | LINE \n | write 0 | 3 | error: p.bpf: not found
+trace --program p.bpf --data d --line 1 --limit 2 01001 | ONE EXIT | LINE \n | write 0 | 3 | refused 60 Write
+trace --program p.bpf --data d --line 1 --limit 2 01001 | ONE EXIT | LINE \n | empty 0 | 3 | refused 61 WriteZero
+trace --program p.bpf --data d --line 1 --limit 2 01001 | ONE EXIT | LINE \n | write 1 | 3 | error: the output can't be written: no space left
+trace --program p.bpf --data d --line 2 --limit 2 01001 | ONE EXIT | LINE \n | write 0 | 2 | error: the type 1 file has no line 2
 verify --program p.bpf | missing | | | 3 | error: p.bpf: not found
 verify --program p.bpf | closed denied | | | 3 | error: p.bpf: permission denied
 verify --program p.bpf | ! 0 directory | | | 3 | error: p.bpf: is a directory
@@ -68,49 +73,6 @@ dis --program p.bpf | EXIT*4097 | | | 1 | refused 12 TooLong
 dis --program p.bpf | EXIT*4096 ! 8 pipe | | | 3 | error: p.bpf: broken pipe
 ";
 
-fn kind_of(word: &str) -> ErrorKind {
-    match word {
-        "memory" => ErrorKind::OutOfMemory,
-        "denied" => ErrorKind::PermissionDenied,
-        "directory" => ErrorKind::IsADirectory,
-        "file" => ErrorKind::NotADirectory,
-        "pipe" => ErrorKind::BrokenPipe,
-        _ => ErrorKind::TooManyLinks,
-    }
-}
-
-/// The file that a cell describes, over these bytes of it.
-fn file_of<'a>(name: &'a str, cell: &str, bytes: &'a [u8]) -> MemoryFile<'a> {
-    let file = MemoryFile::new(name, bytes);
-    if cell == "missing" {
-        return MemoryFile::missing(name);
-    }
-    if let Some(word) = cell.strip_prefix("closed ") {
-        return MemoryFile {
-            closed: Some(kind_of(word)),
-            ..file
-        };
-    }
-    match cell.split_once('!') {
-        Some((_, reads)) => {
-            let (reads, word) = reads.trim().split_once(' ').unwrap_or(("", ""));
-            MemoryFile {
-                reads: reads.parse().unwrap_or(0),
-                burst: Burst::Fails(kind_of(word)),
-                ..file
-            }
-        }
-        None => file,
-    }
-}
-
-fn bytes_in(alloc: Global, cell: &str) -> Result<Vec<u8>, AllocError> {
-    if cell == "missing" || cell.starts_with("closed ") {
-        return Ok(Vec::new(alloc));
-    }
-    bytes_of(alloc, cell.split('!').next().unwrap_or(""))
-}
-
 fn output_of(alloc: Global, cell: &str) -> Fuse<Vec<u8>> {
     match cell.split_once(' ') {
         Some(("empty", calls)) => output(alloc, calls.parse().ok(), Burst::TakesNothing),
@@ -142,7 +104,7 @@ fn failing_devices(rt: HostRuntime) -> Result<(), Fail> {
         for (index, error_cell) in ["", "write 0", "empty 0", "write 1"].iter().enumerate() {
             let mut out = output_of(rt.alloc(), failing);
             let mut errors = output_of(rt.alloc(), error_cell);
-            let given = status_of(rt.alloc(), line, first, rt1, &mut out, &mut errors)?;
+            let (given, _) = status_of(rt.alloc(), line, &[first, rt1], &mut out, &mut errors)?;
             assert_eq!(rt; Ok(given), status.parse(), "{row}");
             if index == 0 {
                 assert_eq!(rt; errors.inner, said, "{row}");
@@ -161,7 +123,7 @@ fn long_type_1_file(rt: HostRuntime) -> Result<(), Fail> {
     let program = MemoryFile::new("p.bpf", program.as_slice());
     let rt1 = MemoryFile::new("d/TGR01001.RT1", file.as_slice());
     let line = "run --program p.bpf --data d 01001";
-    let ending = run_command(rt.alloc(), line, program, rt1)?;
+    let ending = run_command(rt.alloc(), line, &[program, rt1])?;
     assert_eq!(rt; ending.status, 0);
     assert_eq!(rt; ending.written, rows);
     Ok(())

@@ -1,9 +1,12 @@
 //! Files in memory, devices that go wrong, and the notation of the tables.
-ghost use Rattle.std.specs.Prelude.{◌≡◌, IfOk, None, Some, if◌then◌else◌};
+ghost use Rattle.std.specs.Prelude.{◌≡◌, [], IfOk, Some};
+ghost use Rattle.std.specs.List.{find};
+ghost use Rattle.std.specs.Option.{option_map_or};
 ghost use Rattle.std.specs.Str.{bytes_eq};
 
 use crate::command::command;
 use crate::files::Files;
+use arrayvec::ArrayString;
 use std::alloc::{AllocError, Global};
 use std::io;
 use std::io::ErrorKind;
@@ -36,13 +39,6 @@ impl<'a> MemoryFile<'a> {
         }
     }
 
-    pub fn missing(name: &'a str) -> Self {
-        MemoryFile {
-            closed: Some(ErrorKind::NotFound),
-            ..MemoryFile::new(name, b"")
-        }
-    }
-
     fn open(&self) -> io::Result<Counting<Fuse<&'a [u8]>>>
         ensures { IfOk result (λ reader. reader.inner.inner.now ≡ self.now.bytes.now) }
     {
@@ -53,38 +49,57 @@ impl<'a> MemoryFile<'a> {
     }
 }
 
-/// Two files in memory. No other is there.
+/// Files in memory, of different names. No other is there.
 #[derive(Drop)]
 pub struct MemoryFiles<'a> {
-    first: MemoryFile<'a>,
-    second: MemoryFile<'a>,
+    files: &'a [MemoryFile<'a>],
     failed_opens: u64,
+    /// The names that were to be opened, with a blank behind each.
+    opened: ArrayString<128>,
+}
+
+impl<'a> MemoryFiles<'a> {
+    fn file(&self, name: &str) -> Option<MemoryFile<'a>>
+        ensures { result ≡ find (λ file. bytes_eq file.name.now name.now) self.now.files.now }
+    {
+        self.files.iter().copied().find(|file| file.name == name)
+    }
 }
 
 impl<'a> Files for MemoryFiles<'a> {
     type Reader = Counting<Fuse<&'a [u8]>>;
 
-    ghost bytes = { λ files name.
-        if bytes_eq name files.first.name.now then Some files.first.bytes.now
-        else if bytes_eq name files.second.name.now then Some files.second.bytes.now
-        else None };
+    ghost bytes = { λ files name. option_map_or (λ file. Some file.bytes.now)
+        (find (λ file. bytes_eq file.name.now name) files.files.now) (Some []) };
 
     ghost failed_opens = { λ files. files.failed_opens };
 
     fn open(&mut self, name: &str) -> io::Result<Counting<Fuse<&'a [u8]>>> {
-        let opened = if name == self.first.name {
-            self.first.open()
-        } else if name == self.second.name {
-            self.second.open()
-        } else {
-            Err(io::Error::from(ErrorKind::NotFound))
-        };
-        if let Err(error) = &opened {
-            if error.kind() != ErrorKind::OutOfMemory {
+        match self.open_if_there(name) {
+            Ok(Some(reader)) => Ok(reader),
+            Ok(None) => {
                 count_one(&mut self.failed_opens);
+                Err(io::Error::from(ErrorKind::NotFound))
+            }
+            Err(error) => Err(error),
+        }
+    }
+
+    fn open_if_there(&mut self, name: &str) -> io::Result<Option<Counting<Fuse<&'a [u8]>>>> {
+        let _ = self.opened.try_push_str(name);
+        let _ = self.opened.try_push_str(" ");
+        let Some(file) = self.file(name) else {
+            return Ok(None);
+        };
+        match file.open() {
+            Ok(reader) => Ok(Some(reader)),
+            Err(error) => {
+                if error.kind() != ErrorKind::OutOfMemory {
+                    count_one(&mut self.failed_opens);
+                }
+                Err(error)
             }
         }
-        opened
     }
 }
 
@@ -93,28 +108,28 @@ pub fn output(alloc: Global, passed: Option<u64>, burst: Burst) -> Fuse<Vec<u8>>
     Fuse::after_calls(Vec::new(alloc), passed.unwrap_or(u64::MAX), burst)
 }
 
-/// Runs a command on files, and gives its exit status.
+/// Runs a command on files, and gives its exit status and the names that it opened.
 pub fn status_of(
     alloc: Global,
     line: &str,
-    first: MemoryFile<'_>,
-    second: MemoryFile<'_>,
+    files: &[MemoryFile<'_>],
     out: &mut Fuse<Vec<u8>>,
     errors: &mut Fuse<Vec<u8>>,
-) -> Result<u8, AllocError> {
+) -> Result<(u8, ArrayString<128>), AllocError> {
     let arguments = arguments_of(alloc, line)?;
     let mut files = MemoryFiles {
-        first,
-        second,
+        files,
         failed_opens: 0,
+        opened: ArrayString::new(),
     };
-    Ok(command(
+    let status = command(
         alloc,
         arguments.as_slice(),
         &mut files,
         &mut Counting::new(out),
         &mut Counting::new(errors),
-    ))
+    );
+    Ok((status, files.opened))
 }
 
 /// How a command ended.
@@ -123,23 +138,32 @@ pub struct Ending {
     pub status: u8,
     pub written: Vec<u8>,
     pub said: Vec<u8>,
+    /// The names that were to be opened, with a blank behind each.
+    pub opened: ArrayString<128>,
 }
 
 /// Runs a command on files, with an output that takes all, and standard error likewise.
 pub fn run_command(
     alloc: Global,
     line: &str,
-    first: MemoryFile<'_>,
-    second: MemoryFile<'_>,
+    files: &[MemoryFile<'_>],
 ) -> Result<Ending, AllocError> {
     let mut out = output(alloc, None, Burst::TakesNothing);
     let mut errors = output(alloc, None, Burst::TakesNothing);
-    let status = status_of(alloc, line, first, second, &mut out, &mut errors)?;
+    let (status, opened) = status_of(alloc, line, files, &mut out, &mut errors)?;
     Ok(Ending {
         status,
         written: out.inner,
         said: errors.inner,
+        opened,
     })
+}
+
+/// The instruction words of a program text, by `asm`.
+pub fn assembled(alloc: Global, source: &str) -> Result<Vec<u8>, AllocError> {
+    let source = text_of(alloc, source)?;
+    let source = MemoryFile::new("p.s", source.as_slice());
+    Ok(run_command(alloc, "asm --source p.s", &[source])?.written)
 }
 
 /// The arguments of a line, with blanks between; `''` is an empty one.
@@ -163,9 +187,52 @@ pub fn line_of(alloc: Global, cell: &str) -> Result<Vec<u8>, AllocError> {
     Ok(line)
 }
 
-/// The bytes of tokens with blanks between: `EXIT` and `ONE` (r0 = 1) are instructions, `LINE` is the line of Main Street, `LINE@5=AB`
-/// that line with other bytes from an offset on, where `_` is a blank, `LINE:230` the line cut or followed by blanks to that length;
-/// two hexadecimal digits are a byte, and any other token is text. `T*3` is the token `T` three times.
+fn kind_of(word: &str) -> ErrorKind {
+    match word {
+        "memory" => ErrorKind::OutOfMemory,
+        "denied" => ErrorKind::PermissionDenied,
+        "directory" => ErrorKind::IsADirectory,
+        "file" => ErrorKind::NotADirectory,
+        "pipe" => ErrorKind::BrokenPipe,
+        _ => ErrorKind::TooManyLinks,
+    }
+}
+
+/// The file that a cell describes, over these bytes of it. A missing one has another name.
+pub fn file_of<'a>(name: &'a str, cell: &str, bytes: &'a [u8]) -> MemoryFile<'a> {
+    let name = if cell == "missing" { "elsewhere" } else { name };
+    let file = MemoryFile::new(name, bytes);
+    if let Some(word) = cell.strip_prefix("closed ") {
+        return MemoryFile {
+            closed: Some(kind_of(word)),
+            ..file
+        };
+    }
+    match cell.split_once('!') {
+        Some((_, reads)) => {
+            let (reads, word) = reads.trim().split_once(' ').unwrap_or(("", ""));
+            MemoryFile {
+                reads: reads.parse().unwrap_or(0),
+                burst: Burst::Fails(kind_of(word)),
+                ..file
+            }
+        }
+        None => file,
+    }
+}
+
+/// The bytes of the file that a cell describes.
+pub fn bytes_in(alloc: Global, cell: &str) -> Result<Vec<u8>, AllocError> {
+    if cell == "missing" || cell.starts_with("closed ") {
+        return Ok(Vec::new(alloc));
+    }
+    bytes_of(alloc, cell.split('!').next().unwrap_or(""))
+}
+
+/// The bytes of tokens with blanks between: `EXIT` and `ONE` (r0 = 1) are instructions, `LINE` is the line of Main Street, and `RT4`, `RT5`
+/// and `RT6` are blank lines of these types; `LINE@5=AB@55=H` is that line with other bytes from offsets on, `LINE:230` the line cut or
+/// followed by blanks to that length; two hexadecimal digits are a byte, and any other token is text, where `_` is a blank. `T*3` is the token
+/// `T` three times.
 pub fn bytes_of(alloc: Global, tokens: &str) -> Result<Vec<u8>, AllocError> {
     let mut bytes = Vec::new(alloc);
     for token in tokens.split_whitespace() {
@@ -182,40 +249,69 @@ pub fn bytes_of(alloc: Global, tokens: &str) -> Result<Vec<u8>, AllocError> {
 }
 
 fn push_token(alloc: Global, bytes: &mut Vec<u8>, token: &str) -> Result<(), AllocError> {
-    if let Some(change) = token.strip_prefix("LINE") {
-        return push_line(alloc, bytes, change);
+    match token.get(..3).unwrap_or("") {
+        "LIN" => return push_line(alloc, bytes, LINE.as_bytes(), token),
+        "RT4" => return push_blank_line(alloc, bytes, token, 58),
+        "RT5" => return push_blank_line(alloc, bytes, token, 56),
+        "RT6" => return push_blank_line(alloc, bytes, token, 76),
+        _ => {}
     }
     match token {
         "EXIT" => bytes.extend_from_slice(b"\x95\0\0\0\0\0\0\0"),
         "ONE" => bytes.extend_from_slice(b"\xb7\0\0\0\x01\0\0\0"),
         _ => match u8::from_str_radix(token, 16) {
             Ok(byte) if token.len() == 2 => bytes.extend_from_slice(&[byte]),
-            _ => push_text(bytes, token),
+            _ => push_blanked(alloc, bytes, token),
         },
     }
 }
 
-fn push_line(alloc: Global, bytes: &mut Vec<u8>, change: &str) -> Result<(), AllocError> {
-    let line = LINE.as_bytes();
-    if let Some((offset, text)) = change.split_once('=') {
-        let mut other = Vec::new(alloc);
-        push_text(&mut other, text.replace(alloc, "_", " ")?.as_str())?;
-        let offset = number(offset);
-        let after = offset.saturating_add(other.len());
-        bytes.extend_from_slice(line.get(..offset).unwrap_or(b""))?;
-        bytes.extend_from_slice(other.as_slice())?;
-        return bytes.extend_from_slice(line.get(after..).unwrap_or(b""));
+/// A line of the record type that the token begins with, of so many bytes.
+fn push_blank_line(
+    alloc: Global,
+    bytes: &mut Vec<u8>,
+    token: &str,
+    length: usize,
+) -> Result<(), AllocError> {
+    let mut line = Vec::new(alloc);
+    line.extend_from_slice(token.get(2..3).unwrap_or("").as_bytes())?;
+    line.extend_from_slice(b"0006")?;
+    line.resize(length, b' ')?;
+    push_line(alloc, bytes, line.as_slice(), token)
+}
+
+/// A line as the token changes it.
+fn push_line(
+    alloc: Global,
+    bytes: &mut Vec<u8>,
+    line: &[u8],
+    token: &str,
+) -> Result<(), AllocError> {
+    let mut changed = line.to_vec(alloc)?;
+    if let Some((_, length)) = token.split_once(':') {
+        let length = length.split('@').next().unwrap_or("");
+        changed.resize(length.parse().unwrap_or(0), b' ')?;
     }
-    let length = if change.is_empty() {
-        line.len()
-    } else {
-        number(change)
-    };
-    bytes.extend_from_slice(line.get(..length).unwrap_or(line))?;
-    for _ in line.len()..length {
-        bytes.push(b' ')?;
+    for change in token.split('@').skip(1) {
+        let (offset, text) = change.split_once('=').unwrap_or(("", ""));
+        let offset = offset.parse().unwrap_or(0);
+        changed = with_text(alloc, changed.as_slice(), offset, text)?;
     }
-    Ok(())
+    bytes.extend_from_slice(changed.as_slice())
+}
+
+/// A line with other bytes from an offset on.
+fn with_text(alloc: Global, line: &[u8], offset: usize, text: &str) -> Result<Vec<u8>, AllocError> {
+    let mut changed = line.get(..offset).unwrap_or(b"").to_vec(alloc)?;
+    push_blanked(alloc, &mut changed, text)?;
+    let after = changed.len();
+    changed.extend_from_slice(line.get(after..).unwrap_or(b""))?;
+    Ok(changed)
+}
+
+/// The bytes of a text, where `_` is a blank.
+fn push_blanked(alloc: Global, bytes: &mut Vec<u8>, text: &str) -> Result<(), AllocError> {
+    push_text(bytes, text.replace(alloc, "_", " ")?.as_str())
 }
 
 /// The bytes of tokens, so many times.
@@ -226,11 +322,6 @@ pub fn repetition(alloc: Global, tokens: &str, count: u32) -> Result<Vec<u8>, Al
         bytes.extend_from_slice(once.as_slice())?;
     }
     Ok(bytes)
-}
-
-/// The number behind one character.
-fn number(text: &str) -> usize {
-    text.get(1..).unwrap_or("").parse().unwrap_or(0)
 }
 
 /// The bytes of a text, where `\n`, `\r`, `\t` and `\xFF` are one byte each.

@@ -38,7 +38,7 @@ fn type_1_files(rt: HostRuntime) -> Result<(), Fail> {
         let rows = bytes_of(rt.alloc(), cell(row, 2))?;
         let program = MemoryFile::new("p.bpf", program.as_slice());
         let rt1 = MemoryFile::new("d/TGR01001.RT1", file.as_slice());
-        let ending = run_command(rt.alloc(), RUN, program, rt1)?;
+        let ending = run_command(rt.alloc(), RUN, &[program, rt1])?;
         assert_eq!(rt; Ok(ending.status), cell(row, 3).parse(), "{row}");
         assert_eq!(rt; ending.said, line_of(rt.alloc(), cell(row, 4))?, "{row}");
         assert_eq!(rt; ending.written, rows, "{row}");

@@ -1,6 +1,6 @@
 //! The commands `verify` and `run` on programs that are accepted, and on programs that are refused.
 use super::fixtures::{
-    MemoryFile, bytes_of, cell, line_of, output, run_command, status_of, text_of,
+    MemoryFile, assembled, bytes_of, cell, line_of, output, run_command, status_of,
 };
 use std::alloc::{AllocError, Global};
 use std::io::ErrorKind;
@@ -133,7 +133,7 @@ fn is_refused(alloc: Global, program: MemoryFile<'_>, line: &str) -> Result<bool
     for command in [VERIFY, RUN] {
         let mut out = output(alloc, Some(0), Burst::Fails(ErrorKind::StorageFull));
         let mut errors = output(alloc, None, Burst::TakesNothing);
-        let status = status_of(alloc, command, program, rt1, &mut out, &mut errors)?;
+        let (status, _) = status_of(alloc, command, &[program, rt1], &mut out, &mut errors)?;
         let is_refused = status == 1 && errors.inner == said && out.inner.is_empty();
         if !is_refused {
             return Ok(false);
@@ -149,8 +149,8 @@ fn is_accepted(
     file: &[u8],
     rows: &[u8],
 ) -> Result<bool, AllocError> {
-    let verified = run_command(alloc, VERIFY, program, MemoryFile::missing(RT1))?;
-    let run = run_command(alloc, RUN, program, MemoryFile::new(RT1, file))?;
+    let verified = run_command(alloc, VERIFY, &[program])?;
+    let run = run_command(alloc, RUN, &[program, MemoryFile::new(RT1, file)])?;
     let is_verified = verified.status == 0
         && verified.written.as_slice() == b"accepted\n".as_slice()
         && verified.said.is_empty();
@@ -172,15 +172,8 @@ fn verdicts(rt: HostRuntime) -> Result<(), Fail> {
     let file = bytes_of(rt.alloc(), r"LINE \n")?;
     let row_of_file = bytes_of(rt.alloc(), r"0\t LINE \n")?;
     for row in VERDICTS.trim().lines() {
-        let source = text_of(rt.alloc(), cell(row, 0))?;
-        let source = MemoryFile::new("p.s", source.as_slice());
-        let assembled = run_command(
-            rt.alloc(),
-            "asm --source p.s",
-            source,
-            MemoryFile::missing(RT1),
-        )?;
-        let program = MemoryFile::new("p.bpf", assembled.written.as_slice());
+        let program = assembled(rt.alloc(), cell(row, 0))?;
+        let program = MemoryFile::new("p.bpf", program.as_slice());
         let holds = match cell(row, 1) {
             "row" => is_accepted(rt.alloc(), program, &file, &row_of_file)?,
             "no row" => is_accepted(rt.alloc(), program, &file, b"")?,
@@ -194,11 +187,8 @@ fn verdicts(rt: HostRuntime) -> Result<(), Fail> {
 #[test]
 fn calls(rt: HostRuntime) -> Result<(), Fail> {
     for row in CALLS.trim().lines() {
-        let source = text_of(rt.alloc(), cell(row, 0))?;
-        let source = MemoryFile::new("p.s", source.as_slice());
-        let missing = MemoryFile::missing(RT1);
-        let assembled = run_command(rt.alloc(), "asm --source p.s", source, missing)?;
-        let program = MemoryFile::new("p.bpf", assembled.written.as_slice());
+        let program = assembled(rt.alloc(), cell(row, 0))?;
+        let program = MemoryFile::new("p.bpf", program.as_slice());
         let file = bytes_of(rt.alloc(), cell(row, 1))?;
         let rows = bytes_of(rt.alloc(), cell(row, 2))?;
         assert!(rt; is_accepted(rt.alloc(), program, &file, &rows)?, "{row}");

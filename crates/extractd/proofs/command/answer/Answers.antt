@@ -10,7 +10,7 @@ returns-in-Ok-clause-done g c = λ is. record {
   flushed = c.flush.ensures.done is;
 }
 
-pub returns-in-Err-clause-refused : goal.returns-in-Err-clause-refused
-returns-in-Err-clause-refused g c = λ is.
+pub returns-else-status-eq-USAGE-clause-refused : goal.returns-else-status-eq-USAGE-clause-refused
+returns-else-status-eq-USAGE-clause-refused g c = λ is.
     refusal_said c.args.request _ c.in-Err.failure _ (writer g.W.Write.contents g.W.CountedWrite.counts c.carry_out.new.out) _ _ _
-    c.in-Err.ensures.outcome c.flush_counted.ensures.bytes c.report.ensures (sym c.status.ensures ∙ is)
+    c.in-Err.ensures.outcome c.flush_counted.ensures.bytes c.report.ensures (sym c.status-status.ensures ∙ is)

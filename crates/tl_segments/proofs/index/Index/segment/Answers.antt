@@ -15,4 +15,4 @@ returns g c = λ lines of_lines.
     let first : ◌≡◌ {A = Contents} c.of-segment.result record { bytes = line; names = []; ranges = [] } = c.of-segment.ensures ∙ ap (λ bytes. let segment : Contents = record { bytes = bytes; names = []; ranges = [] } in segment) c.bytes.ensures.value in
     let named = c.in_ok-push_names.ensures ∙ ap (λ (segment : Contents). record segment { names = names }) first in
     let ranged = c.in_ok-push_ranges.ensures ∙ ap (λ (segment : Contents). record segment { ranges = ranges }) named in
-    segment_from_index index lines line tlid c.push_ranges.new.segment of_lines c.tlid_number-tlid.ensures ranged
+    segment_from_index index lines line tlid c.push_ranges.new.segment of_lines c.tlid_number-tlid.ensures.value ranged

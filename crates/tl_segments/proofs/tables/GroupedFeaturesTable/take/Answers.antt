@@ -10,6 +10,6 @@ returns-in-Err-Full g c = λ lines keeps few.
     let line = c.args.line.now in
     let number = c.tlid_number.result in
     let record_of = c.in-Ok.ensures.ok in
-    let is : number_in Rt4 line.bytes ≡ Some number = subst (λ bytes. number_in Rt4 bytes ≡ Some number) record_of.0 c.tlid_number.ensures in
+    let is : number_in Rt4 line.bytes ≡ Some number = subst (λ bytes. number_in Rt4 bytes ≡ Some number) record_of.0 c.tlid_number.ensures.value in
     let full = keeps-full Rt4 feature_numbers c.args.self.now lines number (keeps number) (c.in-Err-Full.ensures.full c.in-Err-Full.field-0-is) in
     (refl, c.from.ensures ∙ c.number.ensures, record { good = record_of.1; beyond = not_few-push Rt4 lines line.bytes number is full })
