@@ -1,23 +1,29 @@
 #!/usr/bin/env python3
-"""Writes TGR01001.RT1, a small made-up county for the examples.
+"""Writes a small made-up county for the examples: TGR01001.RT1, .RT4, .RT5
+and .RT6, and in the folder `one` what they have of a single segment.
 
     python3 make_county.py [FOLDER]
 
-The file goes into FOLDER, or beside this script where none is given. The same
+The files go into FOLDER, or beside this script where none is given. The same
 bytes come out of every run: the numbers are drawn by a generator of this
-script's own, so that no version of Python changes them. Nothing in the file
+script's own, so that no version of Python changes them. Nothing in the files
 describes a real street, stream or boundary.
 """
 
 import sys
 from pathlib import Path
 
+CODE = "01001"
 SEED = 20060101
-LENGTH = 228
+JOINED_SEED = 59    # for types 4, 5 and 6, so that type 1 doesn't depend on them
+ONE = 146           # the segment of the folder `one`, counted from 1
 LINE_END = b"\r\n"
 
+# The lengths of lines by record type.
+LENGTHS = {"1": 228, "4": 58, "5": 56, "6": 76}
+
 # First and last place of each field that is filled in, counted from 1.
-PLACES = {
+TYPE_1 = {
     "RT": (1, 1), "VERSION": (2, 5), "TLID": (6, 15), "SIDE1": (16, 16),
     "SOURCE": (17, 17), "FEDIRP": (18, 19), "FENAME": (20, 49),
     "FETYPE": (50, 53), "FEDIRS": (54, 55), "CFCC": (56, 58),
@@ -31,7 +37,27 @@ PLACES = {
     "BLOCKR": (187, 190), "FRLONG": (191, 200), "FRLAT": (201, 209),
     "TOLONG": (210, 219), "TOLAT": (220, 228),
 }
-RIGHT_JUSTIFIED = {"TLID", "FRADDL", "TOADDL", "FRADDR", "TOADDR"}
+TYPE_4 = {
+    "RT": (1, 1), "VERSION": (2, 5), "TLID": (6, 15), "RTSQ": (16, 18),
+    "FEAT1": (19, 26), "FEAT2": (27, 34), "FEAT3": (35, 42),
+    "FEAT4": (43, 50), "FEAT5": (51, 58),
+}
+TYPE_5 = {
+    "RT": (1, 1), "VERSION": (2, 5), "FILE": (6, 10), "FEAT": (11, 18),
+    "FEDIRP": (19, 20), "FENAME": (21, 50), "FETYPE": (51, 54),
+    "FEDIRS": (55, 56),
+}
+TYPE_6 = {
+    "RT": (1, 1), "VERSION": (2, 5), "TLID": (6, 15), "RTSQ": (16, 18),
+    "FRADDL": (19, 29), "TOADDL": (30, 40), "FRADDR": (41, 51),
+    "TOADDR": (52, 62), "FRIADDL": (63, 63), "TOIADDL": (64, 64),
+    "FRIADDR": (65, 65), "TOIADDR": (66, 66), "ZIPL": (67, 71),
+    "ZIPR": (72, 76),
+}
+LAYOUTS = {"1": TYPE_1, "4": TYPE_4, "5": TYPE_5, "6": TYPE_6}
+RIGHT_JUSTIFIED = {"TLID", "FRADDL", "TOADDL", "FRADDR", "TOADDR", "RTSQ", "FEAT",
+                   "FEAT1", "FEAT2", "FEAT3", "FEAT4", "FEAT5"}
+NAME_FIELDS = ("FEDIRP", "FENAME", "FETYPE", "FEDIRS")
 
 STREETS = ["Alder", "Barley", "Cannery", "Dogwood", "Elmwood", "Foundry",
            "Gristmill", "Hawthorn", "Ironside", "Juniper", "Kestrel",
@@ -47,6 +73,10 @@ LANDMARKS = [("Pine Rest", "Cem", "D82"), ("Heron Point", "Park", "D85"),
 BOUNDARIES = ["F10", "F10", "F11", "F12", "F40", "F50", "F74"]
 COUNTY_SUBDIVISIONS = ["90101", "90202", "90303"]
 TOWN = "50505"
+# What a highway is called beside its number, here or there along its way.
+HIGHWAY_NAMES = [("State Route 6", ""), ("Main", "St"), ("Founders", "Pkwy"),
+                 ("Old Ferry", "Pike"), ("Cannery", "Ave"), ("Truck Route 480", ""),
+                 ("Veterans Memorial", "Hwy"), ("Gristmill", "Rd")]
 
 
 class Dice:
@@ -76,10 +106,10 @@ class Dice:
 
 
 def record(fields):
-    """The 228 bytes of one line: the fields at their places, blanks elsewhere."""
-    line = bytearray(b" " * LENGTH)
+    """The bytes of one line: the fields at their places, blanks elsewhere."""
+    line = bytearray(b" " * LENGTHS[fields["RT"]])
     for name, text in fields.items():
-        first, last = PLACES[name]
+        first, last = LAYOUTS[fields["RT"]][name]
         width = last - first + 1
         assert len(text) <= width, (name, text)
         text = text.rjust(width) if name in RIGHT_JUSTIFIED else text.ljust(width)
@@ -223,13 +253,111 @@ def county(dice):
     tlid = 107000000
     for segment in (segment for segments in chains for segment in segments):
         tlid += dice.between(1, 9)
-        yield {**segment, "TLID": str(tlid)}
+        segment["TLID"] = str(tlid)
+    return chains
+
+
+def named(name, feature_type="", direction=""):
+    return {"FENAME": name, "FETYPE": feature_type, "FEDIRP": direction}
+
+
+def alternate_names(dice, segment):
+    """The names that a chain has beside that of its segments; mostly none."""
+    feature_class = segment["CFCC"]
+    if feature_class in ("A11", "A15"):
+        return [named("Purple Martin Memorial", "Hwy")]
+    if feature_class == "A21":
+        return [named(*name) for name in HIGHWAY_NAMES if not dice.once_in(3)]
+    if feature_class == "A31":
+        return [] if dice.once_in(3) else [named(dice.one_of(STREETS), "Rd")]
+    if feature_class in ("A41", "A61") and dice.once_in(4):
+        return street_names(dice, segment)
+    if feature_class == "A51" and dice.once_in(3):
+        return [named(f"Forest Road {dice.between(101, 140)}")]
+    if feature_class == "B11":
+        return [named("Bench Valley", "Line"), named("Upper Bench", "Spur")]
+    if feature_class[0] == "H" and dice.once_in(6):
+        return [named("Little " + dice.one_of(TRAILS), segment["FETYPE"])]
+    return []
+
+
+def street_names(dice, segment):
+    """A street's former name, its number as a county road, or both."""
+    name = segment["FENAME"]
+    former = named(name[4:] if name.startswith("Old ") else "Old " + name,
+                   segment["FETYPE"], segment.get("FEDIRP", ""))
+    numbered = named(f"County Road {dice.between(2, 98)}")
+    return dice.one_of([[former], [numbered], [former, numbered]])
+
+
+def further_ranges(dice, segment):
+    """The house numbers that a segment has beside its range; mostly none."""
+    has_left, has_right = "FRADDL" in segment, "FRADDR" in segment
+    if not (has_left or has_right) or not dice.once_in(8):
+        return []
+    zips = (segment.get("ZIPL", ""), segment.get("ZIPR", ""))
+    other_zips = ("36066", "36066") if dice.once_in(4) else zips
+    return [addresses(dice, dice.between(1, 60) * 100, dice.once_in(4), has_left,
+                      has_right, other_zips)
+            for _ in range(dice.one_of([1, 1, 1, 2, 3]))]
+
+
+def name_of(fields):
+    return tuple(fields.get(field, "") for field in NAME_FIELDS)
+
+
+def joined(dice, chains):
+    """The fields of the lines of types 4, 5 and 6. Type 5 has each name of the county once."""
+    feats, type_4, type_6 = {}, [], []
+
+    def feat_of(fields):
+        name = name_of(fields)
+        if name not in feats:
+            feats[name] = max(feats.values(), default=0) + dice.between(1, 5)
+        return str(feats[name])
+
+    for segments in chains:
+        if "FENAME" in segments[0]:
+            feat_of(segments[0])
+        names = [feat_of(name) for name in alternate_names(dice, segments[0])]
+        for segment in segments:
+            for at in range(0, len(names), 5):
+                numbers = {f"FEAT{which}": feat
+                           for which, feat in enumerate(names[at:at + 5], start=1)}
+                type_4.append({"RT": "4", "VERSION": "0006", "TLID": segment["TLID"],
+                               "RTSQ": str(at // 5 + 1), **numbers})
+            for number, fields in enumerate(further_ranges(dice, segment), start=1):
+                type_6.append({"RT": "6", "VERSION": "0006", "TLID": segment["TLID"],
+                               "RTSQ": str(number), **fields})
+    type_5 = [{"RT": "5", "VERSION": "0006", "FILE": CODE, "FEAT": str(feat),
+               **dict(zip(NAME_FIELDS, name))} for name, feat in feats.items()]
+    return type_4, type_5, type_6
+
+
+def write(folder, lines_of_types):
+    folder.mkdir(exist_ok=True)
+    for lines in lines_of_types:
+        path = folder / f"TGR{CODE}.RT{lines[0]['RT']}"
+        path.write_bytes(b"".join(record(fields) + LINE_END for fields in lines))
+
+
+def one_of_them(segments, type_4, type_5, type_6):
+    """The lines that one segment has."""
+    tlid = segments[ONE - 1]["TLID"]
+    names = [fields for fields in type_4 if fields["TLID"] == tlid]
+    feats = {text for fields in names for field, text in fields.items() if field[:4] == "FEAT"}
+    return ([segments[ONE - 1]], names,
+            [fields for fields in type_5 if fields["FEAT"] in feats],
+            [fields for fields in type_6 if fields["TLID"] == tlid])
 
 
 def main():
     folder = Path(sys.argv[1]) if len(sys.argv) > 1 else Path(__file__).parent
-    lines = [record(segment) + LINE_END for segment in county(Dice(SEED))]
-    (folder / "TGR01001.RT1").write_bytes(b"".join(lines))
+    chains = county(Dice(SEED))
+    segments = [segment for chain_segments in chains for segment in chain_segments]
+    files = (segments, *joined(Dice(JOINED_SEED), chains))
+    write(folder, files)
+    write(folder / "one", one_of_them(*files))
 
 
 if __name__ == "__main__":

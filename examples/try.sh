@@ -13,7 +13,8 @@
 # - A row of a table with bytes in its first cell and a refusal in its second is a program that `verify` and `run` refuse so; one with a
 #   place, an instruction and its bytes is a program of one instruction, and is tried as above.
 #
-# Then the program over files and outputs that are missing, faulty or full: each text of an error has to stand in docs/refusals.md.
+# Then the program over files and outputs that are missing, faulty or full, and the outcomes of a trace: each text of an error has to stand
+# in docs/refusals.md.
 #
 # Prints what failed, and ends with 0 where nothing did, else with 1. It needs bash and coreutils, and takes less than a minute.
 
@@ -183,6 +184,137 @@ unprivileged() {
     if [ "$(id -u)" = 0 ]; then chroot --userspec=65534:65534 / "$scratch/bin/extractd" "$@"; else extractd "$@"; fi
 }
 
+# try_county FILES: makes the folder `county` a copy of the example county with these files alone, as 1456.
+try_county() {
+    local type
+    rm -rf county
+    mkdir county
+    for type in 1 4 5 6; do
+        case $1 in *$type*) cp "$top/examples/TGR01001.RT$type" county ;; esac
+    done
+}
+
+# The files of a county: missing, empty, folders, forbidden, faulty. One program chooses the segments that have an alternate name, another
+# those that have a further range.
+try_counties() {
+    local files names ranges type line text
+    printf 'call 3\nexit\n' > names.s
+    printf 'call 4\nadd r0, -1\nexit\n' > ranges.s
+    extractd asm --source names.s > names.bpf
+    extractd asm --source ranges.s > ranges.bpf
+    while read -r files names ranges; do
+        try_county "$files"
+        try_case 0 $rows '' 'extractd run --program "$all" --data county 01001'
+        try_case 0 $((names * 231)) '' 'extractd run --program names.bpf --data county 01001'
+        try_case 0 $((ranges * 231)) '' 'extractd run --program ranges.bpf --data county 01001'
+    done <<'END'
+1456 123 26
+156 0 26
+146 0 26
+145 123 0
+1 0 0
+END
+    for type in 4 5 6; do
+        try_county 1456
+        : > county/TGR01001.RT$type
+        try_case 0 $rows '' 'extractd run --program "$all" --data county 01001'
+        rm county/TGR01001.RT$type
+        mkdir county/TGR01001.RT$type
+        try_case 3 0 "refused 5 rt$type line 1 Read" 'extractd run --program "$all" --data county 01001'
+    done
+    try_county 456
+    try_case 3 0 'error: county/TGR01001.RT1: not found' 'extractd run --program "$all" --data county 01001'
+    try_case 3 0 'error: county/TGR01001.RT1: not found' 'extractd trace --program "$all" --data county --line 1 --limit 1 01001'
+    # A fault in each file; one of the files read before comes first, whatever the line.
+    while IFS='|' read -r type line text; do
+        try_county 1456
+        printf "$line" >> county/TGR01001.RT$type
+        try_case 1 0 "$text" 'extractd run --program "$all" --data county 01001'
+        try_case 1 0 "$text" 'extractd trace --program "$all" --data county --line 1 --limit 9 01001'
+        printf 'x\n' >> county/TGR01001.RT1
+        try_case 1 0 "$text" 'extractd run --program "$all" --data county 01001'
+    done <<'END'
+4|40006 107000725  1     130     133                       \n|refused 1 rt4 line 140 WrongLength
+4|50006 107000725  1     130     133                        \n|refused 2 rt4 line 140 WrongType
+4|40006 1070007x5  1     130     133                        \n|refused 3 rt4 line 140 BadTlid
+5|5000601001     130  Old Lantern                   Ct   \n|refused 1 rt5 line 99 WrongLength
+5|4000601001     130  Old Lantern                   Ct    \n|refused 2 rt5 line 99 WrongType
+5|5000601001          Old Lantern                   Ct    \n|refused 4 rt5 line 99 BadFeature
+6|\n|refused 1 rt6 line 39 WrongLength
+6|10006 107000725  1       3901       3999                      01  36067     \n|refused 2 rt6 line 39 WrongType
+6|60006            1       3901       3999                      01  36067     \n|refused 3 rt6 line 39 BadTlid
+END
+    # A fault in type 1 comes behind the rows of the lines before it.
+    try_county 1456
+    printf 'x\n' >> county/TGR01001.RT1
+    try_case 1 $rows 'refused 1 rt1 line 401 WrongLength' 'extractd run --program "$all" --data county 01001'
+    try_case 1 0 'refused 1 rt1 line 401 WrongLength' 'extractd trace --program "$all" --data county --line 1 --limit 9 01001'
+    # 80,000 lines of type 1, 18 MB, in 8 MB of memory.
+    try_county 456
+    for line in {1..200}; do cat "$top/examples/TGR01001.RT1"; done > county/TGR01001.RT1
+    try_case 0 $((200 * rows)) '' '(ulimit -v 8192 && extractd run --program "$all" --data county 01001)'
+    # 1,000 lines of a TLID that no type 1 line has, and one more.
+    try_county 1
+    for type in 4 6; do
+        text=$(cut -b 16- "$top/examples/one/TGR01001.RT$type" | tr -d '\r')
+        printf "${type}0006         5$text\n%.0s" {1..1000} > county/TGR01001.RT$type
+        try_case 0 $rows '' 'extractd run --program "$all" --data county 01001'
+    done
+    head -n 1 county/TGR01001.RT6 >> county/TGR01001.RT6
+    try_case 1 0 'refused 7 rt6 line 1001 TooManyRanges' 'extractd run --program "$all" --data county 01001'
+    head -n 1 county/TGR01001.RT4 >> county/TGR01001.RT4
+    try_case 1 0 'refused 6 rt4 line 1001 TooManyNames' 'extractd run --program "$all" --data county 01001'
+    for type in 1 4 5 6; do
+        try_county 1456
+        chmod 000 county/TGR01001.RT$type
+        if unprivileged dis --program "$PWD/a program.bpf" > /dev/null 2>&1; then
+            try_case 3 0 "error: $PWD/county/TGR01001.RT$type: permission denied" \
+                'unprivileged run --program "$PWD/a program.bpf" --data "$PWD/county" 01001'
+        fi
+    done
+}
+
+# The outcomes of `trace`, and what it can't be asked for.
+try_traces() {
+    local arguments status text
+    printf 'exit\n' > bare.s
+    extractd asm --source bare.s > bare.bpf
+    while IFS='|' read -r arguments status text; do
+        try_case $status '*' '' "extractd trace $arguments > traced"
+        if [ "$(cat traced)" = "$text" ]; then pass; else fail "trace $arguments" "should write: $text" "and writes: $(cat traced)"; fi
+    done <<END
+--program $all --data $county --line 1 --limit 0 01001|0|running
+--program $all --data $county --line 1 --limit 1 01001|0|running
+--program $all --data $county --line 400 --limit 2 01001|0|exit 1 score 0
+--program $all --data $county --line 0000000000000000400 --limit 9999999999999999999 01001|0|exit 1 score 0
+--limit 1 --line 2 --program bare.bpf 01001 --data $county|0|stuck place 0 cause 40
+END
+    while IFS='|' read -r arguments text; do
+        try_case 2 0 "$text" "extractd trace --program $all --data $county $arguments 01001"
+    done <<'END'
+--line 0 --limit 1|error: the type 1 file has no line 0
+--line 401 --limit 1|error: the type 1 file has no line 401
+--line 9999999999999999999 --limit 1|error: the type 1 file has no line 9999999999999999999
+--line 0x92 --limit 1|error: --line is 1 to 19 digits, and "0x92" isn't
+--line +1 --limit 1|error: --line is 1 to 19 digits, and "+1" isn't
+--line 10000000000000000000 --limit 1|error: --line is 1 to 19 digits, and "10000000000000000000" isn't
+--line 1 --limit x|error: --limit is 1 to 19 digits, and "x" isn't
+--line 1|error: the following required arguments were not provided:*--limit <L>*Usage: extractd trace *
+--line 1 --limit 1 --line 2|error: the argument '--line <N>' cannot be used multiple times*
+--line 1 --limit 1 --zip 36067|error: unexpected argument '--zip' found*
+END
+    try_shown 'error: the type 1 file has no line 401'
+    try_shown 'error: --line is 1 to 19 digits, and "0x92" isn'\''t'
+    try_case 2 0 'error: the type 1 file has no line 1' 'extractd trace --program "$all" --data empty --line 1 --limit 1 01001'
+    try_case 1 0 'refused 10 Empty' 'extractd trace --program nothing --data "$county" --line 1 --limit 1 01001'
+    try_case 1 0 'refused 11 NotWhole' 'extractd trace --program bare.s --data "$county" --line 0 --limit 1 01001'
+    try_case 3 0 'error: missing.bpf: not found' 'extractd trace --program missing.bpf --data "$county" --line 0 --limit 1 01001'
+    if [ -w /dev/full ]; then
+        try_case 3 0 'error: the output can'\''t be written: no space left' \
+            'extractd trace --program "$all" --data "$county" --line 1 --limit 1 01001 > /dev/full'
+    fi
+}
+
 try_cases() {
     mkdir "$scratch/cases" && cd "$scratch/cases" || exit 1
     local county=$top/examples all=$top/examples/all.bpf rows=92400 here=$PWD
@@ -231,7 +363,7 @@ dis --program $'\377'|error: an argument isn't UTF-8|
 --version|extractd 0.1.0|
 END
     try_case 2 0 "*Usage: extractd <COMMAND>*Examples:*Exit status:*extractd 0.1.0" 'extractd --help'
-    for command in run verify asm dis; do
+    for command in run trace verify asm dis; do
         try_case 2 0 "*Usage: extractd $command *Example:*extractd $command *Exit status:*extractd 0.1.0" "extractd $command --help"
     done
 
@@ -278,6 +410,9 @@ END
     try_case 3 0 'error: the output can'\''t be written: broken pipe' 'extractd dis --program "$all" >&9'
     exec 9>&-
     try_shown "error: the output can't be written: broken pipe"
+
+    try_counties
+    try_traces
     cd "$top" || exit 1
 }
 
