@@ -1,0 +1,2 @@
+mod PositionLemmas
+mod HitLemmas

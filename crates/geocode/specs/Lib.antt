@@ -1,0 +1,4 @@
+pub mod HitLine
+pub mod Hits
+pub mod Position
+pub mod Sides

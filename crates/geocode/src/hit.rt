@@ -1,0 +1,77 @@
+//! Hits, and the line of text that each gets.
+ghost use Rattle.std.specs.Prelude.{◌≡◌, ◌≤◌, ◌<◌, ◌+◌, ◌++◌, length};
+ghost use Rattle.geocode.specs.HitLine.{letter, line, place_text};
+
+use arrayvec::ArrayString;
+use itoa::Buffer;
+
+/// How many bytes the longest line of a hit has, its end counted.
+pub const LINE_LENGTH: usize = 65;
+
+/// A side of a street segment, as one goes from its FR to its TO end.
+#[derive(Clone, Copy, Debug, PartialEq, Eq)]
+pub enum Side {
+    Left,
+    Right,
+}
+
+/// A place, in millionths of a degree: positive to the east and to the north.
+#[derive(Clone, Copy, Debug, PartialEq, Eq)]
+pub struct Place {
+    pub longitude: i64,
+    pub latitude: i64,
+}
+
+/// A house number found on a side of a segment.
+#[derive(Clone, Copy, Debug, PartialEq, Eq)]
+pub struct Hit {
+    /// The number of the segment's TLID.
+    pub tlid: u64,
+    pub side: Side,
+    /// Where the house number is along the segment: none where one of the coordinates of the segment's ends isn't known.
+    pub place: Option<Place>,
+}
+
+impl Hit {
+    /// The hit as a line of text: TLID, `L` or `R`, longitude and latitude, with tabs between them and LF at the end, as in
+    /// `123456789\tL\t-86494898\t32405102\n`. Without a place longitude and latitude are `-`. It takes no memory.
+    pub fn line(&self) -> ArrayString<LINE_LENGTH>
+        ensures { result.bytes ≡ line self.now }
+    {
+        let mut text = ArrayString::new();
+        text.push_str(Buffer::new().format(self.tlid));
+        text.push_str("\t");
+        text.push_str(self.side.letter());
+        text.push_str("\t");
+        push_place(self.place, &mut text);
+        text.push_str("\n");
+        text
+    }
+}
+
+impl Side {
+    /// The letter that a line of text has for the side.
+    fn letter(self) -> &'static str
+        ensures value { result.now ≡ letter self }
+        ensures one { length result.now ≡ 1 }
+    {
+        match self {
+            Side::Left => "L",
+            Side::Right => "R",
+        }
+    }
+}
+
+fn push_place(place: Option<Place>, text: &mut ArrayString<LINE_LENGTH>)
+    requires { length text.old.bytes + 42 ≤ LINE_LENGTH }
+    ensures value { text.new.bytes ≡ text.old.bytes ++ place_text place }
+    ensures room { length text.new.bytes < LINE_LENGTH }
+{
+    let Some(place) = place else {
+        text.push_str("-\t-");
+        return;
+    };
+    text.push_str(Buffer::new().format(place.longitude));
+    text.push_str("\t");
+    text.push_str(Buffer::new().format(place.latitude));
+}

@@ -1,0 +1,132 @@
+//! Hits of a house number over counties.
+ghost use Rattle.std.specs.Prelude.{◌≡◌, ◌≤◌, ◌++◌, length, IfOk, OnOk};
+ghost use Rattle.geocode.specs.Hits.{find, has_name, has_zip, hit_on, hits_in_county, hits_on_range, hits_on_segment, is_on};
+ghost use Rattle.geocode.specs.Sides.{parts_of};
+ghost use Rattle.tl_segments.specs.Range.{fields_of};
+
+use crate::hit::{Hit, Side};
+use crate::position::place_on;
+use crate::sides::SideFields;
+use std::alloc::{AllocError, Allocator};
+use tl_fields::{field, number as number_of};
+use tl_records::Rt1;
+use tl_segments::{County, NAME_LENGTH, RECORD_LENGTH, Range, Segment, lies_on, name_equals};
+
+/// A house that is looked for: its number, and the number of its ZIP code where only that one will do.
+#[derive(Clone, Copy, Debug)]
+pub(crate) struct House {
+    number: u64,
+    zip: Option<u64>,
+}
+
+/// Where a house number is on a street: over the counties, segments and ranges in their order, and the left side before the right one, a hit
+/// for each side on which the number lies, of the segments that have the street's name among their names. ASCII letters of names are compared
+/// without case. Where a ZIP code is given, it's that of the range's side.
+///
+/// It asks for memory only for hits.
+pub fn find<A: Allocator + Copy>(
+    alloc: A,
+    counties: &[County<A>],
+    number: u64,
+    name: &[u8],
+    zip: Option<u64>,
+) -> Result<Vec<Hit, A>, AllocError>
+    requires some { 1 ≤ length name.now }
+    requires few { length name.now ≤ NAME_LENGTH }
+    ensures { IfOk result (λ hits. hits.items ≡ find name.now (record { number = number; zip = zip }) counties.now) }
+{
+    let house = House { number, zip };
+    let mut hits = Vec::new(alloc);
+    for county in counties {
+        push_in_county(name, house, county, &mut hits)?;
+    }
+    Ok(hits)
+}
+
+fn push_in_county<A: Allocator + Copy>(
+    name: &[u8],
+    house: House,
+    county: &County<A>,
+    hits: &mut Vec<Hit, A>,
+) -> Result<(), AllocError>
+    requires some { 1 ≤ length name.now }
+    requires few { length name.now ≤ NAME_LENGTH }
+    ensures { OnOk result (hits.new.items ≡ hits.old.items ++ hits_in_county name.now house county.now) }
+{
+    for segment in county.segments() {
+        if has_name(name, segment) {
+            push_on_segment(house, segment, hits)?;
+        }
+    }
+    Ok(())
+}
+
+/// Whether some name of the segment equals this one.
+fn has_name<A: Allocator>(name: &[u8], segment: &Segment<A>) -> bool
+    requires some { 1 ≤ length name.now }
+    requires few { length name.now ≤ NAME_LENGTH }
+    ensures { result ≡ has_name name.now segment.now }
+{
+    for n in 0..=segment.names() {
+        if let Some(named) = segment.name(n) {
+            if name_equals(named, name) {
+                return true;
+            }
+        }
+    }
+    false
+}
+
+fn push_on_segment<A: Allocator + Copy>(
+    house: House,
+    segment: &Segment<A>,
+    hits: &mut Vec<Hit, A>,
+) -> Result<(), AllocError>
+    ensures { OnOk result (hits.new.items ≡ hits.old.items ++ hits_on_segment house segment.now) }
+{
+    for n in 0..segment.ranges() {
+        if let Some(range) = segment.range(n) {
+            push_on_range(house, segment.bytes(), range, hits)?;
+        }
+    }
+    Ok(())
+}
+
+fn push_on_range<A: Allocator + Copy>(
+    house: House,
+    bytes: &[u8],
+    range: Range<'_>,
+    hits: &mut Vec<Hit, A>,
+) -> Result<(), AllocError>
+    requires { length bytes.now ≡ RECORD_LENGTH }
+    ensures { OnOk result (hits.new.items ≡ hits.old.items ++ hits_on_range house bytes.now (fields_of range.entry)) }
+{
+    if let Some(hit) = hit_on(house, bytes, range, Side::Left) {
+        hits.push(hit)?;
+    }
+    if let Some(hit) = hit_on(house, bytes, range, Side::Right) {
+        hits.push(hit)?;
+    }
+    Ok(())
+}
+
+/// The hit on a side of a range, of a segment with this type 1 record, if the house is on it.
+fn hit_on(house: House, bytes: &[u8], range: Range<'_>, side: Side) -> Option<Hit>
+    requires { length bytes.now ≡ RECORD_LENGTH }
+    ensures { result ≡ hit_on house bytes.now (fields_of range.entry) side }
+{
+    let fields = SideFields::of(range, side);
+    if !lies_on(house.number, fields.from, fields.to) || !has_zip(house.zip, fields.zip) {
+        return None;
+    }
+    let tlid = number_of(field(bytes, Rt1::TLID.0, Rt1::TLID.1))?;
+    let place = place_on(house.number, bytes, fields);
+    Some(Hit { tlid, side, place })
+}
+
+/// Whether a side's ZIP code has the wanted number, if one is wanted.
+fn has_zip(wanted: Option<u64>, zip: &[u8]) -> bool
+    ensures { result ≡ has_zip wanted zip.now }
+{
+    wanted.is_none() || number_of(zip) == wanted
+}

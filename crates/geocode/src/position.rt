@@ -1,0 +1,88 @@
+//! Where along a street segment a house number is.
+ghost use Rattle.std.specs.Prelude.{◌≡◌, ◌^◌, ◌*◌, ◌<◌, ◌≤◌, ◌*ℤ◌, int_div, nat_abs, length, IfSome, IsTrue};
+ghost use Rattle.geocode.specs.Position.{IsPosition, IsNear, coordinate_along, place_at, place_on, position_on};
+ghost use Rattle.geocode.specs.Sides.{parts_of};
+ghost use Rattle.tl_records.specs.Layout.{IsWithin};
+ghost use Rattle.tl_segments.specs.Range.{lies_on};
+
+use crate::hit::Place;
+use crate::sides::SideFields;
+use tl_fields::{coordinate, field, number as number_of};
+use tl_records::{Places, Rt1};
+use tl_segments::RECORD_LENGTH;
+
+/// A house number, and the numbers of the FR and the TO address of the side that it lies on.
+#[derive(Clone, Copy, Debug)]
+pub(crate) struct Position {
+    pub number: u64,
+    pub from: u64,
+    pub to: u64,
+}
+
+/// The place of a house number on the side of a segment with this type 1 record.
+pub(crate) fn place_on(number: u64, bytes: &[u8], side: SideFields<'_>) -> Option<Place>
+    requires bytes { length bytes.now ≡ RECORD_LENGTH }
+    requires side { IsTrue (lies_on number side.from.now side.to.now) }
+    ensures { result ≡ place_on number bytes.now (parts_of side.entry) }
+{
+    let from = place_at(Rt1::FRLONG, Rt1::FRLAT, bytes)?;
+    let to = place_at(Rt1::TOLONG, Rt1::TOLAT, bytes)?;
+    let position = position_on(number, side)?;
+    Some(Place {
+        longitude: coordinate_along(from.longitude, to.longitude, position),
+        latitude: coordinate_along(from.latitude, to.latitude, position),
+    })
+}
+
+/// The place whose longitude and latitude stand at these places of a type 1 record.
+fn place_at(longitude: Places, latitude: Places, bytes: &[u8]) -> Option<Place>
+    requires longitude { IsWithin longitude (length bytes.now) }
+    requires latitude { IsWithin latitude (length bytes.now) }
+    ensures value { result ≡ place_at longitude latitude bytes.now }
+    ensures near { IfSome result IsNear }
+{
+    Some(Place {
+        longitude: coordinate(field(bytes, longitude.0, longitude.1))?,
+        latitude: coordinate(field(bytes, latitude.0, latitude.1))?,
+    })
+}
+
+fn position_on(number: u64, side: SideFields<'_>) -> Option<Position>
+    requires { IsTrue (lies_on number side.from.now side.to.now) }
+    ensures value { result ≡ position_on number (parts_of side.entry) }
+    ensures between { IfSome result IsPosition }
+{
+    Some(Position {
+        number,
+        from: number_of(side.from)?,
+        to: number_of(side.to)?,
+    })
+}
+
+/// The coordinate as far from one to the other as the house is along its side.
+fn coordinate_along(from: i64, to: i64, position: Position) -> i64
+    requires from { nat_abs from < 10 ^ 9 }
+    requires to { nat_abs to < 10 ^ 9 }
+    requires position { IsPosition position }
+    ensures { result ≡ coordinate_along from to position }
+{
+    if position.from == position.to {
+        return from;
+    }
+    let way = i128::from(to) - i128::from(from);
+    let gone = i128::from(position.number) - i128::from(position.from);
+    let whole = i128::from(position.to) - i128::from(position.from);
+    from + share_of(way, gone, whole)
+}
+
+/// So much of the way as is gone of the whole.
+fn share_of(way: i128, gone: i128, whole: i128) -> i64
+    requires way { nat_abs way < 2 * 10 ^ 9 }
+    requires gone { nat_abs gone ≤ nat_abs whole }
+    requires some { 0 < nat_abs whole }
+    requires whole { nat_abs whole < 10 ^ 11 }
+    ensures value { result ≡ int_div (way *ℤ gone) whole }
+    ensures near { nat_abs result < 2 * 10 ^ 9 }
+{
+    (way * gone / whole) as i64
+}
