@@ -274,6 +274,42 @@ END
     done
 }
 
+# House numbers, over one county and several, and what `geocode` can't be asked for.
+try_geocodes() {
+    local arguments status size text
+    mkdir faulty
+    cp "$top/examples/TGR01001.RT1" faulty
+    printf 'x\n' > faulty/TGR01003.RT1
+    while IFS='|' read -r arguments status size text; do
+        try_case $status "$size" "$text" "extractd geocode $arguments"
+    done <<END
+--data $county --number 1785 --name persimmon 01001|0|31|
+--name=Persimmon --number 00000001785 01001 --data $county 01001|0|62|
+--data $county --number 751 --name main 01001|0|62|
+--data $county --number 751 --name main --zip 36067 01001|0|31|
+--data $county --number 751 --name main --zip 36068 01001|0|0|
+--data empty --number 751 --name main 01001|0|0|
+--data faulty --number 751 --name main 01001 01003|1|0|refused 1 rt1 line 1 WrongLength
+--data faulty --number 751 --name main 01003 01005|1|0|refused 1 rt1 line 1 WrongLength
+--data faulty --number 751 --name main 01005 01003|3|0|error: faulty/TGR01005.RT1: not found
+--data folders --number 751 --name main 01001|3|0|refused 5 rt1 line 1 Read
+--data $county --number 164-20 --name main 01001|2|0|error: --number is 1 to 11 digits, and "164-20" isn't
+--data $county --number 751 --name '' 01001|2|0|error: --name is 1 to 30 bytes, and "" isn't
+--data $county --number 751 --name main --zip 360670000000 01001|2|0|error: --zip is 1 to 11 digits, and "360670000000" isn't
+--data $county --number 751 --name main 01001 1001|2|0|error: CODE is five digits, and "1001" isn't
+--data $county --number 751 --name main|2|0|error: the following required arguments were not provided:*<CODE>...*Usage: extractd geocode *
+END
+    try_case 2 0 'error: 100000 CODEs are taken at most, and 100001 are given' \
+        'extractd geocode --data "$county" --number 751 --name main $(yes 01001 | head -n 100001)'
+    try_shown 'error: 100000 CODEs are taken at most, and 100001 are given'
+    try_shown 'error: --number is 1 to 11 digits, and "164-20" isn'\''t'
+    try_shown 'error: --name is 1 to 30 bytes, and "" isn'\''t'
+    if [ -w /dev/full ]; then
+        try_case 3 0 'error: the output can'\''t be written: no space left' \
+            'extractd geocode --data "$county" --number 751 --name main 01001 > /dev/full'
+    fi
+}
+
 # The outcomes of `trace`, and what it can't be asked for.
 try_traces() {
     local arguments status text
@@ -363,7 +399,7 @@ dis --program $'\377'|error: an argument isn't UTF-8|
 --version|extractd 0.1.0|
 END
     try_case 2 0 "*Usage: extractd <COMMAND>*Examples:*Exit status:*extractd 0.1.0" 'extractd --help'
-    for command in run trace verify asm dis; do
+    for command in run trace geocode verify asm dis; do
         try_case 2 0 "*Usage: extractd $command *Example:*extractd $command *Exit status:*extractd 0.1.0" "extractd $command --help"
     done
 
@@ -413,6 +449,7 @@ END
 
     try_counties
     try_traces
+    try_geocodes
     cd "$top" || exit 1
 }
 

@@ -1,3 +1,5 @@
 mod CountyLemmas
+mod CountiesLemmas
 mod FailureLemmas
+mod HitLemmas
 mod TraceLemmas

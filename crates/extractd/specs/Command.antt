@@ -5,11 +5,12 @@ use Rattle.tl_fields.specs.Device.{Writer}
 use Rattle.extractd.specs.Assemble as assemble
 use Rattle.extractd.specs.Disassemble as disassemble
 use Rattle.extractd.specs.Failure.{SaysLine, refusal_status}
+use Rattle.extractd.specs.Geocode as geocode
 use Rattle.extractd.specs.Run as run
 use Rattle.extractd.specs.Trace as trace
 use Rattle.extractd.specs.Verify as verify
 use Rattle.extractd.specs.declared.commands.Request.{Request}
-use Rattle.extractd.specs.declared.commands.Request.TheVariants.{Run, Trace, Verify, Assemble, Disassemble}
+use Rattle.extractd.specs.declared.commands.Request.TheVariants.{Run, Trace, Geocode, Verify, Assemble, Disassemble}
 use Rattle.extractd.specs.declared.failure.Failure.{Failure}
 use Rattle.extractd.specs.declared.failure.Failure.TheVariants.{Refusal}
 
@@ -17,6 +18,7 @@ use Rattle.extractd.specs.declared.failure.Failure.TheVariants.{Refusal}
 abbrev pub IsWritten : Request → (List ℕ → Option (List ℕ)) → Writer → Writer → Type 0
 IsWritten (Run asked) known out out' = run.IsWritten asked known out out'
 IsWritten (Trace asked) known out out' = trace.IsWritten asked known out out'
+IsWritten (Geocode asked) known out out' = geocode.IsWritten asked known out out'
 IsWritten (Verify asked) known out out' = verify.IsWritten asked known out out'
 IsWritten (Assemble asked) known out out' = assemble.IsWritten asked known out out'
 IsWritten (Disassemble asked) known out out' = disassemble.IsWritten asked known out out'
@@ -25,6 +27,7 @@ IsWritten (Disassemble asked) known out out' = disassemble.IsWritten asked known
 abbrev pub IsRefused : Request → (List ℕ → Option (List ℕ)) → Option ℕ → List ℕ → Writer → Writer → Type 0
 IsRefused (Run asked) known number line out out' = run.IsRefused asked known number line out out'
 IsRefused (Trace asked) known number line out out' = trace.IsRefused asked known number line out out'
+IsRefused (Geocode asked) known number line out out' = geocode.IsRefused asked known number line out out'
 IsRefused (Verify asked) known number line out out' = verify.IsRefused asked known number line out out'
 IsRefused (Assemble asked) known number line out out' = assemble.IsRefused asked known number line out out'
 IsRefused (Disassemble asked) known number line out out' = disassemble.IsRefused asked known number line out out'

@@ -1,8 +1,10 @@
 pub mod Files
 pub mod Failure
 pub mod County
+pub mod Counties
 pub mod Run
 pub mod Trace
+pub mod Geocode
 pub mod Verify
 pub mod Assemble
 pub mod Disassemble

@@ -1,13 +1,14 @@
 //! The arguments of a command line.
 ghost use Rattle.std.specs.Prelude.{◌≡◌, ◌⊎◌};
 
-use crate::commands::{Request, program_command};
+use crate::commands::{MOST_CODES, Request, program_command};
 use crate::failure::{Failure, OUT_OF_MEMORY, USAGE};
 use clap::error::ErrorKind as UsageKind;
-use std::alloc::{AllocError, Global};
+use std::alloc::{AllocError, AllocFailed, Global};
 use std::io;
 use std::io::{ErrorKind, Write};
 use tl_fields::CountedWrite;
+use tl_segments::NAME_LENGTH;
 
 /// Why the arguments ask for nothing.
 #[derive(Drop)]
@@ -20,8 +21,16 @@ pub enum ArgumentsFault<'a> {
     Missing(&'static str),
     /// This county isn't five digits.
     Code(&'a str),
-    /// This value of the option isn't 1 to 19 digits.
-    Number { name: &'static str, text: &'a str },
+    /// More counties than are taken: so many.
+    TooManyCodes(usize),
+    /// This value of the option isn't 1 to so many digits.
+    Number {
+        name: &'static str,
+        most_digits: usize,
+        text: &'a str,
+    },
+    /// This name isn't 1 to 30 bytes.
+    Name(&'a str),
     Memory,
 }
 
@@ -45,10 +54,26 @@ impl ArgumentsFault<'_> {
             ArgumentsFault::Code(code) => {
                 write!(errors, "error: CODE is five digits, and \"{code}\" isn't\n")
             }
-            ArgumentsFault::Number { name, text } => {
+            ArgumentsFault::TooManyCodes(count) => {
                 write!(
                     errors,
-                    "error: --{name} is 1 to 19 digits, and \"{text}\" isn't\n"
+                    "error: {MOST_CODES} CODEs are taken at most, and {count} are given\n"
+                )
+            }
+            ArgumentsFault::Number {
+                name,
+                most_digits,
+                text,
+            } => {
+                write!(
+                    errors,
+                    "error: --{name} is 1 to {most_digits} digits, and \"{text}\" isn't\n"
+                )
+            }
+            ArgumentsFault::Name(name) => {
+                write!(
+                    errors,
+                    "error: --name is 1 to {NAME_LENGTH} bytes, and \"{name}\" isn't\n"
                 )
             }
             ArgumentsFault::Memory => {
@@ -90,11 +115,19 @@ impl From<AllocError> for ArgumentsFault<'_> {
     }
 }
 
+impl<T: Drop> From<AllocFailed<T>> for ArgumentsFault<'_> {
+    ghost from_gives = { λ _ _. Unit {0} };
+
+    fn from(_error: AllocFailed<T>) -> Self {
+        ArgumentsFault::Memory
+    }
+}
+
 /// Reads the arguments after the program's name.
 pub fn read_arguments<'a>(
     alloc: Global,
     arguments: &'a [&'a str],
 ) -> Result<Request<'a>, ArgumentsFault<'a>> {
     let matches = program_command(alloc)?.try_get_matches_from(arguments)?;
-    Request::from_matches(&matches)
+    Request::from_matches(alloc, &matches)
 }

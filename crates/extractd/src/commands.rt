@@ -21,6 +21,7 @@ macro_rules! help_end {
 
 mod assemble;
 mod disassemble;
+mod geocoder;
 mod run;
 mod trace;
 mod verify;
@@ -28,6 +29,7 @@ mod verify;
 use crate::arguments::ArgumentsFault;
 use crate::commands::assemble::Assemble;
 use crate::commands::disassemble::Disassemble;
+use crate::commands::geocoder::Geocode;
 use crate::commands::run::Run;
 use crate::commands::trace::Trace;
 use crate::commands::verify::Verify;
@@ -38,10 +40,11 @@ use std::alloc::{AllocError, Global};
 use tl_fields::CountedWrite;
 
 /// What the arguments ask for.
-#[derive(Clone, Copy, Debug)]
+#[derive(Debug, Drop)]
 pub enum Request<'a> {
     Run(Run<'a>),
     Trace(Trace<'a>),
+    Geocode(Geocode<'a>),
     Verify(Verify<'a>),
     Assemble(Assemble<'a>),
     Disassemble(Disassemble<'a>),
@@ -49,10 +52,15 @@ pub enum Request<'a> {
 
 impl<'a> Request<'a> {
     /// What the command of this name is asked for.
-    fn of_command(name: &str, matches: &ArgMatches<'a>) -> Result<Request<'a>, ArgumentsFault<'a>> {
+    fn of_command(
+        alloc: Global,
+        name: &str,
+        matches: &ArgMatches<'a>,
+    ) -> Result<Request<'a>, ArgumentsFault<'a>> {
         match name {
             "run" => Ok(Request::Run(Run::from_matches(matches)?)),
             "trace" => Ok(Request::Trace(Trace::from_matches(matches)?)),
+            "geocode" => Ok(Request::Geocode(Geocode::from_matches(alloc, matches)?)),
             "verify" => Ok(Request::Verify(Verify::from_matches(matches)?)),
             "asm" => Ok(Request::Assemble(Assemble::from_matches(matches)?)),
             "dis" => Ok(Request::Disassemble(Disassemble::from_matches(matches)?)),
@@ -61,9 +69,12 @@ impl<'a> Request<'a> {
     }
 
     /// What the arguments that were matched ask for.
-    pub fn from_matches(matches: &ArgMatches<'a>) -> Result<Request<'a>, ArgumentsFault<'a>> {
+    pub fn from_matches(
+        alloc: Global,
+        matches: &ArgMatches<'a>,
+    ) -> Result<Request<'a>, ArgumentsFault<'a>> {
         match matches.subcommand() {
-            Some((name, matches)) => Request::of_command(name, matches),
+            Some((name, matches)) => Request::of_command(alloc, name, matches),
             None => Err(ArgumentsFault::Missing("COMMAND")),
         }
     }
@@ -83,6 +94,7 @@ impl<'a> Request<'a> {
         match self {
             Request::Run(run) => run.carry_out(alloc, files, out),
             Request::Trace(trace) => trace.carry_out(alloc, files, out),
+            Request::Geocode(geocode) => geocode.carry_out(alloc, files, out),
             Request::Verify(verify) => verify.carry_out(alloc, files, out),
             Request::Assemble(assemble) => assemble.carry_out(alloc, files, out),
             Request::Disassemble(disassemble) => disassemble.carry_out(alloc, files, out),
@@ -95,13 +107,14 @@ pub fn program_command<'a>(alloc: Global) -> Result<Command<'a>, AllocError> {
     Command::new(alloc, "extractd")
         .bin_name("extractd")?
         .about(
-            "Extracts the TIGER/Line street segments that a BPF program chooses, and verifies and converts programs",
+            "Extracts the TIGER/Line street segments that a BPF program chooses, finds house numbers, and verifies and converts programs",
         )
         .version("0.1.0")
         .after_help(help_end!(
             "Examples:
   extractd run --program street.bpf --data tiger 01001 > rows.tsv
   extractd trace --program street.bpf --data tiger --line 12 --limit 4096 01001
+  extractd geocode --data tiger --number 151 --name main --zip 36067 01001
   extractd verify --program street.bpf
   extractd asm --source street.s > street.bpf
   extractd dis --program street.bpf"
@@ -111,6 +124,7 @@ pub fn program_command<'a>(alloc: Global) -> Result<Command<'a>, AllocError> {
         .subcommand_required(true)
         .subcommand(run::command(alloc)?)?
         .subcommand(trace::command(alloc)?)?
+        .subcommand(geocoder::command(alloc)?)?
         .subcommand(verify::command(alloc)?)?
         .subcommand(assemble::command(alloc)?)?
         .subcommand(disassemble::command(alloc)?)
@@ -142,24 +156,59 @@ fn county_option<'a>(alloc: Global) -> Arg<'a> {
 
 /// The county's code: five digits.
 fn code<'a>(matches: &ArgMatches<'a>) -> Result<&'a str, ArgumentsFault<'a>> {
-    let code = value(matches, "code")?;
+    five_digits(value(matches, "code")?)
+}
+
+/// As many counties are taken at most.
+pub const MOST_CODES: usize = 100000;
+
+/// The counties' codes, one at least: five digits each.
+fn codes<'a>(alloc: Global, matches: &ArgMatches<'a>) -> Result<Vec<&'a str>, ArgumentsFault<'a>> {
+    let given = matches.get_strs("code").unwrap_or(&[]);
+    if given.is_empty() {
+        return Err(ArgumentsFault::Missing("CODE"));
+    }
+    if given.len() > MOST_CODES {
+        return Err(ArgumentsFault::TooManyCodes(given.len()));
+    }
+    let mut codes = Vec::new(alloc);
+    for code in given {
+        codes.push(five_digits(code)?)?;
+    }
+    Ok(codes)
+}
+
+fn five_digits<'a>(code: &'a str) -> Result<&'a str, ArgumentsFault<'a>> {
     if code.len() != 5 || !are_digits(code) {
         return Err(ArgumentsFault::Code(code));
     }
     Ok(code)
 }
 
-// A number has as many digits at most, so that each is below 2^64.
-const MOST_DIGITS: usize = 19;
+/// The number of an option that has to be given: 1 to so many digits.
+fn number<'a>(
+    matches: &ArgMatches<'a>,
+    name: &'static str,
+    most_digits: usize,
+) -> Result<u64, ArgumentsFault<'a>> {
+    number_in(name, most_digits, value(matches, name)?)
+}
 
-/// The number of an option that has to be given: 1 to 19 digits.
-fn number<'a>(matches: &ArgMatches<'a>, name: &'static str) -> Result<u64, ArgumentsFault<'a>> {
-    let text = value(matches, name)?;
-    if text.len() > MOST_DIGITS || !are_digits(text) {
-        return Err(ArgumentsFault::Number { name, text });
+/// The number of an option's value: 1 to so many digits.
+fn number_in<'a>(
+    name: &'static str,
+    most_digits: usize,
+    text: &'a str,
+) -> Result<u64, ArgumentsFault<'a>> {
+    let fault = ArgumentsFault::Number {
+        name,
+        most_digits,
+        text,
+    };
+    if text.len() > most_digits || !are_digits(text) {
+        return Err(fault);
     }
-    text.parse()
-        .map_err(|_| ArgumentsFault::Number { name, text })
+    text.parse().map_err(|_| fault)
 }
 
 fn are_digits(text: &str) -> bool {

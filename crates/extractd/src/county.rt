@@ -74,6 +74,7 @@ pub fn open_county<'a, F: Files>(
 ) -> Result<CountyInputs<F::Reader>, Failure<'a>>
     ensures hold { IfOk result (λ inputs. HoldCounty (F.bytes files.old) folder.now code.now
         (county_readers F.Reader.remaining F.Reader.failed_reads inputs)) }
+    ensures stay { (other : List ℕ) → F.bytes files.new other ≡ F.bytes files.old other }
     ensures unusable { IfErr result (λ failure. (status failure ≢ 1) × (status failure ≢ 2)) }
     ensures opens { TellsOpens result (F.failed_opens files.old) (F.failed_opens files.new) }
 {

@@ -8,7 +8,7 @@ use crate::county::name_end;
 use crate::files::FileFault;
 use arrayvec::{ArrayString, ArrayVec};
 use bpf_insn::{memory_name, refusal_line};
-use std::alloc::AllocError;
+use std::alloc::{AllocError, AllocFailed};
 use std::io::{ErrorKind, Write};
 use std::{fmt, io};
 use tl_fields::{CountedWrite, write_whole};
@@ -143,6 +143,14 @@ impl From<AllocError> for Failure<'_> {
     ghost from_gives = { λ _ failure. status failure ≡ 4 };
 
     fn from(_error: AllocError) -> Self {
+        Failure::memory()
+    }
+}
+
+impl<T: Drop> From<AllocFailed<T>> for Failure<'_> {
+    ghost from_gives = { λ _ failure. status failure ≡ 4 };
+
+    fn from(_error: AllocFailed<T>) -> Self {
         Failure::memory()
     }
 }

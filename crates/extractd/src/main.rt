@@ -1,12 +1,14 @@
-//! Extracts of the street segments that a BPF program chooses, and programs verified and as text: the program.
+//! Extracts of the street segments that a BPF program chooses, places of house numbers, and programs verified and as text: the program.
 #![tactic(auto)]
 
 mod arguments;
 mod command;
 mod commands;
+mod counties;
 mod county;
 mod failure;
 mod files;
+mod street_name;
 #[cfg(test)]
 mod tests;
 

@@ -4,6 +4,7 @@ mod conversions;
 mod counties;
 mod devices;
 mod fixtures;
+mod geocodes;
 mod readers;
 mod runs;
 mod verdicts;

@@ -55,6 +55,9 @@ Example:
         .arg(county_option(alloc))
 }
 
+// A number has as many digits at most, so that each is below 2^64.
+const MOST_DIGITS: usize = 19;
+
 /// What `trace` is asked for.
 #[derive(Clone, Copy, Debug)]
 pub struct Trace<'a> {
@@ -75,8 +78,8 @@ impl<'a> Trace<'a> {
         Ok(Trace {
             program: value(matches, "program")?,
             data: value(matches, "data")?,
-            line: number(matches, "line")?,
-            limit: number(matches, "limit")?,
+            line: number(matches, "line", MOST_DIGITS)?,
+            limit: number(matches, "limit", MOST_DIGITS)?,
             code: code(matches)?,
         })
     }

@@ -52,12 +52,18 @@ trace --program p.bpf --data d --line +1 --limit 1 01001 | error: --line is 1 to
 trace --program p.bpf --data d --line 1a --limit 1 01001 | error: --line is 1 to 19 digits, and "1a" isn't
 trace --program p.bpf --data d --line 1 --limit 10000000000000000000 01001 | error: --limit is 1 to 19 digits, and "10000000000000000000" isn't
 trace --program p.bpf --data d --line 1 --limit -1 01001 | error:
-geocode --data d --number 1 --name Main 01001 | error:
+geocode --data d --number 1 --name Main | error:
+geocode --data d --number 1 01001 | error:
+geocode --data d --name Main 01001 | error:
+geocode --number 1 --name Main 01001 | error:
+geocode --data d --number 1 --number 1 --name Main 01001 | error:
+geocode --data d --number 1 --name Main --program p.bpf 01001 | error:
 serve --data d --port 8080 01001 | error:
 help | error:
 --help | Extracts the TIGER/Line street segments
 run --help | Writes the rows
 trace --help | Says what
+geocode --help | Writes where
 verify --help | Says whether
 asm --help | Writes the BPF
 dis --help | Writes a program
@@ -89,11 +95,13 @@ const PARTS: &str = r#"
 run | Usage: extractd run --program <FILE> --data <DIR> <CODE>
 trace | Usage: extractd trace --program <FILE> --data <DIR> --line <N> --limit <L> <CODE>
 verify | Usage: extractd verify --program <FILE>
+geocode | Usage: extractd geocode --data <DIR> --number <N> --name <TEXT> <CODE>...
 asm | Usage: extractd asm --source <FILE>
 dis | Usage: extractd dis --program <FILE>
 frob | Usage: extractd <COMMAND>
 --help | extractd run --program street.bpf --data tiger 01001 > rows.tsv
 --help | extractd trace --program street.bpf --data tiger --line 12 --limit 4096 01001
+--help | extractd geocode --data tiger --number 151 --name main --zip 36067 01001
 --help | extractd verify --program street.bpf
 --help | extractd asm --source street.s > street.bpf
 --help | extractd dis --program street.bpf

@@ -117,6 +117,16 @@ pub fn status_of(
     errors: &mut Fuse<Vec<u8>>,
 ) -> Result<(u8, ArrayString<128>), AllocError> {
     let arguments = arguments_of(alloc, line)?;
+    Ok(status_of_words(alloc, arguments.as_slice(), files, out, errors))
+}
+
+fn status_of_words(
+    alloc: Global,
+    arguments: &[&str],
+    files: &[MemoryFile<'_>],
+    out: &mut Fuse<Vec<u8>>,
+    errors: &mut Fuse<Vec<u8>>,
+) -> (u8, ArrayString<128>) {
     let mut files = MemoryFiles {
         files,
         failed_opens: 0,
@@ -124,12 +134,12 @@ pub fn status_of(
     };
     let status = command(
         alloc,
-        arguments.as_slice(),
+        arguments,
         &mut files,
         &mut Counting::new(out),
         &mut Counting::new(errors),
     );
-    Ok((status, files.opened))
+    (status, files.opened)
 }
 
 /// How a command ended.
@@ -148,15 +158,21 @@ pub fn run_command(
     line: &str,
     files: &[MemoryFile<'_>],
 ) -> Result<Ending, AllocError> {
+    let arguments = arguments_of(alloc, line)?;
+    Ok(run_words(alloc, arguments.as_slice(), files))
+}
+
+/// Likewise, by its arguments.
+pub fn run_words(alloc: Global, arguments: &[&str], files: &[MemoryFile<'_>]) -> Ending {
     let mut out = output(alloc, None, Burst::TakesNothing);
     let mut errors = output(alloc, None, Burst::TakesNothing);
-    let (status, opened) = status_of(alloc, line, files, &mut out, &mut errors)?;
-    Ok(Ending {
+    let (status, opened) = status_of_words(alloc, arguments, files, &mut out, &mut errors);
+    Ending {
         status,
         written: out.inner,
         said: errors.inner,
         opened,
-    })
+    }
 }
 
 /// The instruction words of a program text, by `asm`.
