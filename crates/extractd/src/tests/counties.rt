@@ -1,7 +1,5 @@
 //! The commands `run` and `trace` over a county's four files.
-use super::fixtures::{
-    Ending, MemoryFile, assembled, bytes_in, bytes_of, cell, file_of, line_of, run_command,
-};
+use super::fixtures::{Ending, assembled, bytes_in, bytes_of, cell, file_of, line_of, run_command};
 use std::alloc::{AllocError, Global};
 use std::test::Fail;
 
@@ -35,21 +33,16 @@ trace --line 0 --limit 1 | exit | LINE:227 \n | RT4:57@5=5 \n | missing | missin
 trace --line 1 --limit 1 | exit | LINE \n ! 0 pipe | missing | missing | missing | | 3 | refused 5 rt1 line 1 Read
 ";
 
-/// How a command ends on a program and the files of types 1, 4, 5 and 6, which four cells of the row describe, from this one on.
-fn ending_of(
-    alloc: Global,
-    program: MemoryFile<'_>,
-    row: &str,
-    first: usize,
-) -> Result<Ending, AllocError> {
-    let (rt1, rt4) = (cell(row, first), cell(row, first + 1));
-    let (rt5, rt6) = (cell(row, first + 2), cell(row, first + 3));
+/// How a command ends on a program of these bytes and the files of types 1, 4, 5 and 6, which the cells of the row behind the command describe.
+fn ending_of(alloc: Global, row: &str, program: Vec<u8>) -> Result<Ending, AllocError> {
+    let (rt1, rt4) = (cell(row, 2), cell(row, 3));
+    let (rt5, rt6) = (cell(row, 4), cell(row, 5));
     let (rt1_bytes, rt4_bytes) = (bytes_in(alloc, rt1)?, bytes_in(alloc, rt4)?);
     let (rt5_bytes, rt6_bytes) = (bytes_in(alloc, rt5)?, bytes_in(alloc, rt6)?);
     let mut line = String::from_str(alloc, cell(row, 0))?;
     line.push_str(" --program p.bpf --data d 01001")?;
     let files = [
-        program,
+        file_of("p.bpf", cell(row, 1), program.as_slice()),
         file_of("d/TGR01001.RT1", rt1, rt1_bytes.as_slice()),
         file_of("d/TGR01001.RT4", rt4, rt4_bytes.as_slice()),
         file_of("d/TGR01001.RT5", rt5, rt5_bytes.as_slice()),
@@ -62,9 +55,8 @@ fn ending_of(
 fn counties(rt: HostRuntime) -> Result<(), Fail> {
     for row in COUNTIES.trim().lines() {
         let program = assembled(rt.alloc(), cell(row, 1))?;
-        let program = MemoryFile::new("p.bpf", program.as_slice());
         let written = bytes_of(rt.alloc(), cell(row, 6))?;
-        let ending = ending_of(rt.alloc(), program, row, 2)?;
+        let ending = ending_of(rt.alloc(), row, program)?;
         assert_eq!(rt; Ok(ending.status), cell(row, 7).parse(), "{row}");
         assert_eq!(rt; ending.said, line_of(rt.alloc(), cell(row, 8))?, "{row}");
         assert_eq!(rt; ending.written, written, "{row}");
@@ -92,10 +84,8 @@ trace --line 1 --limit 2 | ONE EXIT | closed memory | | | | 4 | refused memory |
 #[test]
 fn openings(rt: HostRuntime) -> Result<(), Fail> {
     for row in OPENINGS.trim().lines() {
-        let program = cell(row, 1);
-        let bytes = bytes_in(rt.alloc(), program)?;
-        let program = file_of("p.bpf", program, bytes.as_slice());
-        let ending = ending_of(rt.alloc(), program, row, 2)?;
+        let program = bytes_in(rt.alloc(), cell(row, 1))?;
+        let ending = ending_of(rt.alloc(), row, program)?;
         assert_eq!(rt; Ok(ending.status), cell(row, 6).parse(), "{row}");
         assert_eq!(rt; ending.said, line_of(rt.alloc(), cell(row, 7))?, "{row}");
         assert_eq!(rt; ending.opened.as_str().trim(), cell(row, 8), "{row}");

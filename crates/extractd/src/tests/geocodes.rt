@@ -1,5 +1,7 @@
 //! The command `geocode`. Places are worked by hand: on the line of Main Street house 151 is 50 of 98 parts of the way.
-use super::fixtures::{Ending, MemoryFile, bytes_in, bytes_of, cell, file_of, line_of, run_words};
+use super::fixtures::{
+    Ending, MemoryFile, bytes_in, bytes_of, cell, file_of, line_of, run_command, run_words,
+};
 use std::alloc::{AllocError, Global};
 use std::test::Fail;
 
@@ -48,17 +50,25 @@ fn ending_of(alloc: Global, row: &str) -> Result<Ending, AllocError> {
 
 /// Runs `geocode` with the number, the name, the ZIP code and the counties of a row's first cells.
 fn geocode(alloc: Global, row: &str, files: &[MemoryFile<'_>]) -> Result<Ending, AllocError> {
-    let name = cell(row, 1).replace(alloc, "_", " ")?;
-    let mut words = Vec::new(alloc);
-    words.extend_from_slice(&["geocode", "--data", "d", "--number", cell(row, 0)])?;
-    words.extend_from_slice(&["--name", name.as_str()])?;
+    let mut line = String::from_str(alloc, "geocode\t--data\td\t--number\t")?;
+    line.push_str(cell(row, 0))?;
+    line.push_str("\t--name\t")?;
+    line.push_str(cell(row, 1).replace(alloc, "_", " ")?.as_str())?;
     if !cell(row, 2).is_empty() {
-        words.extend_from_slice(&["--zip", cell(row, 2)])?;
+        line.push_str("\t--zip\t")?;
+        line.push_str(cell(row, 2))?;
     }
     for code in cell(row, 3).split_whitespace() {
-        words.push(code)?;
+        line.push_str("\t")?;
+        line.push_str(code)?;
     }
+    let words = words_of(alloc, line.as_str())?;
     Ok(run_words(alloc, words.as_slice(), files))
+}
+
+/// The words of a line, with tabs between.
+fn words_of(alloc: Global, line: &str) -> Result<Vec<&str>, AllocError> {
+    line.split('\t').collect(alloc)
 }
 
 #[test]
@@ -107,12 +117,11 @@ fn geocode_faults(rt: HostRuntime) -> Result<(), Fail> {
 
 #[test]
 fn many_counties(rt: HostRuntime) -> Result<(), Fail> {
-    let mut words = Vec::new(rt.alloc());
-    words.extend_from_slice(&["geocode", "--data", "d", "--number", "1", "--name", "a"])?;
+    let mut line = String::from_str(rt.alloc(), "geocode --data d --number 1 --name a")?;
     for _ in 0..100001 {
-        words.push("01001")?;
+        line.push_str(" 01001")?;
     }
-    let ending = run_words(rt.alloc(), words.as_slice(), &[]);
+    let ending = run_command(rt.alloc(), line.as_str(), &[])?;
     assert_eq!(rt; ending.status, 2);
     assert_eq!(rt;
         ending.said,
