@@ -66,6 +66,7 @@ impl Line {
 /// `None`, which is the end of the input, and after a fault the line is empty with the number that it
 /// had, and the input stands where the reading stopped. A line of more than 230 bytes is left after
 /// its 231st byte.
+#[inline(always)]
 pub fn read_line<R: CountedRead>(input: &mut R, line: &mut Line) -> Result<Option<()>, LineFault>
     ensures { IsLineRead line.old line.new
         (reader R.remaining R.failed_reads input.old) (reader R.remaining R.failed_reads input.new) result }

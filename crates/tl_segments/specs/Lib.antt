@@ -5,6 +5,7 @@ pub mod Joining
 pub mod LoadFault
 pub mod Loading
 pub mod Name
+pub mod NearHash
 pub mod Range
 pub mod Segment
 pub mod Tables

@@ -3,15 +3,16 @@ ghost use Rattle.std.specs.Prelude.{◌≡◌, ℕ, None, length, option_and_the
 ghost use Rattle.tl_segments.specs.Tables.{AddsNameAt, name_at};
 
 use crate::name::NAME_LENGTH;
+use crate::near_hash::NearHasher;
 use crate::range::copy_of;
 use std::alloc::{AllocError, Allocator};
 use std::collections::HashMap;
-use std::hash::{BuildHasherDefault, FoldHasher};
+use std::hash::BuildHasherDefault;
 
 /// The name that each FEAT has: the first one that was added.
 #[derive(Drop)]
 pub(crate) struct FeatureNames<A: Allocator> {
-    names: HashMap<u64, [u8; NAME_LENGTH], BuildHasherDefault<FoldHasher>, A>,
+    names: HashMap<u64, [u8; NAME_LENGTH], BuildHasherDefault<NearHasher>, A>,
 }
 
 impl<A: Allocator + Copy> FeatureNames<A> {
@@ -19,7 +20,7 @@ impl<A: Allocator + Copy> FeatureNames<A> {
         ensures { (feat : ℕ) → name_at result feat ≡ None }
     {
         FeatureNames {
-            names: HashMap::new(alloc),
+            names: HashMap::with_hasher(alloc, BuildHasherDefault::new()),
         }
     }
 
@@ -35,9 +36,9 @@ impl<A: Allocator + Copy> FeatureNames<A> {
 
 impl<A: Allocator> FeatureNames<A> {
     /// The name of a FEAT, if it has a number and this has a name.
-    pub(crate) fn name(&self, feat: Option<u64>) -> Option<&[u8; NAME_LENGTH]>
+    pub(crate) fn name(&self, feat: Option<u32>) -> Option<&[u8; NAME_LENGTH]>
         ensures { option_copied result ≡ option_and_then (name_at self.now) feat }
     {
-        self.names.get(&feat?)
+        self.names.get(&u64::from(feat?))
     }
 }

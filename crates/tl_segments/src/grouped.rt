@@ -3,15 +3,16 @@ ghost use Rattle.std.specs.Prelude.{◌≡◌, ◌≤◌, ℕ, [], length, IfErr
 ghost use Rattle.tl_segments.specs.Tables.{AddsAt, list_at};
 ghost use Rattle.tl_segments.specs.declared.grouped.NotAdded.TheVariants.{Full, Memory};
 
+use crate::near_hash::NearHasher;
 use crate::segment::LINE_LIMIT;
 use std::alloc::{AllocError, AllocFailed, Allocator};
 use std::collections::HashMap;
-use std::hash::{BuildHasherDefault, FoldHasher};
+use std::hash::BuildHasherDefault;
 
 /// Lists of values by number, each of at most [`LINE_LIMIT`].
 #[derive(Drop)]
 pub(crate) struct Grouped<V, A: Allocator> {
-    lists: HashMap<u64, Vec<V, A>, BuildHasherDefault<FoldHasher>, A>,
+    lists: HashMap<u64, Vec<V, A>, BuildHasherDefault<NearHasher>, A>,
 }
 
 /// Why a value wasn't added.
@@ -43,7 +44,7 @@ impl<V: Drop, A: Allocator + Copy> Grouped<V, A> {
         ensures { (number : ℕ) → list_at result number ≡ [] }
     {
         Grouped {
-            lists: HashMap::new(alloc),
+            lists: HashMap::with_hasher(alloc, BuildHasherDefault::new()),
         }
     }
 
@@ -55,6 +56,10 @@ impl<V: Drop, A: Allocator + Copy> Grouped<V, A> {
         let list = self.lists.entry(number)?.or_default();
         if list.len() >= LINE_LIMIT {
             return Err(NotAdded::Full);
+        }
+        if list.is_empty() {
+            // Most have one value, so the first asks for no more than its own room.
+            list.reserve_exact(1)?;
         }
         list.push(value)?;
         Ok(())

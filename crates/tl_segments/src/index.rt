@@ -61,6 +61,7 @@ impl<A: Allocator + Copy> Index<A> {
 
     /// The segment of a type 1 line, with the alternate names and the further ranges of its TLID. It asks for memory only where there are
     /// any.
+    #[inline(always)]
     pub fn segment(&self, rt1: &Rt1<'_>) -> Result<Segment<A>, AllocError>
         ensures { IfOk result (λ segment. (lines : JoinedLines) → IsIndexOf self.now lines → segment ≡ segment_of lines rt1.now.bytes) }
     {
@@ -73,7 +74,8 @@ impl<A: Allocator + Copy> Index<A> {
 
     /// Reads the next line of a type 1 file into `line` and gives its segment, `None` at the end of the input. A line without an alternate name
     /// and a further range takes no memory.
-    #[inline]
+    // Else each segment is copied on its way out.
+    #[inline(always)]
     pub fn next_segment<R: CountedRead>(
         &self,
         input: &mut R,

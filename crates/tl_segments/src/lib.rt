@@ -11,6 +11,7 @@ mod grouped;
 mod index;
 pub mod laws;
 mod name;
+mod near_hash;
 mod range;
 mod segment;
 mod tables;

@@ -76,9 +76,7 @@ pub(crate) fn copy_of<const N: usize>(bytes: &[u8]) -> [u8; N]
     ensures value { result ≡ bytes.now }
     ensures bytes { AreBytes N result }
 {
-    let mut copy = [0; N];
-    copy.copy_from_slice(bytes);
-    copy
+    *bytes.first_chunk().unwrap()
 }
 
 /// The range that a type 1 record itself has.

@@ -5,7 +5,7 @@ ghost use Rattle.tl_segments.specs.Segment.{IsSegment, names_of, ranges_of};
 ghost use Rattle.tl_segments.specs.declared.range.RangeFields.{RangeFields};
 
 use crate::name::NAME_LENGTH;
-use crate::range::{Range, RangeFields, field_at, own_range};
+use crate::range::{Range, RangeFields, copy_of, field_at, own_range};
 use std::alloc::{AllocError, Allocator};
 use std::marker::Model;
 use tl_records::Rt1;
@@ -49,10 +49,8 @@ impl<A: Allocator + Copy> Segment<A> {
         requires { length bytes.now ≡ RECORD_LENGTH }
         ensures { result ≡ record { bytes = bytes.now; names = []; ranges = [] } }
     {
-        let mut record = [0; RECORD_LENGTH];
-        record.copy_from_slice(bytes);
         Segment {
-            record,
+            record: copy_of(bytes),
             names: Vec::new(alloc),
             ranges: Vec::new(alloc),
         }
@@ -67,9 +65,7 @@ impl<A: Allocator> Segment<A> {
         ensures ok { OnOk result (self.new ≡ record self.old { names = self.old.names ++ name.now ∷ [] }) }
         ensures err { OnErr result (self.new ≡ self.old) }
     {
-        let mut copy = [0; NAME_LENGTH];
-        copy.copy_from_slice(name);
-        self.names.push(copy)?;
+        self.names.push(copy_of(name))?;
         Ok(())
     }
 

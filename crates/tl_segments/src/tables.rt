@@ -1,5 +1,6 @@
 //! What an index keeps of the lines of each file.
-ghost use Rattle.std.specs.Prelude.{◌≡◌};
+ghost use Rattle.std.specs.Prelude.{◌≡◌, length};
+ghost use Rattle.tl_fields.specs.Number.{number_of};
 ghost use Rattle.tl_segments.specs.Joining.{further_range};
 ghost use Rattle.tl_segments.specs.Tables.{feature_numbers};
 
@@ -13,7 +14,7 @@ use tl_fields::number;
 use tl_records::{Line, Rt4, Rt6, rt4, rt5, rt6};
 
 /// The numbers of a type 4 line's FEATs, each where it has one.
-pub(crate) type Features = [Option<u64>; 5];
+pub(crate) type Features = [Option<u32>; 5];
 
 impl<A: Allocator + Copy> Table for Grouped<Features, A> {
     ghost use Rattle.tl_segments.specs.Tables.{KeepsFeatures};
@@ -45,12 +46,20 @@ fn feature_numbers(rt4: &Rt4<'_>) -> Features
     ensures { result ≡ feature_numbers rt4.now.bytes }
 {
     [
-        number(rt4.feat1()),
-        number(rt4.feat2()),
-        number(rt4.feat3()),
-        number(rt4.feat4()),
-        number(rt4.feat5()),
+        feature_number(rt4.feat1()),
+        feature_number(rt4.feat2()),
+        feature_number(rt4.feat3()),
+        feature_number(rt4.feat4()),
+        feature_number(rt4.feat5()),
     ]
+}
+
+/// The number of a FEAT, which has 8 places.
+fn feature_number(feat: &[u8]) -> Option<u32>
+    requires { length feat.now ≡ 8 }
+    ensures { result ≡ number_of feat.now }
+{
+    Some(number(feat)? as u32)
 }
 
 impl<A: Allocator + Copy> Table for FeatureNames<A> {
