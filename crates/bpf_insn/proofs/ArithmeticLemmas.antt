@@ -1,12 +1,12 @@
 -- Numbers of 32 and 64 bits as signed 64-bit numbers, and back.
-use Rattle.std.proofs.Common.{◌≡◌, ℕ, zero, suc, ◌/◌, ◌^◌, ◌≤◌, ◌<◌, ℤ, pos, negsuc, arith}
-use Rattle.std.proofs.Math.Nat.{mod-lt, div-le_self, le_trans}
+use Rattle.std.proofs.Common.{◌≡◌, ℕ, zero, suc, ◌/◌, ◌%◌, ◌^◌, ◌≤◌, ◌<◌, ℤ, pos, negsuc, arith}
+use Rattle.std.proofs.Math.Nat.{mod-lt, mod-mod, div-le_self, le_trans}
 use Rattle.std.proofs.Math.IntN.{neg_ℤ}
 use Rattle.std.specs.Int.{w64, cast_signed, cast_unsigned}
 use Rattle.std.specs.Int.RustNames.{int_div, int_rem}
 use Rattle.std.proofs.lemmas.Int.{of_z-to_z}
 use Rattle.std.proofs.Math.Facts.{sfits_to_z}
-use Rattle.std.proofs.Math.Pow.{pow_pos}
+use Rattle.std.proofs.Math.Pow.{pow_pos, mod-mod-pow}
 use lib.Signed.{mag, mag_rem}
 use mir.Val.{bits, hbits}
 use Rattle.bpf_insn.specs.Arithmetic.{operand_bits, low_bits}
@@ -64,3 +64,8 @@ quotient_bits width x d =
     let within = quotient_within width x d in
     let fits : cast_unsigned w64 (int_div a d) < 2 ^ 64 = unsigned_fits (int_div a d) (le_trans within (half_le width)) in
     rw (of_z-to_z w64 (cast_unsigned w64 (int_div a d)) fits) (low_bits-signed width (int_div a d) within)
+
+-- The low bits of what 64 bits keep of a number are its own.
+pub low_bits-wrapped : (width : Width) (n : ℕ) → low_bits (operand_bits width) (n % 2 ^ 64) ≡ low_bits (operand_bits width) n
+low_bits-wrapped Bits32 n = mod-mod-pow n 32 32
+low_bits-wrapped Bits64 n = mod-mod n (2 ^ 64)

@@ -20,23 +20,25 @@ impl Operation {
         let x = width.low_bits(x);
         let y = width.low_bits(y);
         match self {
-            Operation::Divide | Operation::SignedDivide if y == 0 => 0,
-            Operation::Modulo | Operation::SignedModulo if y == 0 => x,
             Operation::Add => width.low_bits(x.wrapping_add(y)),
             Operation::Subtract => width.low_bits(x.wrapping_sub(y)),
             Operation::Multiply => width.low_bits(x.wrapping_mul(y)),
-            Operation::Divide => x / y,
-            Operation::SignedDivide => {
+            Operation::Divide => if y == 0 { 0 } else { x / y },
+            Operation::SignedDivide => if y == 0 {
+                0
+            } else {
                 width.bits_of(width.signed(x).wrapping_div(width.signed(y)))
-            }
+            },
             Operation::Or => x | y,
             Operation::And => x & y,
             Operation::ShiftLeft => width.low_bits(x << width.shift_amount(y)),
             Operation::ShiftRight => x >> width.shift_amount(y),
-            Operation::Modulo => x % y,
-            Operation::SignedModulo => {
+            Operation::Modulo => if y == 0 { x } else { x % y },
+            Operation::SignedModulo => if y == 0 {
+                x
+            } else {
                 width.bits_of(width.signed(x).wrapping_rem(width.signed(y)))
-            }
+            },
             Operation::ExclusiveOr => x ^ y,
             Operation::Move => y,
             Operation::ArithmeticShiftRight => {

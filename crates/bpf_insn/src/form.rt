@@ -9,7 +9,7 @@ use crate::row::Use::{Any, MoveBits, SwapBits, Unused, ZeroOrOne};
 use crate::row::{Row, Use, uses};
 
 /// What an opcode says of an instruction.
-#[derive(Clone, Copy, Debug, PartialEq, Eq)]
+#[derive(Clone, Copy)]
 pub(crate) enum Form {
     /// The operation is the unsigned one, and whether the second operand is a register stands last.
     /// The offset tells signed operations apart, and moves that extend the sign.

@@ -7,7 +7,7 @@ use crate::instruction::Width;
 use crate::word::Word;
 
 /// What an instruction does with the register of the destination's field.
-#[derive(Clone, Copy, Debug, PartialEq, Eq)]
+#[derive(Clone, Copy)]
 pub(crate) enum Destination {
     /// There is none: the field is zero.
     Nothing,
@@ -16,7 +16,7 @@ pub(crate) enum Destination {
 }
 
 /// The use that a row has for the offset or the immediate.
-#[derive(Clone, Copy, Debug, PartialEq, Eq)]
+#[derive(Clone, Copy)]
 pub(crate) enum Use {
     /// None: it's zero.
     Unused,
@@ -28,7 +28,7 @@ pub(crate) enum Use {
     SwapBits,
 }
 
-#[derive(Clone, Copy, Debug, PartialEq, Eq)]
+#[derive(Clone, Copy)]
 pub(crate) struct Row {
     pub destination: Destination,
     pub uses_source: bool,

@@ -17,7 +17,7 @@ use byteorder::{ByteOrder, LittleEndian};
 
 /// The five fields of an instruction word, whatever they hold (RFC 9669, section 3.1). Contracts
 /// speak of it; `decode` is the way to instructions.
-#[derive(Clone, Copy, Debug, Default, PartialEq, Eq)]
+#[derive(Clone, Copy, Default)]
 pub struct Word {
     pub opcode: u8,
     /// A number of four bits, which may be no register's.
