@@ -15,7 +15,7 @@ use std::alloc::Allocator;
 use std::collections::BTreeMap;
 
 /// An instruction, with the label that it names.
-#[derive(Clone, Copy, Debug, PartialEq, Eq)]
+#[derive(Clone, Copy)]
 pub(crate) struct Item<'a> {
     /// The line, counted from 1.
     pub line: usize,

@@ -7,7 +7,7 @@ use bpf_insn::{
 };
 
 /// What a mnemonic says of an instruction: all but the operands.
-#[derive(Clone, Copy, Debug, PartialEq, Eq)]
+#[derive(Clone, Copy)]
 pub(crate) enum Form {
     Alu(Operation, Width),
     MoveSignExtended(SignExtension),

@@ -19,7 +19,7 @@ use bpf_insn::{
 };
 
 /// What a line means. A jump to a label has the distance 0 for the time being.
-#[derive(Clone, Copy, Debug, PartialEq, Eq)]
+#[derive(Clone, Copy)]
 pub(crate) enum Statement<'a> {
     Blank,
     Label(&'a [u8]),
@@ -106,11 +106,24 @@ fn split(operands: &[u8]) -> Result<(&[u8], &[u8]), TextFlaw>
     }
 }
 
+fn register_and_source(operands: &[u8]) -> Result<(Register, Source), TextFlaw>
+    ensures { result ≡ two register_in source_in operands.now }
+{
+    let (left, right) = split(operands)?;
+    both(register_in(left), source_in(right))
+}
+
+fn two_registers(operands: &[u8]) -> Result<(Register, Register), TextFlaw>
+    ensures { result ≡ two register_in register_in operands.now }
+{
+    let (left, right) = split(operands)?;
+    both(register_in(left), register_in(right))
+}
+
 fn alu(operation: Operation, width: Width, operands: &[u8]) -> Result<Statement<'_>, TextFlaw>
     ensures { statement_view result ≡ instruction_in (Form.Alu operation width) operands.now }
 {
-    let (left, right) = split(operands)?;
-    let (register, source) = both(register_in(left), source_in(right))?;
+    let (register, source) = register_and_source(operands)?;
     let destination = destination_of(register)?;
     plain(Insn::Alu {
         operation,
@@ -123,8 +136,7 @@ fn alu(operation: Operation, width: Width, operands: &[u8]) -> Result<Statement<
 fn move_sign_extended(extension: SignExtension, operands: &[u8]) -> Result<Statement<'_>, TextFlaw>
     ensures { statement_view result ≡ instruction_in (Form.MoveSignExtended extension) operands.now }
 {
-    let (left, right) = split(operands)?;
-    let (register, source) = both(register_in(left), register_in(right))?;
+    let (register, source) = two_registers(operands)?;
     let destination = destination_of(register)?;
     plain(Insn::MoveSignExtended {
         extension,
@@ -217,6 +229,13 @@ fn register_and_memory(operands: &[u8]) -> Result<(Register, (Register, i16)), T
     both(register_in(left), memory_in(right))
 }
 
+fn memory_and_register(operands: &[u8]) -> Result<((Register, i16), Register), TextFlaw>
+    ensures { result ≡ two memory_in register_in operands.now }
+{
+    let (left, right) = split(operands)?;
+    both(memory_in(left), register_in(right))
+}
+
 fn memory_and_immediate(operands: &[u8]) -> Result<((Register, i16), i32), TextFlaw>
     ensures { result ≡ two memory_in immediate_in operands.now }
 {
@@ -259,8 +278,7 @@ fn store_immediate(size: StoreSize, operands: &[u8]) -> Result<Statement<'_>, Te
 fn store(size: StoreSize, operands: &[u8]) -> Result<Statement<'_>, TextFlaw>
     ensures { statement_view result ≡ instruction_in (Form.Store size) operands.now }
 {
-    let (left, right) = split(operands)?;
-    let ((base, offset), source) = both(memory_in(left), register_in(right))?;
+    let ((base, offset), source) = memory_and_register(operands)?;
     plain(Insn::Store {
         size,
         base,

@@ -1,6 +1,6 @@
 //! Numbers.
-ghost use Rattle.std.specs.Prelude.{◌≡◌, ◌≤◌, ◌<◌, ◌^◌, IfOk};
-ghost use Rattle.bpf_text.specs.Number.{IsWithin, number_in, decimal_in, positive, negative, signed_in, immediate_in, wide_in, limit_of_16_bits, limit_of_32_bits};
+ghost use Rattle.std.specs.Prelude.{◌≡◌, ◌≤◌, ◌<◌, ◌^◌, true, false, drop, IfOk, MatchOption};
+ghost use Rattle.bpf_text.specs.Number.{IsWithin, number_in, decimal_in, positive, negative, signed_in, is_hexadecimal, immediate_in, wide_in, limit_of_16_bits, limit_of_32_bits};
 
 use crate::fault::TextFlaw;
 
@@ -86,12 +86,24 @@ pub(crate) fn signed_32(text: &[u8]) -> Result<i32, TextFlaw>
     signed_in(text, LIMIT_OF_32_BITS)
 }
 
+/// The digits of a hexadecimal number, which begins with `0x`.
+fn hexadecimal_digits(text: &[u8]) -> Option<&[u8]>
+    ensures { MatchOption result (is_hexadecimal text.now ≡ false) (λ digits. (is_hexadecimal text.now ≡ true) × (digits.now ≡ drop 2 text.now)) }
+{
+    match text {
+        [b'0', b'x', digits @ ..] => Some(digits),
+        _ => None,
+    }
+}
+
 /// The 32 bits of an immediate.
 pub(crate) fn immediate_in(text: &[u8]) -> Result<i32, TextFlaw>
     ensures { result ≡ immediate_in text.now }
 {
+    if let Some(digits) = hexadecimal_digits(text) {
+        return Ok((number_in(digits, 16, 8)? as u32).cast_signed());
+    }
     match text {
-        [b'0', b'x', digits @ ..] => Ok((number_in(digits, 16, 8)? as u32).cast_signed()),
         [b'-', digits @ ..] => negative(decimal_in(digits)?, LIMIT_OF_32_BITS),
         _ => positive(decimal_in(text)?, LIMIT_OF_32_BITS),
     }
@@ -101,7 +113,7 @@ pub(crate) fn immediate_in(text: &[u8]) -> Result<i32, TextFlaw>
 pub(crate) fn wide_in(text: &[u8]) -> Result<u64, TextFlaw>
     ensures { result ≡ wide_in text.now }
 {
-    if let [b'0', b'x', digits @ ..] = text {
+    if let Some(digits) = hexadecimal_digits(text) {
         return Ok(number_in(digits, 16, 16)? as u64);
     }
     let number = decimal_in(text)?;
