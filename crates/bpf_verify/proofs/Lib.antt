@@ -2,6 +2,7 @@ pub mod MoveLemmas
 pub mod CallLemmas
 pub mod CodeLemmas
 pub mod NoteLemmas
+pub mod VisitLemmas
 pub mod AnnotationLemmas
 pub mod SoundChecks
 pub mod SoundStates
