@@ -18,7 +18,7 @@ pub struct Narrowed {
 }
 
 /// How the left number of a comparison stands to the right one.
-#[derive(Clone, Copy, Debug, PartialEq, Eq)]
+#[derive(Clone, Copy)]
 pub(crate) enum Relation {
     Same,
     Different,

@@ -40,7 +40,7 @@ use std::alloc::{AllocError, Global};
 use tl_fields::CountedWrite;
 
 /// What the arguments ask for.
-#[derive(Debug, Drop)]
+#[derive(Drop)]
 pub enum Request<'a> {
     Run(Run<'a>),
     Trace(Trace<'a>),

@@ -5,7 +5,7 @@ use crate::arguments::ArgumentsFault;
 use tl_segments::NAME_LENGTH;
 
 /// A street's name: 1 to 30 bytes.
-#[derive(Clone, Copy, Debug)]
+#[derive(Clone, Copy)]
 pub struct StreetName<'a> {
     pub text: &'a str,
     ghost some: { 1 ≤ length text.now },

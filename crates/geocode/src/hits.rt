@@ -13,7 +13,7 @@ use tl_records::Rt1;
 use tl_segments::{County, NAME_LENGTH, RECORD_LENGTH, Range, Segment, lies_on, name_equals};
 
 /// A house that is looked for: its number, and the number of its ZIP code where only that one will do.
-#[derive(Clone, Copy, Debug)]
+#[derive(Clone, Copy)]
 pub(crate) struct House {
     number: u64,
     zip: Option<u64>,

@@ -12,7 +12,7 @@ use tl_records::{Places, Rt1};
 use tl_segments::RECORD_LENGTH;
 
 /// A house number, and the numbers of the FR and the TO address of the side that it lies on.
-#[derive(Clone, Copy, Debug)]
+#[derive(Clone, Copy)]
 pub(crate) struct Position {
     pub number: u64,
     pub from: u64,

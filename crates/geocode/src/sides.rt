@@ -7,7 +7,7 @@ use crate::hit::Side;
 use tl_segments::Range;
 
 /// The fields of a range that one side has, lent: the addresses at its ends and its ZIP code.
-#[derive(Clone, Copy, Debug)]
+#[derive(Clone, Copy)]
 pub(crate) struct SideFields<'a> {
     pub from: &'a [u8],
     pub to: &'a [u8],

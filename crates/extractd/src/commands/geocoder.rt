@@ -66,7 +66,7 @@ fn counties_option<'a>(alloc: Global) -> Arg<'a> {
 const MOST_DIGITS: usize = 11;
 
 /// What `geocode` is asked for.
-#[derive(Debug, Drop)]
+#[derive(Drop)]
 pub struct Geocode<'a> {
     /// The folder of the county files.
     pub data: &'a str,

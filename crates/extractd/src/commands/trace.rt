@@ -59,7 +59,7 @@ Example:
 const MOST_DIGITS: usize = 19;
 
 /// What `trace` is asked for.
-#[derive(Clone, Copy, Debug)]
+#[derive(Clone, Copy)]
 pub struct Trace<'a> {
     /// The program's file.
     pub program: &'a str,
