@@ -10,8 +10,7 @@ ghost use Rattle.extract.specs.declared.program.ProgramFault.{ProgramFault};
 
 use crate::fault::ExtractFault;
 use crate::program::accept;
-use crate::rows::write_row_if_chosen;
-use arrayvec::ArrayVec;
+use crate::rows::{LONGEST_ROW, write_row_if_chosen};
 use bpf_verify::Verified;
 use std::alloc::Allocator;
 use tl_fields::{CountedRead, CountedWrite};
@@ -62,7 +61,7 @@ fn write_rows<A: Allocator + Copy, R: CountedRead, W: CountedWrite>(
     ensures not_program { (fault : ProgramFault) → result ≢ Err (ExtractFault.Program fault) }
 {
     let mut line = Line::new();
-    let mut text = ArrayVec::new();
+    let mut text = [0; LONGEST_ROW];
     let mut rows = 0;
     while let Some(segment) = index.next_segment(rt1, &mut line)? {
         rows += write_row_if_chosen(verified, &segment, &mut text, out)?;

@@ -1,5 +1,5 @@
 //! Rows, and how they are written.
-ghost use Rattle.std.specs.Prelude.{◌≡◌};
+ghost use Rattle.std.specs.Prelude.{◌≡◌, ◌≤◌, ◌+◌, ◌++◌, length, take};
 ghost use Rattle.tl_fields.specs.Device.{writer};
 ghost use Rattle.tl_fields.specs.Writing.{WritesText};
 ghost use Rattle.bpf_meaning.specs.Extract.{row_of};
@@ -20,8 +20,10 @@ pub const LONGEST_ROW: usize = 250;
 pub fn row_text<A: Allocator>(score: u64, segment: &Segment<A>) -> ArrayVec<u8, LONGEST_ROW>
     ensures { result.items ≡ row_of score segment.now }
 {
+    let mut row = [0; LONGEST_ROW];
+    let length = fill_row(&mut row, score, segment);
     let mut text = ArrayVec::new();
-    fill_row(&mut text, score, segment);
+    text.try_extend_from_slice(&row[..length]).unwrap();
     text
 }
 
@@ -43,7 +45,7 @@ pub fn row<A: Allocator, W: CountedWrite>(
 pub(crate) fn write_row_if_chosen<A: Allocator, B: Allocator, W: CountedWrite>(
     verified: &Verified<A>,
     segment: &Segment<B>,
-    text: &mut ArrayVec<u8, LONGEST_ROW>,
+    text: &mut [u8; LONGEST_ROW],
     out: &mut W,
 ) -> Result<u64, WriteFault>
     ensures { WritesRow verified.now.code segment.now result
@@ -53,23 +55,34 @@ pub(crate) fn write_row_if_chosen<A: Allocator, B: Allocator, W: CountedWrite>(
     if answer.r0 == 0 {
         return Ok(0);
     }
-    fill_row(text, answer.score, segment);
-    match write_whole(out, text.as_slice()) {
+    let length = fill_row(text, answer.score, segment);
+    match write_whole(out, &text[..length]) {
         Ok(()) => Ok(1),
         Err(fault) => Err(fault),
     }
 }
 
-// Puts a row in place of what the text held.
+// Puts a row at the front of the text, and answers its length. What stood there before is left as it was behind it.
 #[inline]
-fn fill_row<A: Allocator>(text: &mut ArrayVec<u8, LONGEST_ROW>, score: u64, segment: &Segment<A>)
-    ensures { text.new.items ≡ row_of score segment.now }
+fn fill_row<A: Allocator>(text: &mut [u8; LONGEST_ROW], score: u64, segment: &Segment<A>) -> usize
+    ensures length { result ≤ LONGEST_ROW }
+    ensures row { take result text.new ≡ row_of score segment.now }
 {
     let mut digits = Buffer::new();
-    text.clear();
-    text.try_extend_from_slice(digits.format(score).as_bytes())
-        .unwrap();
-    text.push(b'\t');
-    text.try_extend_from_slice(segment.bytes()).unwrap();
-    text.push(b'\n');
+    let tab = append(text, 0, digits.format(score).as_bytes());
+    let record = append(text, tab, b"\t");
+    let line_feed = append(text, record, segment.bytes());
+    append(text, line_feed, b"\n")
+}
+
+// Puts bytes behind the first ones of the text, so many, and answers how many these then are.
+#[inline(always)]
+fn append(text: &mut [u8; LONGEST_ROW], at: usize, bytes: &[u8]) -> usize
+    requires { at + length bytes.now ≤ LONGEST_ROW }
+    ensures end { result ≡ at + length bytes.now }
+    ensures text { take result text.new ≡ take at text.old ++ bytes.now }
+{
+    let end = at + bytes.len();
+    text[at..end].copy_from_slice(bytes);
+    end
 }
