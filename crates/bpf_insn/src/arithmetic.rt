@@ -11,6 +11,7 @@ use crate::instruction::{
 impl Operation {
     /// What the operation gives, with the destination's value as the first operand and the source's
     /// as the second (RFC 9669, section 4.1). Signed numbers are in two's complement.
+    #[inline(always)]
     pub fn apply(self, width: Width, x: u64, y: u64) -> u64
         ensures value { result ≡ result_of self width x y }
 
@@ -51,6 +52,7 @@ impl Operation {
 impl Condition {
     /// Whether the jump is taken, with the destination's value as the first operand and the
     /// source's as the second (RFC 9669, section 4.3).
+    #[inline(always)]
     pub fn holds(self, width: Width, x: u64, y: u64) -> bool
         ensures { result ≡ is_met self width x y }
     {

@@ -163,6 +163,7 @@ impl<A: Allocator> Code<A> {
     }
 
     /// The index of the instruction that begins at a place. None where none begins there.
+    #[inline(always)]
     pub fn index_at(&self, place: usize) -> Option<usize>
         ensures value { result ≡ index_at self.now place }
         ensures within { IfSome result (λ index. index < length self.now) }
@@ -171,6 +172,7 @@ impl<A: Allocator> Code<A> {
     }
 
     /// The instruction that begins at a place. None where none begins there.
+    #[inline(always)]
     pub fn at(&self, place: usize) -> Option<Insn>
         ensures value { result ≡ instruction_at self.now place }
         ensures within { IsSome result → place < WORD_LIMIT }

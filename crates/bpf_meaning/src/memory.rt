@@ -16,6 +16,7 @@ use std::alloc::Allocator;
 use tl_segments::Segment;
 
 /// An offset from which on so many bytes lie within the first ones, so many, of an area.
+#[inline(always)]
 fn offset_within(offset: i32, count: usize, bytes: usize) -> Option<usize>
     requires { count ≤ 8 }
     ensures { MatchOption result (lie_within offset count bytes ≡ false)
@@ -30,20 +31,32 @@ fn offset_within(offset: i32, count: usize, bytes: usize) -> Option<usize>
     Some(at)
 }
 
-/// The little-endian number of at most eight bytes.
+/// The little-endian number of at most eight bytes. One byte, which most loads read, is looked at first.
+#[inline(always)]
 pub(crate) fn little_endian(bytes: &[u8]) -> u64
+    requires { length bytes.now ≤ 8 }
+    ensures { Some result ≡ number_of (map Byte bytes.now) }
+{
+    match bytes {
+        [byte] => u64::from(*byte),
+        _ => lowest_first(bytes),
+    }
+}
+
+/// The number of bytes of which the lowest stands first.
+fn lowest_first(bytes: &[u8]) -> u64
     requires { length bytes.now ≤ 8 }
     ensures value { Some result ≡ number_of (map Byte bytes.now) }
     ensures fits { result < 256 ^ length bytes.now }
 {
     match bytes {
         [] => 0,
-        [byte] => u64::from(*byte),
-        [first, rest @ ..] => u64::from(*first) + 256 * little_endian(rest),
+        [first, rest @ ..] => u64::from(*first) + 256 * lowest_first(rest),
     }
 }
 
 /// A load from the record, from an offset on.
+#[inline(always)]
 fn load_record(bytes: &[u8], format: LoadFormat, offset: i32) -> Result<Value, Cause>
     ensures { result ≡ load_bytes format (map Byte bytes.now) offset }
 {
@@ -70,6 +83,7 @@ fn load_frame(frame: &Frame, format: LoadFormat, offset: i32) -> Result<Value, C
 }
 
 /// The pointer in a register that is the base of a load or a store.
+#[inline(always)]
 fn pointer_in(state: &State, register: u8) -> Result<Pointer, Cause>
     requires { register ≤ 10 }
     ensures { result ≡ pointer_in state.now register }

@@ -10,6 +10,7 @@ use bpf_insn::{
 };
 
 /// The number that a value is, or the cause where it's none.
+#[inline(always)]
 pub(crate) fn number_or(cause: Cause, value: Value) -> Result<u64, Cause>
     ensures { result ≡ number_or cause value }
 {
@@ -20,6 +21,7 @@ pub(crate) fn number_or(cause: Cause, value: Value) -> Result<u64, Cause>
 }
 
 /// The number in a register, of which an instruction makes another.
+#[inline(always)]
 pub(crate) fn number_in(state: &State, register: u8) -> Result<u64, Cause>
     requires { register ≤ 10 }
     ensures { result ≡ number_in state.now register }
@@ -28,6 +30,7 @@ pub(crate) fn number_in(state: &State, register: u8) -> Result<u64, Cause>
 }
 
 /// The second operand.
+#[inline(always)]
 pub(crate) fn operand(state: &State, source: Source) -> Result<Value, Cause>
     ensures { result ≡ operand state.now source }
 {
@@ -38,6 +41,7 @@ pub(crate) fn operand(state: &State, source: Source) -> Result<Value, Cause>
 }
 
 /// What an arithmetic instruction gives. A move doesn't read its destination.
+#[inline(always)]
 pub(crate) fn operation_value(
     state: &State,
     operation: Operation,
@@ -58,6 +62,7 @@ pub(crate) fn operation_value(
 }
 
 /// What a move gives: any value with 64 bits, the low half of a number with 32.
+#[inline(always)]
 fn move_value(width: Width, value: Value) -> Result<Value, Cause>
     ensures { result ≡ move_value width value }
 {
@@ -69,6 +74,7 @@ fn move_value(width: Width, value: Value) -> Result<Value, Cause>
 }
 
 /// An operation on two values.
+#[inline(always)]
 fn operate(operation: Operation, width: Width, x: Value, y: Value) -> Result<Value, Cause>
     ensures { result ≡ operate operation width x y }
 {
@@ -150,6 +156,7 @@ fn pointer_to(area: Area, offset: i32) -> Result<Value, Cause>
 }
 
 /// Whether a conditional jump is taken.
+#[inline(always)]
 pub(crate) fn comparison(
     state: &State,
     condition: Condition,
@@ -165,6 +172,7 @@ pub(crate) fn comparison(
 }
 
 /// Whether two values meet a condition.
+#[inline(always)]
 fn compare(condition: Condition, width: Width, x: Value, y: Value) -> Result<bool, Cause>
     ensures { result ≡ compare condition width x y }
 {

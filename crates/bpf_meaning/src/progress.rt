@@ -9,6 +9,7 @@ use bpf_insn::{Code, Value, WritableRegister};
 use std::alloc::Allocator;
 
 /// Goes on at a place, with a change, if an instruction begins there.
+#[inline(always)]
 pub(crate) fn go_on<A: Allocator>(
     code: &Code<A>,
     place: usize,
@@ -26,7 +27,7 @@ pub(crate) fn go_on<A: Allocator>(
 }
 
 /// Goes on at a place with a register written.
-#[inline]
+#[inline(always)]
 pub(crate) fn set_register<A: Allocator>(
     code: &Code<A>,
     place: usize,
@@ -39,6 +40,7 @@ pub(crate) fn set_register<A: Allocator>(
 }
 
 /// Jumps from a place over so many words, counted from the word after the jump.
+#[inline(always)]
 pub(crate) fn jump<A: Allocator>(
     code: &Code<A>,
     place: usize,

@@ -54,6 +54,7 @@ impl State {
     }
 
     /// What a register holds, if anything.
+    #[inline(always)]
     pub(crate) fn read(&self, register: u8) -> Result<Value, Cause>
         requires { register ≤ 10 }
         ensures { result ≡ read self.now register }
@@ -65,7 +66,7 @@ impl State {
     }
 
     /// Carries out an effect on a segment.
-    #[inline]
+    #[inline(always)]
     pub(crate) fn apply<A: Allocator>(&mut self, segment: &Segment<A>, effect: Effect) -> Outcome
         requires { CanBeCarriedOut self.old effect }
         ensures next { configuration_of result self.new ≡ apply segment.now self.old effect }
@@ -84,7 +85,7 @@ impl State {
         }
     }
 
-    #[inline]
+    #[inline(always)]
     fn carry_out<A: Allocator>(&mut self, segment: &Segment<A>, change: Change)
         requires { CanBeMade self.old change }
         ensures { self.new ≡ carry_out segment.now self.old change }
@@ -102,6 +103,7 @@ impl State {
     }
 
     /// Calls a helper function: register 0 gets its answer, and registers 1 to 5 hold nothing afterwards.
+    #[inline(never)]
     fn call<A: Allocator>(&mut self, segment: &Segment<A>, helper: Helper, arguments: [u64; 3])
         requires { CanBeCalled self.old helper arguments }
         ensures { self.new ≡ state_after self.old (second arguments) (called segment.now self.old helper arguments) }

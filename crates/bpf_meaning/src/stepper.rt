@@ -32,6 +32,7 @@ pub fn trace<A: Allocator, B: Allocator>(
 /// Carries out the instruction at the state's place, after the checks of what it reads and of where it goes on. The state is then where
 /// the program goes on, or as it was where the program has ended, so that a further step ends alike. It may be any state, also one that
 /// no run comes to.
+#[inline(always)]
 #[tactic(auto, unfolding(crate::specs::Step::after))]
 pub fn step<A: Allocator, B: Allocator>(
     code: &Code<A>,

@@ -16,7 +16,7 @@ use std::alloc::Allocator;
 use tl_segments::Segment;
 
 /// The effect of the instruction at the state's place, or the first check that fails. Nothing is carried out.
-#[inline]
+#[inline(always)]
 pub(crate) fn effect<A: Allocator, B: Allocator>(
     code: &Code<A>,
     segment: &Segment<B>,
@@ -34,7 +34,7 @@ pub(crate) fn effect<A: Allocator, B: Allocator>(
 }
 
 /// The effect of an instruction behind which the next one begins at this place: one arm a row.
-#[inline]
+#[inline(always)]
 fn instruction_effect<A: Allocator, B: Allocator>(
     code: &Code<A>,
     segment: &Segment<B>,

@@ -17,4 +17,4 @@ returns c =
     ap (λ (n : ℕ). let r : Result Value Cause = Ok (Number n) in r) c.extend.ensures
     ∙ load_inside c.args.format (map Byte c.args.bytes.now) c.args.offset c.in-Some.at c.load_length-count.result (length c.args.bytes.now) (Some c.little_endian-number.result)
     c.load_length-count.ensures.value long inside.0 inside.1
-    (c.little_endian-number.ensures.value ∙ ap number_of part)
+    (c.little_endian-number.ensures ∙ ap number_of part)

@@ -13,5 +13,5 @@ pub returns : goal.returns
 returns c =
     let any = sym c.contains.ensures.value ∙ c.if-contains.false in
     let same = ap (λ (frame : FrameContents). frame.bytes) c.self.view_is in
-    c.little_endian.ensures.value
+    c.little_endian.ensures
     ∙ sym (written_is_number _ c.self.inside.marks c.self.inside.bytes c.args.self.now.bytes c.args.at c.args.count (c.args.at + c.args.count - c.args.at) refl refl (omega arith) (omega arith) same any)
