@@ -5,8 +5,6 @@ mod hit;
 mod hits;
 mod position;
 mod sides;
-#[cfg(test)]
-mod tests;
 
 pub use hit::{Hit, LINE_LENGTH, Place, Side};
 pub use hits::find;

@@ -7,8 +7,6 @@ mod counted;
 mod fields;
 mod fuse;
 mod numbers;
-#[cfg(test)]
-mod tests;
 mod writing;
 
 pub use buffered::Buffered;

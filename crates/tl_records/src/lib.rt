@@ -6,8 +6,6 @@ mod fault;
 pub mod laws;
 mod layout;
 mod lines;
-#[cfg(test)]
-mod tests;
 mod type1;
 mod type4;
 mod type5;

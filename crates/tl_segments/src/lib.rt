@@ -3,8 +3,6 @@
 
 mod county;
 mod county_file;
-#[cfg(test)]
-mod county_tests;
 mod fault;
 mod feature_names;
 mod grouped;
@@ -15,8 +13,6 @@ mod near_hash;
 mod range;
 mod segment;
 mod tables;
-#[cfg(test)]
-mod tests;
 
 pub use county::County;
 pub use fault::{CountyFile, LoadFault};

@@ -1,66 +1,47 @@
-//! Counties worked by hand, and readers and allocators that go wrong in mid-stream. Each table has a row a line.
-mod files;
-mod plain;
-
-use crate::{County, CountyFile, LoadFault};
-use files::{Files, files_of};
+//! Counties worked by hand, and readers and allocators that go wrong in mid-stream.
+use super::files::files_of;
+use super::plain::{push, report_of};
+use crate::fixtures::{Files, cut, load, reader};
 use linked_list_allocator::LocalHeap;
-use plain::report_of;
-use std::alloc::Allocator;
-use std::io::ErrorKind;
-use std::test::Fail;
-use tl_fields::{Burst, Counting, Fuse};
+use std::alloc::{AllocError, Allocator, Global};
 use tl_records::{LineFault, LineFlaw};
-
-/// A reader that passes so many calls, and then fails once.
-fn reader(bytes: &[u8], calls: u64) -> Counting<Fuse<&[u8]>> {
-    Counting::new(Fuse::after_calls(bytes, calls, Burst::Fails(ErrorKind::Interrupted)))
-}
-
-/// The county of the files, with memory from one place for it and another for them.
-fn load<A: Allocator + Copy, B: Allocator>(
-    alloc: A,
-    files: &Files<B>,
-) -> Result<County<A>, LoadFault> {
-    County::load(
-        alloc,
-        &mut reader(&files.rt1, u64::MAX),
-        &mut reader(&files.rt4, u64::MAX),
-        &mut reader(&files.rt5, u64::MAX),
-        &mut reader(&files.rt6, u64::MAX),
-    )
-}
-
-/// The bytes of a field, without the blanks at their ends.
-fn text_of(bytes: Option<&[u8]>) -> &str {
-    let bytes = bytes.unwrap_or(b"none");
-    str::from_utf8(bytes).unwrap_or("no text").trim()
-}
+use tl_segments::{County, CountyFile, LoadFault, Segment};
 
 /// What the plain program says, of a county that was loaded.
-fn report<A: Allocator + Copy, B: Allocator>(
-    alloc: B,
-    county: Result<County<A>, LoadFault>,
-) -> Result<String<B>, Fail> {
+fn report<A: Allocator>(
+    alloc: Global,
+    county: &Result<County<A>, LoadFault>,
+) -> Result<String, AllocError> {
     let mut text = String::new(alloc);
     match county {
         Err(fault) => text.push_str(fault.line().as_str())?,
-        Ok(county) => {
-            for segment in county.segments() {
-                text.push_str(" ")?;
-                text.push_str(text_of(segment.bytes().get(5..15)))?;
-                for n in 1..=segment.names() {
-                    text.push_str("+")?;
-                    text.push_str(text_of(segment.name(n)))?;
-                }
-                for n in 1..segment.ranges() {
-                    text.push_str("/")?;
-                    text.push_str(text_of(segment.range(n).map(|range| range.fraddl)))?;
-                }
-            }
-        }
+        Ok(county) => push_segments(&mut text, county.segments())?,
     }
     Ok(text)
+}
+
+fn push_segments<A: Allocator>(
+    text: &mut String,
+    segments: &[Segment<A>],
+) -> Result<(), AllocError> {
+    for segment in segments {
+        push(text, " ", segment.bytes().get(5..15).unwrap_or(b"none"))?;
+        for n in 1..=segment.names() {
+            push(text, "+", segment.name(n).unwrap_or(b"none"))?;
+        }
+        for n in 1..segment.ranges() {
+            push(text, "/", starts_at(segment, n))?;
+        }
+    }
+    Ok(())
+}
+
+/// Where a range starts on the left.
+fn starts_at<A: Allocator>(segment: &Segment<A>, n: u64) -> &[u8] {
+    match segment.range(n) {
+        Some(range) => range.fraddl,
+        None => b"none",
+    }
 }
 
 // The lines of types 1, 4, 5 and 6, and what is said of the segments, or the refusal.
@@ -213,20 +194,34 @@ const COUNTIES: &str = "\
 =,4@1|=|=|1001:=|refused 7 rt6 line 1001 TooManyRanges
 =|=|1001:=|=|5+Oak/9";
 
+/// Whether this is said of files by a plain program.
+fn is_plain(alloc: Global, files: &Files, expected: &str) -> bool {
+    report_of(alloc, files).is_ok_and(|text| text.trim() == expected)
+}
+
+/// Whether this is said of a county that was loaded.
+fn is_said<A: Allocator>(
+    alloc: Global,
+    county: &Result<County<A>, LoadFault>,
+    expected: &str,
+) -> bool {
+    report(alloc, county).is_ok_and(|text| text.trim() == expected)
+}
+
+/// Whether the files of a row give what it says, by a plain program too.
+fn is_county(alloc: Global, row: &str) -> bool {
+    let (row, expected) = row.rsplit_once('|').unwrap_or((row, "none"));
+    let Some(files) = files_of(alloc, row) else {
+        return false;
+    };
+    is_plain(alloc, &files, expected) && is_said(alloc, &load(alloc, &files), expected)
+}
+
 #[test]
-fn counties(rt: HostRuntime) -> Result<(), Fail> {
+fn counties(rt: HostRuntime) {
     for row in COUNTIES.lines() {
-        let (row, expected) = row.rsplit_once('|').unwrap_or((row, "none"));
-        let files = files_of(rt.alloc(), row)?;
-        let plain = report_of(rt.alloc(), &files)?;
-        let loaded = report(rt.alloc(), load(rt.alloc(), &files))?;
-        assert_eq!(rt;
-            (plain.trim(), loaded.trim()),
-            (expected, expected),
-            "{row}"
-        );
+        assert!(rt; is_county(rt.alloc(), row), "{row}");
     }
-    Ok(())
 }
 
 // The files, the alternate names and the ranges of the last segment, and how many segments there are.
@@ -236,85 +231,142 @@ const LARGE: &str = "\
 6@15|1000:=|=|1000:=|0 1 1
 1001:= 1001:6@15|=|1001:=|=|0 1 2002";
 
+/// Whether a county's last segment has so many names and ranges, and the county so many segments.
+fn has_counts(county: &County<Global>, expected: &str) -> bool {
+    let (names, rest) = expected.split_once(' ').unwrap_or((expected, ""));
+    let (ranges, count) = rest.split_once(' ').unwrap_or((rest, ""));
+    let segments = county.segments();
+    let Some(last) = segments.last() else {
+        return false;
+    };
+    names.parse() == Ok(last.names())
+        && ranges.parse() == Ok(last.ranges())
+        && count.parse() == Ok(segments.len())
+}
+
+/// Whether the county of a row has its counts.
+fn is_large(alloc: Global, row: &str) -> bool {
+    let (row, expected) = row.rsplit_once('|').unwrap_or((row, "none"));
+    let Some(files) = files_of(alloc, row) else {
+        return false;
+    };
+    load(alloc, &files).is_ok_and(|county| has_counts(&county, expected))
+}
+
 #[test]
-fn many_lines(rt: HostRuntime) -> Result<(), Fail> {
+fn many_lines(rt: HostRuntime) {
     for row in LARGE.lines() {
-        let (row, expected) = row.rsplit_once('|').unwrap_or((row, "none"));
-        let files = files_of(rt.alloc(), row)?;
-        let county = load(rt.alloc(), &files)?;
-        let mut given = String::new(rt.alloc());
-        let segments = county.segments();
-        if let Some(last) = segments.last() {
-            let (names, ranges, count) = (last.names(), last.ranges(), segments.len());
-            given = format!(in rt.alloc(); "{names} {ranges} {count}")?;
-        }
-        assert_eq!(rt; given.as_str(), expected, "{row}");
+        assert!(rt; is_large(rt.alloc(), row), "{row}");
     }
-    Ok(())
 }
 
 /// The fault of a county one of whose readers passes so many calls and then fails once, and how many calls all of them got.
-fn fault_of<A: Allocator + Copy>(
-    alloc: A,
-    files: &Files<A>,
+fn fault_of(
+    alloc: Global,
+    files: &Files,
     failing: CountyFile,
     passing: u64,
 ) -> (Option<LoadFault>, u64) {
-    let calls = |file| if file == failing { passing } else { u64::MAX };
-    let mut rt1 = reader(&files.rt1, calls(CountyFile::Rt1));
-    let mut rt4 = reader(&files.rt4, calls(CountyFile::Rt4));
-    let mut rt5 = reader(&files.rt5, calls(CountyFile::Rt5));
-    let mut rt6 = reader(&files.rt6, calls(CountyFile::Rt6));
-    let county = County::load(alloc, &mut rt1, &mut rt4, &mut rt5, &mut rt6);
-    let mut calls: u64 = 0;
-    for reader in [rt1, rt4, rt5, rt6] {
-        calls = calls.wrapping_add(reader.get_ref().calls);
-    }
-    (county.err(), calls)
+    let mut rt1 = reader(&files.rt1, calls_of(CountyFile::Rt1, failing, passing));
+    let mut rt4 = reader(&files.rt4, calls_of(CountyFile::Rt4, failing, passing));
+    let mut rt5 = reader(&files.rt5, calls_of(CountyFile::Rt5, failing, passing));
+    let mut rt6 = reader(&files.rt6, calls_of(CountyFile::Rt6, failing, passing));
+    let fault = County::load(alloc, &mut rt1, &mut rt4, &mut rt5, &mut rt6).err();
+    let joined = rt4.get_ref().calls.wrapping_add(rt5.get_ref().calls);
+    let others = rt6.get_ref().calls.wrapping_add(rt1.get_ref().calls);
+    (fault, joined.wrapping_add(others))
 }
 
-#[test]
-fn each_read_fails(rt: HostRuntime) -> Result<(), Fail> {
-    let files = files_of(rt.alloc(), "= =|= =|= =|= =")?;
-    // The files in the order in which they are read, and how long their lines are.
-    let in_order = [
-        (CountyFile::Rt4, 59_u16),
-        (CountyFile::Rt5, 57),
-        (CountyFile::Rt6, 77),
-        (CountyFile::Rt1, 229),
-    ];
-    let mut before: u64 = 0;
-    for (file, length) in in_order {
-        let length = u64::from(length);
-        for passing in 0..2 * length + 1 {
-            let line = 1 + u64::from(passing >= length) + u64::from(passing >= 2 * length);
-            let flaw = LineFlaw::Read;
-            let fault = LineFault { line, flaw };
-            let calls = before.wrapping_add(passing + 1);
-            let given = fault_of(rt.alloc(), &files, file, passing);
-            assert_eq!(rt; given, (Some(LoadFault::Line { file, fault }), calls));
+/// How many calls a file's reader passes.
+fn calls_of(file: CountyFile, failing: CountyFile, passing: u64) -> u64 {
+    if file == failing { passing } else { u64::MAX }
+}
+
+// The files in the order in which they are read, and how long their lines are.
+const IN_ORDER: &str = "rt4|59
+rt5|57
+rt6|77
+rt1|229";
+
+fn file_named(name: &str) -> CountyFile {
+    match name {
+        "rt4" => CountyFile::Rt4,
+        "rt5" => CountyFile::Rt5,
+        "rt6" => CountyFile::Rt6,
+        _ => CountyFile::Rt1,
+    }
+}
+
+/// Whether each read of a file with two lines of this length is the last one where it fails, behind so many reads of other files.
+fn each_read_stops(
+    alloc: Global,
+    files: &Files,
+    file: CountyFile,
+    length: u64,
+    before: u64,
+) -> bool {
+    for passing in 0..=length.wrapping_mul(2) {
+        let line = match passing.checked_div(length) {
+            Some(lines) => lines.wrapping_add(1),
+            None => 1,
+        };
+        let flaw = LineFlaw::Read;
+        let fault = LineFault { line, flaw };
+        let expected = LoadFault::Line { file, fault };
+        let calls = before.wrapping_add(passing).wrapping_add(1);
+        if fault_of(alloc, files, file, passing) != (Some(expected), calls) {
+            return false;
         }
-        before = before.wrapping_add(2 * length + 1);
     }
-    Ok(())
+    true
+}
+
+/// The file at whose reads a county of two lines a file doesn't stop, if there is one.
+fn wrong_file(alloc: Global, files: &Files) -> Option<&'static str> {
+    let mut before: u64 = 0;
+    for row in IN_ORDER.lines() {
+        let (name, length) = cut(row);
+        let length = length.parse().unwrap_or(0);
+        if !each_read_stops(alloc, files, file_named(name), length, before) {
+            return Some(row);
+        }
+        before = before.wrapping_add(length.wrapping_mul(2)).wrapping_add(1);
+    }
+    None
 }
 
 #[test]
-fn little_memory(rt: HostRuntime) -> Result<(), Fail> {
-    let files = files_of(
-        rt.alloc(),
-        "= 6@15 =|= 6@15,8@26|= 8@18,Elm@21|= 6@15,7@29 =",
-    )?;
+fn each_read_fails(rt: HostRuntime) {
+    let files = files_of(rt.alloc(), "= =|= =|= =|= =").expect(&rt, "files");
+    assert_eq!(rt; wrong_file(rt.alloc(), &files), None);
+}
+
+const SMALL: &str = "= 6@15 =|= 6@15,8@26|= 8@18,Elm@21|= 6@15,7@29 =";
+
+/// Whether so much memory is refused to a county, or else the county is right.
+fn is_refused(alloc: Global, files: &Files, bytes: usize) -> Option<bool> {
+    let heap = LocalHeap::new(alloc, bytes).ok()?;
+    let county = load(&heap, files);
+    if is_said(alloc, &county, "refused memory") {
+        return Some(true);
+    }
+    is_said(alloc, &county, "5+Oak/9/9 6+Elm/7 5+Oak/9/9").then_some(false)
+}
+
+/// How many steps of 16 bytes were the last that were too few.
+fn refused_up_to(alloc: Global, files: &Files) -> Option<usize> {
     let mut refused = 0;
     for size in 0..1000 {
-        let heap = LocalHeap::new(rt.alloc(), size * 16)?;
-        let given = report(rt.alloc(), load(&heap, &files))?;
-        if given.as_str() == "refused memory" {
+        if is_refused(alloc, files, size * 16)? {
             refused = size;
-        } else {
-            assert_eq!(rt; given.trim(), "5+Oak/9/9 6+Elm/7 5+Oak/9/9");
         }
     }
+    Some(refused)
+}
+
+#[test]
+fn little_memory(rt: HostRuntime) {
+    let files = files_of(rt.alloc(), SMALL).expect(&rt, "files");
+    let refused = refused_up_to(rt.alloc(), &files).unwrap_or(0);
     assert!(rt; refused > 100 && refused < 900, "{refused}");
-    Ok(())
 }

@@ -1,0 +1,14 @@
+//! Tests of the crates of records and segments: `tl_fields`, `tl_records`, `tl_segments` and `geocode`. They go through public calls, and
+//! stand in a crate of their own since a crate with tests is proved once without them and once with them.
+#![tactic(auto)]
+
+#[cfg(test)]
+mod fields;
+#[cfg(test)]
+mod fixtures;
+#[cfg(test)]
+mod hits;
+#[cfg(test)]
+mod records;
+#[cfg(test)]
+mod segments;

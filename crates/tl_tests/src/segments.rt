@@ -1,0 +1,210 @@
+//! Names, house numbers, segments and counties, worked by hand.
+mod counties;
+mod files;
+mod plain;
+
+use crate::fixtures::{RECORD_1, cut, text_of, write_over};
+use std::alloc::{AllocError, Global};
+use tl_segments::{NAME_LENGTH, Range, Segment, lies_on, name_equals};
+
+// A house number, the FR and the TO address, and whether the number lies on their side.
+const SIDES: &str = "\
+101|        101|        199|true
+151|        101|        199|true
+199|        101|        199|true
+150|        101|        199|false
+99|        101|        199|false
+201|        101|        199|false
+150|100        |        198|true
+151|100        |        198|false
+151|        199|        101|true
+150|        199|        101|false
+199|        199|        101|true
+101|        199|        101|true
+201|        199|        101|false
+150|        100|        199|true
+151|        100|        199|true
+100|        100|        199|true
+200|        100|        199|false
+150|        199|        100|true
+7|7          |          7|true
+8|7          |          7|false
+6|7          |          7|false
+164|164-20     |164-20     |false
+164|        164|164-20     |false
+0|           |           |false
+0|           |          0|false
+0|          0|           |false
+0|0          |          0|true
+0|00000000000|99999999999|true
+99999999999|00000000000|99999999999|true
+100000000000|00000000000|99999999999|false
+18446744073709551615|00000000000|99999999999|false
+5|||false";
+
+fn is_side(row: &str) -> bool {
+    let (number, rest) = cut(row);
+    let (fr, rest) = cut(rest);
+    let (to, holds) = cut(rest);
+    let Ok(number) = number.parse() else {
+        return false;
+    };
+    lies_on(number, fr.as_bytes(), to.as_bytes()) == (holds == "true")
+}
+
+#[test]
+fn sides(rt: HostRuntime) {
+    for row in SIDES.lines() {
+        assert!(rt; is_side(row), "{row}");
+    }
+}
+
+// A name without the blanks behind it, the wanted bytes, and whether it equals them.
+const NAMES: &str = "\
+Main|Main|true
+Main|MAIN|true
+mAIN|Main|true
+Main|Maine|false
+Maine|Main|false
+Main|Mai|false
+Main|Main |true
+Main|Main                          |true
+Main| Main|false
+ Main|Main|false
+Main|M|false
+M|m|true
+| |true
+|M|false
+Main St|main st|true
+Main  St|main st|false
+@[`{|`{@[|false
+2nd|2ND|true
+Café|CAFé|true
+Café|CAFÉ|false
+Abcdefghijklmnopqrstuvwxyzabcd|aBCDEFGHIJKLMNOPQRSTUVWXYZABCD|true
+Abcdefghijklmnopqrstuvwxyzabcd|abcdefghijklmnopqrstuvwxyzabce|false
+Abcdefghijklmnopqrstuvwxyzabcd|abcdefghijklmnopqrstuvwxyzabc|false";
+
+fn is_name(row: &str) -> bool {
+    let (text, rest) = cut(row);
+    let (wanted, equals) = cut(rest);
+    if wanted.is_empty() || wanted.len() > NAME_LENGTH || text.len() > NAME_LENGTH {
+        return false;
+    }
+    let mut name = [b' '; NAME_LENGTH];
+    write_over(&mut name, text.as_bytes());
+    name_equals(&name, wanted.as_bytes()) == (equals == "true")
+}
+
+#[test]
+fn names(rt: HostRuntime) {
+    for row in NAMES.lines() {
+        assert!(rt; is_name(row), "{row}");
+    }
+}
+
+// The ranges of lines of record type 6.
+const FURTHER: Range<'static> = Range {
+    fraddl: b"        201",
+    toaddl: b"        299",
+    fraddr: b"           ",
+    toaddr: b"           ",
+    zipl: b"36068",
+    zipr: b"     ",
+};
+
+const LAST: Range<'static> = Range {
+    fraddl: b"     164-20",
+    toaddl: b"           ",
+    fraddr: b"300        ",
+    toaddr: b"  0        ",
+    zipl: b"     ",
+    zipr: b"     ",
+};
+
+// The number of a name, and the name.
+const NAMES_IN_ORDER: &str = "\
+0|Main
+1|Oak
+2|Elm
+3|none
+18446744073709551615|none";
+
+/// Whether a segment has the name of a row, or none.
+fn has_name(segment: &Segment<Global>, row: &str) -> bool {
+    let (number, name) = cut(row);
+    let Ok(number) = number.parse() else {
+        return false;
+    };
+    text_of(segment.name(number).unwrap_or(b"none")) == name
+}
+
+// The number of a range, and its fields in the order of the layout.
+const RANGES_IN_ORDER: &str = "\
+0|101|199|100|198|36067|36067
+1|201|299|||36068|
+2|164-20||300|0||
+3|none
+18446744073709551615|none";
+
+/// Whether a segment has the range of a row, or none.
+fn has_range(segment: &Segment<Global>, row: &str) -> bool {
+    let (number, fields) = cut(row);
+    let Ok(number) = number.parse() else {
+        return false;
+    };
+    match segment.range(number) {
+        Some(range) => has_fields(range, fields),
+        None => fields == "none",
+    }
+}
+
+fn has_fields(range: Range<'_>, row: &str) -> bool {
+    let (fraddl, rest) = cut(row);
+    let (toaddl, rest) = cut(rest);
+    let (fraddr, rest) = cut(rest);
+    let (toaddr, rest) = cut(rest);
+    let (zipl, zipr) = cut(rest);
+    text_of(range.fraddl) == fraddl
+        && text_of(range.toaddl) == toaddl
+        && text_of(range.fraddr) == fraddr
+        && text_of(range.toaddr) == toaddr
+        && text_of(range.zipl) == zipl
+        && text_of(range.zipr) == zipr
+}
+
+fn segment_of(alloc: Global) -> Result<Segment<Global>, AllocError> {
+    let mut segment = Segment::of(alloc, RECORD_1);
+    segment.push_name(b"Oak                           ")?;
+    segment.push_name(b"Elm                           ")?;
+    segment.push_range(FURTHER)?;
+    segment.push_range(LAST)?;
+    Ok(segment)
+}
+
+/// A row that a segment doesn't agree with.
+fn wrong_part(segment: &Segment<Global>) -> Option<&'static str> {
+    for row in NAMES_IN_ORDER.lines() {
+        if !has_name(segment, row) {
+            return Some(row);
+        }
+    }
+    for row in RANGES_IN_ORDER.lines() {
+        if !has_range(segment, row) {
+            return Some(row);
+        }
+    }
+    None
+}
+
+fn counts(segment: &Segment<Global>) -> (u64, u64) {
+    (segment.names(), segment.ranges())
+}
+
+#[test]
+fn parts_of_a_segment(rt: HostRuntime) {
+    assert!(rt; counts(&Segment::of(rt.alloc(), RECORD_1)) == (0, 1));
+    let segment = segment_of(rt.alloc()).expect(&rt, "memory");
+    assert_eq!(rt; wrong_part(&segment), None);
+    assert!(rt; counts(&segment) == (2, 3) && segment.bytes() == RECORD_1.as_slice());
+}
