@@ -4,8 +4,6 @@
 mod fault;
 mod flow;
 pub mod laws;
-#[cfg(test)]
-mod tests;
 
 pub use fault::FlowFault;
 pub use flow::Flow;

@@ -3,7 +3,5 @@
 
 mod frame_map;
 pub mod laws;
-#[cfg(test)]
-mod tests;
 
 pub use frame_map::FrameMap;

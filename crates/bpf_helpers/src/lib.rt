@@ -6,8 +6,6 @@ mod fields;
 mod helper;
 pub mod laws;
 mod signature;
-#[cfg(test)]
-mod tests;
 
 pub use calls::call;
 pub use helper::{HELPERS, Helper};

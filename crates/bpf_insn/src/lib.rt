@@ -13,8 +13,6 @@ mod memory;
 mod refusal;
 mod register;
 mod row;
-#[cfg(test)]
-mod tests;
 mod value;
 mod word;
 

@@ -14,8 +14,6 @@ mod offsets;
 mod operation;
 mod order;
 mod results;
-#[cfg(test)]
-mod tests;
 
 pub use interval::Interval;
 pub use kind::Kind;

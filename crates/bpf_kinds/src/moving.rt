@@ -5,9 +5,6 @@ ghost use Rattle.bpf_kinds.specs.Interval as interval;
 ghost use Rattle.bpf_kinds.specs.Moving.{near_distances, if_offsets, move_by, move_back_by};
 ghost use Rattle.bpf_kinds.specs.Offsets.{IsProper, Admits, between};
 
-#[cfg(test)]
-mod tests;
-
 use crate::interval::Interval;
 use crate::offsets::Offsets;
 

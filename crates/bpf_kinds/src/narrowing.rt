@@ -4,9 +4,6 @@ ghost use Rattle.bpf_insn.specs.Arithmetic.{is_met};
 ghost use Rattle.bpf_kinds.specs.Interval.{IsProper, Admits, IsWithin};
 ghost use Rattle.bpf_kinds.specs.Narrowing.{relation_of, is_signed, plain_limit, is_plain, at_least, at_most, common, without, if_reached, narrow, decide, refine_by, refine};
 
-#[cfg(test)]
-mod tests;
-
 use crate::interval::Interval;
 use bpf_insn::{Condition, Width};
 

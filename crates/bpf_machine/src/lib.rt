@@ -2,7 +2,5 @@
 #![tactic(auto)]
 
 mod machine;
-#[cfg(test)]
-mod tests;
 
 pub use machine::{Answer, run};

@@ -13,8 +13,6 @@ mod progress;
 mod state;
 mod stepper;
 mod table;
-#[cfg(test)]
-mod tests;
 
 pub use cause::Cause;
 pub use effect::{Change, Effect};

@@ -9,8 +9,6 @@ pub mod laws;
 mod line;
 mod number;
 mod operand;
-#[cfg(test)]
-mod tests;
 mod words;
 
 pub use assembler::assemble;

@@ -10,8 +10,6 @@ mod operands;
 mod pass;
 mod state;
 mod table;
-#[cfg(test)]
-mod tests;
 mod verified;
 
 pub use fault::VerifyFault;

@@ -1,8 +1,8 @@
 //! Narrowing at the ends of what 31, 32, 63 and 64 bits hold, worked out with whole numbers elsewhere.
-use super::{Narrowed, refine};
-use crate::interval::Interval;
+use crate::fixtures::cut;
+use crate::names::{condition, width};
 use bpf_insn::{Condition, Width};
-use std::test::Fail;
+use bpf_kinds::{Interval, Narrowed, refine};
 
 // A condition, its width in bits, the two intervals, and what they become where the jump is taken and where it isn't: `same` where
 // nothing is narrowed, `none` where the edge isn't reached. An interval is one number or its two ends, in hexadecimal digits.
@@ -187,60 +187,61 @@ SignedLessOrEqual 32 ffffffff ffffffffffffffff same none
 SignedLessOrEqual 32 7fffffff,ffffffff 80000000,ffffffff same same
 SignedLessOrEqual 32 80000000,100000000 ffffffff,100000000 same same";
 
-#[test]
-fn rows(rt: HostRuntime) -> Result<(), Fail> {
-    for row in ROWS.lines() {
-        let mut words = row.split_whitespace();
-        let condition = words.next().and_then(condition_of);
-        assert!(rt; condition.is_some(), "{row}");
-        let condition = condition.unwrap_or(Condition::SharesBit);
-        let width = if words.next() == Some("64") {
-            Width::Bits64
-        } else {
-            Width::Bits32
-        };
-        let x = interval_of(words.next().unwrap_or(""))?;
-        let y = interval_of(words.next().unwrap_or(""))?;
-        for taken in [true, false] {
-            let want = edge_of(words.next().unwrap_or(""), x, y)?;
-            assert_eq!(rt; refine(condition, width, x, y, taken), want, "{row}");
-        }
-    }
-    Ok(())
+/// A condition with its width, and two intervals.
+#[derive(Drop)]
+struct Comparison {
+    condition: Condition,
+    width: Width,
+    x: Interval,
+    y: Interval,
 }
 
-fn condition_of(name: &str) -> Option<Condition> {
-    match name {
-        "Equal" => Some(Condition::Equal),
-        "Greater" => Some(Condition::Greater),
-        "GreaterOrEqual" => Some(Condition::GreaterOrEqual),
-        "SharesBit" => Some(Condition::SharesBit),
-        "NotEqual" => Some(Condition::NotEqual),
-        "SignedGreater" => Some(Condition::SignedGreater),
-        "SignedGreaterOrEqual" => Some(Condition::SignedGreaterOrEqual),
-        "Less" => Some(Condition::Less),
-        "LessOrEqual" => Some(Condition::LessOrEqual),
-        "SignedLess" => Some(Condition::SignedLess),
-        "SignedLessOrEqual" => Some(Condition::SignedLessOrEqual),
-        _ => None,
+/// Whether a row says what its intervals become on both edges.
+fn is_narrowed(row: &str) -> Option<bool> {
+    let (name, rest) = cut(row, " ");
+    let (bits, rest) = cut(rest, " ");
+    let (x, rest) = cut(rest, " ");
+    let (y, edges) = cut(rest, " ");
+    let comparison = Comparison {
+        condition: condition(name)?,
+        width: width(bits)?,
+        x: interval_of(x)?,
+        y: interval_of(y)?,
+    };
+    let (taken, other) = cut(edges, " ");
+    Some(has_edge(&comparison, true, taken) && has_edge(&comparison, false, other))
+}
+
+/// Whether the intervals become on an edge what a row says.
+fn has_edge(comparison: &Comparison, taken: bool, text: &str) -> bool {
+    let (x, y) = (comparison.x, comparison.y);
+    let given = refine(comparison.condition, comparison.width, x, y, taken);
+    match text {
+        "none" => given.is_none(),
+        "same" => given == Some(Narrowed { left: x, right: y }),
+        _ => given.is_some() && given == narrowed_of(text),
     }
 }
 
-fn edge_of(text: &str, x: Interval, y: Interval) -> Result<Option<Narrowed>, Fail> {
-    match text.split_once(';') {
-        Some((left, right)) => Ok(Some(Narrowed {
-            left: interval_of(left)?,
-            right: interval_of(right)?,
-        })),
-        None if text == "same" => Ok(Some(Narrowed { left: x, right: y })),
-        None => Ok(None),
-    }
-}
-
-fn interval_of(text: &str) -> Result<Interval, Fail> {
-    let (low, high) = text.split_once(',').unwrap_or((text, text));
-    Ok(Interval {
-        low: u64::from_str_radix(low, 16)?,
-        high: u64::from_str_radix(high, 16)?,
+fn narrowed_of(text: &str) -> Option<Narrowed> {
+    let (left, right) = cut(text, ";");
+    Some(Narrowed {
+        left: interval_of(left)?,
+        right: interval_of(right)?,
     })
+}
+
+fn interval_of(text: &str) -> Option<Interval> {
+    let (low, high) = text.split_once(',').unwrap_or((text, text));
+    Some(Interval {
+        low: u64::from_str_radix(low, 16).ok()?,
+        high: u64::from_str_radix(high, 16).ok()?,
+    })
+}
+
+#[test]
+fn edges(rt: HostRuntime) {
+    for row in ROWS.lines() {
+        assert!(rt; is_narrowed(row) == Some(true), "{row}");
+    }
 }

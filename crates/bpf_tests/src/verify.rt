@@ -1,14 +1,15 @@
 //! Verdicts on programs, worked out from the rules by hand. Each table has a row a line: the verdict, which is `accepted` or the refusal's
 //! line, the program's text, and its words in hexadecimal.
 
-use crate::{VerifyFault, verify};
+use crate::fixtures::{code_of, cut, is_heading};
 use bpf_flow::Flow;
-use bpf_insn::{Code, decode};
-use std::alloc::Allocator;
-use std::test::Fail;
+use bpf_insn::Code;
+use bpf_verify::{VerifyFault, verify};
+use std::alloc::Global;
 
-/// Programs, with what is said of them.
+// Programs, with what is said of them.
 const VERDICTS: &str = "\
+# Operations and jumps.
 accepted; ldxb r0, [r1+227] | exit; 7110e30000000000 9500000000000000
 refused 44 place 0 OutOfBounds; ldxb r0, [r1+228] | exit; 7110e40000000000 9500000000000000
 accepted; ldxb r2, [r1+55] | mov r0, 0 | jne r2, 65, +1 | mov r0, 1 | exit; 7112370000000000 b700000000000000 5502010041000000 b700000001000000 9500000000000000
@@ -52,10 +53,7 @@ accepted; mov r0, 1 | exit; b700000001000000 9500000000000000
 refused 40 place 0 ReadsNothing(0); exit; 9500000000000000
 accepted; mov32 r2, -1 | mov r0, 0 | jeq32 r2, -1, +1 | ldxb r0, [r9+0] | exit; b4020000ffffffff b700000000000000 16020100ffffffff 7190000000000000 9500000000000000
 refused 40 place 3 ReadsNothing(9); mov32 r2, -1 | mov r0, 0 | jeq r2, -1, +1 | ldxb r0, [r9+0] | exit; b4020000ffffffff b700000000000000 15020100ffffffff 7190000000000000 9500000000000000
-";
-
-/// Each cause at the first instruction, and some in the middle and where they aren't reached.
-const CAUSES: &str = "\
+# Each cause at the first instruction, and some in the middle and where they aren't reached.
 refused 40 place 0 ReadsNothing(9); mov r0, r9 | mov r0, 1 | exit; bf90000000000000 b700000001000000 9500000000000000
 accepted; mov r0, 1 | ja +1 | mov r0, r9 | exit; b700000001000000 0500010000000000 bf90000000000000 9500000000000000
 refused 40 place 0 ReadsNothing(9); add r9, r8 | mov r0, 1 | exit; 0f89000000000000 b700000001000000 9500000000000000
@@ -102,10 +100,7 @@ refused 51 place 2 ExitNotNumber; mov r0, r10 | mov r2, 1 | exit; bfa00000000000
 refused 51 place 1 ExitNotNumber; mov r0, r1 | exit | mov r0, 1 | exit; bf10000000000000 9500000000000000 b700000001000000 9500000000000000
 refused 40 place 0 ReadsNothing(0); exit | mov r0, 1 | exit; 9500000000000000 b700000001000000 9500000000000000
 accepted; mov r0, 1 | exit | exit; b700000001000000 9500000000000000 9500000000000000
-";
-
-/// Stores to the frame and loads from it.
-const MARKS: &str = "\
+# Stores to the frame and loads from it.
 accepted; mov r2, 1 | stxdw [r10-8], r2 | ldxw r3, [r10-8] | ldxw r0, [r10-4] | exit; b702000001000000 7b2af8ff00000000 61a3f8ff00000000 61a0fcff00000000 9500000000000000
 refused 45 place 3 UnwrittenFrame; mov r2, 1 | stxdw [r10-8], r2 | ldxw r3, [r10-8] | ldxdw r0, [r10-12] | exit; b702000001000000 7b2af8ff00000000 61a3f8ff00000000 79a0f4ff00000000 9500000000000000
 refused 45 place 6 UnwrittenFrame; ldxb r3, [r1+55] | and r3, 1 | mov r2, r10 | add r2, -2 | add r2, r3 | stb [r2+0], 7 | ldxb r0, [r10-2] | exit; 7113370000000000 5703000001000000 bfa2000000000000 07020000feffffff 0f32000000000000 7202000007000000 71a0feff00000000 9500000000000000
@@ -123,10 +118,7 @@ refused 45 place 1 UnwrittenFrame; stb [r10-8], 1 | ldxw r0, [r10-8] | exit; 720
 refused 45 place 1 UnwrittenFrame; stb [r10-5], 1 | ldxw r0, [r10-8] | exit; 720afbff01000000 61a0f8ff00000000 9500000000000000
 refused 45 place 2 UnwrittenFrame; sth [r10-8], 1 | stb [r10-5], 1 | ldxw r0, [r10-8] | exit; 6a0af8ff01000000 720afbff01000000 61a0f8ff00000000 9500000000000000
 accepted; stw [r10-8], -1 | ldxsw r0, [r10-8] | exit; 620af8ffffffffff 81a0f8ff00000000 9500000000000000
-";
-
-/// Calls of helper functions.
-const CALLS: &str = "\
+# Calls of helper functions.
 accepted; mov r1, -13 | smod r1, 3 | mov r6, r1 | call 8 | mov r0, r6 | exit; b7010000f3ffffff 9701010003000000 bf16000000000000 8500000008000000 bf60000000000000 9500000000000000
 accepted; mov r6, r1 | mov r1, 0 | call 1 | and r0, 15 | add r6, r0 | ldxb r0, [r6+0] | exit; bf16000000000000 b701000000000000 8500000001000000 570000000f000000 0f06000000000000 7160000000000000 9500000000000000
 refused 41 place 3 PointerArithmetic; mov r6, r1 | mov r1, 0 | call 1 | add r6, r0 | ldxb r0, [r6+0] | exit; bf16000000000000 b701000000000000 8500000001000000 0f06000000000000 7160000000000000 9500000000000000
@@ -175,17 +167,8 @@ refused 40 place 2 ReadsNothing(9); call 3 | jle r0, 4999, +1 | ldxb r0, [r9+0] 
 accepted; call 4 | jeq r0, 0, +1 | jle r0, 1001, +1 | ldxb r0, [r9+0] | exit; 8500000004000000 1500010000000000 b5000100e9030000 7190000000000000 9500000000000000
 ";
 
-/// The code of words.
-fn code_of<A: Allocator + Copy>(alloc: A, words: &str) -> Result<Code<A>, Fail> {
-    let mut program = Vec::new(alloc);
-    for word in words.split_whitespace() {
-        program.extend_from_slice(&u64::from_str_radix(word, 16)?.to_be_bytes())?;
-    }
-    Ok(decode(alloc, &program)?)
-}
-
 /// Whether a code's verdict is this one. What is accepted keeps the code.
-fn has_verdict<A: Allocator + Copy>(alloc: A, code: Code<A>, verdict: &str) -> bool {
+fn has_verdict(alloc: Global, code: Code<Global>, verdict: &str) -> bool {
     let count = code.instructions().len();
     let flow = match Flow::of(code) {
         Ok(flow) => flow,
@@ -197,40 +180,46 @@ fn has_verdict<A: Allocator + Copy>(alloc: A, code: Code<A>, verdict: &str) -> b
     }
 }
 
+/// Whether the verdict on a program is this one.
+fn is_verdict(alloc: Global, program: &str, verdict: &str) -> bool {
+    code_of(alloc, program).is_some_and(|code| has_verdict(alloc, code, verdict))
+}
+
+/// Whether the verdict on the program of a row is the row's.
+fn is_right(alloc: Global, row: &str) -> bool {
+    let (verdict, program) = cut(row, "; ");
+    is_verdict(alloc, program, verdict)
+}
+
 #[test]
-fn verdicts(rt: HostRuntime) -> Result<(), Fail> {
-    for table in [VERDICTS, CAUSES, MARKS, CALLS] {
-        for row in table.lines() {
-            let mut columns = row.split("; ");
-            let verdict = columns.next().unwrap_or("");
-            let code = code_of(rt.alloc(), columns.last().unwrap_or(""))?;
-            assert!(rt; has_verdict(rt.alloc(), code, verdict), "{row}");
-        }
+fn verdicts(rt: HostRuntime) {
+    for row in VERDICTS.lines() {
+        let is_right = is_heading(row) || is_right(rt.alloc(), row);
+        assert!(rt; is_right, "{row}");
     }
-    Ok(())
 }
 
 /// As many words as a program may have: `ldxb r0, [r1+55]`, `jne r0, 65, +4093` to the last word, 4,093 times `jne r0, 65, +0`, and `exit`.
-#[test]
-fn long_code(rt: HostRuntime) -> Result<(), Fail> {
-    let mut program = Vec::new(rt.alloc());
-    program.extend_from_slice(&0x7110_3700_0000_0000_u64.to_be_bytes())?;
-    program.extend_from_slice(&0x5500_fd0f_4100_0000_u64.to_be_bytes())?;
+fn longest_program(alloc: Global) -> Option<String> {
+    let mut words = String::new(alloc);
+    words.push_str("7110370000000000 5500fd0f41000000").ok()?;
     for _ in 0..4093 {
-        program.extend_from_slice(&0x5500_0000_4100_0000_u64.to_be_bytes())?;
+        words.push_str(" 5500000041000000").ok()?;
     }
-    program.extend_from_slice(&0x9500_0000_0000_0000_u64.to_be_bytes())?;
-    let code = decode(rt.alloc(), &program)?;
-    assert!(rt; has_verdict(rt.alloc(), code, "accepted"));
-    Ok(())
+    words.push_str(" 9500000000000000").ok()?;
+    Some(words)
 }
 
-/// Want of memory has a name and no number.
+/// Whether the longest program is accepted.
+fn is_longest_accepted(alloc: Global) -> bool {
+    longest_program(alloc).is_some_and(|program| is_verdict(alloc, &program, "accepted"))
+}
+
+// Want of memory has a name and no number.
 #[test]
-fn memory(rt: HostRuntime) -> Result<(), Fail> {
+fn long_code_and_memory(rt: HostRuntime) {
+    assert!(rt; is_longest_accepted(rt.alloc()));
     let fault = VerifyFault::Memory;
-    assert_eq!(rt; fault.number(), None);
-    assert_eq!(rt; fault.name(), "memory");
-    assert_eq!(rt; fault.line().as_str(), "refused memory");
-    Ok(())
+    assert!(rt; (fault.number(), fault.name()) == (None, "memory"));
+    assert!(rt; fault.line().as_str() == "refused memory");
 }

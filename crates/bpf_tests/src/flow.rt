@@ -1,9 +1,9 @@
 //! Codes and what comes of them. Each table has a row a line: what is expected, the program's text, and its words in hexadecimal.
 
-use crate::{Flow, FlowFault};
-use bpf_insn::{Code, WORD_LIMIT, decode};
-use std::alloc::Allocator;
-use std::test::Fail;
+use crate::fixtures::{code_of, cut};
+use bpf_flow::Flow;
+use bpf_insn::{WORD_LIMIT, decode};
+use std::alloc::Global;
 
 /// The first fault, as the refusal's line, or `ok`.
 const FAULTS: &str = "\
@@ -121,85 +121,105 @@ const PLACES: &str = "\
 3 4 none; ja32 +2 | mov r0, 1 | jslt32 r0, 5, +0 | exit; 0600000002000000 b700000001000000 c600000005000000 9500000000000000
 ";
 
-/// The code of words.
-fn code_of<A: Allocator + Copy>(alloc: A, words: &str) -> Result<Code<A>, Fail> {
-    let mut program = Vec::new(alloc);
-    for word in words.split_whitespace() {
-        program.extend_from_slice(&u64::from_str_radix(word, 16)?.to_be_bytes())?;
-    }
-    Ok(decode(alloc, &program)?)
-}
-
-/// Whether what came of a code is what a row expects.
-fn is_as_expected<A: Allocator>(flow: &Result<Flow<A>, FlowFault>, expected: &str) -> bool {
-    match flow {
+/// Whether the flow of words has this refusal, or none.
+fn gives(alloc: Global, program: &str, expected: &str) -> bool {
+    let Some(code) = code_of(alloc, program) else {
+        return false;
+    };
+    match Flow::of(code) {
         Ok(_) => expected == "ok",
         Err(fault) => fault.line().as_str() == expected,
     }
 }
 
 #[test]
-fn faults(rt: HostRuntime) -> Result<(), Fail> {
+fn faults(rt: HostRuntime) {
     for row in FAULTS.lines() {
-        let mut columns = row.split("; ");
-        let expected = columns.next().unwrap_or("");
-        let code = code_of(rt.alloc(), columns.last().unwrap_or(""))?;
-        assert!(rt; is_as_expected(&Flow::of(code), expected), "{row}");
+        let (expected, program) = cut(row, "; ");
+        assert!(rt; gives(rt.alloc(), program, expected), "{row}");
     }
-    Ok(())
 }
 
-#[test]
-fn jumps(rt: HostRuntime) -> Result<(), Fail> {
-    for row in JUMPS.lines() {
-        let (_form, words) = row.split_once("; ").unwrap_or((row, ""));
-        let mut words = words.split_whitespace();
-        for expected in [
-            "refused 30 place 0 BackwardJump",
-            "refused 31 place 0 OutOfProgram",
-            "refused 32 place 0 IntoWide",
-            "ok",
-        ] {
-            let jump = words.next().unwrap_or("");
-            let program = format!(in rt.alloc(); "{jump} {WIDE_LOAD_AND_EXIT}")?;
-            let code = code_of(rt.alloc(), program.as_str())?;
-            assert!(rt; is_as_expected(&Flow::of(code), expected), "{row}");
+// What comes of each jump of a row.
+const OF_JUMPS: &str = "refused 30 place 0 BackwardJump
+refused 31 place 0 OutOfProgram
+refused 32 place 0 IntoWide
+ok";
+
+/// Whether a jump, with a wide load and EXIT behind it, gives this.
+fn is_jump(alloc: Global, jump: &str, expected: &str) -> bool {
+    format!(in alloc; "{jump} {WIDE_LOAD_AND_EXIT}").is_ok_and(|program| gives(
+        alloc, &program, expected,
+    ))
+}
+
+/// Whether each jump of a row gives what it should.
+fn are_jumps(alloc: Global, row: &str) -> bool {
+    let mut jumps = cut(row, "; ").1.split(' ');
+    for expected in OF_JUMPS.lines() {
+        if !is_jump(alloc, jumps.next().unwrap_or(""), expected) {
+            return false;
         }
     }
-    Ok(())
+    true
 }
 
 #[test]
-fn places(rt: HostRuntime) -> Result<(), Fail> {
-    for row in PLACES.lines() {
-        let mut columns = row.split("; ");
-        let mut expected = columns.next().unwrap_or("").split(" ");
-        let place = expected.next().unwrap_or("").parse()?;
-        let next = expected.next().unwrap_or("").parse()?;
-        let target = match expected.next().unwrap_or("") {
-            "none" => None,
-            number => Some(number.parse()?),
-        };
-        let flow = Flow::of(code_of(rt.alloc(), columns.last().unwrap_or(""))?)?;
-        assert!(rt; flow.code().at(place).is_some(), "{row}");
-        assert_eq!(rt;
-            (flow.next(place), flow.target(place)),
-            (next, target),
-            "{row}"
-        );
+fn jumps(rt: HostRuntime) {
+    for row in JUMPS.lines() {
+        assert!(rt; are_jumps(rt.alloc(), row), "{row}");
     }
-    Ok(())
+}
+
+/// Whether a flow has the place behind and the target of a row at its place.
+fn has_place(flow: &Flow<Global>, places: &str) -> bool {
+    let (place, rest) = cut(places, " ");
+    let (next, target) = cut(rest, " ");
+    let place = place.parse().unwrap_or(usize::MAX);
+    flow.code().at(place).is_some()
+        && next.parse() == Ok(flow.next(place))
+        && (target == "none") == flow.target(place).is_none()
+        && target.parse().ok() == flow.target(place)
+}
+
+/// Whether the flow of a row has its place.
+fn is_place(alloc: Global, row: &str) -> bool {
+    let (places, program) = cut(row, "; ");
+    let Some(code) = code_of(alloc, program) else {
+        return false;
+    };
+    Flow::of(code).is_ok_and(|flow| has_place(&flow, places))
+}
+
+#[test]
+fn places(rt: HostRuntime) {
+    for row in PLACES.lines() {
+        assert!(rt; is_place(rt.alloc(), row), "{row}");
+    }
 }
 
 /// A program of the greatest length, all of whose instructions but the last are jumps to the next one.
-#[test]
-fn as_many_jumps_as_fit(rt: HostRuntime) -> Result<(), Fail> {
-    let mut program = Vec::new(rt.alloc());
+fn longest_program(alloc: Global) -> Option<Vec<u8>> {
+    let mut program = Vec::new(alloc);
     for _jumps in 1..WORD_LIMIT {
-        program.extend_from_slice(&[0x15, 0, 0, 0, 0, 0, 0, 0])?;
+        program.extend_from_slice(b"\x15\0\0\0\0\0\0\0").ok()?;
     }
-    program.extend_from_slice(&[0x95, 0, 0, 0, 0, 0, 0, 0])?;
-    let code = Flow::of(decode(rt.alloc(), &program)?)?.into_code();
-    assert_eq!(rt; code.words(), WORD_LIMIT);
-    Ok(())
+    program.extend_from_slice(b"\x95\0\0\0\0\0\0\0").ok()?;
+    Some(program)
+}
+
+/// Whether its flow is one of as many words.
+fn is_longest(alloc: Global) -> bool {
+    let Some(program) = longest_program(alloc) else {
+        return false;
+    };
+    let Ok(code) = decode(alloc, &program) else {
+        return false;
+    };
+    Flow::of(code).is_ok_and(|flow| flow.into_code().words() == WORD_LIMIT)
+}
+
+#[test]
+fn as_many_jumps_as_fit(rt: HostRuntime) {
+    assert!(rt; is_longest(rt.alloc()));
 }

@@ -1,43 +1,7 @@
 //! Results of the arithmetic at the ends of its ranges, worked out with whole numbers elsewhere.
-use super::cut;
-use crate::{
-    ByteOrder, Condition, LoadFormat, Operation, SignExtension, SwapWidth, Width,
-    immediate_operand, negate, wide_number,
-};
-use std::alloc::Allocator;
-use std::test::Fail;
-
-const OPERATIONS: [Operation; 14] = [
-    Operation::Add,
-    Operation::Subtract,
-    Operation::Multiply,
-    Operation::Divide,
-    Operation::SignedDivide,
-    Operation::Or,
-    Operation::And,
-    Operation::ShiftLeft,
-    Operation::ShiftRight,
-    Operation::Modulo,
-    Operation::SignedModulo,
-    Operation::ExclusiveOr,
-    Operation::Move,
-    Operation::ArithmeticShiftRight,
-];
-
-/// The conditions in the order of the answers below.
-const CONDITIONS: [Condition; 11] = [
-    Condition::Equal,
-    Condition::Greater,
-    Condition::GreaterOrEqual,
-    Condition::SharesBit,
-    Condition::NotEqual,
-    Condition::SignedGreater,
-    Condition::SignedGreaterOrEqual,
-    Condition::Less,
-    Condition::LessOrEqual,
-    Condition::SignedLess,
-    Condition::SignedLessOrEqual,
-];
+use crate::fixtures::cut;
+use crate::names::{case, condition, extension, format, operation, order, swap_width, width};
+use bpf_insn::{Width, immediate_operand, negate, wide_number};
 
 // Operands, and what each operation gives at them. With 32 bits the upper halves aren't looked at.
 const OPERANDS_64: &str =
@@ -77,7 +41,11 @@ ExclusiveOr 1 ffffffff fffffffe 0 7fffffff ffffffff ffffffff fffffff0 fffffff0 2
 Move 0 ffffffff 1 ffffffff ffffffff 7fffffff 80000000 3 fffffffd 21
 ArithmeticShiftRight 1 0 ffffffff ffffffff ffffffff ffffffff 7fffffff fffffffe 0 6";
 
-// A width, two operands, and the answer of each condition.
+// The conditions in the order of the answers below.
+const CONDITIONS: &str =
+    "Equal Greater GreaterOrEqual SharesBit NotEqual SignedGreater SignedGreaterOrEqual Less LessOrEqual SignedLess SignedLessOrEqual";
+
+// A width, two operands, and the answer of each condition, 1 where it holds.
 const COMPARISONS: &str = "64 0,0 10100010101
 64 0,1 00001001111
 64 1,0 01101110000
@@ -100,52 +68,6 @@ const COMPARISONS: &str = "64 0,0 10100010101
 32 80000000,8765432100000000 01101000011
 32 80000000,87654321ffffffff 00011001111
 32 7fffffff,87654321ffffffff 00011111100";
-
-/// What changes one number.
-#[derive(Clone, Copy, Debug)]
-enum Case {
-    Negation(Width),
-    Extension(SignExtension),
-    Load(LoadFormat),
-    Order(ByteOrder, SwapWidth),
-}
-
-impl Case {
-    fn apply(self, x: u64) -> u64 {
-        match self {
-            Case::Negation(width) => negate(width, x),
-            Case::Extension(extension) => extension.apply(x),
-            Case::Load(format) => format.extend(x),
-            Case::Order(order, width) => order.apply(width, x),
-        }
-    }
-}
-
-const CASES: [Case; 23] = [
-    Case::Negation(Width::Bits64),
-    Case::Negation(Width::Bits32),
-    Case::Extension(SignExtension::Bits8To32),
-    Case::Extension(SignExtension::Bits16To32),
-    Case::Extension(SignExtension::Bits8To64),
-    Case::Extension(SignExtension::Bits16To64),
-    Case::Extension(SignExtension::Bits32To64),
-    Case::Load(LoadFormat::Byte),
-    Case::Load(LoadFormat::HalfWord),
-    Case::Load(LoadFormat::Word),
-    Case::Load(LoadFormat::DoubleWord),
-    Case::Load(LoadFormat::SignedByte),
-    Case::Load(LoadFormat::SignedHalfWord),
-    Case::Load(LoadFormat::SignedWord),
-    Case::Order(ByteOrder::LittleEndian, SwapWidth::Bits16),
-    Case::Order(ByteOrder::LittleEndian, SwapWidth::Bits32),
-    Case::Order(ByteOrder::LittleEndian, SwapWidth::Bits64),
-    Case::Order(ByteOrder::BigEndian, SwapWidth::Bits16),
-    Case::Order(ByteOrder::BigEndian, SwapWidth::Bits32),
-    Case::Order(ByteOrder::BigEndian, SwapWidth::Bits64),
-    Case::Order(ByteOrder::Swapped, SwapWidth::Bits16),
-    Case::Order(ByteOrder::Swapped, SwapWidth::Bits32),
-    Case::Order(ByteOrder::Swapped, SwapWidth::Bits64),
-];
 
 // Numbers, and what each case makes of them.
 const NUMBERS: &str =
@@ -195,36 +117,52 @@ fn writes(text: &str, number: u64) -> bool {
     u64::from_str_radix(text, 16) == Ok(number)
 }
 
-/// What each operation gives at each pair of operands, a line an operation.
-fn results<A: Allocator + Copy>(alloc: A, width: Width, operands: &str) -> Result<String<A>, Fail> {
-    let mut table = String::new(alloc);
-    for operation in OPERATIONS {
-        write!(table, "{operation:?}")?;
-        for pair in operands.split_whitespace() {
-            let (x, y) = cut(pair, ",");
-            write!(table, " {:x}", operation.apply(width, number(x), number(y)))?;
+/// Whether an operation gives at each pair of operands what a row says.
+fn has_results(width: Width, operands: &str, row: &str) -> bool {
+    let (name, results) = cut(row, " ");
+    let Some(operation) = operation(name) else {
+        return false;
+    };
+    let mut results = results.split(' ');
+    for pair in operands.split(' ') {
+        let (x, y) = cut(pair, ",");
+        let given = operation.apply(width, number(x), number(y));
+        if !writes(results.next().unwrap_or(""), given) {
+            return false;
         }
-        table.push('\n')?;
     }
-    Ok(table)
+    results.next().is_none()
 }
 
 #[test]
-fn operations(rt: HostRuntime) -> Result<(), Fail> {
-    let found_64 = results(rt.alloc(), Width::Bits64, OPERANDS_64)?;
-    let found_32 = results(rt.alloc(), Width::Bits32, OPERANDS_32)?;
-    assert!(rt; found_64.as_str().trim_end() == RESULTS_64, "{found_64}");
-    assert!(rt; found_32.as_str().trim_end() == RESULTS_32, "{found_32}");
-    Ok(())
+fn operations(rt: HostRuntime) {
+    for row in RESULTS_64.lines() {
+        assert!(rt; has_results(Width::Bits64, OPERANDS_64, row), "{row}");
+    }
+    for row in RESULTS_32.lines() {
+        assert!(rt; has_results(Width::Bits32, OPERANDS_32, row), "{row}");
+    }
 }
 
-/// Whether the conditions' answers at two operands are these digits, 1 for one that holds.
-fn answers_are(width: Width, operands: &str, digits: &str) -> bool {
+/// Whether a condition's answer at two operands is this digit.
+fn is_answer(name: &str, width: Width, x: u64, y: u64, digit: Option<u8>) -> bool {
+    match condition(name) {
+        Some(condition) => digit == Some(b'0' + u8::from(condition.holds(width, x, y))),
+        None => false,
+    }
+}
+
+/// Whether the conditions answer what a row says.
+fn has_answers(row: &str) -> bool {
+    let (bits, rest) = cut(row, " ");
+    let (operands, digits) = cut(rest, " ");
     let (x, y) = cut(operands, ",");
-    let (x, y) = (number(x), number(y));
+    let Some(width) = width(bits) else {
+        return false;
+    };
     let mut digits = digits.bytes();
-    for condition in CONDITIONS {
-        if digits.next() != Some(b'0' + u8::from(condition.holds(width, x, y))) {
+    for name in CONDITIONS.split(' ') {
+        if !is_answer(name, width, number(x), number(y), digits.next()) {
             return false;
         }
     }
@@ -234,36 +172,44 @@ fn answers_are(width: Width, operands: &str, digits: &str) -> bool {
 #[test]
 fn conditions(rt: HostRuntime) {
     for row in COMPARISONS.lines() {
-        let (bits, comparison) = cut(row, " ");
-        let (operands, digits) = cut(comparison, " ");
-        let width = match bits {
-            "64" => Width::Bits64,
-            _ => Width::Bits32,
-        };
-        assert!(rt; answers_are(width, operands, digits), "{row}");
+        assert!(rt; has_answers(row), "{row}");
     }
 }
 
-/// What a case makes of each number of a row, written as the row is.
-fn applied<A: Allocator + Copy>(alloc: A, case: Case, row: &str) -> Result<String<A>, Fail> {
-    let mut found = format!(in alloc; "{case:?}:")?;
-    for pair in cut(row, ": ").1.split_whitespace() {
-        let (x, _) = cut(pair, "=");
-        write!(found, " {x}={:x}", case.apply(number(x)))?;
+/// What a case makes of a number.
+fn apply(name: &str, x: u64) -> Option<u64> {
+    let (kind, first, second) = case(name);
+    match kind {
+        "Negation" => Some(negate(width(first)?, x)),
+        "Extension" => Some(extension(first)?.apply(x)),
+        "Load" => Some(format(first)?.extend(x)),
+        "Order" => Some(order(first)?.apply(swap_width(second)?, x)),
+        _ => None,
     }
-    Ok(found)
+}
+
+/// Whether a case makes of each number of a row what the row says.
+fn has_numbers(row: &str) -> bool {
+    let (name, pairs) = cut(row, ": ");
+    for pair in pairs.split(' ') {
+        let (x, want) = cut(pair, "=");
+        match apply(name, number(x)) {
+            Some(given) if writes(want, given) => {}
+            _ => return false,
+        }
+    }
+    true
 }
 
 #[test]
-fn numbers(rt: HostRuntime) -> Result<(), Fail> {
-    let mut rows = NUMBERS.lines();
-    for case in CASES {
-        let row = rows.next().unwrap_or("");
-        let found = applied(rt.alloc(), case, row)?;
-        assert!(rt; found.as_str() == row, "{row}");
+fn numbers(rt: HostRuntime) {
+    for row in NUMBERS.lines() {
+        assert!(rt; has_numbers(row), "{row}");
     }
-    assert!(rt; rows.next().is_none());
-    Ok(())
+    for row in IMMEDIATES.lines() {
+        let (immediates, want) = cut(row, "=");
+        assert!(rt; writes(want, immediate_number(immediates)), "{row}");
+    }
 }
 
 /// The number that immediates make: one of its own, or two of a wide load.
@@ -276,12 +222,4 @@ fn immediate_number(immediates: &str) -> u64 {
 
 fn immediate(text: &str) -> i32 {
     text.parse().unwrap_or(0)
-}
-
-#[test]
-fn immediates(rt: HostRuntime) {
-    for row in IMMEDIATES.lines() {
-        let (immediates, want) = cut(row, "=");
-        assert!(rt; writes(want, immediate_number(immediates)), "{row}");
-    }
 }

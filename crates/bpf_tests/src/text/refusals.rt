@@ -1,7 +1,7 @@
 //! Texts that mean no code, and the lines that say why.
-use super::{cut, is_row, text_of};
-use crate::{TextFault, assemble};
-use std::test::Fail;
+use super::{gives, text_of};
+use crate::fixtures::{cut, is_heading};
+use std::alloc::Global;
 
 // Texts, and the lines of their refusals.
 const REFUSALS: &str = "# Words.
@@ -78,14 +78,16 @@ exit\r\r$ | refused 20 line 1 Syntax
 \u{feff}exit | refused 20 line 1 Syntax
 \u{e4}:$ | refused 20 line 1 Syntax";
 
+/// Whether the text of a row is refused as it says.
+fn is_refused(alloc: Global, row: &str) -> bool {
+    let (text, line) = cut(row, " | ");
+    text_of(alloc, text).is_some_and(|text| gives(alloc, &text, line))
+}
+
 #[test]
-fn refusals(rt: HostRuntime) -> Result<(), Fail> {
-    let alloc = rt.alloc();
-    for row in REFUSALS.lines().filter(|line| is_row(line)) {
-        let (text, line) = cut(&rt, row);
-        let refused = assemble(alloc, &text_of(alloc, text)?).err();
-        let refusal = refused.unwrap_or(TextFault::Memory).line();
-        assert_eq!(rt; refusal.as_str(), line, "{row}");
+fn refusals(rt: HostRuntime) {
+    for row in REFUSALS.lines() {
+        let is_right = is_heading(row) || is_refused(rt.alloc(), row);
+        assert!(rt; is_right, "{row}");
     }
-    Ok(())
 }

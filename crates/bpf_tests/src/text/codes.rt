@@ -1,18 +1,9 @@
 //! Texts that mean a code.
-use super::{cut, is_row, text_of};
-use crate::{assemble, disassemble};
+use super::text_of;
+use crate::fixtures::{bytes_of, cut, is_heading};
 use bpf_insn::{decode, encode};
-use std::alloc::Allocator;
-use std::test::Fail;
-
-/// The bytes of a row, each in hexadecimal digits.
-fn bytes_of<A: Allocator>(alloc: A, row: &str) -> Result<Vec<u8, A>, Fail> {
-    let mut bytes = Vec::new(alloc);
-    for byte in row.split_whitespace() {
-        bytes.push(u8::from_str_radix(byte, 16)?)?;
-    }
-    Ok(bytes)
-}
+use bpf_text::{assemble, disassemble};
+use std::alloc::Global;
 
 // Texts, and the bytes of the code that they mean (RFC 9669, sections 3 to 5).
 const TEXTS: &str =
@@ -43,20 +34,31 @@ ja32 -2147483648 | 06 0 0 0 0 0 0 80
 ja32 +2147483647 | 06 0 0 0 ff ff ff 7f
 call -1 | 85 0 0 0 ff ff ff ff";
 
+/// Whether a text means the code of these bytes.
+fn means(alloc: Global, text: &str, bytes: &[u8]) -> bool {
+    let Ok(code) = assemble(alloc, text) else {
+        return false;
+    };
+    encode(alloc, &code).is_ok_and(|encoded| encoded.as_slice() == bytes)
+}
+
+/// Whether the text of a row means the code of its bytes.
+fn is_text(alloc: Global, row: &str) -> bool {
+    let (text, bytes) = cut(row, " | ");
+    let Some(text) = text_of(alloc, text) else {
+        return false;
+    };
+    let Some(bytes) = bytes_of(alloc, bytes) else {
+        return false;
+    };
+    means(alloc, &text, &bytes)
+}
+
 #[test]
-fn texts(rt: HostRuntime) -> Result<(), Fail> {
-    let alloc = rt.alloc();
+fn texts(rt: HostRuntime) {
     for row in TEXTS.lines() {
-        let (text, bytes) = cut(&rt, row);
-        let code = assemble(alloc, &text_of(alloc, text)?)?;
-        let encoded = encode(alloc, &code)?;
-        assert_eq!(rt;
-            encoded.as_slice(),
-            bytes_of(alloc, bytes)?.as_slice(),
-            "{row}"
-        );
+        assert!(rt; is_text(rt.alloc(), row), "{row}");
     }
-    Ok(())
 }
 
 // Each mnemonic in each form of its operands, as the disassembler writes it, and its bytes.
@@ -203,24 +205,52 @@ stxh [r1+2], r3 | 6b 31 02 0 0 0 0 0
 stxw [r1+2], r3 | 63 31 02 0 0 0 0 0
 stxdw [r1+2], r3 | 7b 31 02 0 0 0 0 0";
 
+/// Adds the text of a row and an end of line, and its bytes.
+fn push_row(text: &mut String, words: &mut String, row: &str) -> Option<()> {
+    let (line, bytes) = cut(row, " | ");
+    text.push_str(line).ok()?;
+    text.push_str("\n").ok()?;
+    words.push_str(bytes).ok()?;
+    words.push_str(" ").ok()
+}
+
+/// Adds the texts of all rows, and their bytes.
+fn push_rows(text: &mut String, words: &mut String) -> Option<()> {
+    for row in LINES.lines() {
+        if !is_heading(row) {
+            push_row(text, words, row)?;
+        }
+    }
+    Some(())
+}
+
+/// Whether the code of these bytes is disassembled to a text, which means it.
+fn is_disassembled(alloc: Global, bytes: &[u8], want: &str) -> bool {
+    let Ok(code) = decode(alloc, bytes) else {
+        return false;
+    };
+    disassemble(alloc, &code).is_ok_and(|text| text.as_str() == want) && means(alloc, want, bytes)
+}
+
+/// Whether the codes of all rows together are disassembled to their texts.
+fn are_disassembled(alloc: Global) -> bool {
+    let mut text = String::new(alloc);
+    let mut words = String::new(alloc);
+    if push_rows(&mut text, &mut words).is_none() {
+        return false;
+    }
+    let Some(bytes) = bytes_of(alloc, &words) else {
+        return false;
+    };
+    is_disassembled(alloc, &bytes, &text)
+}
+
 // Lines are assembled one by one, and disassembled and assembled together.
 #[test]
-fn mnemonics(rt: HostRuntime) -> Result<(), Fail> {
-    let alloc = rt.alloc();
-    let mut whole = String::new(alloc);
-    let mut bytes = Vec::new(alloc);
-    for row in LINES.lines().filter(|line| is_row(line)) {
-        let (line, words) = cut(&rt, row);
-        let words = bytes_of(alloc, words)?;
-        let encoded = encode(alloc, &assemble(alloc, line)?)?;
-        assert_eq!(rt; encoded.as_slice(), words.as_slice(), "{row}");
-        whole.push_str(line)?;
-        whole.push_str("\n")?;
-        bytes.extend_from_slice(&words)?;
+fn mnemonics(rt: HostRuntime) {
+    for row in LINES.lines() {
+        let is_right = is_heading(row) || is_text(rt.alloc(), row);
+        assert!(rt; is_right, "{row}");
     }
-    let text = disassemble(alloc, &decode(alloc, &bytes)?)?;
-    assert_eq!(rt; text.as_str(), whole.as_str());
-    let again = encode(alloc, &assemble(alloc, &text)?)?;
-    assert_eq!(rt; again.as_slice(), bytes.as_slice());
-    Ok(())
+    assert!(rt; are_disassembled(rt.alloc()));
 }

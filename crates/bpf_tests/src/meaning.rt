@@ -1,17 +1,14 @@
 //! Programs worked by hand, or by another tool, on a record whose bytes are known. Each table has a row a line: what comes of the program,
 //! its text, and its words in hexadecimal. What comes of it is its answer, the refusal where it's stuck, or `running`.
 
-use crate::{Outcome, State, step, trace};
-use bpf_insn::{Code, Value, decode};
-use std::alloc::Allocator;
-use std::test::Fail;
+use crate::fixtures::{RECORD, code_of, cut, is_heading};
+use bpf_insn::{Code, Value};
+use bpf_meaning::{Outcome, State, step, trace};
+use std::alloc::{AllocError, Global};
 use tl_segments::{Range, Segment};
 
-/// A line of record type 1: the 228 bytes of the layout, blank where nothing is named.
-const RECORD: &[u8; 228] =
-    b"10006 123456789    Main                                A41        101        199        100        198    3606736067                                                                          -086500000+32400000-086490000+32410000";
-
-const ANSWERS: &str = "\
+const OUTCOMES: &str = "\
+# Operations, jumps and memory.
 1; mov r0, 1; b700000001000000 9500000000000000
 0; mov r0, -1 | add r0, 1; b7000000ffffffff 0700000001000000 9500000000000000
 1; mov r0, 1 | exit | ldxb r0, [r9+0]; b700000001000000 9500000000000000 7190000000000000 9500000000000000
@@ -55,10 +52,7 @@ const ANSWERS: &str = "\
 2; mov r0, 1 | ja32 +2 | mov r0, 2 | exit | ja32 -3; b700000001000000 0600000002000000 b700000002000000 9500000000000000 06000000fdffffff 9500000000000000
 1; mov r2, 5 | mov r3, -1 | mov r0, 0 | jsgt r2, r3, +1 | exit | mov r0, 1; b702000005000000 b7030000ffffffff b700000000000000 6d32010000000000 9500000000000000 b700000001000000 9500000000000000
 0; mov r2, 5 | mov r3, -1 | mov r0, 0 | jgt r2, r3, +1 | exit | mov r0, 1; b702000005000000 b7030000ffffffff b700000000000000 2d32010000000000 9500000000000000 b700000001000000 9500000000000000
-";
-
-/// Each operation in both widths, at 0, 1, all ones, and the least and the greatest signed numbers.
-const OPERATIONS: &str = "\
+# Each operation in both widths, at 0, 1, all ones, and the least and the greatest signed numbers.
 9223372036854775808; lddw r0, 0x7fffffffffffffff | lddw r2, 0x1 | add r0, r2; 18000000ffffffff 00000000ffffff7f 1802000001000000 0000000000000000 0f20000000000000 9500000000000000
 4294967295; lddw r0, 0x0 | lddw r2, 0xffffffffffffffff | add32 r0, r2; 1800000000000000 0000000000000000 18020000ffffffff 00000000ffffffff 0c20000000000000 9500000000000000
 9223372036854775809; lddw r0, 0x8000000000000000 | lddw r2, 0xffffffffffffffff | sub r0, r2; 1800000000000000 0000000000000080 18020000ffffffff 00000000ffffffff 1f20000000000000 9500000000000000
@@ -87,10 +81,7 @@ const OPERATIONS: &str = "\
 4294967295; lddw r0, 0x0 | lddw r2, 0xffffffffffffffff | mov32 r0, r2; 1800000000000000 0000000000000000 18020000ffffffff 00000000ffffffff bc20000000000000 9500000000000000
 18446744073709551615; lddw r0, 0x8000000000000000 | lddw r2, 0xffffffffffffffff | arsh r0, r2; 1800000000000000 0000000000000080 18020000ffffffff 00000000ffffffff cf20000000000000 9500000000000000
 4294967295; lddw r0, 0xffffffff80000000 | lddw r2, 0x7fffffff | arsh32 r0, r2; 1800000000000080 00000000ffffffff 18020000ffffff7f 0000000000000000 cc20000000000000 9500000000000000
-";
-
-/// Loads and stores of each size, across the borders of each other.
-const MEMORY: &str = "\
+# Loads and stores of each size, across the borders of each other.
 17; lddw r2, 0x8877665544332211 | stxdw [r10-16], r2 | ldxb r0, [r10-16]; 1802000011223344 0000000055667788 7b2af0ff00000000 71a0f0ff00000000 9500000000000000
 136; lddw r2, 0x8877665544332211 | stxdw [r10-16], r2 | ldxb r0, [r10-9]; 1802000011223344 0000000055667788 7b2af0ff00000000 71a0f7ff00000000 9500000000000000
 18446744073709551496; lddw r2, 0x8877665544332211 | stxdw [r10-16], r2 | ldxsb r0, [r10-9]; 1802000011223344 0000000055667788 7b2af0ff00000000 91a0f7ff00000000 9500000000000000
@@ -118,10 +109,7 @@ const MEMORY: &str = "\
 808464432; ldxw r0, [r1+224]; 6110e00000000000 9500000000000000
 3472328296244720179; ldxdw r0, [r1+220]; 7910dc0000000000 9500000000000000
 3616707392864006193; ldxdw r0, [r1+0]; 7910000000000000 9500000000000000
-";
-
-/// Each cause with its place, and which one comes first.
-const CAUSES: &str = "\
+# Each cause with its place, and which one comes first.
 refused 31 place 0 OutOfProgram; mov r0, 1; b700000001000000
 refused 31 place 0 OutOfProgram; ja +0; 0500000000000000
 refused 31 place 1 OutOfProgram; mov r0, 1 | ja -3; b700000001000000 0500fdff00000000
@@ -184,10 +172,7 @@ refused 47 place 0 StoresPointer; stxdw [r10+0], r10 | exit; 7baa000000000000 95
 refused 48 place 1 ComparesPointer; mov r0, 0 | jeq r1, 0, +0 | exit; b700000000000000 1501000000000000 9500000000000000
 refused 48 place 1 ComparesPointer; mov r0, 0 | jne r0, r1, +0 | exit; b700000000000000 5d10000000000000 9500000000000000
 refused 51 place 1 ExitNotNumber; mov r0, r1 | exit; bf10000000000000 9500000000000000
-";
-
-/// The same of calls of helper functions.
-const CALL_CAUSES: &str = "\
+# Each cause of calls of helper functions.
 refused 49 place 0 UnknownHelper; call 0 | exit; 8500000000000000 9500000000000000
 refused 49 place 0 UnknownHelper; call 10; 850000000a000000
 refused 49 place 0 UnknownHelper; call -2147483648 | exit; 8500000000000080 9500000000000000
@@ -256,10 +241,7 @@ refused 40 place 2 ReadsNothing(3); mov r3, 1 | call 3 | mov r0, r3 | exit; b703
 refused 40 place 2 ReadsNothing(4); mov r4, 1 | call 3 | mov r0, r4 | exit; b704000001000000 8500000003000000 bf40000000000000 9500000000000000
 refused 40 place 2 ReadsNothing(5); mov r5, 1 | call 3 | mov r0, r5 | exit; b705000001000000 8500000003000000 bf50000000000000 9500000000000000
 refused 40 place 6 ReadsNothing(1); stw [r10-4], 0x6e69616d | mov r1, 0 | mov r2, r10 | add r2, -4 | mov r3, 4 | call 7 | mov r0, r1 | exit; 620afcff6d61696e b701000000000000 bfa2000000000000 07020000fcffffff b703000004000000 8500000007000000 bf10000000000000 9500000000000000
-";
-
-/// What comes of calls on a segment with two alternate names and a further range.
-const CALLS: &str = "\
+# What comes of calls on a segment with two alternate names and a further range.
 123456789; mov r1, 0 | call 1 | exit; b701000000000000 8500000001000000 9500000000000000
 36067; mov r1, 6 | call 1 | exit; b701000006000000 8500000001000000 9500000000000000
 0; mov r1, 16 | call 1 | exit; b701000010000000 8500000001000000 9500000000000000
@@ -332,15 +314,6 @@ empty; 0; mov r0, 1; b700000001000000
 1; 1; mov r0, 1 | jeq r0, 1, -3 | exit; b700000001000000 1500fdff01000000 9500000000000000
 ";
 
-/// The code of words.
-fn code_of<A: Allocator + Copy>(alloc: A, words: &str) -> Result<Code<A>, Fail> {
-    let mut program = Vec::new(alloc);
-    for word in words.split_whitespace() {
-        program.extend_from_slice(&u64::from_str_radix(word, 16)?.to_be_bytes())?;
-    }
-    Ok(decode(alloc, &program)?)
-}
-
 /// Whether an outcome is the one that a row expects. A score of 0 isn't written.
 fn is_as_expected(outcome: Outcome, expected: &str) -> bool {
     match outcome {
@@ -353,84 +326,119 @@ fn is_as_expected(outcome: Outcome, expected: &str) -> bool {
     }
 }
 
+/// Whether so many steps of a program on a segment come to what a row expects.
+fn comes_to(segment: &Segment<Global>, code: &Code<Global>, limit: &str, expected: &str) -> bool {
+    let Ok(limit) = limit.parse() else {
+        return false;
+    };
+    is_as_expected(trace(code, segment, limit), expected)
+}
+
 /// A segment with two alternate names and one further range.
-fn named_segment<A: Allocator + Copy>(alloc: A) -> Result<Segment<A>, Fail> {
+fn named_segment(alloc: Global) -> Result<Segment<Global>, AllocError> {
     let mut segment = Segment::of(alloc, RECORD);
     segment.push_name(b"Elm                           ")?;
     segment.push_name(b"Oak                           ")?;
-    segment.push_range(Range {
-        fraddl: b"        201",
-        toaddl: b"        299",
-        fraddr: b"        200",
-        toaddr: b"        300",
-        zipl: b"36068",
-        zipr: b"36068",
-    })?;
+    segment.push_range(FURTHER)?;
     Ok(segment)
 }
 
-#[test]
-fn outcomes(rt: HostRuntime) -> Result<(), Fail> {
-    let segment = named_segment(rt.alloc())?;
-    for table in [ANSWERS, OPERATIONS, MEMORY, CAUSES, CALLS, CALL_CAUSES] {
-        for row in table.lines() {
-            let mut columns = row.split("; ");
-            let expected = columns.next().unwrap_or("");
-            let code = code_of(rt.alloc(), columns.last().unwrap_or(""))?;
-            let outcome = trace(&code, &segment, 20);
-            assert!(rt; is_as_expected(outcome, expected), "{row}: {outcome:?}");
+const FURTHER: Range<'static> = Range {
+    fraddl: b"        201",
+    toaddl: b"        299",
+    fraddr: b"        200",
+    toaddr: b"        300",
+    zipl: b"36068",
+    zipr: b"36068",
+};
+
+/// Whether the program of a row comes to what the row says.
+fn is_outcome(alloc: Global, segment: &Segment<Global>, row: &str) -> bool {
+    let (expected, program) = cut(row, "; ");
+    code_of(alloc, program).is_some_and(|code| comes_to(segment, &code, "20", expected))
+}
+
+/// The row that's wrong, if there is one.
+fn wrong_outcome(alloc: Global, segment: &Segment<Global>) -> Option<&'static str> {
+    for row in OUTCOMES.lines() {
+        if !is_heading(row) && !is_outcome(alloc, segment, row) {
+            return Some(row);
         }
     }
-    Ok(())
+    None
 }
 
 #[test]
-fn calls_of_addresses(rt: HostRuntime) -> Result<(), Fail> {
+fn outcomes(rt: HostRuntime) {
+    let segment = named_segment(rt.alloc()).expect(&rt, "memory");
+    assert_eq!(rt; wrong_outcome(rt.alloc(), &segment), None);
+}
+
+/// A segment whose record has these addresses.
+fn segment_at(alloc: Global, addresses: &str) -> Segment<Global> {
+    let mut record = *RECORD;
+    write_addresses(&mut record, addresses);
+    Segment::of(alloc, &record)
+}
+
+fn write_addresses(record: &mut [u8], addresses: &str) {
+    for (to, from) in record.iter_mut().skip(58).zip(addresses.bytes()) {
+        *to = from;
+    }
+}
+
+/// Whether the program of a row comes to what the row says on a record with the row's addresses.
+fn is_outcome_at(alloc: Global, row: &str) -> bool {
+    let (expected, rest) = cut(row, "; ");
+    let (addresses, program) = cut(rest, "; ");
+    let segment = segment_at(alloc, addresses);
+    code_of(alloc, program).is_some_and(|code| comes_to(&segment, &code, "20", expected))
+}
+
+/// Whether so many steps of the program of a row come to what the row says.
+fn is_limited(alloc: Global, row: &str) -> bool {
+    let (expected, rest) = cut(row, "; ");
+    let (limit, program) = cut(rest, "; ");
+    let segment = Segment::of(alloc, RECORD);
+    code_of(alloc, program).is_some_and(|code| comes_to(&segment, &code, limit, expected))
+}
+
+#[test]
+fn addresses_and_limits(rt: HostRuntime) {
     for row in ADDRESSES.lines() {
-        let mut columns = row.split("; ");
-        let expected = columns.next().unwrap_or("");
-        let addresses = columns.next().unwrap_or("");
-        let code = code_of(rt.alloc(), columns.last().unwrap_or(""))?;
-        let mut record = *RECORD;
-        assert_eq!(rt; addresses.len(), 44, "{row}");
-        record[58..102].copy_from_slice(addresses.as_bytes());
-        let outcome = trace(&code, &Segment::of(rt.alloc(), &record), 20);
-        assert!(rt; is_as_expected(outcome, expected), "{row}: {outcome:?}");
+        assert!(rt; is_outcome_at(rt.alloc(), row), "{row}");
     }
-    Ok(())
-}
-
-#[test]
-fn limits(rt: HostRuntime) -> Result<(), Fail> {
     for row in LIMITS.lines() {
-        let mut columns = row.split("; ");
-        let expected = columns.next().unwrap_or("");
-        let limit = columns.next().unwrap_or("").parse()?;
-        let code = code_of(rt.alloc(), columns.last().unwrap_or(""))?;
-        let outcome = trace(&code, &Segment::of(rt.alloc(), RECORD), limit);
-        assert!(rt; is_as_expected(outcome, expected), "{row}: {outcome:?}");
+        assert!(rt; is_limited(rt.alloc(), row), "{row}");
     }
-    Ok(())
 }
 
-/// A program that has ended leaves the state as it was, and no byte of the frame written.
-#[test]
-fn an_end_keeps_the_state(rt: HostRuntime) -> Result<(), Fail> {
-    for row in ENDS.lines() {
-        let mut columns = row.split("; ");
-        let answer = match columns.next().unwrap_or("") {
-            "empty" => Value::Empty,
-            number => Value::Number(number.parse()?),
-        };
-        let place = columns.next().unwrap_or("").parse()?;
-        let code = code_of(rt.alloc(), columns.last().unwrap_or(""))?;
-        let segment = Segment::of(rt.alloc(), RECORD);
-        let mut state = State::start();
-        for _ in 0..10 {
-            let _ = step(&code, &segment, &mut state);
-        }
-        assert_eq!(rt; (state.place, state.registers[0]), (place, answer), "{row}");
-        assert_eq!(rt; state.frame.load(511, 1), None, "{row}");
+/// Whether a code that has ended is at this place with this answer, and has written no byte of the frame.
+fn ends_at(code: &Code<Global>, segment: &Segment<Global>, place: &str, answer: &str) -> bool {
+    let mut state = State::start();
+    for _ in 0..10 {
+        let _ = step(code, segment, &mut state);
     }
-    Ok(())
+    let is_answer = match state.registers[0] {
+        Value::Number(number) => answer.parse() == Ok(number),
+        Value::Empty => answer == "empty",
+        Value::Pointer(_) => false,
+    };
+    is_answer && place.parse() == Ok(state.place) && state.frame.load(511, 1).is_none()
+}
+
+/// Whether a program ends as a row says.
+fn is_end(alloc: Global, row: &str) -> bool {
+    let (answer, rest) = cut(row, "; ");
+    let (place, program) = cut(rest, "; ");
+    let segment = Segment::of(alloc, RECORD);
+    code_of(alloc, program).is_some_and(|code| ends_at(&code, &segment, place, answer))
+}
+
+/// A program that has ended leaves the state as it was.
+#[test]
+fn an_end_keeps_the_state(rt: HostRuntime) {
+    for row in ENDS.lines() {
+        assert!(rt; is_end(rt.alloc(), row), "{row}");
+    }
 }

@@ -1,8 +1,8 @@
 //! Each opcode of the instruction table, with its bytes written out and the instruction that they are.
-use super::{EXIT, bytes_of, cut, gives};
-use crate::{Code, Insn, decode, encode};
-use std::alloc::Allocator;
-use std::test::Fail;
+use super::{EXIT, gives};
+use crate::fixtures::{bytes_of, cut, is_heading};
+use bpf_insn::{Code, Insn, decode, encode};
+use std::alloc::Global;
 
 // Bytes, and the instruction.
 const INSTRUCTIONS: &str = "# ALU: operations on an immediate (K), then on a register (X).
@@ -172,24 +172,45 @@ de 84 0 80 0 0 0 0 | JumpIf { condition: SignedLessOrEqual, width: Bits32, left:
 18 07 0 0 01 02 03 04 0 0 0 0 fe ff ff ff | WideLoad { destination: WritableRegister { number: 7 }, immediate: 67305985, next_immediate: -2 }
 18 03 0 0 ff ff ff 7f 0 0 0 0 0 0 0 80 | WideLoad { destination: WritableRegister { number: 3 }, immediate: 2147483647, next_immediate: -2147483648 }";
 
-/// Whether these words are the instruction of a row: read with an exit behind it, looked at place by place, and written again.
-fn is_instruction<A: Allocator + Copy>(alloc: A, words: &str, want: &str) -> Result<bool, Fail> {
-    let mut bytes = bytes_of(alloc, words)?;
-    let count = bytes.len() / 8;
-    bytes.extend_from_slice(EXIT)?;
-    let code = decode(alloc, &bytes)?;
-    let found = format!(in alloc; "{:?}", code.instructions())?;
-    let encoded = encode(alloc, &code)?;
-    let inside = found
-        .as_str()
-        .strip_prefix('[')
-        .and_then(|text| text.strip_suffix(", Exit]"));
-    Ok(inside == Some(want) && encoded.as_slice() == bytes.as_slice() && is_laid_out(&code, count))
+/// Whether the words of a row are its instruction: read with an exit behind it, looked at place by place, and written again.
+fn is_instruction(alloc: Global, row: &str) -> bool {
+    let (words, want) = cut(row, " | ");
+    let Some(bytes) = bytes_with_exit(alloc, words) else {
+        return false;
+    };
+    let Ok(code) = decode(alloc, &bytes) else {
+        return false;
+    };
+    is_laid_out(&code, bytes.len() / 8)
+        && is_shown(alloc, &code, want)
+        && is_written(alloc, &code, &bytes)
 }
 
-/// Whether a code is an instruction of so many words and an exit behind it, at each place.
-fn is_laid_out<A: Allocator>(code: &Code<A>, count: usize) -> bool {
-    code.words() == count.saturating_add(1)
+/// The bytes of words, and an exit behind them.
+fn bytes_with_exit(alloc: Global, words: &str) -> Option<Vec<u8>> {
+    let mut bytes = bytes_of(alloc, words)?;
+    bytes.extend_from_slice(EXIT).ok()?;
+    Some(bytes)
+}
+
+/// Whether a code is an instruction that is shown as this text, and an exit behind it.
+fn is_shown(alloc: Global, code: &Code<Global>, want: &str) -> bool {
+    let Ok(found) = format!(in alloc; "{:?}", code.instructions()) else {
+        return false;
+    };
+    let rest = found.strip_prefix('[').unwrap_or("");
+    rest.strip_suffix(", Exit]") == Some(want)
+}
+
+/// Whether a code is written as these bytes.
+fn is_written(alloc: Global, code: &Code<Global>, bytes: &[u8]) -> bool {
+    encode(alloc, code).is_ok_and(|encoded| encoded.as_slice() == bytes)
+}
+
+/// Whether a code of so many words is an instruction and an exit behind it, at each place.
+fn is_laid_out(code: &Code<Global>, words: usize) -> bool {
+    let count = words.saturating_sub(1);
+    code.words() == words
         && answers_at(code, 0, Some(0), count)
         && answers_at(code, count, Some(1), 1)
         && (count == 1 || answers_at(code, 1, None, 0))
@@ -198,12 +219,7 @@ fn is_laid_out<A: Allocator>(code: &Code<A>, count: usize) -> bool {
 }
 
 /// Whether at a place the instruction with this index begins, of so many words, or none.
-fn answers_at<A: Allocator>(
-    code: &Code<A>,
-    place: usize,
-    index: Option<usize>,
-    words: usize,
-) -> bool {
+fn answers_at(code: &Code<Global>, place: usize, index: Option<usize>, words: usize) -> bool {
     let found = index.and_then(|index| code.instructions().get(index).copied());
     code.index_at(place) == index
         && code.at(place) == found
@@ -213,13 +229,11 @@ fn answers_at<A: Allocator>(
 }
 
 #[test]
-fn instructions(rt: HostRuntime) -> Result<(), Fail> {
+fn instructions(rt: HostRuntime) {
     for row in INSTRUCTIONS.lines() {
-        let (words, want) = cut(row, " | ");
-        let is_right = row.starts_with('#') || is_instruction(rt.alloc(), words, want)?;
+        let is_right = is_heading(row) || is_instruction(rt.alloc(), row);
         assert!(rt; is_right, "{row}");
     }
-    Ok(())
 }
 
 // The opcodes of the instruction table, class by class.
@@ -232,39 +246,44 @@ const OPCODES: &str = "18
 06 16 1e 26 2e 36 3e 46 4e 56 5e 66 6e 76 7e a6 ae b6 be c6 ce d6 de
 07 0f 17 1f 27 2f 37 3f 47 4f 57 5f 67 6f 77 7f 87 97 9f a7 af b7 bf c7 cf d7";
 
-/// A word with this opcode, or two for a wide load.
-fn bytes_with<A: Allocator>(alloc: A, opcode: u8) -> Result<Vec<u8, A>, Fail> {
+/// Whether a word with this opcode, or two for a wide load, is one instruction, or no instruction has the opcode.
+fn is_opcode(alloc: Global, opcode: u8) -> bool {
     // Bits to keep, which a byte swap needs.
     let immediate = if matches!(opcode, 0xd4 | 0xd7 | 0xdc) {
         16
     } else {
         0
     };
-    let mut bytes = vec![in alloc; opcode, 0, 0, 0, immediate, 0, 0, 0]?;
-    if opcode == 0x18 {
-        bytes.extend_from_slice(&[0; 8])?;
+    let words = [opcode, 0, 0, 0, immediate, 0, 0, 0, 0, 0, 0, 0, 0, 0, 0, 0];
+    let length = if opcode == 0x18 { 16 } else { 8 };
+    let bytes = words.get(..length).unwrap_or(b"");
+    if is_known(opcode) {
+        is_one_instruction(alloc, bytes)
+    } else {
+        gives(alloc, bytes, "refused 13 place 0 UnknownOpcode")
     }
-    Ok(bytes)
+}
+
+fn is_known(opcode: u8) -> bool {
+    for known in OPCODES.split_whitespace() {
+        if u8::from_str_radix(known, 16) == Ok(opcode) {
+            return true;
+        }
+    }
+    false
 }
 
 /// Whether bytes are one instruction, which is written as the same bytes.
-fn is_one_instruction<A: Allocator + Copy>(alloc: A, bytes: &[u8]) -> Result<bool, Fail> {
-    let code = decode(alloc, bytes)?;
-    let encoded = encode(alloc, &code)?;
-    Ok(code.instructions().len() == 1 && encoded.as_slice() == bytes)
+fn is_one_instruction(alloc: Global, bytes: &[u8]) -> bool {
+    let Ok(code) = decode(alloc, bytes) else {
+        return false;
+    };
+    code.instructions().len() == 1 && is_written(alloc, &code, bytes)
 }
 
 #[test]
-fn opcodes(rt: HostRuntime) -> Result<(), Fail> {
-    let known = bytes_of(rt.alloc(), OPCODES)?;
+fn opcodes(rt: HostRuntime) {
     for opcode in 0..=u8::MAX {
-        let bytes = bytes_with(rt.alloc(), opcode)?;
-        let is_right = if known.contains(&opcode) {
-            is_one_instruction(rt.alloc(), &bytes)?
-        } else {
-            gives(rt.alloc(), &bytes, "refused 13 place 0 UnknownOpcode")
-        };
-        assert!(rt; is_right, "{opcode}");
+        assert!(rt; is_opcode(rt.alloc(), opcode), "{opcode}");
     }
-    Ok(())
 }
