@@ -5,8 +5,6 @@ mod extractor;
 mod fault;
 mod program;
 mod rows;
-#[cfg(test)]
-mod tests;
 
 pub use extractor::extract;
 pub use fault::ExtractFault;
