@@ -1,13 +1,14 @@
 -- Tables by number: what they have after a change.
-use Rattle.std.proofs.Common.{◌≡◌, ℕ, ◌+◌, ◌<◌, nat_eq, cond, if◌then◌else◌, List, [], ◌∷◌, ◌++◌, length, get_or, take, Option, Some, Vec, ap, sym, ◌∙◌, append_assoc, arith}
+use Rattle.std.proofs.Common.{◌≡◌, ℕ, zero, suc, ◌+◌, ◌-◌, ◌<◌, ◌≤◌, nat_eq, nat_le, cond, if◌then◌else◌, List, [], ◌∷◌, ◌++◌, length, get_or, take, Option, Some, None, slice_get, Vec, ap, sym, subst, refl, ◌∙◌, append_assoc, arith, Bool, true, false, unwrap_or}
 use Rattle.std.specs.HashMap.{get}
 use Rattle.std.specs.List.{filter_map, cons_option}
-use Rattle.std.specs.Option.{option_map_or}
+use Rattle.std.specs.Option.{option_map_or, option_or}
 use Rattle.std.proofs.lemmas.Grind.{common_steps, take_at_read}
 use Rattle.std.proofs.lemmas.List.Elements.{filter_map-append}
 use Rattle.std.proofs.lemmas.Bool.Decides.{nat_tests}
 use Rattle.tl_segments.specs.Segment.{Contents}
-use Rattle.tl_segments.specs.Tables.{list_at}
+use Rattle.tl_segments.specs.Tables.{list_at, name_at}
+use Rattle.tl_segments.specs.declared.feature_names.FeatureNames.{FeatureNames}
 use Rattle.tl_segments.specs.declared.grouped.Grouped.{Grouped}
 
 -- what a map has at a number where a list was written, which is the list from before with one value more
@@ -23,3 +24,33 @@ filter_map-more h xs i d found inside is =
 pub names-more : (start now next : Contents) (names more all : List (List ℕ)) → now ≡ record start { names = start.names ++ names } → next ≡ record now { names = now.names ++ more } → all ≡ names ++ more → next ≡ record start { names = start.names ++ all }
 names-more start now next names more all so_far added is =
     added ∙ ap (λ (segment : Contents). record segment { names = segment.names ++ more }) so_far ∙ ap (λ names. record start { names = names }) (append_assoc start.names names more ∙ ap (λ names. start.names ++ names) (sym is))
+
+-- the element at an index, where one more is pushed
+slice_get-push : {Y : Type 0} (xs : List Y) (y : Y) (k : ℕ) → slice_get (xs ++ y ∷ []) k ≡ (if nat_eq (length xs) k then Some y else slice_get xs k)
+slice_get-push [] y zero = refl
+slice_get-push [] y (suc k) = grind (arith, nat_tests)
+slice_get-push (x ∷ xs) y zero = grind (arith, nat_tests)
+slice_get-push (x ∷ xs) y (suc k) = slice_get-push xs y k ∙ grind (arith, nat_tests)
+
+-- the number behind those that follow a first one is the first one's distance from the end of the list
+end_of : (first length q : ℕ) → first ≤ q → nat_eq length (q - first) ≡ nat_eq (first + length) q
+end_of first length q e = grind (arith, nat_tests)
+
+following_by : {Y : Type 0} (xs : List Y) (y : Y) (first q : ℕ) (reaches : Bool) → nat_le first q ≡ reaches → (if reaches then slice_get (xs ++ y ∷ []) (q - first) else None) ≡ (if nat_eq (first + length xs) q then Some y else (if reaches then slice_get xs (q - first) else None))
+following_by xs y first q true e = slice_get-push xs y (q - first) ∙ ap (λ b. if b then Some y else slice_get xs (q - first)) (end_of first (length xs) q (grind (arith, nat_tests)))
+following_by xs y first q false e = grind (arith, nat_tests)
+
+-- a list of names that follow a first number, where one more is pushed
+following-push : {Y : Type 0} (xs : List Y) (y : Y) (first q : ℕ) → (if nat_le first q then slice_get (xs ++ y ∷ []) (q - first) else None) ≡ (if nat_eq (first + length xs) q then Some y else (if nat_le first q then slice_get xs (q - first) else None))
+following-push xs y first q = following_by xs y first q (nat_le first q) refl
+
+named_by_push : {Y : Type 0} (same : Bool) (found other before : Option Y) (name : Y) → (same ≡ true → before ≡ None) → option_or found other ≡ before → option_or (if same then Some name else found) other ≡ (if same then Some (unwrap_or before name) else before)
+named_by_push true found other before name none is = ap (λ b. Some (unwrap_or b name)) (sym (none refl))
+named_by_push false found other before name none is = is
+
+-- names of FEATs that follow the first one, and those of others, where the FEAT behind the former gets a name and had none
+pub follows-push : {A : Type 0} (old : FeatureNames A) (names : List (List ℕ)) (others : ℕ → Option (List ℕ)) (first feat : ℕ) (name : List ℕ) → ((q : ℕ) → option_or (if nat_le first q then slice_get names (q - first) else None) (others q) ≡ name_at old q) → name_at old feat ≡ None → feat ≡ first + length names → (q : ℕ) → option_or (if nat_le first q then slice_get (names ++ name ∷ []) (q - first) else None) (others q) ≡ (if nat_eq feat q then Some (unwrap_or (name_at old q) name) else name_at old q)
+follows-push old names others first feat name before none next q =
+    ap (λ found. option_or found (others q)) (following-push names name first q)
+    ∙ ap (λ n. option_or (if nat_eq n q then Some name else (if nat_le first q then slice_get names (q - first) else None)) (others q)) (sym next)
+    ∙ named_by_push (nat_eq feat q) (if nat_le first q then slice_get names (q - first) else None) (others q) (name_at old q) name (λ is. subst (λ n. name_at old n ≡ None) (grind (arith, nat_tests)) none) (before q)

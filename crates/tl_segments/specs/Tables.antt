@@ -1,8 +1,8 @@
 -- Tables of what a county's lines have, by number.
-use Rattle.std.specs.Prelude.{◌≡◌, ℕ, ◌<◌, ◌≤◌, if◌then◌else◌, nat_eq, List, [], ◌∷◌, ◌++◌, length, map, Option, Some, unwrap_or, option_and_then}
+use Rattle.std.specs.Prelude.{◌≡◌, ℕ, ◌<◌, ◌≤◌, if◌then◌else◌, ◌-◌, nat_eq, nat_le, List, [], ◌∷◌, ◌++◌, length, map, slice_get, Option, Some, None, unwrap_or, option_and_then}
 use Rattle.std.specs.HashMap.{get}
 use Rattle.std.specs.List.{filter_map}
-use Rattle.std.specs.Option.{option_map_or}
+use Rattle.std.specs.Option.{option_map_or, option_or}
 use Rattle.tl_fields.specs.Number.{number_of}
 use Rattle.tl_records.specs.Layout.{field_at}
 use Rattle.tl_records.specs.declared.type4.TheConstants.Rt4.{FEAT1, FEAT2, FEAT3, FEAT4, FEAT5}
@@ -22,9 +22,13 @@ pub record AddsAt {V A : Type 0} (old new : Grouped V A) (number : ℕ) (value :
   pub room : length (list_at old number) < LINE_LIMIT
   pub lists : (q : ℕ) → list_at new q ≡ (if nat_eq number q then list_at old q ++ value ∷ [] else list_at old q)
 
+-- the name that a FEAT has in the list of those that follow the first one
+abbrev pub following_name : {A : Type 0} → FeatureNames A → ℕ → Option (List ℕ)
+following_name table feat = if nat_le table.first feat then slice_get table.following.items (feat - table.first) else None
+
 -- the name that a FEAT has, if it has one
 abbrev pub name_at : {A : Type 0} → FeatureNames A → ℕ → Option (List ℕ)
-name_at table feat = get nat_eq table.names feat
+name_at table feat = option_or (following_name table feat) (get nat_eq table.others feat)
 
 -- a FEAT has this name, if it had none yet
 abbrev pub AddsNameAt : {A : Type 0} → FeatureNames A → FeatureNames A → ℕ → List ℕ → Type 0

@@ -1,6 +1,6 @@
 //! Names of features by number.
 ghost use Rattle.std.specs.Prelude.{◌≡◌, ℕ, None, length, option_and_then, option_copied, OnOk};
-ghost use Rattle.tl_segments.specs.Tables.{AddsNameAt, name_at};
+ghost use Rattle.tl_segments.specs.Tables.{AddsNameAt, following_name, name_at};
 
 use crate::name::NAME_LENGTH;
 use crate::near_hash::NearHasher;
@@ -10,9 +10,13 @@ use std::collections::HashMap;
 use std::hash::BuildHasherDefault;
 
 /// The name that each FEAT has: the first one that was added.
+///
+/// A county's FEATs mostly follow each other, so the names of those that follow the first one are a list, and the others are in a map.
 #[derive(Drop)]
 pub(crate) struct FeatureNames<A: Allocator> {
-    names: HashMap<u64, [u8; NAME_LENGTH], BuildHasherDefault<NearHasher>, A>,
+    first: u64,
+    following: Vec<[u8; NAME_LENGTH], A>,
+    others: HashMap<u64, [u8; NAME_LENGTH], BuildHasherDefault<NearHasher>, A>,
 }
 
 impl<A: Allocator + Copy> FeatureNames<A> {
@@ -20,7 +24,9 @@ impl<A: Allocator + Copy> FeatureNames<A> {
         ensures { (feat : ℕ) → name_at result feat ≡ None }
     {
         FeatureNames {
-            names: HashMap::with_hasher(alloc, BuildHasherDefault::new()),
+            first: 0,
+            following: Vec::new(alloc),
+            others: HashMap::with_hasher(alloc, BuildHasherDefault::new()),
         }
     }
 
@@ -29,16 +35,45 @@ impl<A: Allocator + Copy> FeatureNames<A> {
         requires { length name.now ≡ NAME_LENGTH }
         ensures ok { OnOk result (AddsNameAt self.old self.new feat name.now) }
     {
-        self.names.entry(feat)?.or_insert(copy_of(name));
+        if self.name_of(feat).is_some() {
+            return Ok(());
+        }
+        if self.following.is_empty() {
+            self.first = feat;
+        }
+        if feat.checked_sub(self.first) == Some(self.following.len() as u64) {
+            self.following.push(copy_of(name))?;
+            return Ok(());
+        }
+        self.others.insert(feat, copy_of(name))?;
         Ok(())
     }
 }
 
 impl<A: Allocator> FeatureNames<A> {
     /// The name of a FEAT, if it has a number and this has a name.
+    #[inline(always)]
     pub(crate) fn name(&self, feat: Option<u32>) -> Option<&[u8; NAME_LENGTH]>
         ensures { option_copied result ≡ option_and_then (name_at self.now) feat }
     {
-        self.names.get(&u64::from(feat?))
+        self.name_of(u64::from(feat?))
+    }
+
+    #[inline(always)]
+    fn name_of(&self, feat: u64) -> Option<&[u8; NAME_LENGTH]>
+        ensures { option_copied result ≡ name_at self.now feat }
+    {
+        match self.following_name(feat) {
+            Some(name) => Some(name),
+            None => self.others.get(&feat),
+        }
+    }
+
+    #[inline(always)]
+    fn following_name(&self, feat: u64) -> Option<&[u8; NAME_LENGTH]>
+        ensures { option_copied result ≡ following_name self.now feat }
+    {
+        let distance = feat.checked_sub(self.first)?;
+        self.following.get(distance as usize)
     }
 }
