@@ -7,7 +7,7 @@ use crate::instruction::{LoadFormat, StoreSize};
 /// How many bytes the frame has, the program's own memory. Register 10 starts behind its last.
 pub const FRAME_LENGTH: usize = 512;
 
-/// How many bytes a load reads (RFC 9669, section 5.1).
+/// How many bytes a load reads (RFC 9669, sections 5.1 and 5.2).
 pub fn load_length(format: LoadFormat) -> usize
     ensures value { result ≡ load_length format }
     ensures short { result ≤ 8 }

@@ -1,4 +1,4 @@
--- Memory as a list of bytes, some of them unwritten. Loads and stores (RFC 9669, section 5.1) are little-endian here.
+-- Memory as a list of bytes, some of them unwritten. Loads and stores (RFC 9669, sections 5.1 and 5.2) are little-endian here.
 use Rattle.std.specs.Prelude.{ℕ, ◌+◌, ◌*◌, ◌^◌, ◌<◌, Bool, true, false, List, [], ◌∷◌, ◌++◌, map, take, drop, get_or, Option, Some, None}
 use Rattle.std.specs.List.{list_all}
 use Rattle.std.specs.Option.{option_map}
