@@ -1,21 +1,7 @@
 //! Extracts of the street segments that a BPF program chooses, places of house numbers, and programs verified and as text: the program.
 #![tactic(auto)]
 
-mod arguments;
-mod command;
-mod commands;
-mod counties;
-mod county;
-mod failure;
-mod files;
-mod street_name;
-#[cfg(test)]
-mod tests;
-
-use arguments::ArgumentsFault;
-use command::command;
-use failure::{Failure, OUT_OF_MEMORY};
-use files::SystemFiles;
+use command_line::{ArgumentsFault, Failure, OUT_OF_MEMORY, SystemFiles, command};
 use std::io::BufWriter;
 use std::process::ExitCode;
 use std::{env, io};

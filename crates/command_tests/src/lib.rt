@@ -1,0 +1,21 @@
+//! Tests of the command line, over files in memory. Expected rows, lines and statuses were worked by hand.
+#![tactic(auto)]
+
+#[cfg(test)]
+mod arguments;
+#[cfg(test)]
+mod conversions;
+#[cfg(test)]
+mod counties;
+#[cfg(test)]
+mod devices;
+#[cfg(test)]
+mod fixtures;
+#[cfg(test)]
+mod geocodes;
+#[cfg(test)]
+mod readers;
+#[cfg(test)]
+mod runs;
+#[cfg(test)]
+mod verdicts;
