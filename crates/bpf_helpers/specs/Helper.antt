@@ -1,5 +1,5 @@
 -- The helper functions' table of prototypes: which there are is this project's own (RFC 9669, section 4.3.1, leaves it to the platform).
-use Rattle.std.specs.Prelude.{ℕ, ◌-◌, ◌^◌, ◌==◌, List, [], ◌∷◌, Option, codes}
+use Rattle.std.specs.Prelude.{ℕ, ◌-◌, ◌^◌, ◌==◌, Bool, true, false, List, [], ◌∷◌, Option, codes}
 use Rattle.std.specs.List.{find}
 use Rattle.bpf_kinds.specs.Interval.{between, single}
 use Rattle.bpf_kinds.specs.declared.interval.Interval.{Interval}
@@ -44,6 +44,18 @@ signature Coord = record { number = 9; arguments = one (between 0 3); frame = No
 -- the helper function that a number stands for, if there is one
 abbrev pub by_number : ℕ → Option Helper
 by_number number = find (λ helper. (signature helper).number == number) HELPERS
+
+-- whether a call reads nothing of a segment but its type 1 record
+abbrev pub reads_record_alone : Helper → Bool
+reads_record_alone Field = true
+reads_record_alone Has = true
+reads_record_alone Names = false
+reads_record_alone Ranges = false
+reads_record_alone InRange = false
+reads_record_alone NameCopy = false
+reads_record_alone NameIs = false
+reads_record_alone Emit = true
+reads_record_alone Coord = true
 
 -- its name, as the documents give it
 abbrev pub name : Helper → List ℕ

@@ -1,6 +1,6 @@
 //! The helper functions by their numbers: the table of prototypes.
 ghost use Rattle.std.specs.Prelude.{◌≡◌};
-ghost use Rattle.bpf_helpers.specs.Helper.{by_number, name, one, signature, two};
+ghost use Rattle.bpf_helpers.specs.Helper.{by_number, name, one, reads_record_alone, signature, two};
 ghost use Rattle.bpf_kinds.specs.Interval.{between};
 
 use crate::signature::{Argument, FrameUse, Signature};
@@ -89,6 +89,17 @@ impl Helper {
             Helper::NameIs => "name_is",
             Helper::Emit => "emit",
             Helper::Coord => "coord",
+        }
+    }
+
+    /// Whether a call reads nothing of a segment but its type 1 record.
+    pub fn reads_record_alone(self) -> bool
+        ensures { result ≡ reads_record_alone self }
+    {
+        match self {
+            Helper::Field | Helper::Has | Helper::Emit | Helper::Coord => true,
+            Helper::Names | Helper::Ranges | Helper::InRange | Helper::NameCopy | Helper::NameIs =>
+                false,
         }
     }
 

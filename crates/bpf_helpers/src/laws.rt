@@ -1,7 +1,7 @@
 //! Laws over the definitions, as contracts of functions that do nothing.
-ghost use Rattle.std.specs.Prelude.{◌≡◌, ◌≢◌, ℕ, ◌+◌, ◌-◌, ◌^◌, ◌<◌, ◌≤◌, List, [], length, get_or, slice_get, slice_index, codes, Some, None};
+ghost use Rattle.std.specs.Prelude.{◌≡◌, ◌≢◌, ℕ, ◌+◌, ◌-◌, ◌^◌, ◌<◌, ◌≤◌, List, [], length, get_or, slice_get, slice_index, codes, IsTrue, Some, None};
 ghost use Rattle.bpf_helpers.specs.Call.{MeetsSignature, call, first, write, written_length};
-ghost use Rattle.bpf_helpers.specs.Helper.{by_number, signature};
+ghost use Rattle.bpf_helpers.specs.Helper.{by_number, reads_record_alone, signature};
 ghost use Rattle.bpf_helpers.specs.Meaning.{places};
 ghost use Rattle.bpf_helpers.specs.declared.helper.Helper.{Helper};
 ghost use Rattle.bpf_helpers.specs.declared.helper.Helper.TheVariants.{Field, Has, Names, Ranges, InRange, NameCopy, NameIs, Emit, Coord};
@@ -112,6 +112,12 @@ pub fn scores()
         → (call helper segment arguments bytes score).score ≡ score }
     ensures word { (helper : Helper) (segment : Contents) (arguments bytes : List ℕ) (score : ℕ) → MeetsSignature helper arguments
         → score < 2 ^ 64 → (call helper segment arguments bytes score).score < 2 ^ 64 }
+{}
+
+/// A helper function that reads the record alone answers alike on segments of the same record.
+pub fn record_alone()
+    ensures { (helper : Helper) (segment other : Contents) (arguments bytes : List ℕ) (score : ℕ) → IsTrue (reads_record_alone helper)
+        → segment.bytes ≡ other.bytes → call helper segment arguments bytes score ≡ call helper other arguments bytes score }
 {}
 
 /// Bytes written over a part of memory stand there, and all else stays.

@@ -6,3 +6,4 @@ pub mod FrameLemmas
 pub mod CallLemmas
 pub mod WholeLemmas
 pub mod RegisterLemmas
+pub mod RecordLemmas

@@ -5,3 +5,4 @@ pub mod Effect
 pub mod Step
 pub mod Run
 pub mod Extract
+pub mod RecordAlone

@@ -1,11 +1,12 @@
 //! Laws, each the contract of a function that does nothing.
-ghost use Rattle.std.specs.Prelude.{◌≡◌, ◌≤◌, ◌+◌, ◌%◌, ◌^◌, ◌++◌, ℕ, ℤ, List, length, take, drop, Some};
+ghost use Rattle.std.specs.Prelude.{◌≡◌, ◌≤◌, ◌+◌, ◌%◌, ◌^◌, ◌++◌, ℕ, ℤ, IsTrue, List, length, take, drop, Some};
 ghost use Rattle.bpf_insn.specs.Code.{instruction_at};
 ghost use Rattle.bpf_insn.specs.declared.instruction.Insn.{Insn};
 ghost use Rattle.bpf_insn.specs.declared.instruction.Insn.TheVariants.{Call};
 ghost use Rattle.bpf_insn.specs.declared.value.Value.TheVariants.{Empty};
 ghost use Rattle.tl_segments.specs.Segment.{Contents, IsSegment};
 ghost use Rattle.bpf_meaning.specs.Memory.{FrameByte, number_of, store};
+ghost use Rattle.bpf_meaning.specs.RecordAlone.{reads_record_alone};
 ghost use Rattle.bpf_meaning.specs.State.{HoldsBytes, IsWhole, register_value};
 ghost use Rattle.bpf_meaning.specs.Step.{Configuration, Running, Exited, Stuck};
 ghost use Rattle.bpf_meaning.specs.Run.{Answers, HasNoNext, HasOneNext, IsRun, Step, end_of};
@@ -73,4 +74,10 @@ pub fn one_answer()
     ensures { (code : List Insn) (segment : Contents) (answer score other other_score : ℕ)
         → Answers code segment answer score → Answers code segment other other_score
         → (answer ≡ other) × (score ≡ other_score) }
+{}
+
+/// A code that reads the record alone answers alike on segments of the same record.
+pub fn record_decides()
+    ensures { (code : List Insn) (segment other : Contents) (answer score : ℕ) → IsTrue (reads_record_alone code)
+        → segment.bytes ≡ other.bytes → Answers code segment answer score → Answers code other answer score }
 {}

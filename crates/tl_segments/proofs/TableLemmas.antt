@@ -7,9 +7,13 @@ use Rattle.std.proofs.lemmas.Grind.{common_steps, take_at_read}
 use Rattle.std.proofs.lemmas.List.Elements.{filter_map-append}
 use Rattle.std.proofs.lemmas.Bool.Decides.{nat_tests}
 use Rattle.tl_segments.specs.Segment.{Contents}
-use Rattle.tl_segments.specs.Tables.{list_at, name_at}
+use Rattle.tl_segments.specs.Tables.{HasShortLists, list_at, name_at}
 use Rattle.tl_segments.specs.declared.feature_names.FeatureNames.{FeatureNames}
 use Rattle.tl_segments.specs.declared.grouped.Grouped.{Grouped}
+
+-- where no number has a value, all lists are short
+pub HasShortLists-none : {V A : Type 0} (table : Grouped V A) → ((number : ℕ) → list_at table number ≡ []) → HasShortLists table
+HasShortLists-none table none number = rw (none number) (omega arith)
 
 -- what a map has at a number where a list was written, which is the list from before with one value more
 pub added_at : {V A : Type 0} (old : Grouped V A) (found : Option (Vec V A)) (number : ℕ) (value : V) (list : Vec V A) (q : ℕ) → found ≡ cond (nat_eq number q) (Some list) (get nat_eq old.lists q) → list.items ≡ list_at old number ++ value ∷ [] → option_map_or (λ list. list.items) found [] ≡ (if nat_eq number q then list_at old q ++ value ∷ [] else list_at old q)

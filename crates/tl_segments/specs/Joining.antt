@@ -21,6 +21,10 @@ pub record JoinedLines : Type 0 where
   pub rt5 : List (List ℕ)
   pub rt6 : List (List ℕ)
 
+-- no lines at all
+abbrev pub no_lines : JoinedLines
+no_lines = record { rt4 = []; rt5 = []; rt6 = [] }
+
 -- the number that each line of the file has: its TLID, or in the file of type 5 its FEAT
 abbrev pub number_in : CountyFile → List ℕ → Option ℕ
 number_in file line = number_of (field_at (layout file).number line)

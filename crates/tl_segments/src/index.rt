@@ -1,7 +1,7 @@
 //! What is joined to the type 1 lines of a county, by TLID.
 ghost use Rattle.std.specs.Prelude.{◌≡◌, ◌≤◌, ◌+◌, [], ◌++◌, length, IfErr, IfOk, OnOk};
 ghost use Rattle.tl_fields.specs.Device.{reader};
-ghost use Rattle.tl_segments.specs.Joining.{JoinedLines, segment_of};
+ghost use Rattle.tl_segments.specs.Joining.{JoinedLines, no_lines, segment_of};
 ghost use Rattle.tl_segments.specs.Loading.{IsJoinedFault, readers};
 ghost use Rattle.tl_segments.specs.Tables.{HasShortLists, list_at, names_among};
 ghost use Rattle.tl_segments.specs.declared.fault.CountyFile.TheVariants as county_file;
@@ -32,6 +32,18 @@ pub struct Index<A: Allocator> {
 
 impl<A: Allocator + Copy> Index<A> {
     ghost use Rattle.tl_segments.specs.Indexing.{IsIndexOf, IsSegmentRead, LoadsIndex, names_in};
+
+    /// The index of files without a line: a segment that it makes is the type 1 record alone, and takes no memory.
+    pub fn new(alloc: A) -> Self
+        ensures { IsIndexOf result no_lines }
+    {
+        Index {
+            alloc,
+            features: Grouped::new(alloc),
+            names: FeatureNames::new(alloc),
+            ranges: Grouped::new(alloc),
+        }
+    }
 
     /// Reads the files of types 4, 5 and 6, in this order, each to its end, or answers the first fault, at which the input then stands.
     pub fn load<R: CountedRead>(
