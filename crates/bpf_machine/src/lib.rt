@@ -3,4 +3,4 @@
 
 mod machine;
 
-pub use machine::{Answer, run};
+pub use machine::{Answer, run, run_in};

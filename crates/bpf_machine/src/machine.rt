@@ -20,12 +20,23 @@ pub struct Answer {
 pub fn run<A: Allocator, B: Allocator>(verified: &Verified<A>, segment: &Segment<B>) -> Answer
     ensures { Answers verified.now.code segment.now result.r0 result.score }
 {
+    run_in(&mut State::start(), verified, segment)
+}
+
+/// The same in a state that is used again, whatever it is: so nothing is cleared for a program that writes nothing.
+pub fn run_in<A: Allocator, B: Allocator>(
+    state: &mut State,
+    verified: &Verified<A>,
+    segment: &Segment<B>,
+) -> Answer
+    ensures { Answers verified.now.code segment.now result.r0 result.score }
+{
     let code = verified.code();
     // Not read: that the segment is whole is what a safe code needs.
     let _bytes = segment.bytes();
-    let mut state = State::start();
+    state.restart();
     for _steps in 0..code.instructions().len() {
-        match step(code, segment, &mut state) {
+        match step(code, segment, state) {
             Outcome::Running => {}
             Outcome::Exit { answer, score } => return Answer { r0: answer, score },
             Outcome::Stuck { .. } => unreachable!(),

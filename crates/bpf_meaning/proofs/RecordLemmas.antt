@@ -185,8 +185,8 @@ runs_alike code segment other (Running state) (next ∷ run) alone same follow =
 runs_alike code segment other (Exited answer score) (next ∷ run) alone same follow = absurd follow.0
 runs_alike code segment other (Stuck place cause) (next ∷ run) alone same follow = absurd follow.0
 
-pub record_decides_lem : (code : List Insn) (segment other : Contents) (answer score : ℕ) → IsTrue (reads_record_alone code) → segment.bytes ≡ other.bytes → Answers code segment answer score → Answers code other answer score
-record_decides_lem code segment other answer score alone same answers = record {
+pub answers_alike : (code : List Insn) (segment other : Contents) (answer score : ℕ) → IsTrue (reads_record_alone code) → segment.bytes ≡ other.bytes → Answers code segment answer score → Answers code other answer score
+answers_alike code segment other answer score alone same answers = record {
   run = answers.run;
   is_run = runs_alike code segment other (Running start) answers.run alone same answers.is_run;
   exits = answers.exits;

@@ -1,5 +1,6 @@
 //! States of a program on its way, and the place where effects are carried out.
 ghost use Rattle.std.specs.Prelude.{◌≡◌, ◌≤◌};
+ghost use Rattle.bpf_meaning.specs.State.{start};
 
 use crate::cause::Cause;
 use crate::effect::{Change, Effect};
@@ -26,7 +27,6 @@ pub struct State {
 }
 
 impl State {
-    ghost use Rattle.bpf_meaning.specs.State.{start};
     ghost use Rattle.bpf_meaning.specs.Effect.{CanBeCalled, CanBeMade, CanBeCarriedOut, read};
     ghost use Rattle.bpf_helpers.specs.Call.{second};
     ghost use Rattle.bpf_meaning.specs.Step.{apply, called, carry_out, configuration_of, state_after, KeepsAtEnd};
@@ -36,21 +36,22 @@ impl State {
     pub fn start() -> Self
         ensures { result ≡ start }
     {
-        let mut registers = [Value::Empty; REGISTERS];
-        registers[1] = Value::Pointer(Pointer {
-            area: Area::Record,
-            offset: 0,
-        });
-        registers[10] = Value::Pointer(Pointer {
-            area: Area::Frame,
-            offset: FRAME_LENGTH as i16,
-        });
         State {
             place: 0,
-            registers,
+            registers: start_registers(),
             frame: Frame::unwritten(),
             score: 0,
         }
+    }
+
+    /// Makes of it the state in which a program starts, whatever it was, so that one piece of memory serves many runs.
+    pub fn restart(&mut self)
+        ensures { self.new ≡ start }
+    {
+        self.place = 0;
+        self.registers = start_registers();
+        self.frame.clear();
+        self.score = 0;
     }
 
     /// What a register holds, if anything.
@@ -112,4 +113,20 @@ impl State {
         self.registers[0] = Value::Number(answer);
         self.registers[1..6].fill(Value::Empty);
     }
+}
+
+/// The registers of the state in which a program starts.
+fn start_registers() -> [Value; REGISTERS]
+    ensures { result ≡ start.registers }
+{
+    let mut registers = [Value::Empty; REGISTERS];
+    registers[1] = Value::Pointer(Pointer {
+        area: Area::Record,
+        offset: 0,
+    });
+    registers[10] = Value::Pointer(Pointer {
+        area: Area::Frame,
+        offset: FRAME_LENGTH as i16,
+    });
+    registers
 }

@@ -1,6 +1,7 @@
 -- Extracting line by line: what was read and written so far, and the outcome at each end.
 use Rattle.std.proofs.Common.{◌≡◌, ◌≢◌, ℕ, ◌+◌, ◌<◌, ◌≤◌, ◌^◌, inl, inr, List, [], ◌∷◌, ◌++◌, Some, None, Ok, Err, refl, sym, ap, ◌∙◌, subst, arith}
 use Rattle.std.specs.Io.KnownBytes.{Appends}
+use Rattle.std.specs.Prelude.{IsTrue}
 use Rattle.tl_fields.specs.Device.{Reader, Writer}
 use Rattle.tl_fields.specs.declared.writing.WriteFault.{WriteFault}
 use Rattle.tl_fields.proofs.KnownBytesLemmas.{Appends-refl, Appends-append}
@@ -8,7 +9,7 @@ use Rattle.tl_records.specs.Lines.{LineParts}
 use Rattle.bpf_insn.specs.declared.instruction.Insn.{Insn}
 use Rattle.tl_segments.specs.County.{CountyReaders}
 use Rattle.tl_segments.specs.Indexing.{IsIndexOf, IsSegmentRead}
-use Rattle.tl_segments.specs.Joining.{JoinedLines, segments_of}
+use Rattle.tl_segments.specs.Joining.{JoinedLines, no_lines, segment_of, segments_of}
 use Rattle.tl_segments.specs.Loading.{Readers, ReadsJoined, IsJoinedFault, in_rt4, in_rt5, in_rt6}
 use Rattle.tl_segments.specs.Segment.{Contents}
 use Rattle.tl_segments.specs.declared.fault.CountyFile.TheVariants.{Rt1}
@@ -18,14 +19,16 @@ use Rattle.tl_segments.specs.declared.index.Index.{Index}
 use Rattle.tl_segments.proofs.JoiningLemmas.{segments_push}
 use Rattle.tl_segments.proofs.ReadingLemmas.{IsReadSoFar, none_read, good_line_more, all_read, at_next_fault}
 use Rattle.bpf_meaning.specs.Extract.{IsExtract, row_if_chosen}
+use Rattle.bpf_meaning.specs.RecordAlone.{reads_record_alone}
+use Rattle.bpf_meaning.proofs.RecordLemmas.{answers_alike}
 use Rattle.extract.specs.ExtractFault.{of_program, of_load}
-use Rattle.extract.specs.Extracting.{HasWritten, AreUnfailed, before_rt1, in_rt1, IsOutcome}
+use Rattle.extract.specs.Extracting.{AnswersAlike, HasWritten, AreUnfailed, before_rt1, in_rt1, IsOutcome}
 use Rattle.extract.specs.Program.{IsSafeProgram, IsProgramFault}
 use Rattle.extract.specs.Rows.{WritesRow}
 use Rattle.extract.specs.declared.fault.ExtractFault.TheVariants.{Program, Write}
 use Rattle.extract.specs.declared.program.ProgramFault.{ProgramFault}
 use Rattle.extract.specs.declared.program.ProgramFault.TheVariants as program_fault
-use Rattle.extract.proofs.RowLemmas.{extract_push, chosen_count-le}
+use Rattle.extract.proofs.RowLemmas.{extract_push, chosen_count-le, extract_alike, row_alike}
 
 -- Lines were read so far, all good, segments made of them with what the index has, and all of the extract of these written: so many rows, at
 -- most one a line. Nothing failed.
@@ -52,6 +55,15 @@ nothing_so_far index code rows line rt1 out none zeroth = record {
   written = Appends-refl out.held;
   counts = refl;
 }
+
+-- a code answers alike on the segments of any lines as on those of none, where it reads the record alone
+pub alike_alone : (code : List Insn) (joined : JoinedLines) → IsTrue (reads_record_alone code) → AnswersAlike code no_lines joined
+alike_alone code joined alone = record {
+  same = λ line answer score. answers_alike code (segment_of no_lines line) (segment_of joined line) answer score alone refl;
+}
+
+pub alike_itself : (code : List Insn) (joined : JoinedLines) → AnswersAlike code joined joined
+alike_itself code joined = record { same = λ line answer score answers. answers }
 
 -- a refused program
 pub program_outcome : (program : List ℕ) (fault : ProgramFault) (readers : CountyReaders) (out : Writer) → IsProgramFault program fault → IsOutcome program (Err (of_program fault)) readers readers out out
@@ -119,14 +131,19 @@ module _ {A : Type 0} (index : Index A) (code : List Insn) (rows : ℕ) (line ne
   fits more segment out' next (answer, score, answers, counted, appended, counts) =
       omega (arith, so_far.few, next.0.0.1, counted, chosen_count-le answer)
 
-  module _ (program : List ℕ) (safe : IsSafeProgram program code) (joined : JoinedLines) (of_joined : IsIndexOf index joined) (old new : Readers) (reads_joined : ReadsJoined joined old new) where
+  module _ (program : List ℕ) (safe : IsSafeProgram program code) (own joined : JoinedLines) (of_own : IsIndexOf index own) (alike : AnswersAlike code own joined) (old new : Readers) (reads_joined : ReadsJoined joined old new) where
+    extract_so_far : IsExtract code (segments_of joined so_far.lines) so_far.text rows
+    extract_so_far =
+        extract_alike code own joined so_far.lines so_far.text rows alike
+        (subst (λ (segments : List Contents). IsExtract code segments so_far.text rows) (so_far.made own of_own) so_far.is_extract)
+
     has_written : HasWritten program joined so_far.lines out between
     has_written = record {
       code = code;
       is_program = safe;
       text = so_far.text;
       rows = rows;
-      is_extract = subst (λ (segments : List Contents). IsExtract code segments so_far.text rows) (so_far.made joined of_joined) so_far.is_extract;
+      is_extract = extract_so_far;
       written = so_far.written;
       counts = so_far.counts;
     }
@@ -136,16 +153,16 @@ module _ {A : Type 0} (index : Index A) (code : List Insn) (rows : ℕ) (line ne
     end_outcome next = record {
       code = code;
       is_program = safe;
-      county = record { segments = so_far.segments };
+      county = record { segments = segments_of joined so_far.lines };
       loads = record {
         joined = joined;
         lines = so_far.lines;
-        segments = so_far.made joined of_joined;
+        segments = refl;
         reads_joined = reads_joined;
         rt1 = all_read Rt1 so_far.lines line new_line rt1 now rt1' so_far.read next;
       };
       text = so_far.text;
-      is_extract = so_far.is_extract;
+      is_extract = extract_so_far;
       written = so_far.written;
       counts = so_far.counts;
     }
@@ -182,5 +199,5 @@ module _ {A : Type 0} (index : Index A) (code : List Insn) (rows : ℕ) (line ne
       reads = (good_line_more so_far.lines line new_line rt1 now rt1' so_far.read next.0).reads;
       between = between;
       before = has_written;
-      row = subst (λ (s : Contents). WritesRow code s (Err fault) between out') (next.1 joined of_joined) row;
+      row = row_alike code own joined new_line.bytes fault between out' alike (subst (λ (s : Contents). WritesRow code s (Err fault) between out') (next.1 own of_own) row);
     }

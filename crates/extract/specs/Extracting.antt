@@ -12,6 +12,7 @@ use Rattle.tl_segments.specs.declared.fault.LoadFault.{LoadFault}
 use Rattle.tl_segments.specs.declared.fault.LoadFault.TheVariants as load_fault
 use Rattle.bpf_insn.specs.declared.instruction.Insn.{Insn}
 use Rattle.bpf_meaning.specs.Extract.{IsExtract}
+use Rattle.bpf_meaning.specs.Run.{Answers}
 use Rattle.extract.specs.Program.{IsSafeProgram, IsProgramFault}
 use Rattle.extract.specs.Rows.{WritesRow}
 use Rattle.extract.specs.declared.fault.ExtractFault.{ExtractFault}
@@ -30,6 +31,11 @@ pub record IsExtracted (program : List ℕ) (rows : ℕ) (old new : CountyReader
   pub is_extract : IsExtract code county.segments text rows
   pub written : Appends out.held out'.held text
   pub counts : out'.counts ≡ out.counts
+
+-- a type 1 line's segment has the same answers with what the first lines join to it as with what the others do
+pub record AnswersAlike (code : List Insn) (own joined : JoinedLines) : Type 0 where
+  pub same : (line : List ℕ) (answer score : ℕ)
+      → Answers code (segment_of own line) answer score → Answers code (segment_of joined line) answer score
 
 -- The program is refused, and nothing was read or written.
 pub record IsProgramRefusal (program : List ℕ) (fault : ProgramFault) (old new : CountyReaders) (out out' : Writer) : Type 0 where

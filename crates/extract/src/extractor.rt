@@ -4,13 +4,14 @@ ghost use Rattle.tl_fields.specs.Device.{reader, writer};
 ghost use Rattle.tl_segments.specs.Indexing.{IsIndexOf};
 ghost use Rattle.tl_segments.specs.Joining.{JoinedLines};
 ghost use Rattle.tl_segments.specs.Loading.{Readers, ReadsJoined, readers};
-ghost use Rattle.extract.specs.Extracting.{IsOutcome};
+ghost use Rattle.extract.specs.Extracting.{AnswersAlike, IsOutcome};
 ghost use Rattle.extract.specs.Program.{IsSafeProgram};
 ghost use Rattle.extract.specs.declared.program.ProgramFault.{ProgramFault};
 
 use crate::fault::ExtractFault;
 use crate::program::accept;
 use crate::rows::{LONGEST_ROW, write_row_if_chosen};
+use bpf_meaning::{State, reads_record_alone};
 use bpf_verify::Verified;
 use std::alloc::Allocator;
 use tl_fields::{CountedRead, CountedWrite};
@@ -19,8 +20,8 @@ use tl_segments::Index;
 
 /// Writes the rows of the segments of a county's files that a program chooses, in the order of the type 1 file, and answers their number.
 ///
-/// The program is accepted first. Then the files of types 4, 5 and 6 are read, in this order, each to its end, and kept as far as segments
-/// need them. The type 1 file is then read line by line: a line's row is handed to the writer before the next line is read, and nothing of a
+/// The program is accepted first. Then the files of types 4, 5 and 6 are read, in this order, each to its end, and kept as far as the program
+/// asks for them. The type 1 file is then read line by line: a line's row is handed to the writer before the next line is read, and nothing of a
 /// line is kept behind its row. So the first fault is answered of the program, of type 4, 5, 6, and of type 1, in this order; with a fault of
 /// line n of type 1 the rows of all lines before it were written, and with any fault before that nothing was. Nothing is flushed, and no read
 /// or write is tried again, not after `Interrupted` either.
@@ -43,28 +44,37 @@ pub fn extract<A: Allocator + Copy, R: CountedRead, W: CountedWrite>(
 {
     let verified = accept(alloc, program)?;
     let index = Index::load(alloc, rt4, rt5, rt6)?;
+    // Nothing is looked up for a program that reads the record alone.
+    let index = if reads_record_alone(verified.code()) {
+        Index::new(alloc)
+    } else {
+        index
+    };
     write_rows(&verified, &index, rt1, out)
 }
 
-/// Writes the rows of the lines of a type 1 file that are chosen, each before the next line is read, and answers their number.
+/// Writes the rows of the lines of a type 1 file that are chosen, each before the next line is read, and answers their number. The index may
+/// lack what the code doesn't ask for.
 fn write_rows<A: Allocator + Copy, R: CountedRead, W: CountedWrite>(
     verified: &Verified<A>,
     index: &Index<A>,
     rt1: &mut R,
     out: &mut W,
 ) -> Result<u64, ExtractFault>
-    ensures outcome { (program : List ℕ) → IsSafeProgram program verified.now.code → (lines : JoinedLines) → IsIndexOf index.now lines
-        → (old new : Readers) → ReadsJoined lines old new → IsOutcome program result
+    ensures outcome { (program : List ℕ) → IsSafeProgram program verified.now.code
+        → (own joined : JoinedLines) → IsIndexOf index.now own → AnswersAlike verified.now.code own joined
+        → (old new : Readers) → ReadsJoined joined old new → IsOutcome program result
         (record { rt1 = reader R.remaining R.failed_reads rt1.old; joined = old })
         (record { rt1 = reader R.remaining R.failed_reads rt1.new; joined = new })
         (writer W.contents W.counts out.old) (writer W.contents W.counts out.new) }
     ensures not_program { (fault : ProgramFault) → result ≢ Err (ExtractFault.Program fault) }
 {
     let mut line = Line::new();
+    let mut state = State::start();
     let mut text = [0; LONGEST_ROW];
     let mut rows = 0;
     while let Some(segment) = index.next_segment(rt1, &mut line)? {
-        rows += write_row_if_chosen(verified, &segment, &mut text, out)?;
+        rows += write_row_if_chosen(verified, &segment, &mut state, &mut text, out)?;
     }
     Ok(rows)
 }

@@ -6,7 +6,8 @@ ghost use Rattle.bpf_meaning.specs.Extract.{row_of};
 ghost use Rattle.extract.specs.Rows.{WritesRow};
 
 use arrayvec::ArrayVec;
-use bpf_machine::run;
+use bpf_machine::run_in;
+use bpf_meaning::State;
 use bpf_verify::Verified;
 use itoa::Buffer;
 use std::alloc::Allocator;
@@ -39,19 +40,20 @@ pub fn row<A: Allocator, W: CountedWrite>(
     write_whole(out, row_text(score, segment).as_slice())
 }
 
-/// Writes the row of a segment if the code chooses it, and answers how many rows that were. The text, whatever it holds, is where the row is
-/// put together.
+/// Writes the row of a segment if the code chooses it, and answers how many rows that were. The code runs in the state, and the row is put
+/// together in the text, whatever both hold.
 #[inline]
 pub(crate) fn write_row_if_chosen<A: Allocator, B: Allocator, W: CountedWrite>(
     verified: &Verified<A>,
     segment: &Segment<B>,
+    state: &mut State,
     text: &mut [u8; LONGEST_ROW],
     out: &mut W,
 ) -> Result<u64, WriteFault>
     ensures { WritesRow verified.now.code segment.now result
         (writer W.contents W.counts out.old) (writer W.contents W.counts out.new) }
 {
-    let answer = run(verified, segment);
+    let answer = run_in(state, verified, segment);
     if answer.r0 == 0 {
         return Ok(0);
     }

@@ -1,5 +1,5 @@
-use Rattle.bpf_meaning.proofs.RecordLemmas.{record_decides_lem}
+use Rattle.bpf_meaning.proofs.RecordLemmas.{answers_alike}
 use Rattle.bpf_meaning.proofs.laws.record_decides.Goals as goal
 
 pub returns : goal.returns
-returns c = record_decides_lem
+returns c = answers_alike

@@ -3,7 +3,7 @@ use Rattle.bpf_insn.specs.declared.instruction.Insn.{Insn}
 use Rattle.bpf_meaning.specs.Run.{IsSafe, Answers}
 use Rattle.bpf_meaning.proofs.RunLemmas.{goes_on}
 use Rattle.bpf_machine.proofs.MachineLemmas.{comes_to_answer, is_never_stuck, has_exited}
-use Rattle.bpf_machine.proofs.machine.run.Goals as goal
+use Rattle.bpf_machine.proofs.machine.run_in.Goals as goal
 
 pub loop-steps-preserved : goal.loop-steps-preserved
 loop-steps-preserved g c =
