@@ -23,7 +23,7 @@ pub fn run<A: Allocator, B: Allocator>(verified: &Verified<A>, segment: &Segment
     run_in(&mut State::start(), verified, segment)
 }
 
-/// The same in a state that is used again, whatever it is: so nothing is cleared for a program that writes nothing.
+/// The same in a state that is used again, whatever it is: so the frame isn't cleared for a program that writes none of it.
 pub fn run_in<A: Allocator, B: Allocator>(
     state: &mut State,
     verified: &Verified<A>,

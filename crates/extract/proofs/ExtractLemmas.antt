@@ -1,7 +1,8 @@
 -- Extracting line by line: what was read and written so far, and the outcome at each end.
 use Rattle.std.proofs.Common.{◌≡◌, ◌≢◌, ℕ, ◌+◌, ◌<◌, ◌≤◌, ◌^◌, inl, inr, List, [], ◌∷◌, ◌++◌, Some, None, Ok, Err, refl, sym, ap, ◌∙◌, subst, arith}
 use Rattle.std.specs.Io.KnownBytes.{Appends}
-use Rattle.std.specs.Prelude.{IsTrue}
+use Rattle.std.specs.Prelude.{◌⊎◌, IsTrue, Option}
+use Rattle.std.specs.Option.{option_map_or}
 use Rattle.tl_fields.specs.Device.{Reader, Writer}
 use Rattle.tl_fields.specs.declared.writing.WriteFault.{WriteFault}
 use Rattle.tl_fields.proofs.KnownBytesLemmas.{Appends-refl, Appends-append}
@@ -9,7 +10,7 @@ use Rattle.tl_records.specs.Lines.{LineParts}
 use Rattle.bpf_insn.specs.declared.instruction.Insn.{Insn}
 use Rattle.tl_segments.specs.County.{CountyReaders}
 use Rattle.tl_segments.specs.Indexing.{IsIndexOf, IsSegmentRead}
-use Rattle.tl_segments.specs.Joining.{JoinedLines, no_lines, segment_of, segments_of}
+use Rattle.tl_segments.specs.Joining.{JoinedLines, alternate_names, further_ranges, no_lines, number_in, segment_of, segments_of}
 use Rattle.tl_segments.specs.Loading.{Readers, ReadsJoined, IsJoinedFault, in_rt4, in_rt5, in_rt6}
 use Rattle.tl_segments.specs.Segment.{Contents}
 use Rattle.tl_segments.specs.declared.fault.CountyFile.TheVariants.{Rt1}
@@ -60,10 +61,17 @@ nothing_so_far index code rows line rt1 out none zeroth = record {
 pub alike_alone : (code : List Insn) (joined : JoinedLines) → IsTrue (reads_record_alone code) → AnswersAlike code no_lines joined
 alike_alone code joined alone = record {
   same = λ line answer score. answers_alike code (segment_of no_lines line) (segment_of joined line) answer score alone refl;
+  more = λ line some. absurd (nothing_joined (number_in Rt1 line) some);
 }
+  where
+    nothing_joined : (found : Option ℕ) → (option_map_or (alternate_names no_lines) found [] ≢ []) ⊎ (option_map_or (further_ranges no_lines) found [] ≢ []) → ⊥
+    nothing_joined None (inl some) = some refl
+    nothing_joined None (inr some) = some refl
+    nothing_joined (Some tlid) (inl some) = some refl
+    nothing_joined (Some tlid) (inr some) = some refl
 
 pub alike_itself : (code : List Insn) (joined : JoinedLines) → AnswersAlike code joined joined
-alike_itself code joined = record { same = λ line answer score answers. answers }
+alike_itself code joined = record { same = λ line answer score answers. answers; more = λ line some. some }
 
 -- a refused program
 pub program_outcome : (program : List ℕ) (fault : ProgramFault) (readers : CountyReaders) (out : Writer) → IsProgramFault program fault → IsOutcome program (Err (of_program fault)) readers readers out out
@@ -174,7 +182,7 @@ module _ {A : Type 0} (index : Index A) (code : List Insn) (rows : ℕ) (line ne
     fault_outcome (load_fault.TooManyNames number) next = absurd next
     fault_outcome (load_fault.TooManyRanges number) next = absurd next
     fault_outcome load_fault.Memory next =
-        let more = good_line_more so_far.lines line new_line rt1 now rt1' so_far.read next in
+        let more = good_line_more so_far.lines line new_line rt1 now rt1' so_far.read next.0 in
         record {
           written = inr (record {
             joined = joined;
@@ -182,6 +190,7 @@ module _ {A : Type 0} (index : Index A) (code : List Insn) (rows : ℕ) (line ne
             lines = so_far.lines;
             line = new_line.bytes;
             reads = more.reads;
+            more = alike.more new_line.bytes (next.1 own of_own);
             before = has_written;
           });
           counts = so_far.counts;

@@ -7,6 +7,7 @@ use Rattle.tl_records.specs.declared.fault.LineFault.{LineFault}
 use Rattle.tl_segments.specs.County.{CountyParts, CountyReaders, LoadsCounty}
 use Rattle.tl_segments.specs.Joining.{JoinedLines, segment_of, segments_of}
 use Rattle.tl_segments.specs.Loading.{IsFirstFault, IsJoinedFault, ReadsJoined, ReadsLines}
+use Rattle.tl_segments.specs.Segment.{HasJoined}
 use Rattle.tl_segments.specs.declared.fault.CountyFile.TheVariants.{Rt1}
 use Rattle.tl_segments.specs.declared.fault.LoadFault.{LoadFault}
 use Rattle.tl_segments.specs.declared.fault.LoadFault.TheVariants as load_fault
@@ -32,10 +33,12 @@ pub record IsExtracted (program : List ℕ) (rows : ℕ) (old new : CountyReader
   pub written : Appends out.held out'.held text
   pub counts : out'.counts ≡ out.counts
 
--- a type 1 line's segment has the same answers with what the first lines join to it as with what the others do
+-- What a code answers on the segment of a type 1 line with what the first lines join to it, it answers with what the others do. These join
+-- something wherever the first do.
 pub record AnswersAlike (code : List Insn) (own joined : JoinedLines) : Type 0 where
   pub same : (line : List ℕ) (answer score : ℕ)
       → Answers code (segment_of own line) answer score → Answers code (segment_of joined line) answer score
+  pub more : (line : List ℕ) → HasJoined (segment_of own line) → HasJoined (segment_of joined line)
 
 -- The program is refused, and nothing was read or written.
 pub record IsProgramRefusal (program : List ℕ) (fault : ProgramFault) (old new : CountyReaders) (out out' : Writer) : Type 0 where
@@ -79,14 +82,15 @@ pub record IsWriteRefusal (program : List ℕ) (fault : WriteFault) (old new : C
   pub before : HasWritten program joined lines out between
   pub row : WritesRow before.code (segment_of joined line) (Err fault) between out'
 
--- Memory is wanting for the segment of a good line of type 1: all of the extract of the good lines before it was written, and nothing was read
--- behind it.
+-- Memory is wanting for the segment of a good line of type 1, to which something is joined: all of the extract of the good lines before it was
+-- written, and nothing was read behind it.
 pub record StopsAtLine (program : List ℕ) (old new : CountyReaders) (out out' : Writer) : Type 0 where
   pub joined : JoinedLines
   pub reads_joined : ReadsJoined joined old.joined new.joined
   pub lines : List (List ℕ)
   pub line : List ℕ
   pub reads : ReadsLines Rt1 (lines ++ line ∷ []) old.rt1 new.rt1
+  pub more : HasJoined (segment_of joined line)
   pub before : HasWritten program joined lines out out'
 
 -- no read of any of the files failed

@@ -1,5 +1,5 @@
 -- What an index has of a TLID is what its lines have.
-use Rattle.std.proofs.Common.{◌≡◌, ℕ, List, [], ◌∷◌, ◌++◌, map, All, Option, Some, None, IsSome, refl, sym, ap, ◌∙◌, arith}
+use Rattle.std.proofs.Common.{◌≡◌, ◌≤◌, ℕ, inl, inr, length, List, [], ◌∷◌, ◌++◌, map, All, Option, Some, None, IsSome, refl, sym, ap, ◌∙◌, arith}
 use Rattle.std.specs.List.{filter_map, flat_map, cons_option}
 use Rattle.std.specs.Option.{option_and_then, option_map_or}
 use Rattle.std.proofs.lemmas.Bool.Decides.{nat_tests}
@@ -15,7 +15,7 @@ use Rattle.tl_segments.specs.County.{HasTlids}
 use Rattle.tl_segments.specs.CountyFile.{layout}
 use Rattle.tl_segments.specs.Indexing.{IsIndexOf, names_in}
 use Rattle.tl_segments.specs.Joining.{JoinedLines, number_in, lines_with, features_of, feature_name, alternate_names, further_ranges, segment_of, segments_of}
-use Rattle.tl_segments.specs.Segment.{Contents}
+use Rattle.tl_segments.specs.Segment.{Contents, HasJoined}
 use Rattle.tl_segments.specs.Tables.{feature_numbers, list_at, name_at, names_among}
 use Rattle.tl_segments.specs.declared.fault.CountyFile.TheVariants.{Rt1, Rt4}
 use Rattle.tl_segments.specs.declared.feature_names.FeatureNames.{FeatureNames}
@@ -49,6 +49,18 @@ segment_from_index index lines line tlid segment of_lines is made =
     ∙ ap (λ names. record { bytes = line; names = names; ranges = list_at index.ranges tlid }) (names_of_tlid index lines tlid of_lines)
     ∙ ap (λ ranges. record { bytes = line; names = alternate_names lines tlid; ranges = ranges }) (of_lines.ranges tlid)
     ∙ ap (λ found. record { bytes = line; names = option_map_or (alternate_names lines) found []; ranges = option_map_or (further_ranges lines) found [] }) (sym is)
+
+-- something is joined to a segment where the index has a name or a range of its TLID
+
+module _ {A : Type 0} (index : Index A) (lines : JoinedLines) (line : List ℕ) (tlid : ℕ) (of_lines : IsIndexOf index lines) (is : number_in Rt1 line ≡ Some tlid) where
+  from_index : ◌≡◌ {A = Contents} record { bytes = line; names = names_in index tlid; ranges = list_at index.ranges tlid } (segment_of lines line)
+  from_index = segment_from_index index lines line tlid _ of_lines is refl
+
+  pub names_joined : 1 ≤ length (names_in index tlid) → HasJoined (segment_of lines line)
+  names_joined some = inl (λ none. let same = ap (λ (segment : Contents). length segment.names) from_index in let no = ap length none in omega (arith, some, same, no))
+
+  pub ranges_joined : 1 ≤ length (list_at index.ranges tlid) → HasJoined (segment_of lines line)
+  ranges_joined some = inr (λ none. let same = ap (λ (segment : Contents). length segment.ranges) from_index in let no = ap length none in omega (arith, some, same, no))
 
 -- the field that has a number in each line of this type has one in a good line
 has_number_good : (row : Layout) (line : List ℕ) → line_flaw row line ≡ None → IsSome (number_of (field_at row.number line))

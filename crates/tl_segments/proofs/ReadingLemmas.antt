@@ -16,7 +16,7 @@ use Rattle.tl_records.proofs.LineLemmas.{cr_lf, has_first_line}
 use Rattle.tl_segments.specs.CountyFile.{layout}
 use Rattle.tl_segments.specs.Indexing.{ReadsGoodLine, IsNextFault, IsSegmentRead}
 use Rattle.tl_segments.specs.Joining.{IsWithinLimits}
-use Rattle.tl_segments.specs.Loading.{ReadsFile, ReadsLines, BeginsWith, HasMoreAfter, HasFlawAfter, FailsAfter, MayHave, ComesAfter, IsFirstFault, IsOneTooMany, IsFileFault}
+use Rattle.tl_segments.specs.Loading.{ReadsFile, ReadsLines, HasMoreAfter, HasFlawAfter, FailsAfter, MayHave, ComesAfter, IsFirstFault, IsOneTooMany, IsFileFault}
 use Rattle.tl_segments.specs.Taking.{IsBeyond, IsNextOf, IsTaken}
 use Rattle.tl_segments.specs.declared.fault.CountyFile.{CountyFile}
 use Rattle.tl_segments.specs.declared.fault.CountyFile.TheVariants.{Rt1, Rt4, Rt5, Rt6}
@@ -105,7 +105,7 @@ not_empty : (file taken rest : List ℕ) → file ≡ taken ++ rest → length t
 not_empty file taken rest e long none = omega (arith, length-append taken rest, ap length (sym none ∙ e))
 
 -- a file that begins with 231 bytes without a line feed has a first line that is too long for its type
-pub too_long_after : (file : CountyFile) (bytes mid rest : List ℕ) (lines : List (List ℕ)) → AreFirstLines bytes lines mid → BeginsTooLong mid rest → HasFlawAfter file WrongLength bytes lines
+pub too_long_after : (file : CountyFile) (bytes mid rest : List ℕ) (lines : List (List ℕ)) → AreFirstLines bytes lines mid → BeginsTooLong mid rest → HasFlawAfter file WrongLength lines bytes rest
 too_long_after file bytes mid rest lines before (taken, e, p, long) =
     let first = has_first_line mid (not_empty mid taken rest e long) in
     record {
@@ -115,16 +115,8 @@ too_long_after file bytes mid rest lines before (taken, e, p, long) =
       before = before;
       first = first.first;
       flawed = wrong_length file first.line (long_line mid first.line first.rest taken rest p e long first.first.ended);
+      stands = inr (taken, e, p, long);
     }
-
-one_more_not_empty : (file rest : List ℕ) → HasOneMore file rest → file ≢ []
-one_more_not_empty file rest (byte, e) none = cc
-
--- a first line isn't read of nothing
-first_line_of_some : (file line rest : List ℕ) → IsEnded file line rest → file ≢ []
-first_line_of_some file line rest (by_lf e n) none = omega (arith, length-append line (10 ∷ rest), ap length (sym none ∙ e))
-first_line_of_some file line rest (by_cr_lf e) none = omega (arith, length-append line (13 ∷ 10 ∷ rest), ap length (sym none ∙ e))
-first_line_of_some file line rest (missing e f n) none = n (sym e ∙ none)
 
 -- these lines were read so far, and this was the last one of them
 pub record IsReadSoFar (file : CountyFile) (lines : List (List ℕ)) (line : LineParts) (old new : Reader) : Type 0 where
@@ -173,11 +165,6 @@ module _ (file : CountyFile) (lines : List (List ℕ)) (line new_line : LinePart
     small = omega (arith, next.1, next.2);
   }
 
-  -- more follows the lines before
-  pub more_follows : (done : Unit {0}) → IsLineRead line new_line now new (Ok (Some done)) → IfSome old.left (λ bytes. HasMoreAfter bytes lines)
-  more_follows done next =
-      known_then old.left now.left new.left (λ bytes rest. AreFirstLines bytes lines rest) (IsNextLine new_line.bytes) (λ bytes. HasMoreAfter bytes lines) (λ bytes mid rest a b. (mid, a, first_line_of_some mid new_line.bytes rest b.0.ended)) read.reads.known next.3
-
   -- the input ended
   pub all_read : IsLineRead line new_line now new (Ok None) → ReadsFile file lines old new
   all_read next = record {
@@ -189,17 +176,18 @@ module _ (file : CountyFile) (lines : List (List ℕ)) (line new_line : LinePart
   }
 
   -- a line with a flaw
-  flaw_after : (flaw : LineFlaw) (number : ℕ) (done : Unit {0}) → IsLineRead line new_line now new (Ok (Some done)) → number ≡ new_line.number → line_flaw (layout file) new_line.bytes ≡ Some flaw → (number < 2 ^ 32) × MayHave file flaw × IfSome old.left (λ bytes. HasFlawAfter file flaw bytes lines) × (new.failed ≡ old.failed)
+  flaw_after : (flaw : LineFlaw) (number : ℕ) (done : Unit {0}) → IsLineRead line new_line now new (Ok (Some done)) → number ≡ new_line.number → line_flaw (layout file) new_line.bytes ≡ Some flaw → (number < 2 ^ 32) × MayHave file flaw × WhereKnown old.left new.left (HasFlawAfter file flaw lines) × (new.failed ≡ old.failed)
   flaw_after flaw number done next at flawed = (
     omega (arith, at, next.1, next.2),
     may_have file new_line.bytes flaw flawed,
-    known_then old.left now.left new.left (λ bytes rest. AreFirstLines bytes lines rest) (IsNextLine new_line.bytes) (λ bytes. HasFlawAfter file flaw bytes lines) (λ bytes mid rest a b. record {
+    known_both old.left now.left new.left (λ bytes rest. AreFirstLines bytes lines rest) (IsNextLine new_line.bytes) (HasFlawAfter file flaw lines) (λ bytes mid rest a b. record {
       after = mid;
       line = new_line.bytes;
       rest = rest;
       before = a;
       first = b.0;
       flawed = flawed;
+      stands = inl refl;
     }) read.reads.known next.3,
     next.0 ∙ read.reads.reads,
   )
@@ -229,7 +217,7 @@ module _ (file : CountyFile) (lines : List (List ℕ)) (line new_line : LinePart
     beyond = beyond.beyond;
     counted = omega (arith, at, next.2, read.counted);
     small = omega (arith, at, next.1, next.2);
-    known = known_then old.left now.left new.left (λ bytes rest. AreFirstLines bytes lines rest) (IsNextLine new_line.bytes) (λ bytes. BeginsWith bytes (lines ++ new_line.bytes ∷ [])) (λ bytes mid rest a b. (rest, AreFirstLines-push lines bytes mid new_line.bytes rest a b.0)) read.reads.known next.3;
+    known = known_both old.left now.left new.left (λ bytes rest. AreFirstLines bytes lines rest) (IsNextLine new_line.bytes) (λ bytes rest. AreFirstLines bytes (lines ++ new_line.bytes ∷ []) rest) (λ bytes mid rest a b. AreFirstLines-push lines bytes mid new_line.bytes rest a b.0) read.reads.known next.3;
     reads = next.0 ∙ read.reads.reads;
   }
 
@@ -245,7 +233,7 @@ module _ (file : CountyFile) (lines : List (List ℕ)) (line new_line : LinePart
   unread_comes WrongLength number at unread = (
     omega (arith, at, unread.1),
     inl refl,
-    known_then old.left now.left new.left (λ bytes rest. AreFirstLines bytes lines rest) BeginsTooLong (λ bytes. HasFlawAfter file WrongLength bytes lines) (λ bytes mid rest a b. too_long_after file bytes mid rest lines a b) read.reads.known unread.2,
+    known_both old.left now.left new.left (λ bytes rest. AreFirstLines bytes lines rest) BeginsTooLong (HasFlawAfter file WrongLength lines) (λ bytes mid rest a b. too_long_after file bytes mid rest lines a b) read.reads.known unread.2,
     unread.0 ∙ read.reads.reads,
   )
   unread_comes Read number at unread = (
@@ -255,7 +243,7 @@ module _ (file : CountyFile) (lines : List (List ℕ)) (line new_line : LinePart
   )
   unread_comes TooManyLines number at unread = (
     omega (arith, at, unread.1),
-    known_then old.left now.left new.left (λ bytes rest. AreFirstLines bytes lines rest) HasOneMore (λ bytes. HasMoreAfter bytes lines) (λ bytes mid rest a b. (mid, a, λ none. one_more_not_empty mid rest b none)) read.reads.known unread.2,
+    known_both old.left now.left new.left (λ bytes rest. AreFirstLines bytes lines rest) HasOneMore (HasMoreAfter lines) (λ bytes mid rest a b. (mid, a, b)) read.reads.known unread.2,
     unread.0 ∙ read.reads.reads,
   )
   unread_comes WrongType number at unread = absurd unread
@@ -284,4 +272,4 @@ module _ (lines : List (List ℕ)) (line new_line : LineParts) (old now new : Re
   no_segment index (Line file fault) next = (next.0, lines, at_next_fault fault next.1)
   no_segment index (TooManyNames number) next = absurd next
   no_segment index (TooManyRanges number) next = absurd next
-  no_segment index Memory next = next.0.0 ∙ read.reads.reads
+  no_segment index Memory next = next.0.0.0 ∙ read.reads.reads

@@ -24,6 +24,17 @@ pub filter_map-more : {X Y : Type 0} (h : X → Option Y) (xs : List X) (i : ℕ
 filter_map-more h xs i d found inside is =
     ap (λ s. filter_map h s) (take_at_read xs i d inside).1 ∙ filter_map-append h (take i xs) (get_or xs i d ∷ []) ∙ ap (λ found. filter_map h (take i xs) ++ cons_option found []) (sym is)
 
+-- something is found among all elements, where something is found of one
+pub filter_map-some : {X Y : Type 0} (h : X → Option Y) (xs : List X) (i : ℕ) (d : X) (y : Y) → i < length xs → Some y ≡ h (get_or xs i d) → 1 ≤ length (filter_map h xs)
+filter_map-some h [] i d y inside is = absurd (omega arith)
+filter_map-some {Y = Y} h (x ∷ xs) zero d y inside is =
+    subst (λ (found : Option Y). 1 ≤ length (cons_option found (filter_map h xs))) is (omega arith)
+filter_map-some {Y = Y} h (x ∷ xs) (suc i) d y inside is = with_first (h x) (filter_map h xs) (filter_map-some h xs i d y (omega arith) is)
+  where
+    with_first : (found : Option Y) (others : List Y) → 1 ≤ length others → 1 ≤ length (cons_option found others)
+    with_first None others some = some
+    with_first (Some first) others some = omega arith
+
 -- names that were added behind names
 pub names-more : (start now next : Contents) (names more all : List (List ℕ)) → now ≡ record start { names = start.names ++ names } → next ≡ record now { names = now.names ++ more } → all ≡ names ++ more → next ≡ record start { names = start.names ++ all }
 names-more start now next names more all so_far added is =

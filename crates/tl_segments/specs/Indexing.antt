@@ -9,7 +9,7 @@ use Rattle.tl_segments.specs.CountyFile.{layout}
 use Rattle.tl_segments.specs.Joining.{JoinedLines, segment_of}
 use Rattle.tl_segments.specs.Loading.{Readers, ReadsJoined}
 use Rattle.tl_segments.specs.Tables.{KeepsFeatures, KeepsNames, KeepsRanges, list_at, names_among}
-use Rattle.tl_segments.specs.Segment.{Contents}
+use Rattle.tl_segments.specs.Segment.{Contents, HasJoined}
 use Rattle.tl_segments.specs.declared.fault.CountyFile.TheVariants.{Rt1}
 use Rattle.tl_segments.specs.declared.fault.LoadFault.{LoadFault}
 use Rattle.tl_segments.specs.declared.fault.LoadFault.TheVariants.{Line, Memory}
@@ -40,11 +40,12 @@ abbrev pub IsNextFault : LineFault → LineParts → LineParts → Reader → Re
 IsNextFault fault line line' old new =
     IsLineRead line line' old new (Err fault) ⊎ (IsLineRead line line' old new (Ok (Some tt)) × IsLineFault (layout Rt1) line' fault)
 
--- what making the segment of the next type 1 line does to the line and the reader
+-- what making the segment of the next type 1 line does to the line and the reader; memory is wanting only where something is joined to the line
 abbrev pub IsSegmentRead : {A : Type 0} → Index A → LineParts → LineParts → Reader → Reader → Result (Option Contents) LoadFault → Type 0
 IsSegmentRead index line line' old new (Ok (Some segment)) =
     ReadsGoodLine line line' old new × ((lines : JoinedLines) → IsIndexOf index lines → segment ≡ segment_of lines line'.bytes)
 IsSegmentRead index line line' old new (Ok None) = IsLineRead line line' old new (Ok None)
 IsSegmentRead index line line' old new (Err (Line file fault)) = (file ≡ Rt1) × IsNextFault fault line line' old new
-IsSegmentRead index line line' old new (Err Memory) = ReadsGoodLine line line' old new
+IsSegmentRead index line line' old new (Err Memory) =
+    ReadsGoodLine line line' old new × ((lines : JoinedLines) → IsIndexOf index lines → HasJoined (segment_of lines line'.bytes))
 IsSegmentRead index line line' old new (Err fault) = ⊥

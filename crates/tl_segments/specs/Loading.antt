@@ -2,7 +2,7 @@
 use Rattle.std.specs.Prelude.{◌≡◌, ◌≢◌, ℕ, ◌+◌, ◌^◌, ◌<◌, ◌≤◌, ◌⊎◌, List, [], ◌∷◌, ◌++◌, length, All, Option, Some, IfSome}
 use Rattle.std.specs.Io.KnownBytes.{IsAtEnd}
 use Rattle.tl_fields.specs.Device.{Reader, reader}
-use Rattle.tl_records.specs.Lines.{IsFirstLine, AreFirstLines, AreLines, FailsWithin, WhereKnown, most_bytes}
+use Rattle.tl_records.specs.Lines.{IsFirstLine, AreFirstLines, AreLines, BeginsTooLong, FailsWithin, HasOneMore, WhereKnown, most_bytes}
 use Rattle.tl_records.specs.Records.{IsGoodLine, line_flaw}
 use Rattle.tl_records.specs.declared.fault.LineFault.{LineFault}
 use Rattle.tl_records.specs.declared.fault.LineFlaw.{LineFlaw}
@@ -39,22 +39,20 @@ pub record ReadsLines (file : CountyFile) (lines : List (List ℕ)) (old new : R
 abbrev pub HasNoFault : CountyFile → Reader → Reader → Type 0
 HasNoFault file old new = (lines : List (List ℕ)) × ReadsFile file lines old new
 
--- these are first lines of a file's bytes
-abbrev pub BeginsWith : List ℕ → List (List ℕ) → Type 0
-BeginsWith bytes lines = (after : List ℕ) × AreFirstLines bytes lines after
+-- behind these first lines of a file's bytes comes one byte more, of a line that is too many
+abbrev pub HasMoreAfter : List (List ℕ) → List ℕ → List ℕ → Type 0
+HasMoreAfter lines bytes rest = (after : List ℕ) × AreFirstLines bytes lines after × HasOneMore after rest
 
--- these are first lines of a file's bytes, and more bytes follow them
-abbrev pub HasMoreAfter : List ℕ → List (List ℕ) → Type 0
-HasMoreAfter bytes lines = (after : List ℕ) × AreFirstLines bytes lines after × (after ≢ [])
-
--- after these first lines of a file's bytes comes a line with this flaw
-pub record HasFlawAfter (file : CountyFile) (flaw : LineFlaw) (bytes : List ℕ) (lines : List (List ℕ)) : Type 0 where
+-- Behind these first lines of a file's bytes comes a line with this flaw, and this is left: what stands behind the line, or behind its 231st
+-- byte, where it's refused as too long.
+pub record HasFlawAfter (file : CountyFile) (flaw : LineFlaw) (lines : List (List ℕ)) (bytes left : List ℕ) : Type 0 where
   pub after : List ℕ
   pub line : List ℕ
   pub rest : List ℕ
   pub before : AreFirstLines bytes lines after
   pub first : IsFirstLine after line rest
   pub flawed : line_flaw (layout file) line ≡ Some flaw
+  pub stands : (left ≡ rest) ⊎ BeginsTooLong after left
 
 -- behind these first lines of a file's bytes a read failed, in the line that comes next
 abbrev pub FailsAfter : List (List ℕ) → List ℕ → List ℕ → Type 0
@@ -65,15 +63,15 @@ abbrev pub MayHave : CountyFile → LineFlaw → Type 0
 MayHave file flaw = (flaw ≡ WrongLength) ⊎ (flaw ≡ WrongType) ⊎ (flaw ≡ (layout file).without_number)
 
 -- What holds where the line of this number, behind these lines, has this flaw. Lines are numbered below 2^32: only a read fails there too,
--- and the line that is too many stands there. Where the reader's bytes are known they have the line, and a read has failed where that is the
--- flaw, and nowhere else.
+-- and the line that is too many stands there. Where the reader's bytes are known they have the line, and nothing was read behind the fault. A
+-- read has failed where that is the flaw, and nowhere else.
 abbrev pub ComesAfter : CountyFile → LineFlaw → ℕ → List (List ℕ) → Reader → Reader → Type 0
 ComesAfter file Read number lines old new =
     (number ≤ 2 ^ 32) × WhereKnown old.left new.left (FailsAfter lines) × (new.failed ≢ old.failed)
 ComesAfter file TooManyLines number lines old new =
-    (number ≡ 2 ^ 32) × IfSome old.left (λ bytes. HasMoreAfter bytes lines) × (new.failed ≡ old.failed)
+    (number ≡ 2 ^ 32) × WhereKnown old.left new.left (HasMoreAfter lines) × (new.failed ≡ old.failed)
 ComesAfter file flaw number lines old new =
-    (number < 2 ^ 32) × MayHave file flaw × IfSome old.left (λ bytes. HasFlawAfter file flaw bytes lines) × (new.failed ≡ old.failed)
+    (number < 2 ^ 32) × MayHave file flaw × WhereKnown old.left new.left (HasFlawAfter file flaw lines) × (new.failed ≡ old.failed)
 
 -- the first fault of a file is a line's own: these lines come before it, without a fault
 pub record IsFirstFault (file : CountyFile) (fault : LineFault) (lines : List (List ℕ)) (old new : Reader) : Type 0 where
@@ -82,7 +80,7 @@ pub record IsFirstFault (file : CountyFile) (fault : LineFault) (lines : List (L
   pub follows : ComesAfter file fault.flaw fault.line lines old new
 
 -- The first fault of a file is that the line of this number is one too many of its TLID: lines without a fault come before it, it is good, and
--- with it they are beyond the limits. Where the reader's bytes are known they begin with these lines.
+-- with it they are beyond the limits. Where the reader's bytes are known they begin with these lines, and the rest is left.
 pub record IsOneTooMany (file : CountyFile) (number : ℕ) (old new : Reader) : Type 0 where
   pub lines : List (List ℕ)
   pub line : List ℕ
@@ -91,7 +89,7 @@ pub record IsOneTooMany (file : CountyFile) (number : ℕ) (old new : Reader) : 
   pub beyond : ¬ IsWithinLimits file (lines ++ line ∷ [])
   pub counted : number ≡ length lines + 1
   pub small : number < 2 ^ 32
-  pub known : IfSome old.left (λ bytes. BeginsWith bytes (lines ++ line ∷ []))
+  pub known : WhereKnown old.left new.left (λ bytes rest. AreFirstLines bytes (lines ++ line ∷ []) rest)
   pub reads : new.failed ≡ old.failed
 
 -- why a file can't be loaded: this is its first fault, or memory is wanting and no read failed

@@ -1,5 +1,5 @@
 -- Street segments (TIGER/Line 2006, record types 1, 4, 5 and 6).
-use Rattle.std.specs.Prelude.{ℕ, ◌≤◌, List, ◌∷◌, length, All}
+use Rattle.std.specs.Prelude.{◌≢◌, ◌⊎◌, ℕ, ◌≤◌, List, [], ◌∷◌, length, All}
 use Rattle.tl_records.specs.Layout.{field_at}
 use Rattle.tl_records.specs.declared.type1.TheConstants.Rt1.{FENAME}
 use Rattle.tl_segments.specs.Range.{AreBytes, IsRange, own_range}
@@ -20,6 +20,10 @@ pub record IsSegment (segment : Contents) : Type 0 where
   pub few_names : length segment.names ≤ NAME_LIMIT
   pub ranges : All IsRange segment.ranges
   pub few_ranges : length segment.ranges ≤ RANGE_LIMIT
+
+-- something is joined to the record: an alternate name or a further range
+abbrev pub HasJoined : Contents → Type 0
+HasJoined segment = (segment.names ≢ []) ⊎ (segment.ranges ≢ [])
 
 -- the names of a segment in order, counted from 0: the record's FENAME, and then the alternate names
 abbrev pub names_of : Contents → List (List ℕ)

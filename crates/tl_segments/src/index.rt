@@ -1,8 +1,9 @@
 //! What is joined to the type 1 lines of a county, by TLID.
-ghost use Rattle.std.specs.Prelude.{◌≡◌, ◌≤◌, ◌+◌, [], ◌++◌, length, IfErr, IfOk, OnOk};
+ghost use Rattle.std.specs.Prelude.{◌≡◌, ◌≤◌, ◌+◌, [], ◌++◌, length, IfErr, IfOk, OnErr, OnOk};
 ghost use Rattle.tl_fields.specs.Device.{reader};
 ghost use Rattle.tl_segments.specs.Joining.{JoinedLines, no_lines, segment_of};
 ghost use Rattle.tl_segments.specs.Loading.{IsJoinedFault, readers};
+ghost use Rattle.tl_segments.specs.Segment.{HasJoined};
 ghost use Rattle.tl_segments.specs.Tables.{HasShortLists, list_at, names_among};
 ghost use Rattle.tl_segments.specs.declared.fault.CountyFile.TheVariants as county_file;
 ghost use Rattle.tl_segments.specs.declared.fault.LoadFault.TheVariants as load_fault;
@@ -75,7 +76,8 @@ impl<A: Allocator + Copy> Index<A> {
     /// any.
     #[inline(always)]
     pub fn segment(&self, rt1: &Rt1<'_>) -> Result<Segment<A>, AllocError>
-        ensures { IfOk result (λ segment. (lines : JoinedLines) → IsIndexOf self.now lines → segment ≡ segment_of lines rt1.now.bytes) }
+        ensures ok { IfOk result (λ segment. (lines : JoinedLines) → IsIndexOf self.now lines → segment ≡ segment_of lines rt1.now.bytes) }
+        ensures memory { OnErr result ((lines : JoinedLines) → IsIndexOf self.now lines → HasJoined (segment_of lines rt1.now.bytes)) }
     {
         let mut segment = Segment::of(self.alloc, rt1.bytes());
         let tlid = rt1.tlid_number();
@@ -109,7 +111,8 @@ impl<A: Allocator + Copy> Index<A> {
 
     fn push_names(&self, tlid: u64, segment: &mut Segment<A>) -> Result<(), AllocError>
         requires { segment.old.names ≡ [] }
-        ensures { OnOk result (segment.new ≡ record segment.old { names = names_in self.now tlid }) }
+        ensures names { OnOk result (segment.new ≡ record segment.old { names = names_in self.now tlid }) }
+        ensures some { OnErr result (1 ≤ length (names_in self.now tlid)) }
     {
         let lines = self.features.list(tlid);
         for features in lines {
@@ -126,6 +129,7 @@ impl<A: Allocator + Copy> Index<A> {
         requires { length segment.old.names + 5 ≤ NAME_LIMIT }
         ensures names { OnOk result (segment.new ≡ record segment.old { names = segment.old.names ++ names_among self.now.names features.now }) }
         ensures few { OnOk result (length segment.new.names ≤ length segment.old.names + 5) }
+        ensures some { OnErr result (1 ≤ length (names_among self.now.names features.now)) }
     {
         for feat in features {
             if let Some(name) = self.names.name(*feat) {
@@ -137,7 +141,8 @@ impl<A: Allocator + Copy> Index<A> {
 
     fn push_ranges(&self, tlid: u64, segment: &mut Segment<A>) -> Result<(), AllocError>
         requires { segment.old.ranges ≡ [] }
-        ensures { OnOk result (segment.new ≡ record segment.old { ranges = list_at self.now.ranges tlid }) }
+        ensures ranges { OnOk result (segment.new ≡ record segment.old { ranges = list_at self.now.ranges tlid }) }
+        ensures some { OnErr result (1 ≤ length (list_at self.now.ranges tlid)) }
     {
         let ranges = self.ranges.list(tlid);
         for range in ranges {

@@ -1,11 +1,11 @@
 //! Counties worked by hand, and readers and allocators that go wrong in mid-stream.
 use super::files::files_of;
 use super::plain::{push, report_of};
-use crate::fixtures::{Files, cut, load, reader};
+use crate::fixtures::{Files, RECORD_1, cut, load, reader};
 use linked_list_allocator::LocalHeap;
 use std::alloc::{AllocError, Allocator, Global};
-use tl_records::{LineFault, LineFlaw};
-use tl_segments::{County, CountyFile, LoadFault, Segment};
+use tl_records::{Line, LineFault, LineFlaw};
+use tl_segments::{County, CountyFile, Index, LoadFault, Segment};
 
 /// What the plain program says, of a county that was loaded.
 fn report<A: Allocator>(
@@ -369,4 +369,20 @@ fn little_memory(rt: HostRuntime) {
     let files = files_of(rt.alloc(), SMALL).expect(&rt, "files");
     let refused = refused_up_to(rt.alloc(), &files).unwrap_or(0);
     assert!(rt; refused > 100 && refused < 900, "{refused}");
+}
+
+/// Whether a line that nothing is joined to gets its segment where there is no memory at all.
+fn is_made_without_memory(alloc: Global) -> Option<bool> {
+    let heap = LocalHeap::new(alloc, 0).ok()?;
+    let index = Index::new(&heap);
+    let mut line = Line::new();
+    let segment = index
+        .next_segment(&mut reader(RECORD_1, u64::MAX), &mut line)
+        .ok()??;
+    Some(segment.bytes() == RECORD_1.as_slice())
+}
+
+#[test]
+fn no_memory(rt: HostRuntime) {
+    assert_eq!(rt; is_made_without_memory(rt.alloc()), Some(true));
 }

@@ -2,8 +2,9 @@ use Rattle.std.proofs.Common.{◌<◌, [], ◌∷◌, length, take, Some, None, 
 use Rattle.std.specs.Option.{option_and_then}
 use Rattle.std.proofs.lemmas.Grind.{common_steps}
 use Rattle.std.proofs.lemmas.List.{append-nil}
+use Rattle.std.proofs.lemmas.Result.{err_from_is_err_and}
 use Rattle.tl_segments.specs.Tables.{name_at, names_among}
-use Rattle.tl_segments.proofs.TableLemmas.{filter_map-more, names-more}
+use Rattle.tl_segments.proofs.TableLemmas.{filter_map-more, filter_map-some, names-more}
 use Rattle.tl_segments.proofs.index.Index.push_names_among.Goals as goal
 use Rattle.tl_segments.proofs.index.Index.push_names_among.Goals.{in-Some+in_ok-push_name, in_default}
 
@@ -24,3 +25,8 @@ loop-feat-preserved g c =
           let more = filter_map-more (option_and_then (name_at table)) feats i None None inside w.in_default.ensures in
           record { names = names-more start now c.match-name.segment names [] _ c.loop-feat.invariant.names (w.segment-is ∙ ap (λ names. record now { names = names }) (sym (append-nil now.names))) more; few = grind (arith, common_steps) })
     ]
+
+pub returns-in_err-push_name-clause-some : goal.returns-in_err-push_name-clause-some
+returns-in_err-push_name-clause-some g c =
+    let returned = err_from_is_err_and c.from_residual.result c.from_residual.ensures.1 in
+    rw returned.1 (filter_map-some (option_and_then (name_at c.args.self.now.names)) c.args.features.now c.loop-feat.feat-index None c.in-Some.name.now (omega arith) c.in-Some.ensures)
