@@ -1,127 +1,32 @@
-//! The arguments of a command line.
-ghost use Rattle.std.specs.Prelude.{◌≡◌, ◌⊎◌};
+//! The arguments of a command line, and what they ask for.
 
-use crate::commands::{MOST_CODES, Request, program_command};
-use crate::failure::{Failure, OUT_OF_MEMORY, USAGE};
-use clap::error::ErrorKind as UsageKind;
-use std::alloc::{AllocError, AllocFailed, Global};
-use std::io;
-use std::io::{ErrorKind, Write};
-use tl_fields::CountedWrite;
-use tl_segments::NAME_LENGTH;
-
-/// Why the arguments ask for nothing.
-#[derive(Drop)]
-pub enum ArgumentsFault<'a> {
-    /// An argument isn't UTF-8.
-    NotUtf8,
-    /// Their form, or a call for help. The error prints the text for the user.
-    Usage(clap::Error),
-    /// The argument of this name isn't there.
-    Missing(&'static str),
-    /// This county isn't five digits.
-    Code(&'a str),
-    /// More counties than are taken: so many.
-    TooManyCodes(usize),
-    /// This value of the option isn't 1 to so many digits.
-    Number {
-        name: &'static str,
-        most_digits: usize,
-        text: &'a str,
-    },
-    /// This name isn't 1 to 30 bytes.
-    Name(&'a str),
-    Memory,
+// How a help ends, behind its examples.
+macro_rules! help_end {
+    ($examples:literal) => {
+        concat!(
+            $examples,
+            "\n\nExit status:\n",
+            "  0  done, also where no row was chosen\n",
+            "  1  refused\n",
+            "  2  usage\n",
+            "  3  a file or output that can't be used\n",
+            "  4  out of memory\n\n",
+            "extractd 0.1.0",
+        )
+    };
 }
 
-impl ArgumentsFault<'_> {
-    /// The exit status.
-    pub fn status(&self) -> u8
-        ensures { (result ≡ 2) ⊎ (result ≡ 4) }
-    {
-        match self {
-            ArgumentsFault::Memory => OUT_OF_MEMORY,
-            _ => USAGE,
-        }
-    }
+mod assemble;
+mod disassemble;
+mod geocoder;
+mod run;
+mod trace;
+mod verify;
 
-    /// Says what is wrong.
-    pub fn report<E: CountedWrite>(&self, errors: &mut E) {
-        let _ = match self {
-            ArgumentsFault::NotUtf8 => write!(errors, "error: an argument isn't UTF-8\n"),
-            ArgumentsFault::Usage(error) => write!(errors, "{error}"),
-            ArgumentsFault::Missing(name) => write!(errors, "error: {name} is missing\n"),
-            ArgumentsFault::Code(code) => {
-                write!(errors, "error: CODE is five digits, and \"{code}\" isn't\n")
-            }
-            ArgumentsFault::TooManyCodes(count) => {
-                write!(
-                    errors,
-                    "error: {MOST_CODES} CODEs are taken at most, and {count} are given\n"
-                )
-            }
-            ArgumentsFault::Number {
-                name,
-                most_digits,
-                text,
-            } => {
-                write!(
-                    errors,
-                    "error: --{name} is 1 to {most_digits} digits, and \"{text}\" isn't\n"
-                )
-            }
-            ArgumentsFault::Name(name) => {
-                write!(
-                    errors,
-                    "error: --name is 1 to {NAME_LENGTH} bytes, and \"{name}\" isn't\n"
-                )
-            }
-            ArgumentsFault::Memory => {
-                Failure::memory().report(errors);
-                return;
-            }
-        };
-    }
-}
-
-// Of reading the arguments from the system: one that isn't UTF-8, or want of memory.
-impl From<io::Error> for ArgumentsFault<'_> {
-    ghost from_gives = { λ _ _. Unit {0} };
-
-    fn from(error: io::Error) -> Self {
-        match error.kind() {
-            ErrorKind::OutOfMemory => ArgumentsFault::Memory,
-            _ => ArgumentsFault::NotUtf8,
-        }
-    }
-}
-
-impl From<clap::Error> for ArgumentsFault<'_> {
-    ghost from_gives = { λ _ _. Unit {0} };
-
-    fn from(error: clap::Error) -> Self {
-        match error.kind() {
-            UsageKind::OutOfMemory => ArgumentsFault::Memory,
-            _ => ArgumentsFault::Usage(error),
-        }
-    }
-}
-
-impl From<AllocError> for ArgumentsFault<'_> {
-    ghost from_gives = { λ _ _. Unit {0} };
-
-    fn from(_error: AllocError) -> Self {
-        ArgumentsFault::Memory
-    }
-}
-
-impl<T: Drop> From<AllocFailed<T>> for ArgumentsFault<'_> {
-    ghost from_gives = { λ _ _. Unit {0} };
-
-    fn from(_error: AllocFailed<T>) -> Self {
-        ArgumentsFault::Memory
-    }
-}
+use crate::fault::ArgumentsFault;
+use clap::{ArgMatches, Command};
+use commands::Request;
+use std::alloc::{AllocError, Global};
 
 /// Reads the arguments after the program's name.
 pub fn read_arguments<'a>(
@@ -129,5 +34,53 @@ pub fn read_arguments<'a>(
     arguments: &'a [&'a str],
 ) -> Result<Request<'a>, ArgumentsFault<'a>> {
     let matches = program_command(alloc)?.try_get_matches_from(arguments)?;
-    Request::from_matches(alloc, &matches)
+    match matches.subcommand() {
+        Some((name, matches)) => request(alloc, name, matches),
+        None => Err(ArgumentsFault::Missing("COMMAND")),
+    }
+}
+
+/// What the command of this name is asked for.
+fn request<'a>(
+    alloc: Global,
+    name: &str,
+    matches: &ArgMatches<'a>,
+) -> Result<Request<'a>, ArgumentsFault<'a>> {
+    match name {
+        "run" => Ok(Request::Run(run::request(matches)?)),
+        "trace" => Ok(Request::Trace(trace::request(matches)?)),
+        "geocode" => Ok(Request::Geocode(geocoder::request(alloc, matches)?)),
+        "verify" => Ok(Request::Verify(verify::request(matches)?)),
+        "asm" => Ok(Request::Assemble(assemble::request(matches)?)),
+        "dis" => Ok(Request::Disassemble(disassemble::request(matches)?)),
+        _ => Err(ArgumentsFault::Missing("COMMAND")),
+    }
+}
+
+/// The program and its commands, for the parser of arguments.
+fn program_command<'a>(alloc: Global) -> Result<Command<'a>, AllocError> {
+    Command::new(alloc, "extractd")
+        .bin_name("extractd")?
+        .about(
+            "Extracts the TIGER/Line street segments that a BPF program chooses, finds house numbers, and verifies and converts programs",
+        )
+        .version("0.1.0")
+        .after_help(help_end!(
+            "Examples:
+  extractd run --program street.bpf --data tiger 01001 > rows.tsv
+  extractd trace --program street.bpf --data tiger --line 12 --limit 4096 01001
+  extractd geocode --data tiger --number 151 --name main --zip 36067 01001
+  extractd verify --program street.bpf
+  extractd asm --source street.s > street.bpf
+  extractd dis --program street.bpf"
+        ))
+        .no_binary_name(true)
+        .disable_help_subcommand(true)
+        .subcommand_required(true)
+        .subcommand(run::command(alloc)?)?
+        .subcommand(trace::command(alloc)?)?
+        .subcommand(geocoder::command(alloc)?)?
+        .subcommand(verify::command(alloc)?)?
+        .subcommand(assemble::command(alloc)?)?
+        .subcommand(disassemble::command(alloc)?)
 }

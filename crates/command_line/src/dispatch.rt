@@ -1,13 +1,11 @@
 //! A command, from its arguments to its exit status.
-ghost use Rattle.std.specs.Prelude.{◌≡◌, ◌≢◌, ◌≤◌, ◌⊎◌};
+ghost use Rattle.std.specs.Prelude.{◌≡◌, ◌≢◌, ◌≤◌};
 ghost use Rattle.tl_fields.specs.Device.{writer};
-ghost use Rattle.command_line.specs.Command.{IsDone, IsFlushed, IsRefusal};
-ghost use Rattle.command_line.specs.declared.commands.Request.{Request};
+ghost use Rattle.commands.specs.Command.{IsDone, IsRefusal};
+ghost use Rattle.commands.specs.declared.request.Request.{Request};
 
 use crate::arguments::read_arguments;
-use crate::commands::Request;
-use crate::failure::{DONE, Failure, USAGE};
-use crate::files::Files;
+use commands::Files;
 use std::alloc::Global;
 use tl_fields::CountedWrite;
 
@@ -34,57 +32,10 @@ pub fn command<F: Files, W: CountedWrite, E: CountedWrite>(
     ensures opens { result ≢ 3 → F.failed_opens files.new ≡ F.failed_opens files.old }
 {
     match read_arguments(alloc, arguments) {
-        Ok(request) => answer(alloc, request, files, out, errors),
+        Ok(request) => request.answer(alloc, files, out, errors),
         Err(fault) => {
             fault.report(errors);
             fault.status()
-        }
-    }
-}
-
-/// Does what is asked for, says what prevents it, and answers the exit status.
-fn answer<F: Files, W: CountedWrite, E: CountedWrite>(
-    alloc: Global,
-    request: Request<'_>,
-    files: &mut F,
-    out: &mut W,
-    errors: &mut E,
-) -> u8
-    ensures at_most { result ≤ 4 }
-    ensures done { result ≡ 0 → IsDone request.entry (F.bytes files.old)
-        (writer W.contents W.counts out.old) (writer W.contents W.counts out.new) }
-    ensures refused { result ≡ 1 → IsRefusal request.entry (F.bytes files.old)
-        (writer W.contents W.counts out.old) (writer W.contents W.counts out.new)
-        (writer E.contents E.counts errors.old) (writer E.contents E.counts errors.new) }
-    ensures usage { result ≡ 2 → out.new ≡ out.old }
-    ensures opens { result ≢ 3 → F.failed_opens files.new ≡ F.failed_opens files.old }
-{
-    match request.carry_out(alloc, files, out) {
-        Ok(()) => flush(out, errors),
-        Err(failure) => {
-            failure.report(errors);
-            let status = failure.status();
-            // A fault of usage leaves the output alone.
-            if status == USAGE {
-                return status;
-            }
-            let _ = out.flush_counted();
-            status
-        }
-    }
-}
-
-/// Flushes the output of a command that is done, and answers its exit status.
-fn flush<W: CountedWrite, E: CountedWrite>(out: &mut W, errors: &mut E) -> u8
-    ensures status { (result ≡ 0) ⊎ (result ≡ 3) }
-    ensures done { result ≡ 0 → IsFlushed (writer W.contents W.counts out.old) (writer W.contents W.counts out.new) }
-{
-    match out.flush_counted() {
-        Ok(()) => DONE,
-        Err(error) => {
-            let failure = Failure::Output(error);
-            failure.report(errors);
-            failure.status()
         }
     }
 }

@@ -2,15 +2,9 @@
 #![tactic(auto)]
 
 mod arguments;
-mod commands;
-mod counties;
-mod county;
 mod dispatch;
-mod failure;
-mod files;
-mod street_name;
+mod fault;
+mod options;
 
-pub use arguments::ArgumentsFault;
 pub use dispatch::command;
-pub use failure::{Failure, OUT_OF_MEMORY};
-pub use files::{FileFault, Files, INPUT_BUFFER, SystemFiles, read_to_end};
+pub use fault::ArgumentsFault;

@@ -1,5 +1,5 @@
 //! The commands `run` and `trace` over a county's four files.
-use super::fixtures::{Ending, assembled, bytes_in, bytes_of, cell, file_of, line_of, run_command};
+use super::fixtures::{Ending, assembled, bytes_in, bytes_of, cell, file_of, is_line, run_command};
 use std::alloc::{AllocError, Global};
 use std::test::Fail;
 
@@ -51,15 +51,17 @@ fn ending_of(alloc: Global, row: &str, program: Vec<u8>) -> Result<Ending, Alloc
     run_command(alloc, line.as_str(), &files)
 }
 
+/// Whether the command of a row writes what it says, and ends so.
+fn is_right(alloc: Global, row: &str) -> Result<bool, AllocError> {
+    let written = bytes_of(alloc, cell(row, 6))?;
+    let ending = ending_of(alloc, row, assembled(alloc, cell(row, 1))?)?;
+    Ok(ending.is_right(cell(row, 7), cell(row, 8), written.as_slice()))
+}
+
 #[test]
 fn counties(rt: HostRuntime) -> Result<(), Fail> {
     for row in COUNTIES.trim().lines() {
-        let program = assembled(rt.alloc(), cell(row, 1))?;
-        let written = bytes_of(rt.alloc(), cell(row, 6))?;
-        let ending = ending_of(rt.alloc(), row, program)?;
-        assert_eq!(rt; Ok(ending.status), cell(row, 7).parse(), "{row}");
-        assert_eq!(rt; ending.said, line_of(rt.alloc(), cell(row, 8))?, "{row}");
-        assert_eq!(rt; ending.written, written, "{row}");
+        assert!(rt; is_right(rt.alloc(), row)?, "{row}");
     }
     Ok(())
 }
@@ -81,14 +83,20 @@ trace --line 0 --limit 0 | missing | missing | | | | 3 | error: p.bpf: not found
 trace --line 1 --limit 2 | ONE EXIT | closed memory | | | | 4 | refused memory | p.bpf d/TGR01001.RT1
 ";
 
+/// Whether the command of a row opens the files that it says, and ends so.
+fn is_opened(alloc: Global, row: &str) -> Result<bool, AllocError> {
+    let ending = ending_of(alloc, row, bytes_in(alloc, cell(row, 1))?)?;
+    Ok(
+        Ok(ending.status) == cell(row, 6).parse()
+            && is_line(ending.said.as_slice(), cell(row, 7))
+            && ending.opened.as_str().trim() == cell(row, 8),
+    )
+}
+
 #[test]
 fn openings(rt: HostRuntime) -> Result<(), Fail> {
     for row in OPENINGS.trim().lines() {
-        let program = bytes_in(rt.alloc(), cell(row, 1))?;
-        let ending = ending_of(rt.alloc(), row, program)?;
-        assert_eq!(rt; Ok(ending.status), cell(row, 6).parse(), "{row}");
-        assert_eq!(rt; ending.said, line_of(rt.alloc(), cell(row, 7))?, "{row}");
-        assert_eq!(rt; ending.opened.as_str().trim(), cell(row, 8), "{row}");
+        assert!(rt; is_opened(rt.alloc(), row)?, "{row}");
     }
     Ok(())
 }

@@ -5,7 +5,8 @@ ghost use Rattle.std.specs.Option.{option_map_or};
 ghost use Rattle.std.specs.Str.{bytes_eq};
 
 use arrayvec::ArrayString;
-use command_line::{Files, command};
+use command_line::command;
+use commands::Files;
 use std::alloc::{AllocError, Global};
 use std::io;
 use std::io::ErrorKind;
@@ -151,6 +152,15 @@ pub struct Ending {
     pub opened: ArrayString<128>,
 }
 
+impl Ending {
+    /// Whether the status and the line on standard error are those of two cells, and these bytes are written.
+    pub fn is_right(&self, status: &str, line: &str, written: &[u8]) -> bool {
+        Ok(self.status) == status.parse()
+            && is_line(self.said.as_slice(), line)
+            && self.written.as_slice() == written
+    }
+}
+
 /// Runs a command on files, with an output that takes all, and standard error likewise.
 pub fn run_command(
     alloc: Global,
@@ -177,7 +187,10 @@ pub fn run_words(alloc: Global, arguments: &[&str], files: &[MemoryFile<'_>]) ->
 /// The instruction words of a program text, by `asm`.
 pub fn assembled(alloc: Global, source: &str) -> Result<Vec<u8>, AllocError> {
     let source = text_of(alloc, source)?;
-    let source = MemoryFile::new("p.s", source.as_slice());
+    words_of(alloc, MemoryFile::new("p.s", source.as_slice()))
+}
+
+fn words_of(alloc: Global, source: MemoryFile<'_>) -> Result<Vec<u8>, AllocError> {
     Ok(run_command(alloc, "asm --source p.s", &[source])?.written)
 }
 
@@ -193,13 +206,12 @@ pub fn cell(row: &str, number: usize) -> &str {
     row.split('|').nth(number).unwrap_or("").trim()
 }
 
-/// The line of standard error that a cell has, if it has one.
-pub fn line_of(alloc: Global, cell: &str) -> Result<Vec<u8>, AllocError> {
-    let mut line = cell.as_bytes().to_vec(alloc)?;
-    if !cell.is_empty() {
-        line.push(b'\n')?;
+/// Whether standard error has the line that a cell has, or nothing where the cell is empty.
+pub fn is_line(said: &[u8], cell: &str) -> bool {
+    match said.split_last() {
+        Some((b'\n', line)) => !cell.is_empty() && line == cell.as_bytes(),
+        _ => said.is_empty() && cell.is_empty(),
     }
-    Ok(line)
 }
 
 fn kind_of(word: &str) -> ErrorKind {
@@ -238,10 +250,14 @@ pub fn file_of<'a>(name: &'a str, cell: &str, bytes: &'a [u8]) -> MemoryFile<'a>
 
 /// The bytes of the file that a cell describes.
 pub fn bytes_in(alloc: Global, cell: &str) -> Result<Vec<u8>, AllocError> {
+    bytes_of(alloc, tokens_in(cell))
+}
+
+fn tokens_in(cell: &str) -> &str {
     if cell == "missing" || cell.starts_with("closed ") {
-        return Ok(Vec::new(alloc));
+        return "";
     }
-    bytes_of(alloc, cell.split('!').next().unwrap_or(""))
+    cell.split('!').next().unwrap_or("")
 }
 
 /// The bytes of tokens with blanks between: `EXIT` and `ONE` (r0 = 1) are instructions, `LINE` is the line of Main Street, and `RT4`, `RT5`
@@ -350,14 +366,19 @@ fn push_text(bytes: &mut Vec<u8>, text: &str) -> Result<(), AllocError> {
     let mut parts = text.split('\\');
     bytes.extend_from_slice(parts.next().unwrap_or("").as_bytes())?;
     for part in parts {
-        let escape = if part.starts_with("x") { 3 } else { 1 };
-        bytes.push(match part.get(..escape).unwrap_or("") {
-            "n" => b'\n',
-            "r" => b'\r',
-            "t" => b'\t',
-            digits => u8::from_str_radix(digits.get(1..).unwrap_or(""), 16).unwrap_or(0),
-        })?;
-        bytes.extend_from_slice(part.get(escape..).unwrap_or("").as_bytes())?;
+        let length = if part.starts_with("x") { 3 } else { 1 };
+        bytes.push(escaped(part.get(..length).unwrap_or("")))?;
+        bytes.extend_from_slice(part.get(length..).unwrap_or("").as_bytes())?;
     }
     Ok(())
+}
+
+/// The byte that an escape stands for, which has no backslash here.
+fn escaped(escape: &str) -> u8 {
+    match escape {
+        "n" => b'\n',
+        "r" => b'\r',
+        "t" => b'\t',
+        digits => u8::from_str_radix(digits.get(1..).unwrap_or(""), 16).unwrap_or(0),
+    }
 }

@@ -1,5 +1,6 @@
 //! The command `run`: type 1 files and their rows.
-use super::fixtures::{MemoryFile, bytes_of, cell, line_of, run_command};
+use super::fixtures::{MemoryFile, bytes_of, cell, run_command};
+use std::alloc::{AllocError, Global};
 use std::test::Fail;
 
 const RUN: &str = "run --program p.bpf --data d 01001";
@@ -30,18 +31,21 @@ ONE EXIT | LINE@30=\r \n | 0\t LINE@30=\r \n | 0 |
 ONE EXIT | LINE@19=\xc3\xa9\xff\x80 \n | 0\t LINE@19=\xc3\xa9\xff\x80 \n | 0 |
 ";
 
+/// Whether the program and the file of a row give its rows, its status and what is said.
+fn is_right(alloc: Global, row: &str) -> Result<bool, AllocError> {
+    let program = bytes_of(alloc, cell(row, 0))?;
+    let file = bytes_of(alloc, cell(row, 1))?;
+    let rows = bytes_of(alloc, cell(row, 2))?;
+    let program = MemoryFile::new("p.bpf", program.as_slice());
+    let rt1 = MemoryFile::new("d/TGR01001.RT1", file.as_slice());
+    let ending = run_command(alloc, RUN, &[program, rt1])?;
+    Ok(ending.is_right(cell(row, 3), cell(row, 4), rows.as_slice()))
+}
+
 #[test]
 fn type_1_files(rt: HostRuntime) -> Result<(), Fail> {
     for row in FILES.trim().lines() {
-        let program = bytes_of(rt.alloc(), cell(row, 0))?;
-        let file = bytes_of(rt.alloc(), cell(row, 1))?;
-        let rows = bytes_of(rt.alloc(), cell(row, 2))?;
-        let program = MemoryFile::new("p.bpf", program.as_slice());
-        let rt1 = MemoryFile::new("d/TGR01001.RT1", file.as_slice());
-        let ending = run_command(rt.alloc(), RUN, &[program, rt1])?;
-        assert_eq!(rt; Ok(ending.status), cell(row, 3).parse(), "{row}");
-        assert_eq!(rt; ending.said, line_of(rt.alloc(), cell(row, 4))?, "{row}");
-        assert_eq!(rt; ending.written, rows, "{row}");
+        assert!(rt; is_right(rt.alloc(), row)?, "{row}");
     }
     Ok(())
 }

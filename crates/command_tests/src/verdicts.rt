@@ -1,6 +1,6 @@
 //! The commands `verify` and `run` on programs that are accepted, and on programs that are refused.
 use super::fixtures::{
-    MemoryFile, assembled, bytes_of, cell, line_of, output, run_command, status_of,
+    MemoryFile, assembled, bytes_of, cell, is_line, output, run_command, status_of,
 };
 use std::alloc::{AllocError, Global};
 use std::io::ErrorKind;
@@ -122,24 +122,37 @@ call 3\nexit | LINE \n |
 call 4\nmov r1, r0\ncall 8\nmov r0, 1\nexit | LINE \n | 1\t LINE \n
 ";
 
-/// Whether both commands refuse a program so. Every read of the type 1 file and every write to the output goes wrong, so that none is made.
-fn is_refused(alloc: Global, program: MemoryFile<'_>, line: &str) -> Result<bool, AllocError> {
+/// Whether a command refuses a program so. Every read of the type 1 file and every write to the output goes wrong, so that none is made.
+fn refuses(
+    alloc: Global,
+    command: &str,
+    program: MemoryFile<'_>,
+    line: &str,
+) -> Result<bool, AllocError> {
     let rt1 = MemoryFile {
         reads: 0,
         burst: Burst::Fails(ErrorKind::BrokenPipe),
         ..MemoryFile::new(RT1, b"")
     };
-    let said = line_of(alloc, line)?;
-    for command in [VERIFY, RUN] {
-        let mut out = output(alloc, Some(0), Burst::Fails(ErrorKind::StorageFull));
-        let mut errors = output(alloc, None, Burst::TakesNothing);
-        let (status, _) = status_of(alloc, command, &[program, rt1], &mut out, &mut errors)?;
-        let is_refused = status == 1 && errors.inner == said && out.inner.is_empty();
-        if !is_refused {
-            return Ok(false);
-        }
-    }
-    Ok(true)
+    let mut out = output(alloc, Some(0), Burst::Fails(ErrorKind::StorageFull));
+    let mut errors = output(alloc, None, Burst::TakesNothing);
+    let (status, _) = status_of(alloc, command, &[program, rt1], &mut out, &mut errors)?;
+    Ok(status == 1 && is_line(errors.inner.as_slice(), line) && out.inner.is_empty())
+}
+
+/// Whether both commands refuse a program so.
+fn is_refused(alloc: Global, program: MemoryFile<'_>, line: &str) -> Result<bool, AllocError> {
+    Ok(refuses(alloc, VERIFY, program, line)? && refuses(alloc, RUN, program, line)?)
+}
+
+/// Whether a command writes this of some files, and says nothing.
+fn writes(
+    alloc: Global,
+    command: &str,
+    files: &[MemoryFile<'_>],
+    written: &[u8],
+) -> Result<bool, AllocError> {
+    Ok(run_command(alloc, command, files)?.is_right("0", "", written))
 }
 
 /// Whether a program is accepted, and these are the rows of a type 1 file.
@@ -149,22 +162,41 @@ fn is_accepted(
     file: &[u8],
     rows: &[u8],
 ) -> Result<bool, AllocError> {
-    let verified = run_command(alloc, VERIFY, &[program])?;
-    let run = run_command(alloc, RUN, &[program, MemoryFile::new(RT1, file)])?;
-    let is_verified = verified.status == 0
-        && verified.written.as_slice() == b"accepted\n".as_slice()
-        && verified.said.is_empty();
-    Ok(is_verified && run.status == 0 && run.written.as_slice() == rows && run.said.is_empty())
+    let rt1 = MemoryFile::new(RT1, file);
+    Ok(
+        writes(alloc, VERIFY, &[program], b"accepted\n")?
+            && writes(alloc, RUN, &[program, rt1], rows)?,
+    )
+}
+
+fn is_refused_as_bytes(alloc: Global, row: &str) -> Result<bool, AllocError> {
+    let program = bytes_of(alloc, cell(row, 0))?;
+    let program = MemoryFile::new("p.bpf", program.as_slice());
+    is_refused(alloc, program, cell(row, 1))
 }
 
 #[test]
 fn refused_bytes(rt: HostRuntime) -> Result<(), Fail> {
     for row in REFUSED.trim().lines() {
-        let program = bytes_of(rt.alloc(), cell(row, 0))?;
-        let program = MemoryFile::new("p.bpf", program.as_slice());
-        assert!(rt; is_refused(rt.alloc(), program, cell(row, 1))?, "{row}");
+        assert!(rt; is_refused_as_bytes(rt.alloc(), row)?, "{row}");
     }
     Ok(())
+}
+
+/// Whether the verdict on the program of a row, over a type 1 file of one line, is the one that it says.
+fn is_verdict(
+    alloc: Global,
+    row: &str,
+    file: &[u8],
+    row_of_file: &[u8],
+) -> Result<bool, AllocError> {
+    let program = assembled(alloc, cell(row, 0))?;
+    let program = MemoryFile::new("p.bpf", program.as_slice());
+    match cell(row, 1) {
+        "row" => is_accepted(alloc, program, file, row_of_file),
+        "no row" => is_accepted(alloc, program, file, b""),
+        refusal => is_refused(alloc, program, refusal),
+    }
 }
 
 #[test]
@@ -172,26 +204,23 @@ fn verdicts(rt: HostRuntime) -> Result<(), Fail> {
     let file = bytes_of(rt.alloc(), r"LINE \n")?;
     let row_of_file = bytes_of(rt.alloc(), r"0\t LINE \n")?;
     for row in VERDICTS.trim().lines() {
-        let program = assembled(rt.alloc(), cell(row, 0))?;
-        let program = MemoryFile::new("p.bpf", program.as_slice());
-        let holds = match cell(row, 1) {
-            "row" => is_accepted(rt.alloc(), program, &file, &row_of_file)?,
-            "no row" => is_accepted(rt.alloc(), program, &file, b"")?,
-            refusal => is_refused(rt.alloc(), program, refusal)?,
-        };
-        assert!(rt; holds, "{row}");
+        assert!(rt; is_verdict(rt.alloc(), row, &file, &row_of_file)?, "{row}");
     }
     Ok(())
+}
+
+fn has_rows(alloc: Global, row: &str) -> Result<bool, AllocError> {
+    let program = assembled(alloc, cell(row, 0))?;
+    let program = MemoryFile::new("p.bpf", program.as_slice());
+    let file = bytes_of(alloc, cell(row, 1))?;
+    let rows = bytes_of(alloc, cell(row, 2))?;
+    is_accepted(alloc, program, &file, &rows)
 }
 
 #[test]
 fn calls(rt: HostRuntime) -> Result<(), Fail> {
     for row in CALLS.trim().lines() {
-        let program = assembled(rt.alloc(), cell(row, 0))?;
-        let program = MemoryFile::new("p.bpf", program.as_slice());
-        let file = bytes_of(rt.alloc(), cell(row, 1))?;
-        let rows = bytes_of(rt.alloc(), cell(row, 2))?;
-        assert!(rt; is_accepted(rt.alloc(), program, &file, &rows)?, "{row}");
+        assert!(rt; has_rows(rt.alloc(), row)?, "{row}");
     }
     Ok(())
 }

@@ -1,7 +1,8 @@
 //! Extracts of the street segments that a BPF program chooses, places of house numbers, and programs verified and as text: the program.
 #![tactic(auto)]
 
-use command_line::{ArgumentsFault, Failure, OUT_OF_MEMORY, SystemFiles, command};
+use command_line::{ArgumentsFault, command};
+use commands::{Failure, OUT_OF_MEMORY, SystemFiles};
 use std::io::BufWriter;
 use std::process::ExitCode;
 use std::{env, io};

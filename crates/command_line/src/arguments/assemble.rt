@@ -1,0 +1,20 @@
+//! The arguments of `asm`.
+use crate::fault::ArgumentsFault;
+use crate::options::{option, value};
+use clap::{ArgMatches, Command};
+use commands::Assemble;
+use std::alloc::{AllocError, Global};
+
+pub fn command<'a>(alloc: Global) -> Result<Command<'a>, AllocError> {
+    Command::new(alloc, "asm")
+        .about("Writes the BPF instruction words that a program text means")
+        .after_help(help_end!("Example:\n  extractd asm --source street.s > street.bpf"))
+        .arg(option(alloc, "source", "FILE", "The program, as text"))
+}
+
+/// What the arguments that were matched ask for.
+pub fn request<'a>(matches: &ArgMatches<'a>) -> Result<Assemble<'a>, ArgumentsFault<'a>> {
+    Ok(Assemble {
+        source: value(matches, "source")?,
+    })
+}

@@ -1,0 +1,25 @@
+//! The arguments of `dis`.
+use crate::fault::ArgumentsFault;
+use crate::options::{option, value};
+use clap::{ArgMatches, Command};
+use commands::Disassemble;
+use std::alloc::{AllocError, Global};
+
+pub fn command<'a>(alloc: Global) -> Result<Command<'a>, AllocError> {
+    Command::new(alloc, "dis")
+        .about("Writes a program as text")
+        .after_help(help_end!("Example:\n  extractd dis --program street.bpf"))
+        .arg(option(
+            alloc,
+            "program",
+            "FILE",
+            "The program, as BPF instruction words",
+        ))
+}
+
+/// What the arguments that were matched ask for.
+pub fn request<'a>(matches: &ArgMatches<'a>) -> Result<Disassemble<'a>, ArgumentsFault<'a>> {
+    Ok(Disassemble {
+        program: value(matches, "program")?,
+    })
+}

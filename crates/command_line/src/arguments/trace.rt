@@ -1,0 +1,54 @@
+//! The arguments of `trace`.
+use crate::fault::ArgumentsFault;
+use crate::options::{code, county_option, number, option, value};
+use clap::{ArgMatches, Command};
+use commands::Trace;
+use std::alloc::{AllocError, Global};
+
+pub fn command<'a>(alloc: Global) -> Result<Command<'a>, AllocError> {
+    Command::new(alloc, "trace")
+        .about("Says what a program comes to on one segment, also one that run would refuse")
+        .after_help(help_end!(
+            "Output:
+  exit R0 score S        the program ended
+  stuck place P cause N  it can't go on at this place, by the number of the refusal
+  running                the steps don't suffice
+
+Example:
+  extractd trace --program street.bpf --data tiger --line 12 --limit 4096 01001"
+        ))
+        .arg(option(
+            alloc,
+            "program",
+            "FILE",
+            "The program, as BPF instruction words",
+        ))?
+        .arg(option(
+            alloc,
+            "data",
+            "DIR",
+            "The folder of the TIGER/Line 2006 files",
+        ))?
+        .arg(option(
+            alloc,
+            "line",
+            "N",
+            "The segment's line in the type 1 file, counted from 1",
+        ))?
+        .arg(option(alloc, "limit", "L", "How many steps at most"))?
+        .arg(county_option(alloc))
+}
+
+// A number has as many digits at most, so that each is below 2^64.
+const MOST_DIGITS: usize = 19;
+
+/// What the arguments that were matched ask for.
+pub fn request<'a>(matches: &ArgMatches<'a>) -> Result<Trace<'a>, ArgumentsFault<'a>> {
+    Ok(Trace {
+        program: value(matches, "program")?,
+        data: value(matches, "data")?,
+        line: number(matches, "line", MOST_DIGITS)?,
+        limit: number(matches, "limit", MOST_DIGITS)?,
+        code: code(matches)?,
+    })
+}

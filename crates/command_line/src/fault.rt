@@ -1,0 +1,124 @@
+//! What is wrong with the arguments of a command line.
+ghost use Rattle.std.specs.Prelude.{◌≡◌, ◌⊎◌};
+
+use crate::options::MOST_CODES;
+use clap::error::ErrorKind as UsageKind;
+use commands::{Failure, OUT_OF_MEMORY, USAGE};
+use std::alloc::{AllocError, AllocFailed};
+use std::io;
+use std::io::{ErrorKind, Write};
+use tl_fields::CountedWrite;
+use tl_segments::NAME_LENGTH;
+
+/// Why the arguments ask for nothing.
+#[derive(Drop)]
+pub enum ArgumentsFault<'a> {
+    /// An argument isn't UTF-8.
+    NotUtf8,
+    /// Their form, or a call for help. The error prints the text for the user.
+    Usage(clap::Error),
+    /// The argument of this name isn't there.
+    Missing(&'static str),
+    /// This county isn't five digits.
+    Code(&'a str),
+    /// More counties than are taken: so many.
+    TooManyCodes(usize),
+    /// This value of the option isn't 1 to so many digits.
+    Number {
+        name: &'static str,
+        most_digits: usize,
+        text: &'a str,
+    },
+    /// This name isn't 1 to 30 bytes.
+    Name(&'a str),
+    Memory,
+}
+
+impl ArgumentsFault<'_> {
+    /// The exit status.
+    pub fn status(&self) -> u8
+        ensures { (result ≡ 2) ⊎ (result ≡ 4) }
+    {
+        match self {
+            ArgumentsFault::Memory => OUT_OF_MEMORY,
+            _ => USAGE,
+        }
+    }
+
+    /// Says what is wrong.
+    pub fn report<E: CountedWrite>(&self, errors: &mut E) {
+        let _ = match self {
+            ArgumentsFault::NotUtf8 => write!(errors, "error: an argument isn't UTF-8\n"),
+            ArgumentsFault::Usage(error) => write!(errors, "{error}"),
+            ArgumentsFault::Missing(name) => write!(errors, "error: {name} is missing\n"),
+            ArgumentsFault::Code(code) => {
+                write!(errors, "error: CODE is five digits, and \"{code}\" isn't\n")
+            }
+            ArgumentsFault::TooManyCodes(count) => {
+                write!(
+                    errors,
+                    "error: {MOST_CODES} CODEs are taken at most, and {count} are given\n"
+                )
+            }
+            ArgumentsFault::Number {
+                name,
+                most_digits,
+                text,
+            } => {
+                write!(
+                    errors,
+                    "error: --{name} is 1 to {most_digits} digits, and \"{text}\" isn't\n"
+                )
+            }
+            ArgumentsFault::Name(name) => {
+                write!(
+                    errors,
+                    "error: --name is 1 to {NAME_LENGTH} bytes, and \"{name}\" isn't\n"
+                )
+            }
+            ArgumentsFault::Memory => {
+                Failure::memory().report(errors);
+                return;
+            }
+        };
+    }
+}
+
+// Of reading the arguments from the system: one that isn't UTF-8, or want of memory.
+impl From<io::Error> for ArgumentsFault<'_> {
+    ghost from_gives = { λ _ _. Unit {0} };
+
+    fn from(error: io::Error) -> Self {
+        match error.kind() {
+            ErrorKind::OutOfMemory => ArgumentsFault::Memory,
+            _ => ArgumentsFault::NotUtf8,
+        }
+    }
+}
+
+impl From<clap::Error> for ArgumentsFault<'_> {
+    ghost from_gives = { λ _ _. Unit {0} };
+
+    fn from(error: clap::Error) -> Self {
+        match error.kind() {
+            UsageKind::OutOfMemory => ArgumentsFault::Memory,
+            _ => ArgumentsFault::Usage(error),
+        }
+    }
+}
+
+impl From<AllocError> for ArgumentsFault<'_> {
+    ghost from_gives = { λ _ _. Unit {0} };
+
+    fn from(_error: AllocError) -> Self {
+        ArgumentsFault::Memory
+    }
+}
+
+impl<T: Drop> From<AllocFailed<T>> for ArgumentsFault<'_> {
+    ghost from_gives = { λ _ _. Unit {0} };
+
+    fn from(_error: AllocFailed<T>) -> Self {
+        ArgumentsFault::Memory
+    }
+}

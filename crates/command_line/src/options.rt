@@ -1,0 +1,95 @@
+//! Options and other arguments that several commands take.
+use crate::fault::ArgumentsFault;
+use clap::{Arg, ArgAction, ArgMatches};
+use std::alloc::Global;
+
+/// The option `--name VALUE`, which has to be given.
+pub fn option<'a>(alloc: Global, name: &'a str, value: &'a str, help: &'a str) -> Arg<'a> {
+    Arg::new(alloc, name)
+        .long(name)
+        .value_name(value)
+        .help(help)
+        .required(true)
+        .action(ArgAction::Set)
+}
+
+/// The value of an argument that has to be given.
+pub fn value<'a>(
+    matches: &ArgMatches<'a>,
+    name: &'static str,
+) -> Result<&'a str, ArgumentsFault<'a>> {
+    matches.get_str(name).ok_or(ArgumentsFault::Missing(name))
+}
+
+/// The argument `CODE`, a county, which has to be given.
+pub fn county_option<'a>(alloc: Global) -> Arg<'a> {
+    Arg::new(alloc, "code")
+        .value_name("CODE")
+        .help("The county, five digits")
+        .required(true)
+        .action(ArgAction::Set)
+}
+
+/// The county's code: five digits.
+pub fn code<'a>(matches: &ArgMatches<'a>) -> Result<&'a str, ArgumentsFault<'a>> {
+    five_digits(value(matches, "code")?)
+}
+
+/// As many counties are taken at most.
+pub const MOST_CODES: usize = 100000;
+
+/// The counties' codes, one at least: five digits each.
+pub fn codes<'a>(
+    alloc: Global,
+    matches: &ArgMatches<'a>,
+) -> Result<Vec<&'a str>, ArgumentsFault<'a>> {
+    let given = matches.get_strs("code").unwrap_or(&[]);
+    if given.is_empty() {
+        return Err(ArgumentsFault::Missing("CODE"));
+    }
+    if given.len() > MOST_CODES {
+        return Err(ArgumentsFault::TooManyCodes(given.len()));
+    }
+    let mut codes = Vec::new(alloc);
+    for code in given {
+        codes.push(five_digits(code)?)?;
+    }
+    Ok(codes)
+}
+
+fn five_digits<'a>(code: &'a str) -> Result<&'a str, ArgumentsFault<'a>> {
+    if code.len() != 5 || !are_digits(code) {
+        return Err(ArgumentsFault::Code(code));
+    }
+    Ok(code)
+}
+
+/// The number of an option that has to be given: 1 to so many digits.
+pub fn number<'a>(
+    matches: &ArgMatches<'a>,
+    name: &'static str,
+    most_digits: usize,
+) -> Result<u64, ArgumentsFault<'a>> {
+    number_in(name, most_digits, value(matches, name)?)
+}
+
+/// The number of an option's value: 1 to so many digits.
+pub fn number_in<'a>(
+    name: &'static str,
+    most_digits: usize,
+    text: &'a str,
+) -> Result<u64, ArgumentsFault<'a>> {
+    let fault = ArgumentsFault::Number {
+        name,
+        most_digits,
+        text,
+    };
+    if text.len() > most_digits || !are_digits(text) {
+        return Err(fault);
+    }
+    text.parse().map_err(|_| fault)
+}
+
+fn are_digits(text: &str) -> bool {
+    text.bytes().all(|byte| byte.is_ascii_digit())
+}

@@ -1,0 +1,67 @@
+-- The exit statuses of failures.
+use Rattle.std.proofs.Common.{◌≡◌, ◌≢◌, ◌⊎◌, ℕ, List, Bool, true, false, Option, Some, None, Err, inl, inr, refl, arith}
+use Rattle.std.specs.Prelude.{◌==◌, ◌||◌, if◌then◌else◌}
+use Rattle.std.specs.Io.KnownBytes.{Keeps}
+use Rattle.tl_fields.specs.Device.{Writer}
+use Rattle.commands.specs.Command.{IsCarriedOut, IsRefusal}
+use Rattle.commands.specs.Failure.{Says, file_status, refusal_status, status}
+use Rattle.commands.specs.declared.request.Request.{Request}
+use Rattle.commands.specs.declared.failure.Failure.{Failure}
+use Rattle.commands.specs.declared.files.FileFault.{FileFault}
+use Rattle.commands.specs.declared.files.FileFault.TheVariants.{Unusable, Memory}
+use Rattle.commands.specs.declared.failure.Failure.TheVariants.{Refusal, File, CountyFile, NotUtf8, NoLine, Output}
+
+refusal_statuses : (number : Option ℕ) → (refusal_status number ≡ 1) ⊎ (refusal_status number ≡ 3) ⊎ (refusal_status number ≡ 4)
+refusal_statuses None = inr (inr refl)
+refusal_statuses (Some number) = by_test (number == 5 || number == 60 || number == 61) _ refl
+  where
+    by_test : (b : Bool) (n : ℕ) → n ≡ (if b then 3 else 1) → (n ≡ 1) ⊎ (n ≡ 3) ⊎ (n ≡ 4)
+    by_test true n is = inr (inl is)
+    by_test false n is = inl is
+
+pub statuses : (failure : Failure) → (status failure ≡ 1) ⊎ (status failure ≡ 2) ⊎ (status failure ≡ 3) ⊎ (status failure ≡ 4)
+statuses (Refusal number line) = one_of _ (refusal_statuses number)
+  where
+    one_of : (n : ℕ) → (n ≡ 1) ⊎ (n ≡ 3) ⊎ (n ≡ 4) → (n ≡ 1) ⊎ (n ≡ 2) ⊎ (n ≡ 3) ⊎ (n ≡ 4)
+    one_of n (inl is) = inl is
+    one_of n (inr is) = inr (inr is)
+statuses (File name error) = inr (inr (inl refl))
+statuses (CountyFile folder code file error) = inr (inr (inl refl))
+statuses (NotUtf8 name) = inr (inr (inl refl))
+statuses (NoLine line) = inr (inl refl)
+statuses (Output error) = inr (inr (inl refl))
+
+-- a refusal is no fault of usage
+pub refusal_not_usage : (number : Option ℕ) → refusal_status number ≢ 2
+refusal_not_usage number is = not_two _ (refusal_statuses number) is
+  where
+    not_two : (n : ℕ) → (n ≡ 1) ⊎ (n ≡ 3) ⊎ (n ≡ 4) → n ≢ 2
+    not_two n (inl e) is = absurd (omega (arith, e, is))
+    not_two n (inr (inl e)) is = absurd (omega (arith, e, is))
+    not_two n (inr (inr e)) is = absurd (omega (arith, e, is))
+
+-- a library's refusal, whose line was said
+pub refusal_said : (request : Request) (known : List ℕ → Option (List ℕ)) (failure : Failure) (out unflushed out' errors errors' : Writer)
+    → IsCarriedOut request known (Err failure) out unflushed → Keeps unflushed.held out'.held → Says failure errors errors' → status failure ≡ 1
+    → IsRefusal request known out out' errors errors'
+refusal_said request known (Refusal number line) out unflushed out' errors errors' is kept said one =
+    record { number = number; is_number = one; line = line.bytes; unflushed = unflushed; refused = is one; kept = kept; said = said }
+refusal_said request known (File name error) out unflushed out' errors errors' is kept said one = absurd (omega arith)
+refusal_said request known (CountyFile folder code file error) out unflushed out' errors errors' is kept said one = absurd (omega arith)
+refusal_said request known (NotUtf8 name) out unflushed out' errors errors' is kept said one = absurd (omega arith)
+refusal_said request known (NoLine line) out unflushed out' errors errors' is kept said one = absurd (omega arith)
+refusal_said request known (Output error) out unflushed out' errors errors' is kept said one = absurd (omega arith)
+
+-- where it isn't a refusal by a library nothing is promised
+pub unless_refused : (request : Request) (known : List ℕ → Option (List ℕ)) (failure : Failure) (out out' : Writer)
+    → status failure ≢ 1 → IsCarriedOut request known (Err failure) out out'
+unless_refused request known (Refusal number line) out out' other = λ one. absurd (other one)
+unless_refused request known (File name error) out out' other = tt
+unless_refused request known (CountyFile folder code file error) out out' other = tt
+unless_refused request known (NotUtf8 name) out out' other = tt
+unless_refused request known (NoLine line) out out' other = tt
+unless_refused request known (Output error) out out' other = tt
+
+pub file_not_refused : (fault : FileFault) (failure : Failure) → status failure ≡ file_status fault → status failure ≢ 1
+file_not_refused (Unusable error) failure is one = omega (arith, is, one)
+file_not_refused Memory failure is one = omega (arith, is, one)

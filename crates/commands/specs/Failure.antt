@@ -1,0 +1,43 @@
+-- Why a command isn't done: its exit status, and what is said of it.
+use Rattle.std.specs.Prelude.{◌≡◌, ◌≢◌, ℕ, ◌==◌, ◌||◌, if◌then◌else◌, List, [], ◌∷◌, ◌++◌, Option, Some, None, ⊤, Result, Ok, Err}
+use Rattle.tl_fields.specs.Device.{Writer}
+use Rattle.tl_fields.specs.Writing.{WritesText}
+use Rattle.tl_fields.specs.declared.writing.WriteFault.{WriteFault}
+use Rattle.commands.specs.declared.files.FileFault.{FileFault}
+use Rattle.commands.specs.declared.files.FileFault.TheVariants.{Unusable, Memory}
+use Rattle.commands.specs.declared.failure.Failure.{Failure}
+use Rattle.commands.specs.declared.failure.Failure.TheVariants.{Refusal, NoLine}
+
+-- 4 for want of memory, which has no number, 3 where a read or a write failed, else 1
+abbrev pub refusal_status : Option ℕ → ℕ
+refusal_status None = 4
+refusal_status (Some number) = if number == 5 || number == 60 || number == 61 then 3 else 1
+
+-- a line that the file doesn't have is a fault of usage, 2; a file or an output that can't be used is 3
+abbrev pub status : Failure → ℕ
+status (Refusal number line) = refusal_status number
+status (NoLine line) = 2
+status failure = 3
+
+abbrev pub file_status : FileFault → ℕ
+file_status (Unusable error) = 3
+file_status Memory = 4
+
+-- the line was written, with its end of line, unless a write failed or took no byte
+abbrev pub SaysLine : List ℕ → Writer → Writer → Type 0
+SaysLine line errors errors' = (written : Result (Unit {0}) WriteFault) × WritesText (line ++ 10 ∷ []) written errors errors'
+
+-- a refusal's line is said
+abbrev pub Says : Failure → Writer → Writer → Type 0
+Says (Refusal number line) errors errors' = SaysLine line.bytes errors errors'
+Says failure errors errors' = ⊤
+
+-- no file's open has failed, but where the status is 3
+abbrev pub TellsOpens : {T : Type 0} → Result T Failure → ℕ → ℕ → Type 0
+TellsOpens (Ok value) failed failed' = failed' ≡ failed
+TellsOpens (Err failure) failed failed' = status failure ≢ 3 → failed' ≡ failed
+
+-- what stands where the failure is a fault of usage
+abbrev pub KeepsOnUsage : {T W : Type 0} → Result T Failure → W → W → Type 0
+KeepsOnUsage (Ok value) out out' = ⊤
+KeepsOnUsage (Err failure) out out' = status failure ≡ 2 → out' ≡ out

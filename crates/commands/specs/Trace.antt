@@ -1,0 +1,85 @@
+-- What `trace` writes, and what it is refused for.
+use Rattle.std.specs.Prelude.{◌≡◌, ℕ, suc, List, [], ◌∷◌, ◌++◌, codes, decimal, Option, Some, ⊤, Result, Ok, Err}
+use Rattle.std.specs.Io.KnownBytes.{Appends, Keeps}
+use Rattle.std.specs.List.{slice_get}
+use Rattle.bpf_insn.specs.Code.{IsCodeOf, IsFirstFault}
+use Rattle.bpf_insn.specs.CodeFault as code_fault
+use Rattle.bpf_insn.specs.declared.fault.CodeFault.{CodeFault}
+use Rattle.bpf_insn.specs.declared.instruction.Insn.{Insn}
+use Rattle.bpf_meaning.specs.Cause as cause
+use Rattle.bpf_meaning.specs.Run.{IsTraced}
+use Rattle.bpf_meaning.specs.declared.outcome.Outcome.{Outcome}
+use Rattle.bpf_meaning.specs.declared.outcome.Outcome.TheVariants.{Running, Exit, Stuck}
+use Rattle.tl_fields.specs.Device.{Writer}
+use Rattle.tl_segments.specs.County.{CountyParts, CountyReaders, IsCountyFault, LoadsCounty}
+use Rattle.tl_segments.specs.LoadFault as load_fault
+use Rattle.tl_segments.specs.Segment.{Contents}
+use Rattle.tl_segments.specs.declared.fault.LoadFault.{LoadFault}
+use Rattle.commands.specs.County.{HoldCounty}
+use Rattle.commands.specs.declared.trace.Trace.{Trace}
+use Rattle.commands.specs.declared.failure.Failure.{Failure}
+use Rattle.commands.specs.declared.failure.Failure.TheVariants.{Refusal}
+
+-- what is said of an outcome
+abbrev pub outcome_text : Outcome → List ℕ
+outcome_text Running = codes "running"
+outcome_text (Exit answer score) = codes "exit " ++ decimal answer ++ codes " score " ++ decimal score
+outcome_text (Stuck place stuck) = codes "stuck place " ++ decimal place ++ codes " cause " ++ decimal (cause.number stuck)
+
+-- with its end of line
+abbrev pub outcome_line : Outcome → List ℕ
+outcome_line outcome = outcome_text outcome ++ 10 ∷ []
+
+-- this is the segment of a line of type 1, which counts from 1
+pub record IsSegmentOfLine (county : CountyParts) (line : ℕ) (segment : Contents) : Type 0 where
+  pub place : ℕ
+  pub is_place : line ≡ suc place
+  pub is_segment : slice_get county.segments place ≡ Some segment
+
+-- The program has a code, the county is loaded, and on the segment of the line the code has this outcome within the limit of steps.
+pub record IsOutcomeOn (trace : Trace) (program : List ℕ) (old new : CountyReaders) (outcome : Outcome) : Type 0 where
+  pub code : List Insn
+  pub is_code : IsCodeOf program code
+  pub county : CountyParts
+  pub loads : LoadsCounty county old new
+  pub segment : Contents
+  pub of_line : IsSegmentOfLine county trace.line segment
+  pub traced : IsTraced code segment trace.limit outcome
+
+-- why there is no outcome: the first fault of the program's bytes; or of the county's files, where the program has a code
+pub data IsTraceFault (program : List ℕ) (old new : CountyReaders) (number : Option ℕ) (line : List ℕ) : Type 0 where
+  of_code : (fault : CodeFault) → IsFirstFault program fault → number ≡ code_fault.number fault → line ≡ code_fault.line fault
+      → new ≡ old → IsTraceFault program old new number line
+  of_county : (code : List Insn) → IsCodeOf program code → (fault : LoadFault) → IsCountyFault fault old new
+      → number ≡ load_fault.number fault → line ≡ load_fault.line fault → IsTraceFault program old new number line
+
+-- how it ends: with an outcome, or with a refusal of this number and line, or where there is no such line
+abbrev pub EndsAs : Trace → List ℕ → CountyReaders → CountyReaders → Result Outcome Failure → Type 0
+EndsAs trace program old new (Ok outcome) = IsOutcomeOn trace program old new outcome
+EndsAs trace program old new (Err (Refusal number line)) = IsTraceFault program old new number line.bytes
+EndsAs trace program old new (Err failure) = ⊤
+
+-- the bytes that are known of the program and of the county's files are these
+pub record HoldInputs (trace : Trace) (known : List ℕ → Option (List ℕ)) (program : List ℕ) (readers : CountyReaders) : Type 0 where
+  pub is_program : Keeps (known trace.program.now) (Some program)
+  pub county : HoldCounty known trace.«data».now trace.code.now readers
+
+-- The outcome was written.
+pub record IsWritten (trace : Trace) (known : List ℕ → Option (List ℕ)) (out out' : Writer) : Type 0 where
+  pub program : List ℕ
+  pub old : CountyReaders
+  pub hold : HoldInputs trace known program old
+  pub new : CountyReaders
+  pub outcome : Outcome
+  pub is_outcome : IsOutcomeOn trace program old new outcome
+  pub written : Appends out.held out'.held (outcome_line outcome)
+  pub counts : out'.counts ≡ out.counts
+
+-- The program or the county is refused, and nothing was written.
+pub record IsRefused (trace : Trace) (known : List ℕ → Option (List ℕ)) (number : Option ℕ) (line : List ℕ) (out out' : Writer) : Type 0 where
+  pub program : List ℕ
+  pub old : CountyReaders
+  pub hold : HoldInputs trace known program old
+  pub new : CountyReaders
+  pub fault : IsTraceFault program old new number line
+  pub unwritten : out' ≡ out

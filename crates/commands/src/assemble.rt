@@ -1,0 +1,54 @@
+//! `asm`: the instruction words that a program text means.
+ghost use Rattle.std.specs.Prelude.{◌≢◌, IfErr};
+ghost use Rattle.tl_fields.specs.Device.{writer};
+ghost use Rattle.commands.specs.Command.{IsCarriedOut};
+ghost use Rattle.commands.specs.Failure.{TellsOpens, status};
+ghost use Rattle.commands.specs.declared.request.Request.{Request};
+
+use crate::failure::{Failure, write};
+use crate::files::{Files, read_file};
+use bpf_insn::encode;
+use bpf_text::assemble;
+use std::alloc::Global;
+use tl_fields::CountedWrite;
+
+/// What `asm` is asked for.
+#[derive(Clone, Copy)]
+pub struct Assemble<'a> {
+    /// The program text's file.
+    pub source: &'a str,
+}
+
+impl<'a> Assemble<'a> {
+    /// Reads the source to its end, and writes its words.
+    pub fn carry_out<F: Files, W: CountedWrite>(
+        self,
+        alloc: Global,
+        files: &mut F,
+        out: &mut W,
+    ) -> Result<(), Failure<'a>>
+        ensures outcome { IsCarriedOut (Request.Assemble self.entry) (F.bytes files.old) result
+            (writer W.contents W.counts out.old) (writer W.contents W.counts out.new) }
+        ensures usage { IfErr result (λ failure. status failure ≢ 2) }
+        ensures opens { TellsOpens result (F.failed_opens files.old) (F.failed_opens files.new) }
+    {
+        let source = match read_file(alloc, files, self.source) {
+            Ok(source) => source,
+            Err(fault) => return Err(Failure::of_file(self.source, fault)),
+        };
+        let Ok(text) = str::from_utf8(source.as_slice()) else {
+            return Err(Failure::NotUtf8 { name: self.source });
+        };
+        let code = match assemble(alloc, text) {
+            Ok(code) => code,
+            Err(fault) => {
+                return Err(Failure::Refusal {
+                    number: fault.number(),
+                    line: fault.line(),
+                });
+            }
+        };
+        let words = encode(alloc, &code)?;
+        write(out, words.as_slice())
+    }
+}

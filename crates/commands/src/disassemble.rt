@@ -1,0 +1,51 @@
+//! `dis`: the program text of instruction words.
+ghost use Rattle.std.specs.Prelude.{◌≢◌, IfErr};
+ghost use Rattle.tl_fields.specs.Device.{writer};
+ghost use Rattle.commands.specs.Command.{IsCarriedOut};
+ghost use Rattle.commands.specs.Failure.{TellsOpens, status};
+ghost use Rattle.commands.specs.declared.request.Request.{Request};
+
+use crate::failure::{Failure, write};
+use crate::files::{Files, read_file};
+use bpf_insn::decode;
+use bpf_text::disassemble;
+use std::alloc::Global;
+use tl_fields::CountedWrite;
+
+/// What `dis` is asked for.
+#[derive(Clone, Copy)]
+pub struct Disassemble<'a> {
+    /// The program's file.
+    pub program: &'a str,
+}
+
+impl<'a> Disassemble<'a> {
+    /// Reads the program to its end, and writes its text.
+    pub fn carry_out<F: Files, W: CountedWrite>(
+        self,
+        alloc: Global,
+        files: &mut F,
+        out: &mut W,
+    ) -> Result<(), Failure<'a>>
+        ensures outcome { IsCarriedOut (Request.Disassemble self.entry) (F.bytes files.old) result
+            (writer W.contents W.counts out.old) (writer W.contents W.counts out.new) }
+        ensures usage { IfErr result (λ failure. status failure ≢ 2) }
+        ensures opens { TellsOpens result (F.failed_opens files.old) (F.failed_opens files.new) }
+    {
+        let program = match read_file(alloc, files, self.program) {
+            Ok(program) => program,
+            Err(fault) => return Err(Failure::of_file(self.program, fault)),
+        };
+        let code = match decode(alloc, program.as_slice()) {
+            Ok(code) => code,
+            Err(fault) => {
+                return Err(Failure::Refusal {
+                    number: fault.number(),
+                    line: fault.line(),
+                });
+            }
+        };
+        let text = disassemble(alloc, &code)?;
+        write(out, text.as_bytes())
+    }
+}

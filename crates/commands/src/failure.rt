@@ -1,0 +1,210 @@
+//! Why a command isn't done: what is said of it, and its exit status.
+ghost use Rattle.std.specs.Prelude.{◌≡◌, ◌≢◌, ◌∷◌, [], ◌++◌, IfErr, IfOk};
+ghost use Rattle.std.specs.Io.KnownBytes.{Appends};
+ghost use Rattle.tl_fields.specs.Device.{writer};
+ghost use Rattle.commands.specs.Failure.{Says, file_status, refusal_status, status};
+
+use crate::county::name_end;
+use crate::files::FileFault;
+use arrayvec::{ArrayString, ArrayVec};
+use bpf_insn::{memory_name, refusal_line};
+use std::alloc::{AllocError, AllocFailed};
+use std::io::{ErrorKind, Write};
+use std::{fmt, io};
+use tl_fields::{CountedWrite, write_whole};
+use tl_segments::CountyFile;
+
+pub const DONE: u8 = 0;
+
+pub const REFUSED: u8 = 1;
+
+pub const USAGE: u8 = 2;
+
+pub const UNUSABLE: u8 = 3;
+
+pub const OUT_OF_MEMORY: u8 = 4;
+
+/// Why a command isn't done.
+#[derive(Clone, Copy)]
+pub enum Failure<'a> {
+    /// A refusal: its number, which want of memory hasn't, and its line.
+    Refusal {
+        number: Option<u8>,
+        line: ArrayString<64>,
+    },
+    /// The file of this name can't be opened or read.
+    File {
+        name: &'a str,
+        error: io::Error,
+    },
+    /// A county's file, in the folder of the data, can't be opened.
+    CountyFile {
+        data: &'a str,
+        code: &'a str,
+        file: CountyFile,
+        error: io::Error,
+    },
+    /// The program text of this name isn't UTF-8.
+    NotUtf8 {
+        name: &'a str,
+    },
+    /// The type 1 file doesn't have this line, counted from 1.
+    NoLine {
+        line: u64,
+    },
+    /// The output can't be flushed.
+    Output(io::Error),
+}
+
+impl<'a> Failure<'a> {
+    /// Want of memory.
+    pub fn memory() -> Self
+        ensures { status result ≡ 4 }
+    {
+        Failure::Refusal {
+            number: None,
+            line: refusal_line(None, memory_name()),
+        }
+    }
+
+    /// What is wrong with the file of this name.
+    pub fn of_file(name: &'a str, fault: FileFault) -> Self
+        ensures { status result ≡ file_status fault }
+    {
+        match fault {
+            FileFault::Unusable(error) => Failure::File { name, error },
+            FileFault::Memory => Failure::memory(),
+        }
+    }
+
+    /// What is wrong with a county's file, in the folder of the data.
+    pub fn of_county_file(data: &'a str, code: &'a str, file: CountyFile, fault: FileFault) -> Self
+        ensures { status result ≡ file_status fault }
+    {
+        match fault {
+            FileFault::Unusable(error) => Failure::CountyFile {
+                data,
+                code,
+                file,
+                error,
+            },
+            FileFault::Memory => Failure::memory(),
+        }
+    }
+
+    /// The exit status.
+    pub fn status(&self) -> u8
+        ensures { result ≡ status self.now }
+    {
+        match self {
+            Failure::Refusal { number, .. } => refusal_status(*number),
+            Failure::NoLine { .. } => USAGE,
+            _ => UNUSABLE,
+        }
+    }
+
+    /// Says on one line what is wrong. A write that fails, or takes no byte, isn't tried again.
+    pub fn report<E: CountedWrite>(&self, errors: &mut E)
+        ensures { Says self.now (writer E.contents E.counts errors.old) (writer E.contents E.counts errors.new) }
+    {
+        let _ = match self {
+            Failure::Refusal { line, .. } => {
+                let _ = write_whole(errors, with_line_end(*line).as_slice());
+                return;
+            }
+            Failure::File { name, error } => {
+                write!(errors, "error: {name}: {}\n", Reason(*error))
+            }
+            Failure::CountyFile {
+                data,
+                code,
+                file,
+                error,
+            } => {
+                let end = name_end(*file);
+                write!(errors, "error: {data}/TGR{code}{end}: {}\n", Reason(*error))
+            }
+            Failure::NotUtf8 { name } => write!(errors, "error: {name}: not UTF-8\n"),
+            Failure::NoLine { line } => {
+                write!(errors, "error: the type 1 file has no line {line}\n")
+            }
+            Failure::Output(error) => {
+                write!(
+                    errors,
+                    "error: the output can't be written: {}\n",
+                    Reason(*error)
+                )
+            }
+        };
+    }
+}
+
+impl From<AllocError> for Failure<'_> {
+    ghost from_gives = { λ _ failure. status failure ≡ 4 };
+
+    fn from(_error: AllocError) -> Self {
+        Failure::memory()
+    }
+}
+
+impl<T: Drop> From<AllocFailed<T>> for Failure<'_> {
+    ghost from_gives = { λ _ failure. status failure ≡ 4 };
+
+    fn from(_error: AllocFailed<T>) -> Self {
+        Failure::memory()
+    }
+}
+
+/// The exit status of a refusal with this number, or of want of memory, which has none.
+fn refusal_status(number: Option<u8>) -> u8
+    ensures { result ≡ refusal_status number }
+{
+    match number {
+        None => OUT_OF_MEMORY,
+        Some(5 | 60 | 61) => UNUSABLE,
+        Some(_) => REFUSED,
+    }
+}
+
+/// The line, with its end of line.
+fn with_line_end(line: ArrayString<64>) -> ArrayVec<u8, 65>
+    ensures { result.items ≡ line.bytes ++ 10 ∷ [] }
+{
+    let mut text = ArrayVec::new();
+    text.try_extend_from_slice(line.as_bytes()).unwrap();
+    text.push(b'\n');
+    text
+}
+
+/// Writes the text whole, or refuses by what the output did.
+pub fn write<'a, W: CountedWrite>(out: &mut W, text: &[u8]) -> Result<(), Failure<'a>>
+    ensures ok { IfOk result (λ _. Appends (W.contents out.old) (W.contents out.new) text.now × (W.counts out.new ≡ W.counts out.old)) }
+    ensures err { IfErr result (λ failure. (status failure ≢ 1) × (status failure ≢ 2)) }
+{
+    match write_whole(out, text) {
+        Ok(()) => Ok(()),
+        Err(fault) => Err(Failure::Refusal {
+            number: Some(fault.number()),
+            line: refusal_line(Some(fault.number()), fault.name()),
+        }),
+    }
+}
+
+/// What an error of the system is called.
+#[derive(Clone, Copy)]
+struct Reason(io::Error);
+
+impl fmt::Display for Reason {
+    fn fmt<W: fmt::Write>(&self, f: &mut fmt::Formatter<W>) -> fmt::Result {
+        let Reason(error) = self;
+        match error.kind() {
+            ErrorKind::NotFound => f.write_str("not found"),
+            ErrorKind::PermissionDenied => f.write_str("permission denied"),
+            ErrorKind::IsADirectory => f.write_str("is a directory"),
+            ErrorKind::NotADirectory => f.write_str("not a directory"),
+            ErrorKind::StorageFull => f.write_str("no space left"),
+            ErrorKind::BrokenPipe => f.write_str("broken pipe"),
+            _ => fmt::Display::fmt(error, f),
+        }
+    }
+}

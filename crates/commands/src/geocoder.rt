@@ -1,0 +1,76 @@
+//! `geocode`: where a house number is, over counties.
+ghost use Rattle.std.specs.Prelude.{◌≡◌, ◌≢◌, IfErr, IfOk};
+ghost use Rattle.std.specs.Io.KnownBytes.{Appends};
+ghost use Rattle.std.specs.List.{flat_map};
+ghost use Rattle.geocode.specs.HitLine.{line};
+ghost use Rattle.tl_fields.specs.Device.{writer};
+ghost use Rattle.commands.specs.Command.{IsCarriedOut};
+ghost use Rattle.commands.specs.Failure.{TellsOpens, status};
+ghost use Rattle.commands.specs.declared.request.Request.{Request};
+
+use crate::counties::load_counties;
+use crate::failure::{Failure, write};
+use crate::files::Files;
+use crate::street_name::StreetName;
+use geocode::{Hit, find};
+use std::alloc::Global;
+use tl_fields::CountedWrite;
+
+/// What `geocode` is asked for.
+#[derive(Drop)]
+pub struct Geocode<'a> {
+    /// The folder of the county files.
+    pub data: &'a str,
+    /// The house number.
+    pub number: u64,
+    /// The street's name, without its type and direction.
+    pub name: StreetName<'a>,
+    /// The number of the ZIP code, where only that one will do.
+    pub zip: Option<u64>,
+    /// The counties: five digits each, of the state and of the county in it.
+    pub codes: Vec<&'a str>,
+}
+
+impl<'a> Geocode<'a> {
+    /// Loads the counties, and then writes the lines of the hits.
+    pub fn carry_out<F: Files, W: CountedWrite>(
+        self,
+        alloc: Global,
+        files: &mut F,
+        out: &mut W,
+    ) -> Result<(), Failure<'a>>
+        ensures outcome { IsCarriedOut (Request.Geocode self.entry) (F.bytes files.old) result
+            (writer W.contents W.counts out.old) (writer W.contents W.counts out.new) }
+        ensures usage { IfErr result (λ failure. status failure ≢ 2) }
+        ensures opens { TellsOpens result (F.failed_opens files.old) (F.failed_opens files.new) }
+    {
+        let counties = match load_counties(alloc, files, self.data, self.codes.as_slice()) {
+            Ok(counties) => counties,
+            Err(failure) => return Err(failure),
+        };
+        let hits = find(
+            alloc,
+            counties.as_slice(),
+            self.number,
+            self.name.text.as_bytes(),
+            self.zip,
+        )?;
+        write_lines(out, hits.as_slice())
+    }
+}
+
+/// Writes the lines of hits, one after the other, up to the first that can't be written whole.
+fn write_lines<'a, W: CountedWrite>(out: &mut W, hits: &[Hit]) -> Result<(), Failure<'a>>
+    ensures written { IfOk result (λ _. Appends (W.contents out.old) (W.contents out.new) (flat_map line hits.now)) }
+    ensures counts { IfOk result (λ _. W.counts out.new ≡ W.counts out.old) }
+    ensures err { IfErr result (λ failure. (status failure ≢ 1) × (status failure ≢ 2)) }
+{
+    for hit in hits {
+        let line = hit.line();
+        match write(out, line.as_bytes()) {
+            Ok(()) => {}
+            Err(failure) => return Err(failure),
+        }
+    }
+    Ok(())
+}

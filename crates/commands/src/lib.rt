@@ -1,0 +1,26 @@
+//! The commands: each reads the files that it is asked for, and writes to an output and an error writer that the caller gives.
+#![tactic(auto)]
+
+mod assemble;
+mod counties;
+mod county;
+mod disassemble;
+mod failure;
+mod files;
+mod geocoder;
+mod request;
+mod run;
+mod street_name;
+mod trace;
+mod verify;
+
+pub use assemble::Assemble;
+pub use disassemble::Disassemble;
+pub use failure::{Failure, OUT_OF_MEMORY, USAGE};
+pub use files::{FileFault, Files, INPUT_BUFFER, SystemFiles, read_to_end};
+pub use geocoder::Geocode;
+pub use request::Request;
+pub use run::Run;
+pub use street_name::StreetName;
+pub use trace::Trace;
+pub use verify::Verify;

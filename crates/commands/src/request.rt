@@ -1,0 +1,103 @@
+//! What a command is asked for, done, and its exit status.
+ghost use Rattle.std.specs.Prelude.{◌≡◌, ◌≢◌, ◌≤◌, ◌⊎◌};
+ghost use Rattle.tl_fields.specs.Device.{writer};
+ghost use Rattle.commands.specs.Command.{IsCarriedOut, IsDone, IsFlushed, IsRefusal};
+ghost use Rattle.commands.specs.Failure.{KeepsOnUsage, TellsOpens};
+
+use crate::assemble::Assemble;
+use crate::disassemble::Disassemble;
+use crate::failure::{DONE, Failure, USAGE};
+use crate::files::Files;
+use crate::geocoder::Geocode;
+use crate::run::Run;
+use crate::trace::Trace;
+use crate::verify::Verify;
+use std::alloc::Global;
+use tl_fields::CountedWrite;
+
+/// What a command is asked for.
+#[derive(Drop)]
+pub enum Request<'a> {
+    Run(Run<'a>),
+    Trace(Trace<'a>),
+    Geocode(Geocode<'a>),
+    Verify(Verify<'a>),
+    Assemble(Assemble<'a>),
+    Disassemble(Disassemble<'a>),
+}
+
+impl<'a> Request<'a> {
+    /// Does what is asked for, says on `errors` what prevents it, and answers the exit status.
+    ///
+    /// 0 is done, also where no row was chosen; 1 refused; 2 a line that the file doesn't have; 3 a file or an output that can't be used, also a
+    /// source that isn't UTF-8; 4 want of memory. But for 2, a flush of `out` has been tried by then. A write to `errors` that fails changes
+    /// nothing.
+    pub fn answer<F: Files, W: CountedWrite, E: CountedWrite>(
+        self,
+        alloc: Global,
+        files: &mut F,
+        out: &mut W,
+        errors: &mut E,
+    ) -> u8
+        ensures at_most { result ≤ 4 }
+        ensures done { result ≡ 0 → IsDone self.entry (F.bytes files.old)
+            (writer W.contents W.counts out.old) (writer W.contents W.counts out.new) }
+        ensures refused { result ≡ 1 → IsRefusal self.entry (F.bytes files.old)
+            (writer W.contents W.counts out.old) (writer W.contents W.counts out.new)
+            (writer E.contents E.counts errors.old) (writer E.contents E.counts errors.new) }
+        ensures usage { result ≡ 2 → out.new ≡ out.old }
+        // An open that failed is never passed over.
+        ensures opens { result ≢ 3 → F.failed_opens files.new ≡ F.failed_opens files.old }
+    {
+        match self.carry_out(alloc, files, out) {
+            Ok(()) => flush(out, errors),
+            Err(failure) => {
+                failure.report(errors);
+                let status = failure.status();
+                // A fault of usage leaves the output alone.
+                if status == USAGE {
+                    return status;
+                }
+                let _ = out.flush_counted();
+                status
+            }
+        }
+    }
+
+    /// Reads the files that are asked for, and writes what comes of them.
+    fn carry_out<F: Files, W: CountedWrite>(
+        self,
+        alloc: Global,
+        files: &mut F,
+        out: &mut W,
+    ) -> Result<(), Failure<'a>>
+        ensures outcome { IsCarriedOut self.entry (F.bytes files.old) result
+            (writer W.contents W.counts out.old) (writer W.contents W.counts out.new) }
+        ensures usage { KeepsOnUsage result out.old out.new }
+        ensures opens { TellsOpens result (F.failed_opens files.old) (F.failed_opens files.new) }
+    {
+        match self {
+            Request::Run(run) => run.carry_out(alloc, files, out),
+            Request::Trace(trace) => trace.carry_out(alloc, files, out),
+            Request::Geocode(geocode) => geocode.carry_out(alloc, files, out),
+            Request::Verify(verify) => verify.carry_out(alloc, files, out),
+            Request::Assemble(assemble) => assemble.carry_out(alloc, files, out),
+            Request::Disassemble(disassemble) => disassemble.carry_out(alloc, files, out),
+        }
+    }
+}
+
+/// Flushes the output of a command that is done, and answers its exit status.
+fn flush<W: CountedWrite, E: CountedWrite>(out: &mut W, errors: &mut E) -> u8
+    ensures status { (result ≡ 0) ⊎ (result ≡ 3) }
+    ensures done { result ≡ 0 → IsFlushed (writer W.contents W.counts out.old) (writer W.contents W.counts out.new) }
+{
+    match out.flush_counted() {
+        Ok(()) => DONE,
+        Err(error) => {
+            let failure = Failure::Output(error);
+            failure.report(errors);
+            failure.status()
+        }
+    }
+}

@@ -1,0 +1,144 @@
+//! `trace`: what a program comes to on one segment of a county.
+ghost use Rattle.std.specs.Prelude.{◌≡◌, ◌≤◌, ◌+◌, [], ◌∷◌, ◌++◌, decimal, length, IfSome};
+ghost use Rattle.tl_fields.specs.Device.{writer};
+ghost use Rattle.commands.specs.Command.{IsCarriedOut};
+ghost use Rattle.commands.specs.County.{county_readers};
+ghost use Rattle.commands.specs.Failure.{KeepsOnUsage, TellsOpens};
+ghost use Rattle.commands.specs.Trace.{EndsAs, IsSegmentOfLine, outcome_line};
+ghost use Rattle.commands.specs.declared.request.Request.{Request};
+
+use crate::county::{CountyInputs, open_county};
+use crate::failure::{Failure, write};
+use crate::files::{Files, open, read_to_end};
+use arrayvec::ArrayString;
+use bpf_insn::decode;
+use bpf_meaning::{Outcome, trace};
+use itoa::Buffer;
+use std::alloc::{Allocator, Global};
+use tl_fields::{CountedRead, CountedWrite};
+use tl_segments::{County, Segment};
+
+/// What `trace` is asked for.
+#[derive(Clone, Copy)]
+pub struct Trace<'a> {
+    /// The program's file.
+    pub program: &'a str,
+    /// The folder of the county files.
+    pub data: &'a str,
+    /// The segment's line in the type 1 file, counted from 1. It needn't be there.
+    pub line: u64,
+    /// How many steps are made at most.
+    pub limit: u64,
+    /// The county: five digits, of the state and of the county in it.
+    pub code: &'a str,
+}
+
+impl<'a> Trace<'a> {
+    /// Opens the program and then the county's files, reads the program to its end and then the county, and writes the outcome.
+    pub fn carry_out<F: Files, W: CountedWrite>(
+        self,
+        alloc: Global,
+        files: &mut F,
+        out: &mut W,
+    ) -> Result<(), Failure<'a>>
+        ensures outcome { IsCarriedOut (Request.Trace self.entry) (F.bytes files.old) result
+            (writer W.contents W.counts out.old) (writer W.contents W.counts out.new) }
+        ensures usage { KeepsOnUsage result out.old out.new }
+        ensures opens { TellsOpens result (F.failed_opens files.old) (F.failed_opens files.new) }
+    {
+        let mut program = match open(files, self.program) {
+            Ok(program) => program,
+            Err(fault) => return Err(Failure::of_file(self.program, fault)),
+        };
+        let mut inputs = match open_county(alloc, files, self.data, self.code) {
+            Ok(inputs) => inputs,
+            Err(failure) => return Err(failure),
+        };
+        let program = match read_to_end(alloc, &mut program) {
+            Ok(program) => program,
+            Err(fault) => return Err(Failure::of_file(self.program, fault)),
+        };
+        match self.outcome(alloc, program.as_slice(), &mut inputs) {
+            Ok(outcome) => write(out, outcome_line(outcome).as_bytes()),
+            Err(failure) => Err(failure),
+        }
+    }
+
+    /// What the program comes to on the segment. It needn't be one that is accepted.
+    fn outcome<R: CountedRead>(
+        self,
+        alloc: Global,
+        program: &[u8],
+        inputs: &mut CountyInputs<R>,
+    ) -> Result<Outcome, Failure<'a>>
+        ensures { EndsAs self.entry program.now (county_readers R.remaining R.failed_reads inputs.old)
+            (county_readers R.remaining R.failed_reads inputs.new) result }
+    {
+        let code = match decode(alloc, program) {
+            Ok(code) => code,
+            Err(fault) => {
+                return Err(Failure::Refusal {
+                    number: fault.number(),
+                    line: fault.line(),
+                });
+            }
+        };
+        let county = match inputs.load(alloc) {
+            Ok(county) => county,
+            Err(fault) => {
+                return Err(Failure::Refusal {
+                    number: fault.number(),
+                    line: fault.line(),
+                });
+            }
+        };
+        match segment_of_line(&county, self.line) {
+            Some(segment) => Ok(trace(&code, segment, self.limit)),
+            None => Err(Failure::NoLine { line: self.line }),
+        }
+    }
+}
+
+/// The segment of a line of type 1, which counts from 1.
+fn segment_of_line<A: Allocator>(county: &County<A>, line: u64) -> Option<&Segment<A>>
+    ensures { IfSome result (λ segment. IsSegmentOfLine county.now line segment.now) }
+{
+    let place = usize::try_from(line.checked_sub(1)?).ok()?;
+    county.segments().get(place)
+}
+
+/// The line that is written of an outcome, with its end.
+fn outcome_line(outcome: Outcome) -> ArrayString<64>
+    ensures { result.bytes ≡ outcome_line outcome }
+{
+    match outcome {
+        Outcome::Running => {
+            let mut text = ArrayString::new();
+            text.push_str("running\n");
+            text
+        }
+        Outcome::Exit { answer, score } => numbers_line("exit ", answer, " score ", score),
+        Outcome::Stuck { place, cause } => {
+            numbers_line(
+                "stuck place ",
+                place as u64,
+                " cause ",
+                u64::from(cause.number()),
+            )
+        }
+    }
+}
+
+/// Two numbers, each behind what it is, and the end of the line.
+fn numbers_line(first_name: &str, first: u64, second_name: &str, second: u64) -> ArrayString<64>
+    requires { length first_name.now + length second_name.now ≤ 23 }
+    ensures { result.bytes ≡ first_name.now ++ decimal first ++ second_name.now ++ decimal second ++ 10 ∷ [] }
+{
+    let mut text = ArrayString::new();
+    text.push_str(first_name);
+    text.push_str(Buffer::new().format(first));
+    text.push_str(second_name);
+    text.push_str(Buffer::new().format(second));
+    text.push_str("\n");
+    text
+}

@@ -1,0 +1,46 @@
+//! `verify`: whether a program is accepted.
+ghost use Rattle.std.specs.Prelude.{◌≢◌, IfErr};
+ghost use Rattle.tl_fields.specs.Device.{writer};
+ghost use Rattle.commands.specs.Command.{IsCarriedOut};
+ghost use Rattle.commands.specs.Failure.{TellsOpens, status};
+ghost use Rattle.commands.specs.declared.request.Request.{Request};
+
+use crate::failure::{Failure, write};
+use crate::files::{Files, read_file};
+use extract::accept;
+use std::alloc::Global;
+use tl_fields::CountedWrite;
+
+/// What `verify` is asked for.
+#[derive(Clone, Copy)]
+pub struct Verify<'a> {
+    /// The program's file.
+    pub program: &'a str,
+}
+
+impl<'a> Verify<'a> {
+    /// Reads the program to its end, and says that it is accepted, if it is.
+    pub fn carry_out<F: Files, W: CountedWrite>(
+        self,
+        alloc: Global,
+        files: &mut F,
+        out: &mut W,
+    ) -> Result<(), Failure<'a>>
+        ensures outcome { IsCarriedOut (Request.Verify self.entry) (F.bytes files.old) result
+            (writer W.contents W.counts out.old) (writer W.contents W.counts out.new) }
+        ensures usage { IfErr result (λ failure. status failure ≢ 2) }
+        ensures opens { TellsOpens result (F.failed_opens files.old) (F.failed_opens files.new) }
+    {
+        let program = match read_file(alloc, files, self.program) {
+            Ok(program) => program,
+            Err(fault) => return Err(Failure::of_file(self.program, fault)),
+        };
+        match accept(alloc, program.as_slice()) {
+            Ok(_verified) => write(out, b"accepted\n"),
+            Err(fault) => Err(Failure::Refusal {
+                number: fault.number(),
+                line: fault.line(),
+            }),
+        }
+    }
+}
