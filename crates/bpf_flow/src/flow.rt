@@ -14,7 +14,7 @@ use std::marker::Model;
 
 /// A code whose jumps all go forward to where an instruction begins, and whose last instruction is EXIT. Contracts see it as a record with
 /// the field `code`, the list of its instructions.
-#[derive(Debug, Drop)]
+#[derive(Drop)]
 pub struct Flow<A: Allocator> {
     code: Code<A>,
 }

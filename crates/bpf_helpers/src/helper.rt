@@ -7,7 +7,7 @@ use crate::signature::{Argument, FrameUse, Signature};
 use bpf_kinds::Interval;
 
 /// A helper function.
-#[derive(Clone, Copy, Debug, PartialEq, Eq)]
+#[derive(Clone, Copy, PartialEq, Eq)]
 pub enum Helper {
     /// The number of a field of the segment's type 1 record.
     Field,

@@ -3,7 +3,7 @@
 use bpf_kinds::Interval;
 
 /// A row of the table of prototypes.
-#[derive(Clone, Copy, Debug, PartialEq, Eq)]
+#[derive(Clone, Copy, PartialEq, Eq)]
 pub struct Signature {
     /// The number that a program calls it by.
     pub number: u32,
@@ -16,7 +16,7 @@ pub struct Signature {
 }
 
 /// What an argument must be.
-#[derive(Clone, Copy, Debug, PartialEq, Eq)]
+#[derive(Clone, Copy, PartialEq, Eq)]
 pub enum Argument {
     /// Anything: it isn't looked at.
     Unused,
@@ -27,7 +27,7 @@ pub enum Argument {
 }
 
 /// What a call does with the frame's bytes from where its second argument points, as many as its third one says.
-#[derive(Clone, Copy, Debug, PartialEq, Eq)]
+#[derive(Clone, Copy, PartialEq, Eq)]
 pub enum FrameUse {
     Nothing,
     Writes,

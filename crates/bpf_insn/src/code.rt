@@ -15,7 +15,7 @@ pub const WORD_LIMIT: usize = 4096;
 
 /// A code that is built instruction by instruction: up to `WORD_LIMIT` words of them. Contracts see
 /// the instructions as a list. It keeps the allocator that it was made with.
-#[derive(Debug, Drop)]
+#[derive(Drop)]
 pub struct CodeBuilder<A: Allocator> {
     instructions: Vec<Insn, A>,
     // The place of each instruction.
@@ -120,7 +120,7 @@ impl<A: Allocator> CodeBuilder<A> {
 
 /// The instructions of a program, in order: 1 to `WORD_LIMIT` words of them. Contracts see them as
 /// a list. A place counts words from 0, an index counts instructions from 0.
-#[derive(Debug, Drop)]
+#[derive(Drop)]
 pub struct Code<A: Allocator> {
     built: CodeBuilder<A>,
 }

@@ -1,6 +1,6 @@
 //! What registers hold.
 /// What a pointer points into.
-#[derive(Clone, Copy, Debug, PartialEq, Eq)]
+#[derive(Clone, Copy, PartialEq, Eq)]
 pub enum Area {
     /// The record that the program looks at. It's read-only.
     Record,
@@ -9,14 +9,14 @@ pub enum Area {
 }
 
 /// A place in an area. The offset counts bytes from the area's first and may lie outside it.
-#[derive(Clone, Copy, Debug, PartialEq, Eq)]
+#[derive(Clone, Copy, PartialEq, Eq)]
 pub struct Pointer {
     pub area: Area,
     pub offset: i16,
 }
 
 /// What a register holds.
-#[derive(Clone, Copy, Debug, PartialEq, Eq)]
+#[derive(Clone, Copy, PartialEq, Eq)]
 pub enum Value {
     /// Nothing was written yet.
     Empty,

@@ -10,7 +10,7 @@ use crate::number_width::NumberWidth;
 use crate::order::Order;
 
 /// The numbers from `low` to `high`, both included: unsigned, of 64 bits.
-#[derive(Clone, Copy, Debug, PartialEq, Eq)]
+#[derive(Clone, Copy, PartialEq, Eq)]
 pub struct Interval {
     pub low: u64,
     pub high: u64,

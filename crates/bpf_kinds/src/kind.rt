@@ -8,7 +8,7 @@ use crate::offsets::Offsets;
 use crate::order::Order;
 
 /// What is known of a register's value.
-#[derive(Clone, Copy, Debug, PartialEq, Eq)]
+#[derive(Clone, Copy, PartialEq, Eq)]
 pub enum Kind {
     /// A number of the interval.
     Number(Interval),

@@ -8,7 +8,7 @@ use crate::interval::Interval;
 use bpf_insn::{Condition, Width};
 
 /// What is known of a comparison's two numbers on one of its edges.
-#[derive(Clone, Copy, Debug, PartialEq, Eq)]
+#[derive(Clone, Copy, PartialEq, Eq)]
 pub struct Narrowed {
     pub left: Interval,
     pub right: Interval,

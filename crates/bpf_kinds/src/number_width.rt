@@ -8,7 +8,7 @@ ghost use Rattle.bpf_kinds.specs.NumberWidth.{number_bits};
 use bpf_insn::{SwapWidth, Width};
 
 /// How many bits numbers have.
-#[derive(Clone, Copy, Debug, PartialEq, Eq)]
+#[derive(Clone, Copy, PartialEq, Eq)]
 pub enum NumberWidth {
     Bits8,
     Bits16,

@@ -7,7 +7,7 @@ use std::alloc::Allocator;
 use tl_segments::Segment;
 
 /// What a program ends with on a segment.
-#[derive(Clone, Copy, Debug, PartialEq, Eq)]
+#[derive(Clone, Copy, PartialEq, Eq)]
 pub struct Answer {
     /// Register 0 at the end: 0 where the segment isn't chosen.
     pub r0: u64,

@@ -4,7 +4,7 @@ use bpf_helpers::Helper;
 use bpf_insn::{StoreSize, Value, WritableRegister};
 
 /// What an instruction does to a state.
-#[derive(Clone, Copy, Debug, PartialEq, Eq)]
+#[derive(Clone, Copy, PartialEq, Eq)]
 pub enum Effect {
     /// The program goes on at a place, with a change.
     GoOn { change: Change, place: usize },
@@ -13,7 +13,7 @@ pub enum Effect {
 }
 
 /// What an instruction changes besides the place.
-#[derive(Clone, Copy, Debug, PartialEq, Eq)]
+#[derive(Clone, Copy, PartialEq, Eq)]
 pub enum Change {
     Nothing,
     /// A register holds a value.

@@ -12,7 +12,7 @@ use std::marker::Model;
 use tl_segments::Segment;
 
 /// The program's own memory, by offset from 0. Contracts see it as a record with the field `bytes`, each of which is unwritten or a byte.
-#[derive(Debug, Drop)]
+#[derive(Drop)]
 pub struct Frame {
     bytes: [u8; FRAME_LENGTH],
     /// Which of the bytes were written.

@@ -3,7 +3,7 @@
 use crate::cause::Cause;
 
 /// What a step led to.
-#[derive(Clone, Copy, Debug, PartialEq, Eq)]
+#[derive(Clone, Copy, PartialEq, Eq)]
 pub enum Outcome {
     /// The program goes on.
     Running,

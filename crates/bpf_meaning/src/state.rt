@@ -15,7 +15,7 @@ use tl_segments::Segment;
 pub const REGISTERS: usize = 11;
 
 /// A program on its way.
-#[derive(Debug, Drop)]
+#[derive(Drop)]
 pub struct State {
     /// The next instruction's place, which counts words from 0.
     pub place: usize,

@@ -1,6 +1,6 @@
 //! Codes and what comes of them. Each table has a row a line: what is expected, the program's text, and its words in hexadecimal.
 
-use crate::fixtures::{code_of, cut};
+use crate::fixtures::{code_of, cut, repeated};
 use bpf_flow::Flow;
 use bpf_insn::{WORD_LIMIT, decode};
 use std::alloc::Global;
@@ -198,28 +198,28 @@ fn places(rt: HostRuntime) {
     }
 }
 
-/// A program of the greatest length, all of whose instructions but the last are jumps to the next one.
-fn longest_program(alloc: Global) -> Option<Vec<u8>> {
-    let mut program = Vec::new(alloc);
-    for _jumps in 1..WORD_LIMIT {
-        program.extend_from_slice(b"\x15\0\0\0\0\0\0\0").ok()?;
-    }
-    program.extend_from_slice(b"\x95\0\0\0\0\0\0\0").ok()?;
-    Some(program)
-}
+/// A jump to the next word, and EXIT.
+const JUMP: &[u8] = b"\x15\0\0\0\0\0\0\0";
 
-/// Whether its flow is one of as many words.
-fn is_longest(alloc: Global) -> bool {
-    let Some(program) = longest_program(alloc) else {
-        return false;
-    };
-    let Ok(code) = decode(alloc, &program) else {
+const EXIT: &[u8] = b"\x95\0\0\0\0\0\0\0";
+
+/// Whether bytes have a flow of as many words as a program may have.
+fn is_longest(alloc: Global, program: &[u8]) -> bool {
+    let Ok(code) = decode(alloc, program) else {
         return false;
     };
     Flow::of(code).is_ok_and(|flow| flow.into_code().words() == WORD_LIMIT)
 }
 
+/// A program of the greatest length, all of whose instructions but the last are jumps to the next one, has a flow.
+fn has_longest(alloc: Global) -> bool {
+    let Ok(program) = repeated(alloc, b"", JUMP, 4_095, EXIT) else {
+        return false;
+    };
+    is_longest(alloc, &program)
+}
+
 #[test]
 fn as_many_jumps_as_fit(rt: HostRuntime) {
-    assert!(rt; is_longest(rt.alloc()));
+    assert!(rt; has_longest(rt.alloc()));
 }

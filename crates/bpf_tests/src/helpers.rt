@@ -2,7 +2,7 @@
 ghost use Rattle.std.specs.Prelude.{◌≡◌, true, [], ◌∷◌, IfSome};
 ghost use Rattle.bpf_helpers.specs.Call.{MeetsSignature};
 
-use crate::fixtures::cut;
+use crate::fixtures::{cut, put};
 use bpf_helpers::{Helper, call};
 use bpf_insn::FRAME_LENGTH;
 use std::alloc::{AllocError, Global};
@@ -182,7 +182,10 @@ fn calls(rt: HostRuntime) {
 /// Whether a call gives what a row says on the row's segment.
 fn is_call(alloc: Global, row: &str) -> bool {
     let (texts, rest) = cut(row, "|");
-    segment_of(alloc, texts).is_ok_and(|segment| is_answered(&segment, rest))
+    let Ok(segment) = segment_of(alloc, texts) else {
+        return false;
+    };
+    is_answered(&segment, rest)
 }
 
 /// Whether a call on a segment gives what a row says.
@@ -232,13 +235,6 @@ fn lay(line: &mut [u8], texts: &str) {
     for laid in texts.split(';') {
         let (place, text) = cut(laid, "=");
         put(line, number_of(place).saturating_sub(1), text);
-    }
-}
-
-/// Writes a text over bytes, from an offset on.
-fn put(bytes: &mut [u8], at: u64, text: &str) {
-    for (to, from) in bytes.iter_mut().skip(at as usize).zip(text.bytes()) {
-        *to = from;
     }
 }
 

@@ -5,9 +5,8 @@ ghost use Rattle.bpf_kinds.specs.Interval.{IsProper};
 mod moving;
 mod narrowing;
 
-use crate::fixtures::cut;
+use crate::fixtures::{cut, hexadecimal};
 use crate::names::{case, extension, format, operation, order, swap_width, width};
-use bpf_insn::{ByteOrder, LoadFormat, Operation, SignExtension, SwapWidth, Width};
 use bpf_kinds::{Interval, Kind, Offsets, Order, alu, byte_swap, extend, load, negate};
 
 // A case, its operands and the result, a row a line. Intervals are in hexadecimal, and one number stands for itself. Of each case each
@@ -333,61 +332,43 @@ Load(SignedHalfWord) 0 = 0-ffffffffffffffff
 Load(SignedWord) 0 = 0-ffffffffffffffff
 ";
 
-/// An interval from its two ends, or from its one number.
-fn interval(text: &str) -> Option<Interval>
+/// An interval from its two ends round a sign, or from its one number.
+fn interval(text: &str, sign: &str) -> Option<Interval>
     ensures { IfSome result IsProper }
 {
-    let (low, high) = text.split_once("-").unwrap_or((text, text));
-    let low = Interval::single(u64::from_str_radix(low, 16).ok()?);
-    let high = Interval::single(u64::from_str_radix(high, 16).ok()?);
-    Some(low.join(&high))
-}
-
-/// What takes operands: two, or the first one alone, or none.
-#[derive(Drop)]
-enum Case {
-    Operation(Operation, Width),
-    Negation(Width),
-    Extension(SignExtension),
-    Order(ByteOrder, SwapWidth),
-    Load(LoadFormat),
-}
-
-impl Case {
-    /// The case that a row names.
-    fn named(name: &str) -> Option<Case> {
-        let (kind, first, second) = case(name);
-        match kind {
-            "Operation" => Some(Case::Operation(operation(first)?, width(second)?)),
-            "Negation" => Some(Case::Negation(width(first)?)),
-            "Extension" => Some(Case::Extension(extension(first)?)),
-            "Order" => Some(Case::Order(order(first)?, swap_width(second)?)),
-            "Load" => Some(Case::Load(format(first)?)),
-            _ => None,
-        }
+    let (low, high) = text.split_once(sign).unwrap_or((text, text));
+    let low = hexadecimal(low)?;
+    let high = hexadecimal(high)?;
+    if low <= high {
+        Some(Interval { low, high })
+    } else {
+        None
     }
+}
 
-    fn result(self, x: Interval, y: Interval) -> Interval
-        requires x { IsProper x }
-        requires y { IsProper y }
-    {
-        match self {
-            Case::Operation(operation, width) => alu(operation, width, x, y),
-            Case::Negation(width) => negate(width, x),
-            Case::Extension(extension) => extend(extension, x),
-            Case::Order(order, width) => byte_swap(order, width, x),
-            Case::Load(format) => load(format),
-        }
+/// What a case makes of its operands: of two, of the first one alone, or of none.
+fn result_of(name: &str, x: Interval, y: Interval) -> Option<Interval>
+    requires x { IsProper x }
+    requires y { IsProper y }
+{
+    let (kind, first, second) = case(name);
+    match kind {
+        "Operation" => Some(alu(operation(first)?, width(second)?, x, y)),
+        "Negation" => Some(negate(width(first)?, x)),
+        "Extension" => Some(extend(extension(first)?, x)),
+        "Order" => Some(byte_swap(order(first)?, swap_width(second)?, x)),
+        "Load" => Some(load(format(first)?)),
+        _ => None,
     }
 }
 
 /// Whether a case has the result of a row.
 fn is_result(row: &str) -> Option<bool> {
-    let (name, rest) = row.split_once(") ")?;
+    let (name, rest) = cut(row, ") ");
     let (operands, want) = cut(rest, " = ");
     let (x, y) = operands.split_once(' ').unwrap_or((operands, operands));
-    let given = Case::named(name)?.result(interval(x)?, interval(y)?);
-    Some(given == interval(want)?)
+    let given = result_of(name, interval(x, "-")?, interval(y, "-")?)?;
+    Some(given == interval(want, "-")?)
 }
 
 #[test]

@@ -1,7 +1,7 @@
 //! Programs worked by hand, or by another tool, on a record whose bytes are known. Each row has register 0 at the end, and the score if
 //! it isn't 0, the program's text without its EXIT, and its words in hexadecimal.
 
-use crate::fixtures::{RECORD, code_of, cut};
+use crate::fixtures::{RECORD, code_of, cut, is_exit};
 use bpf_flow::Flow;
 use bpf_insn::Code;
 use bpf_machine::run;
@@ -33,9 +33,8 @@ const FURTHER: Range<'static> = Range {
     zipr: b"36068",
 };
 
-/// Whether a code, once verified, answers this on a segment. A score of 0 isn't written.
+/// Whether a code, once verified, answers this on a segment.
 fn answers(alloc: Global, code: Code<Global>, segment: &Segment<Global>, wanted: &str) -> bool {
-    let (r0, score) = wanted.split_once(" score ").unwrap_or((wanted, "0"));
     let Ok(flow) = Flow::of(code) else {
         return false;
     };
@@ -43,7 +42,7 @@ fn answers(alloc: Global, code: Code<Global>, segment: &Segment<Global>, wanted:
         return false;
     };
     let answer = run(&verified, segment);
-    r0.parse() == Ok(answer.r0) && score.parse() == Ok(answer.score)
+    is_exit(wanted, answer.r0, answer.score)
 }
 
 /// A segment with an alternate name and two further ranges.
@@ -58,7 +57,10 @@ fn segment_of(alloc: Global) -> Result<Segment<Global>, AllocError> {
 /// Whether the program of a row answers what the row says.
 fn is_answer(alloc: Global, segment: &Segment<Global>, row: &str) -> bool {
     let (wanted, program) = cut(row, "; ");
-    code_of(alloc, program).is_some_and(|code| answers(alloc, code, segment, wanted))
+    let Some(code) = code_of(alloc, program) else {
+        return false;
+    };
+    answers(alloc, code, segment, wanted)
 }
 
 /// The row that's wrong, if there is one.

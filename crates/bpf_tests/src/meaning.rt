@@ -1,7 +1,7 @@
 //! Programs worked by hand, or by another tool, on a record whose bytes are known. Each table has a row a line: what comes of the program,
 //! its text, and its words in hexadecimal. What comes of it is its answer, the refusal where it's stuck, or `running`.
 
-use crate::fixtures::{RECORD, code_of, cut, is_heading};
+use crate::fixtures::{RECORD, code_of, cut, is_exit, is_heading, put};
 use bpf_insn::{Code, Value};
 use bpf_meaning::{Outcome, State, step, trace};
 use std::alloc::{AllocError, Global};
@@ -314,14 +314,11 @@ empty; 0; mov r0, 1; b700000001000000
 1; 1; mov r0, 1 | jeq r0, 1, -3 | exit; b700000001000000 1500fdff01000000 9500000000000000
 ";
 
-/// Whether an outcome is the one that a row expects. A score of 0 isn't written.
+/// Whether an outcome is the one that a row expects.
 fn is_as_expected(outcome: Outcome, expected: &str) -> bool {
     match outcome {
         Outcome::Running => expected == "running",
-        Outcome::Exit { answer, score } => {
-            let (wanted, wanted_score) = expected.split_once(" score ").unwrap_or((expected, "0"));
-            wanted.parse() == Ok(answer) && wanted_score.parse() == Ok(score)
-        }
+        Outcome::Exit { answer, score } => is_exit(expected, answer, score),
         Outcome::Stuck { place, cause } => cause.line(place).as_str() == expected,
     }
 }
@@ -353,54 +350,50 @@ const FURTHER: Range<'static> = Range {
 };
 
 /// Whether the program of a row comes to what the row says.
-fn is_outcome(alloc: Global, segment: &Segment<Global>, row: &str) -> bool {
+fn is_outcome(alloc: Global, row: &str) -> bool {
     let (expected, program) = cut(row, "; ");
-    code_of(alloc, program).is_some_and(|code| comes_to(segment, &code, "20", expected))
-}
-
-/// The row that's wrong, if there is one.
-fn wrong_outcome(alloc: Global, segment: &Segment<Global>) -> Option<&'static str> {
-    for row in OUTCOMES.lines() {
-        if !is_heading(row) && !is_outcome(alloc, segment, row) {
-            return Some(row);
-        }
-    }
-    None
+    let Some(code) = code_of(alloc, program) else {
+        return false;
+    };
+    let Ok(segment) = named_segment(alloc) else {
+        return false;
+    };
+    comes_to(&segment, &code, "20", expected)
 }
 
 #[test]
 fn outcomes(rt: HostRuntime) {
-    let segment = named_segment(rt.alloc()).expect(&rt, "memory");
-    assert_eq!(rt; wrong_outcome(rt.alloc(), &segment), None);
+    for row in OUTCOMES.lines() {
+        let is_right = is_heading(row) || is_outcome(rt.alloc(), row);
+        assert!(rt; is_right, "{row}");
+    }
 }
 
 /// A segment whose record has these addresses.
 fn segment_at(alloc: Global, addresses: &str) -> Segment<Global> {
     let mut record = *RECORD;
-    write_addresses(&mut record, addresses);
+    put(&mut record, 58, addresses);
     Segment::of(alloc, &record)
-}
-
-fn write_addresses(record: &mut [u8], addresses: &str) {
-    for (to, from) in record.iter_mut().skip(58).zip(addresses.bytes()) {
-        *to = from;
-    }
 }
 
 /// Whether the program of a row comes to what the row says on a record with the row's addresses.
 fn is_outcome_at(alloc: Global, row: &str) -> bool {
     let (expected, rest) = cut(row, "; ");
     let (addresses, program) = cut(rest, "; ");
-    let segment = segment_at(alloc, addresses);
-    code_of(alloc, program).is_some_and(|code| comes_to(&segment, &code, "20", expected))
+    let Some(code) = code_of(alloc, program) else {
+        return false;
+    };
+    comes_to(&segment_at(alloc, addresses), &code, "20", expected)
 }
 
 /// Whether so many steps of the program of a row come to what the row says.
 fn is_limited(alloc: Global, row: &str) -> bool {
     let (expected, rest) = cut(row, "; ");
     let (limit, program) = cut(rest, "; ");
-    let segment = Segment::of(alloc, RECORD);
-    code_of(alloc, program).is_some_and(|code| comes_to(&segment, &code, limit, expected))
+    let Some(code) = code_of(alloc, program) else {
+        return false;
+    };
+    comes_to(&Segment::of(alloc, RECORD), &code, limit, expected)
 }
 
 #[test]
@@ -413,26 +406,38 @@ fn addresses_and_limits(rt: HostRuntime) {
     }
 }
 
+/// Takes more steps than a code has.
+fn run_on(code: &Code<Global>, segment: &Segment<Global>, state: &mut State) {
+    for _ in 0..10 {
+        let _ = step(code, segment, state);
+    }
+}
+
+fn is_value(value: Value, text: &str) -> bool {
+    match value {
+        Value::Number(number) => text.parse() == Ok(number),
+        Value::Empty => text == "empty",
+        Value::Pointer(_) => false,
+    }
+}
+
 /// Whether a code that has ended is at this place with this answer, and has written no byte of the frame.
 fn ends_at(code: &Code<Global>, segment: &Segment<Global>, place: &str, answer: &str) -> bool {
     let mut state = State::start();
-    for _ in 0..10 {
-        let _ = step(code, segment, &mut state);
-    }
-    let is_answer = match state.registers[0] {
-        Value::Number(number) => answer.parse() == Ok(number),
-        Value::Empty => answer == "empty",
-        Value::Pointer(_) => false,
-    };
-    is_answer && place.parse() == Ok(state.place) && state.frame.load(511, 1).is_none()
+    run_on(code, segment, &mut state);
+    is_value(state.registers[0], answer)
+        && place.parse() == Ok(state.place)
+        && state.frame.load(511, 1).is_none()
 }
 
 /// Whether a program ends as a row says.
 fn is_end(alloc: Global, row: &str) -> bool {
     let (answer, rest) = cut(row, "; ");
     let (place, program) = cut(rest, "; ");
-    let segment = Segment::of(alloc, RECORD);
-    code_of(alloc, program).is_some_and(|code| ends_at(&code, &segment, place, answer))
+    let Some(code) = code_of(alloc, program) else {
+        return false;
+    };
+    ends_at(&code, &Segment::of(alloc, RECORD), place, answer)
 }
 
 /// A program that has ended leaves the state as it was.

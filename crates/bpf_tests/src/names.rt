@@ -1,4 +1,5 @@
 //! What the names in rows stand for.
+use crate::fixtures::cut;
 use bpf_insn::{ByteOrder, Condition, LoadFormat, Operation, SignExtension, SwapWidth, Width};
 
 /// An operation of the arithmetic.
@@ -97,10 +98,8 @@ pub fn format(name: &str) -> Option<LoadFormat> {
 
 /// The kind of a case, and the names in its brackets: `Order(BigEndian, Bits16)`.
 pub fn case(text: &str) -> (&str, &str, &str) {
-    let (kind, names) = text.split_once('(').unwrap_or((text, ""));
-    let (first, second) = names
-        .trim_end_matches(')')
-        .split_once(", ")
-        .unwrap_or((names.trim_end_matches(')'), ""));
+    let (kind, names) = cut(text, "(");
+    let (names, _) = cut(names, ")");
+    let (first, second) = cut(names, ", ");
     (kind, first, second)
 }

@@ -1,11 +1,11 @@
 //! Verdicts on programs, worked out from the rules by hand. Each table has a row a line: the verdict, which is `accepted` or the refusal's
 //! line, the program's text, and its words in hexadecimal.
 
-use crate::fixtures::{code_of, cut, is_heading};
+use crate::fixtures::{code_of, cut, is_heading, repeated};
 use bpf_flow::Flow;
-use bpf_insn::Code;
+use bpf_insn::{Code, decode};
 use bpf_verify::{VerifyFault, verify};
-use std::alloc::Global;
+use std::alloc::{AllocError, Global};
 
 // Programs, with what is said of them.
 const VERDICTS: &str = "\
@@ -170,25 +170,27 @@ accepted; call 4 | jeq r0, 0, +1 | jle r0, 1001, +1 | ldxb r0, [r9+0] | exit; 85
 /// Whether a code's verdict is this one. What is accepted keeps the code.
 fn has_verdict(alloc: Global, code: Code<Global>, verdict: &str) -> bool {
     let count = code.instructions().len();
-    let flow = match Flow::of(code) {
-        Ok(flow) => flow,
-        Err(fault) => return fault.line().as_str() == verdict,
-    };
+    match Flow::of(code) {
+        Ok(flow) => has_flow_verdict(alloc, flow, count, verdict),
+        Err(fault) => fault.line().as_str() == verdict,
+    }
+}
+
+/// Whether the verdict on a flow of so many instructions is this one.
+fn has_flow_verdict(alloc: Global, flow: Flow<Global>, count: usize, verdict: &str) -> bool {
     match verify(alloc, flow) {
         Ok(verified) => verdict == "accepted" && verified.code().instructions().len() == count,
         Err(fault) => fault.line().as_str() == verdict,
     }
 }
 
-/// Whether the verdict on a program is this one.
-fn is_verdict(alloc: Global, program: &str, verdict: &str) -> bool {
-    code_of(alloc, program).is_some_and(|code| has_verdict(alloc, code, verdict))
-}
-
 /// Whether the verdict on the program of a row is the row's.
 fn is_right(alloc: Global, row: &str) -> bool {
     let (verdict, program) = cut(row, "; ");
-    is_verdict(alloc, program, verdict)
+    let Some(code) = code_of(alloc, program) else {
+        return false;
+    };
+    has_verdict(alloc, code, verdict)
 }
 
 #[test]
@@ -200,19 +202,21 @@ fn verdicts(rt: HostRuntime) {
 }
 
 /// As many words as a program may have: `ldxb r0, [r1+55]`, `jne r0, 65, +4093` to the last word, 4,093 times `jne r0, 65, +0`, and `exit`.
-fn longest_program(alloc: Global) -> Option<String> {
-    let mut words = String::new(alloc);
-    words.push_str("7110370000000000 5500fd0f41000000").ok()?;
-    for _ in 0..4093 {
-        words.push_str(" 5500000041000000").ok()?;
-    }
-    words.push_str(" 9500000000000000").ok()?;
-    Some(words)
+fn longest_program(alloc: Global) -> Result<Vec<u8>, AllocError> {
+    let start = b"\x71\x10\x37\0\0\0\0\0\x55\0\xfd\x0f\x41\0\0\0";
+    let jump = b"\x55\0\0\0\x41\0\0\0";
+    repeated(alloc, start, jump, 4_093, b"\x95\0\0\0\0\0\0\0")
 }
 
 /// Whether the longest program is accepted.
 fn is_longest_accepted(alloc: Global) -> bool {
-    longest_program(alloc).is_some_and(|program| is_verdict(alloc, &program, "accepted"))
+    let Ok(program) = longest_program(alloc) else {
+        return false;
+    };
+    let Ok(code) = decode(alloc, &program) else {
+        return false;
+    };
+    has_verdict(alloc, code, "accepted")
 }
 
 // Want of memory has a name and no number.

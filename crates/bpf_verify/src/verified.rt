@@ -8,7 +8,7 @@ use std::marker::Model;
 
 /// A code that is safe to run: on no segment is it stuck, and it exits in at most as many steps as it has instructions. Contracts see it as
 /// a record with the field `code`, the list of its instructions.
-#[derive(Debug, Drop)]
+#[derive(Drop)]
 pub struct Verified<A: Allocator> {
     code: Code<A>,
 }

@@ -1,11 +1,10 @@
 //! Programs that go by a county's four files, and extracts in little memory.
 use crate::devices::Telling;
-use crate::fixtures::{
-    COUNTS, EVERY, FINDS, Files, bytes_of, cut, extract_of, files_of, is_as_expected,
-};
+use crate::fixtures::{COUNTS, FINDS, Files, bytes_of, cut, extract_of, files_of, is_as_expected};
+use arrayvec::ArrayString;
 use extract::{ExtractFault, extract};
 use linked_list_allocator::LocalHeap;
-use std::alloc::{Allocator, Global};
+use std::alloc::{AllocError, Allocator, Global};
 use std::cell::Cell;
 use tl_fields::{Buffered, Counting};
 
@@ -49,31 +48,37 @@ counts;=;=;x@18;*75;refused 4 rt5 line 1 BadFeature;
 counts;4@1;=;x@18;=;refused 4 rt5 line 1 BadFeature;
 counts;4@1;=;=;*75;refused 1 rt6 line 1 WrongLength;";
 
+// exit
+const STUCK: &str = "9500000000000000";
+
 /// The words of a program that a row names.
 fn program_of(name: &str) -> &str {
     match name {
         "counts" => COUNTS,
         "finds" => FINDS,
-        "stuck" => "9500000000000000",
-        _ => EVERY,
+        _ => STUCK,
     }
 }
 
 /// The rows of lines of type 1, each written as in the table.
-fn rows_of(alloc: Global, rt1: &[u8], rows: &str) -> Option<Vec<u8>> {
+fn rows_of(alloc: Global, rt1: &[u8], rows: &str) -> Result<Vec<u8>, AllocError> {
     let mut text = Vec::new(alloc);
     for word in rows.split_whitespace() {
-        push_row(&mut text, rt1, word)?;
+        let (line, score) = word.split_once(':').unwrap_or((word, "none"));
+        push_row(&mut text, score, line_of(rt1, line.parse().unwrap_or(1)))?;
     }
-    Some(text)
+    Ok(text)
 }
 
-fn push_row(text: &mut Vec<u8>, rt1: &[u8], word: &str) -> Option<()> {
-    let (line, score) = word.split_once(':')?;
-    let line = line.parse::<usize>().ok()?.saturating_sub(1);
-    text.extend_from_slice(score.as_bytes()).ok()?;
-    text.push(b'\t').ok()?;
-    text.extend_from_slice(rt1.chunks(229).nth(line)?).ok()
+fn push_row(text: &mut Vec<u8>, score: &str, line: &[u8]) -> Result<(), AllocError> {
+    text.extend_from_slice(score.as_bytes())?;
+    text.extend_from_slice(b"\t")?;
+    text.extend_from_slice(line)
+}
+
+/// A line of a file, counted from 1.
+fn line_of(rt1: &[u8], line: usize) -> &[u8] {
+    rt1.chunks(229).nth(line.saturating_sub(1)).unwrap_or(b"")
 }
 
 /// Whether the rows of a county are these.
@@ -86,7 +91,7 @@ fn has_rows(alloc: Global, program: &[u8], files: &Files, expected: &str, text: 
 /// Whether a program does with a county's files what is expected: the number of rows, and the rows.
 fn has_outcome(alloc: Global, program: &[u8], files: &Files, outcome: &str) -> bool {
     let (expected, rows) = cut(outcome);
-    rows_of(alloc, &files.rt1, rows).is_some_and(|text| has_rows(
+    rows_of(alloc, &files.rt1, rows).is_ok_and(|text| has_rows(
         alloc, program, files, expected, &text,
     ))
 }
@@ -116,8 +121,17 @@ fn four_files(rt: HostRuntime) {
     }
 }
 
+/// Whether what is given is a refusal behind the first rows, or else all rows were written.
+fn is_refusal(given: &Result<u64, ArrayString<64>>, written: &[u8], text: &[u8]) -> Option<bool> {
+    if is_as_expected(given, "3") && written == text {
+        return Some(false);
+    }
+    let is_front = text.starts_with(written) && written.ends_with(b"\n") != written.is_empty();
+    (is_as_expected(given, "refused memory") && is_front).then_some(true)
+}
+
 /// Whether an extract with this memory is refused with the first rows written, or else is whole.
-fn is_refused<A: Allocator + Copy>(
+fn is_refused_with<A: Allocator + Copy>(
     alloc: Global,
     memory: A,
     program: &[u8],
@@ -126,20 +140,26 @@ fn is_refused<A: Allocator + Copy>(
 ) -> Option<bool> {
     let mut out = Counting::new(Vec::new(alloc));
     let given = extract_of(memory, program, files, &mut out);
-    let written = out.get_ref().as_slice();
-    if is_as_expected(&given, "3") && written == text {
-        return Some(false);
-    }
-    let is_front = text.starts_with(written) && written.ends_with(b"\n") != written.is_empty();
-    (is_as_expected(&given, "refused memory") && is_front).then_some(true)
+    is_refusal(&given, out.get_ref(), text)
+}
+
+/// The same with so many bytes of memory.
+fn is_refused(
+    alloc: Global,
+    bytes: usize,
+    program: &[u8],
+    files: &Files,
+    text: &[u8],
+) -> Option<bool> {
+    let heap = LocalHeap::new(alloc, bytes).ok()?;
+    is_refused_with(alloc, &heap, program, files, text)
 }
 
 /// How many steps of 16 bytes were the last that were too few for an extract.
 fn refused_up_to(alloc: Global, program: &[u8], files: &Files, text: &[u8]) -> Option<usize> {
     let mut refused = 0;
     for size in 0..1000 {
-        let heap = LocalHeap::new(alloc, size * 16).ok()?;
-        if is_refused(alloc, &heap, program, files, text)? {
+        if is_refused(alloc, size * 16, program, files, text)? {
             refused = size;
         }
     }
@@ -149,7 +169,7 @@ fn refused_up_to(alloc: Global, program: &[u8], files: &Files, text: &[u8]) -> O
 /// The same of a county of three lines.
 fn refused_of_three(alloc: Global, files: &Files) -> Option<usize> {
     let program = bytes_of(alloc, COUNTS)?;
-    let text = rows_of(alloc, &files.rt1, "1:1 2:20003 3:10001")?;
+    let text = rows_of(alloc, &files.rt1, "1:1 2:20003 3:10001").ok()?;
     refused_up_to(alloc, &program, files, &text)
 }
 

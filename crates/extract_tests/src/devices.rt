@@ -1,7 +1,7 @@
 //! Readers and writers that go wrong in mid-stream, and the order in which they are called.
 use crate::fixtures::{EVERY, Files, bytes_of, cut, files_of, is_as_expected, reader, row_count};
 use extract::{ExtractFault, extract};
-use std::alloc::Global;
+use std::alloc::{Allocator, Global};
 use std::cell::Cell;
 use std::io;
 use std::io::{ErrorKind, Read, Write};
@@ -22,8 +22,8 @@ fn device(
 }
 
 /// The fault of an extract one of whose readers fails, and how many calls all of them got.
-fn fault_of(
-    alloc: Global,
+fn fault_of<A: Allocator + Copy>(
+    alloc: A,
     program: &[u8],
     files: &Files,
     failing: CountyFile,
@@ -65,19 +65,12 @@ fn fault_of(
 }
 
 // The files in the order in which they are read, how long their lines are, and how long the rows.
-const IN_ORDER: &str = "rt4;59;0
-rt5;57;0
-rt6;77;0
-rt1;229;231";
-
-fn file_named(name: &str) -> CountyFile {
-    match name {
-        "rt4" => CountyFile::Rt4,
-        "rt5" => CountyFile::Rt5,
-        "rt6" => CountyFile::Rt6,
-        _ => CountyFile::Rt1,
-    }
-}
+const IN_ORDER: [(CountyFile, u64, u64); 4] = [
+    (CountyFile::Rt4, 59, 0),
+    (CountyFile::Rt5, 57, 0),
+    (CountyFile::Rt6, 77, 0),
+    (CountyFile::Rt1, 229, 231),
+];
 
 /// The fault of a failing read behind so many lines of a file.
 fn read_fault(file: CountyFile, lines: u64) -> ExtractFault {
@@ -107,34 +100,31 @@ fn stops_at(
 
 /// Whether each read of a file of two lines is the last one where it fails, behind so many reads of other files, and the rows of the lines
 /// before it were written.
-fn each_read_stops(alloc: Global, program: &[u8], files: &Files, row: &str, before: u64) -> bool {
-    let (name, rest) = cut(row);
-    let (length, row) = cut(rest);
-    let (length, row) = (length.parse().unwrap_or(0u64), row.parse().unwrap_or(1));
+fn each_read_stops(
+    alloc: Global,
+    program: &[u8],
+    files: &Files,
+    (file, length, row): (CountyFile, u64, u64),
+    before: u64,
+) -> bool {
     for passing in 0..=length.wrapping_mul(2) {
         let lines = passing.checked_div(length).unwrap_or(0);
         let reads = (before, passing);
-        if !stops_at(alloc, program, files, file_named(name), reads, lines, row) {
+        if !stops_at(alloc, program, files, file, reads, lines, row) {
             return false;
         }
     }
     true
 }
 
-/// How many reads a file of two lines takes.
-fn reads_of(row: &str) -> u64 {
-    let length = cut(cut(row).1).0.parse().unwrap_or(0u64);
-    length.wrapping_mul(2).wrapping_add(1)
-}
-
 /// The file at whose reads an extract of two lines a file doesn't stop, if there is one.
 fn wrong_file(alloc: Global, program: &[u8], files: &Files) -> Option<&'static str> {
     let mut before: u64 = 0;
-    for row in IN_ORDER.lines() {
-        if !each_read_stops(alloc, program, files, row, before) {
-            return Some(row);
+    for (file, length, row) in IN_ORDER {
+        if !each_read_stops(alloc, program, files, (file, length, row), before) {
+            return Some(file.name());
         }
-        before = before.wrapping_add(reads_of(row));
+        before = before.wrapping_add(length.wrapping_mul(2)).wrapping_add(1);
     }
     None
 }
@@ -198,29 +188,22 @@ fn writes_of(step: usize, room: u64, rows: u64) -> u64 {
     }
 }
 
-/// A file of two lines, and their rows.
-#[derive(Drop)]
-struct Lines {
-    file: Vec<u8>,
-    text: Vec<u8>,
-}
-
-fn two_lines(alloc: Global) -> Option<Lines> {
-    Some(Lines {
-        file: bytes_of(alloc, "RECORD 0a RECORD 0a")?,
-        text: bytes_of(alloc, "3009 RECORD 0a 3009 RECORD 0a")?,
-    })
+/// A file, and its rows.
+#[derive(Clone, Copy)]
+struct Lines<'a> {
+    file: &'a [u8],
+    text: &'a [u8],
 }
 
 /// Whether an extract of two lines to a device that goes wrong behind so many bytes has the refusal of a row, and wrote these bytes.
-fn is_cut_off(alloc: Global, program: &[u8], lines: &Lines, room: usize, row: &str) -> bool {
+fn is_cut_off(alloc: Global, program: &[u8], lines: Lines<'_>, room: usize, row: &str) -> bool {
     let (step, rest) = cut(row);
     let (burst, line) = cut(rest);
     let step = step.parse().unwrap_or(0);
     let inner = Vec::new(alloc);
     let narrow = Narrow { inner, step };
     let mut out = Counting::new(Fuse::after_bytes(narrow, room, burst_named(burst)));
-    let mut rt1 = reader(&lines.file, u64::MAX, ErrorKind::BrokenPipe);
+    let mut rt1 = reader(lines.file, u64::MAX, ErrorKind::BrokenPipe);
     let given = row_count(alloc, program, &mut rt1, &mut out);
     let fuse = out.get_ref();
     let (rows, reads) = calls_until(room as u64);
@@ -231,7 +214,12 @@ fn is_cut_off(alloc: Global, program: &[u8], lines: &Lines, room: usize, row: &s
 }
 
 /// The device that is wrong with so much room, if there is one.
-fn wrong_device(alloc: Global, program: &[u8], lines: &Lines, room: usize) -> Option<&'static str> {
+fn wrong_device(
+    alloc: Global,
+    program: &[u8],
+    lines: Lines<'_>,
+    room: usize,
+) -> Option<&'static str> {
     for row in DEVICES.lines() {
         if !is_cut_off(alloc, program, lines, room, row) {
             return Some(row);
@@ -243,10 +231,15 @@ fn wrong_device(alloc: Global, program: &[u8], lines: &Lines, room: usize) -> Op
 #[test]
 fn each_write_fails(rt: HostRuntime) {
     let program = bytes_of(rt.alloc(), EVERY).expect(&rt, "bytes");
-    let lines = two_lines(rt.alloc()).expect(&rt, "bytes");
+    let text = bytes_of(rt.alloc(), "3009 RECORD 0a 3009 RECORD 0a").expect(&rt, "bytes");
+    let file = bytes_of(rt.alloc(), "RECORD 0a RECORD 0a").expect(&rt, "bytes");
+    let lines = Lines {
+        file: &file,
+        text: &text,
+    };
     for room in 0..=462 {
         assert_eq!(rt;
-            wrong_device(rt.alloc(), &program, &lines, room),
+            wrong_device(rt.alloc(), &program, lines, room),
             None,
             "{room}"
         );

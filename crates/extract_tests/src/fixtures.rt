@@ -109,7 +109,10 @@ fn write_text(line: &mut [u8], place: usize, text: &str) {
         .skip(place.saturating_sub(1))
         .zip(text.bytes())
     {
-        *to = if from == b'_' { b' ' } else { from };
+        *to = match from {
+            b'_' => b' ',
+            other => other,
+        };
     }
 }
 
@@ -117,23 +120,34 @@ fn write_text(line: &mut [u8], place: usize, text: &str) {
 pub fn bytes_of(alloc: Global, words: &str) -> Option<Vec<u8>> {
     let mut bytes = Vec::new(alloc);
     for word in words.split_whitespace() {
-        push_word(&mut bytes, word)?;
+        push_word(&mut bytes, RECORD, word)?;
     }
     Some(bytes)
 }
 
-fn push_word(bytes: &mut Vec<u8>, word: &str) -> Option<()> {
+fn push_word(bytes: &mut Vec<u8>, record: &[u8], word: &str) -> Option<()> {
     if word == "RECORD" {
-        return bytes.extend_from_slice(RECORD).ok();
+        return bytes.extend_from_slice(record).ok();
     }
-    let Some((start, end)) = word.split_once("..") else {
-        let value = u64::from_str_radix(word, 16).ok()?.to_be_bytes();
-        let unused = value.len().saturating_sub(word.len() / 2);
-        return bytes.extend_from_slice(value.get(unused..)?).ok();
-    };
-    let start = start.parse().unwrap_or(0);
-    let end = end.parse().unwrap_or(RECORD.len());
-    bytes.extend_from_slice(RECORD.get(start..end)?).ok()
+    match word.split_once("..") {
+        Some((start, end)) => {
+            let start = start.parse().unwrap_or(0);
+            let end = end.parse().unwrap_or(record.len());
+            bytes.extend_from_slice(record.get(start..end)?).ok()
+        }
+        None => push_digits(bytes, word),
+    }
+}
+
+fn push_digits(bytes: &mut Vec<u8>, digits: &str) -> Option<()> {
+    let value = u64::from_str_radix(digits, 16).ok()?;
+    push_last(bytes, &value.to_be_bytes(), digits.len() / 2)
+}
+
+/// Adds so many bytes of a value, the last ones.
+fn push_last(bytes: &mut Vec<u8>, value: &[u8], count: usize) -> Option<()> {
+    let unused = value.len().saturating_sub(count);
+    bytes.extend_from_slice(value.get(unused..)?).ok()
 }
 
 /// A reader of bytes that passes so many calls, and then fails.
@@ -166,16 +180,22 @@ pub fn extract_of<A: Allocator + Copy, W: CountedWrite>(
 }
 
 /// The number of rows of a file of type 1 alone, or the refusal's line.
-pub fn row_count<W: CountedWrite>(
-    alloc: Global,
+pub fn row_count<A: Allocator + Copy, W: CountedWrite>(
+    alloc: A,
     program: &[u8],
     rt1: &mut Counting<Fuse<&[u8]>>,
     out: &mut W,
 ) -> Result<u64, ArrayString<64>> {
-    let mut rt4 = good_reader(b"");
-    let mut rt5 = good_reader(b"");
-    let mut rt6 = good_reader(b"");
-    line_of_fault(extract(alloc, program, rt1, &mut rt4, &mut rt5, &mut rt6, out))
+    let rows = extract(
+        alloc,
+        program,
+        rt1,
+        &mut good_reader(b""),
+        &mut good_reader(b""),
+        &mut good_reader(b""),
+        out,
+    );
+    line_of_fault(rows)
 }
 
 /// The number of rows, or the refusal's line.

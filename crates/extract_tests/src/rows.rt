@@ -71,9 +71,14 @@ fn is_program(alloc: Global, row: &str, file: &[u8], text: &[u8]) -> bool {
     ))
 }
 
-/// The row that's wrong, if there is one.
-fn wrong_program(alloc: Global, file: &[u8], text: &[u8]) -> Option<&'static str> {
-    for row in PROGRAMS.lines() {
+/// The row of a table that is wrong of a file with this row, if there is one.
+fn wrong_program(
+    alloc: Global,
+    table: &'static str,
+    file: &[u8],
+    text: &[u8],
+) -> Option<&'static str> {
+    for row in table.lines() {
         if !is_program(alloc, row, file, text) {
             return Some(row);
         }
@@ -85,7 +90,7 @@ fn wrong_program(alloc: Global, file: &[u8], text: &[u8]) -> Option<&'static str
 fn programs(rt: HostRuntime) {
     let text = bytes_of(rt.alloc(), "3009 RECORD 0a").expect(&rt, "bytes");
     let file = text.get(2..).unwrap_or(b"");
-    assert_eq!(rt; wrong_program(rt.alloc(), file, &text), None);
+    assert_eq!(rt; wrong_program(rt.alloc(), PROGRAMS, file, &text), None);
 }
 
 // A file, the number of its rows, or the refusal, and the rows.

@@ -9,21 +9,21 @@ use itoa::Buffer;
 pub const LINE_LENGTH: usize = 65;
 
 /// A side of a street segment, as one goes from its FR to its TO end.
-#[derive(Clone, Copy, Debug, PartialEq, Eq)]
+#[derive(Clone, Copy, PartialEq, Eq)]
 pub enum Side {
     Left,
     Right,
 }
 
 /// A place, in millionths of a degree: positive to the east and to the north.
-#[derive(Clone, Copy, Debug, PartialEq, Eq)]
+#[derive(Clone, Copy, PartialEq, Eq)]
 pub struct Place {
     pub longitude: i64,
     pub latitude: i64,
 }
 
 /// A house number found on a side of a segment.
-#[derive(Clone, Copy, Debug, PartialEq, Eq)]
+#[derive(Clone, Copy, PartialEq, Eq)]
 pub struct Hit {
     /// The number of the segment's TLID.
     pub tlid: u64,

@@ -6,7 +6,7 @@ pub const LONGEST_CONTENT: usize = 230;
 pub(crate) const LINE_FEED: u8 = b'\n';
 
 /// Why the bytes of a line came to an end.
-#[derive(Clone, Copy, Debug, PartialEq, Eq)]
+#[derive(Clone, Copy, PartialEq, Eq)]
 pub enum Stop {
     /// At a line feed, which was taken.
     LineFeed,

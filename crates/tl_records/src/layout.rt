@@ -8,11 +8,11 @@ use crate::type6::Rt6;
 
 /// The places of a field in its line, the first and the last, as in the columns Beg and End of the record layouts: counted from 1, both
 /// included.
-#[derive(Clone, Copy, Debug, PartialEq, Eq)]
+#[derive(Clone, Copy, PartialEq, Eq)]
 pub struct Places(pub usize, pub usize);
 
 /// What the lines of a record type are like.
-#[derive(Clone, Copy, Debug, PartialEq, Eq)]
+#[derive(Clone, Copy, PartialEq, Eq)]
 pub struct Layout {
     /// How many bytes a line has, its end not counted.
     pub length: usize,

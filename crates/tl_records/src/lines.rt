@@ -3,9 +3,6 @@ ghost use Rattle.std.specs.Prelude.{◌≡◌, ◌-◌, ◌^◌, ◌≤◌, [], 
 ghost use Rattle.tl_fields.specs.Device.{reader};
 ghost use Rattle.tl_records.specs.Lines.{IsLineRead, IsWithoutReturn};
 
-#[cfg(test)]
-mod tests;
-
 use crate::fault::{LineFault, LineFlaw};
 use arrayvec::ArrayVec;
 use std::marker::Model;

@@ -16,7 +16,7 @@ pub(crate) struct Grouped<V, A: Allocator> {
 }
 
 /// Why a value wasn't added.
-#[derive(Clone, Copy, Debug)]
+#[derive(Clone, Copy)]
 pub(crate) enum NotAdded {
     /// The number has as many values as it may have.
     Full,

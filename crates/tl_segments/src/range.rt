@@ -16,7 +16,7 @@ pub const ZIP_LENGTH: usize = 5;
 
 /// An address range: the fields of record type 1 or 6, named as there. FR and TO are the ends of a side, L is the left side and R the
 /// right one. An end that isn't known is blank.
-#[derive(Clone, Copy, Debug)]
+#[derive(Clone, Copy)]
 pub struct Range<'a> {
     pub fraddl: &'a [u8],
     pub toaddl: &'a [u8],
@@ -27,7 +27,7 @@ pub struct Range<'a> {
 }
 
 /// The fields of an address range, kept.
-#[derive(Clone, Copy, Debug)]
+#[derive(Clone, Copy)]
 pub(crate) struct RangeFields {
     fraddl: [u8; ADDRESS_LENGTH],
     toaddl: [u8; ADDRESS_LENGTH],

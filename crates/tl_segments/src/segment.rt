@@ -25,7 +25,7 @@ pub const RANGE_LIMIT: usize = 1000;
 /// A street segment: its type 1 record, its alternate names and its further address ranges. Contracts see it as a record with the fields
 /// `bytes`, `names` and `ranges`. It keeps the allocator that it was made with; one without alternate names and further ranges asks for no
 /// memory.
-#[derive(Debug, Drop)]
+#[derive(Drop)]
 pub struct Segment<A: Allocator> {
     record: [u8; RECORD_LENGTH],
     names: Vec<[u8; NAME_LENGTH], A>,

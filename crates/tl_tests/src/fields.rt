@@ -25,22 +25,22 @@ const FIELDS: &str = "1|1|1|1
 220|228|+32410000|";
 
 /// Whether the field at these places of the line has these bytes and this number.
-fn is_field(row: &str) -> bool {
+fn is_field(line: &[u8], row: &str) -> bool {
     let (first, rest) = cut(row);
     let (last, rest) = cut(rest);
     let (text, value) = cut(rest);
     let (first, last) = (count(first), count(last));
-    if first < 1 || first > last || last > RECORD_1.len() {
+    if first < 1 || first > last || last > line.len() {
         return false;
     }
-    let bytes = field(RECORD_1, first, last);
+    let bytes = field(line, first, last);
     bytes == text.as_bytes() && number(bytes) == value.parse().ok()
 }
 
 #[test]
 fn fields_of_a_line(rt: HostRuntime) {
     for row in FIELDS.lines() {
-        assert!(rt; is_field(row), "{row}");
+        assert!(rt; is_field(RECORD_1, row), "{row}");
     }
 }
 
@@ -112,12 +112,12 @@ const READS: &str = "1|x|0
 0|z|1";
 
 /// Whether the next read is that of a row.
-fn is_read<R: Read>(reader: &mut Counting<R>, byte: &mut [u8; 1], row: &str) -> bool {
+fn is_read<R: Read>(reader: &mut Counting<R>, byte: &mut [u8], row: &str) -> bool {
     let (given, rest) = cut(row);
     let (held, failures) = cut(rest);
     let read = reader.read_counted(byte).ok();
     read == given.parse().ok()
-        && byte.as_slice() == held.as_bytes()
+        && *byte == *held.as_bytes()
         && failures.parse() == Ok(reader.failed_reads())
 }
 
@@ -256,22 +256,26 @@ const FAILURES: &str = "1|0|0
 3|3|9
 300|0|0";
 
-/// Why a line's bytes stop through a buffer over a device that fails after so many calls, how many there are, and the calls of the device.
-fn read_to_failure(alloc: Global, size: usize, calls: u64) -> Option<(Stop, usize, u64)> {
-    let device = Fuse::after_calls(b"abcdefghijkl\n".as_slice(), calls, FAILS);
-    let buffer = BufReader::with_capacity(alloc, size, device).ok()?;
-    let mut reader = Buffered::new(buffer);
+/// Whether reading a line fails with so many of its bytes read.
+fn fails_behind<R: CountedRead>(reader: &mut R, bytes: usize) -> bool {
     let mut content = ArrayVec::new();
-    let stop = reader.read_content(&mut content);
-    Some((stop, content.len(), reader.get_ref().get_ref().calls))
+    reader.read_content(&mut content) == Stop::ReadFailed && content.len() == bytes
+}
+
+/// Whether a line's bytes stop, through a buffer over a device that fails after so many calls, behind so many bytes, and with that call.
+fn stops_at(alloc: Global, size: usize, calls: u64, bytes: usize) -> bool {
+    let device = Fuse::after_calls(b"abcdefghijkl\n".as_slice(), calls, FAILS);
+    let Ok(buffer) = BufReader::with_capacity(alloc, size, device) else {
+        return false;
+    };
+    let mut reader = Buffered::new(buffer);
+    fails_behind(&mut reader, bytes) && reader.get_ref().get_ref().calls == calls.saturating_add(1)
 }
 
 fn is_failure(alloc: Global, row: &str) -> bool {
     let (size, rest) = cut(row);
     let (calls, read) = cut(rest);
-    let calls = count(calls) as u64;
-    let expected = (Stop::ReadFailed, count(read), calls.saturating_add(1));
-    read_to_failure(alloc, count(size), calls) == Some(expected)
+    stops_at(alloc, count(size), count(calls) as u64, count(read))
 }
 
 #[test]

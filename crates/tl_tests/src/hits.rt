@@ -60,16 +60,26 @@ B|123456789@7,7@26|7@18,main@21||151|main||123456789/L/-86494898/32405102
 B 5@15 Oak@20,_@23,6@15 0000000005@6||||151|main||123456789/L/-86494898/32405102 123456785/L/-86494898/32405102 5/L/-86494898/32405102
 ||||151|main||";
 
+/// Writes texts over a base with a tag.
+fn write_line(line: &mut [u8], tag: &[u8], base: &[u8], texts: &str) {
+    write_over(line, base);
+    write_over(line, tag);
+    write_texts(line, texts);
+}
+
+/// Adds a line as long as the base, and an end of line.
+fn push_line(file: &mut Vec<u8>, tag: &[u8], base: &[u8], texts: &str) -> Result<(), AllocError> {
+    let mut line = [b' '; 228];
+    write_line(&mut line, tag, base, texts);
+    file.extend_from_slice(line.get(..base.len()).unwrap_or(b""))?;
+    file.extend_from_slice(b"\n")
+}
+
 /// The bytes of lines of a record type, written as in the table over a line that begins with the tag.
 fn file_of(alloc: Global, tag: &[u8], base: &[u8], lines: &str) -> Result<Vec<u8>, AllocError> {
     let mut file = Vec::new(alloc);
     for texts in lines.split_whitespace() {
-        let mut line = [b' '; 228];
-        write_over(&mut line, base);
-        write_over(&mut line, tag);
-        write_texts(&mut line, texts);
-        file.extend_from_slice(line.get(..base.len()).unwrap_or(b""))?;
-        file.push(b'\n')?;
+        push_line(&mut file, tag, base, texts)?;
     }
     Ok(file)
 }
@@ -184,10 +194,10 @@ fn plain_lies(number: i64, from: i64, to: i64) -> bool {
 }
 
 /// Whether some name of the segment is this one.
-fn plain_has_name(segment: &Segment<Global>, name: &str) -> bool {
+fn plain_has_name(segment: &Segment<Global>, name: &[u8]) -> bool {
     for n in 0..6 {
-        let text = str::from_utf8(segment.name(n).unwrap_or(b"")).unwrap_or("");
-        if text.trim_end().eq_ignore_ascii_case(name) {
+        let field = segment.name(n).unwrap_or(b"");
+        if field.trim_ascii_end().eq_ignore_ascii_case(name) {
             return true;
         }
     }
@@ -198,8 +208,11 @@ fn plain_has_name(segment: &Segment<Global>, name: &str) -> bool {
 fn plain_along(from: &[u8], to: &[u8], gone: i64, whole: i64) -> Option<i64> {
     let from = plain_number(from)?;
     let way = plain_number(to)?.wrapping_sub(from);
-    let share = way.wrapping_mul(gone).checked_div(whole);
-    Some(from.wrapping_add(share.unwrap_or(0)))
+    Some(from.wrapping_add(plain_share(way, gone, whole)))
+}
+
+fn plain_share(way: i64, gone: i64, whole: i64) -> i64 {
+    way.wrapping_mul(gone).checked_div(whole).unwrap_or(0)
 }
 
 /// The place so far between the ends of a segment.
@@ -262,7 +275,7 @@ fn plain_hits(
     let mut hits = Vec::new(alloc);
     for county in counties {
         for segment in county.segments() {
-            if plain_has_name(segment, name) {
+            if plain_has_name(segment, name.as_bytes()) {
                 push_plain_hits(segment, number, zip, &mut hits)?;
             }
         }

@@ -31,14 +31,25 @@ fn bytes_of(alloc: Global, record: &[u8], words: &str) -> Option<Vec<u8>> {
 }
 
 fn push_word(bytes: &mut Vec<u8>, record: &[u8], word: &str) -> Option<()> {
-    let Some((start, end)) = word.split_once("..") else {
-        let value = u64::from_str_radix(word, 16).ok()?.to_be_bytes();
-        let unused = value.len().saturating_sub(word.len() / 2);
-        return bytes.extend_from_slice(value.get(unused..)?).ok();
-    };
-    let start = start.parse().unwrap_or(0);
-    let end = end.parse().unwrap_or(record.len());
-    bytes.extend_from_slice(record.get(start..end)?).ok()
+    match word.split_once("..") {
+        Some((start, end)) => {
+            let start = start.parse().unwrap_or(0);
+            let end = end.parse().unwrap_or(record.len());
+            bytes.extend_from_slice(record.get(start..end)?).ok()
+        }
+        None => push_digits(bytes, word),
+    }
+}
+
+fn push_digits(bytes: &mut Vec<u8>, digits: &str) -> Option<()> {
+    let value = u64::from_str_radix(digits, 16).ok()?;
+    push_last(bytes, &value.to_be_bytes(), digits.len() / 2)
+}
+
+/// Adds so many bytes of a value, the last ones.
+fn push_last(bytes: &mut Vec<u8>, value: &[u8], count: usize) -> Option<()> {
+    let unused = value.len().saturating_sub(count);
+    bytes.extend_from_slice(value.get(unused..)?).ok()
 }
 
 /// Whether a row expects this fault, as its number, its name and its line, or none.
@@ -64,10 +75,14 @@ const LINES: &str = "|0|
 e9ff80000a|1|e9ff8000
 0b0c850a20|2|0b0c85,20";
 
+/// Whether the next line has these bytes.
+fn is_next(reader: &mut Counting<&[u8]>, line: &mut Line, bytes: &[u8]) -> bool {
+    read_line(reader, line) == Ok(Some(())) && line.bytes() == bytes
+}
+
 /// Whether the next line has these bytes, in hexadecimal digits.
 fn has_next(alloc: Global, reader: &mut Counting<&[u8]>, line: &mut Line, words: &str) -> bool {
-    read_line(reader, line) == Ok(Some(()))
-        && bytes_of(alloc, b"", words).is_some_and(|bytes| line.bytes() == bytes.as_slice())
+    bytes_of(alloc, b"", words).is_some_and(|bytes| is_next(reader, line, &bytes))
 }
 
 /// Whether a file has these lines, so many, and no more.

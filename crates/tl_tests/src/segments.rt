@@ -160,17 +160,21 @@ fn has_range(segment: &Segment<Global>, row: &str) -> bool {
 }
 
 fn has_fields(range: Range<'_>, row: &str) -> bool {
-    let (fraddl, rest) = cut(row);
-    let (toaddl, rest) = cut(rest);
-    let (fraddr, rest) = cut(rest);
-    let (toaddr, rest) = cut(rest);
-    let (zipl, zipr) = cut(rest);
-    text_of(range.fraddl) == fraddl
-        && text_of(range.toaddl) == toaddl
-        && text_of(range.fraddr) == fraddr
-        && text_of(range.toaddr) == toaddr
-        && text_of(range.zipl) == zipl
-        && text_of(range.zipr) == zipr
+    let fields = [
+        range.fraddl,
+        range.toaddl,
+        range.fraddr,
+        range.toaddr,
+        range.zipl,
+        range.zipr,
+    ];
+    let mut columns = row.split('|');
+    for field in fields {
+        if columns.next() != Some(text_of(field)) {
+            return false;
+        }
+    }
+    columns.next().is_none()
 }
 
 fn segment_of(alloc: Global) -> Result<Segment<Global>, AllocError> {

@@ -1,5 +1,5 @@
 //! Results of the arithmetic at the ends of its ranges, worked out with whole numbers elsewhere.
-use crate::fixtures::cut;
+use crate::fixtures::{cut, hexadecimal};
 use crate::names::{case, condition, extension, format, operation, order, swap_width, width};
 use bpf_insn::{Width, immediate_operand, negate, wide_number};
 
@@ -109,12 +109,12 @@ const IMMEDIATES: &str = "1=1
 
 /// The number that hexadecimal digits write.
 fn number(text: &str) -> u64 {
-    u64::from_str_radix(text, 16).unwrap_or(0)
+    hexadecimal(text).unwrap_or(0)
 }
 
 /// Whether hexadecimal digits write this number.
 fn writes(text: &str, number: u64) -> bool {
-    u64::from_str_radix(text, 16) == Ok(number)
+    hexadecimal(text) == Some(number)
 }
 
 /// Whether an operation gives at each pair of operands what a row says.

@@ -204,28 +204,37 @@ fn is_shown(alloc: Global, code: &Code<Global>, want: &str) -> bool {
 
 /// Whether a code is written as these bytes.
 fn is_written(alloc: Global, code: &Code<Global>, bytes: &[u8]) -> bool {
-    encode(alloc, code).is_ok_and(|encoded| encoded.as_slice() == bytes)
+    let Ok(encoded) = encode(alloc, code) else {
+        return false;
+    };
+    encoded.as_slice() == bytes
 }
 
-/// Whether a code of so many words is an instruction and an exit behind it, at each place.
+/// Whether a code of so many words, two or three, is an instruction and an exit behind it, at each place.
 fn is_laid_out(code: &Code<Global>, words: usize) -> bool {
-    let count = words.saturating_sub(1);
+    let count = if words == 3 { 2 } else { 1 };
     code.words() == words
-        && answers_at(code, 0, Some(0), count)
-        && answers_at(code, count, Some(1), 1)
-        && (count == 1 || answers_at(code, 1, None, 0))
-        && answers_at(code, count.saturating_add(1), None, 0)
-        && answers_at(code, usize::MAX, None, 0)
+        && begins_at(code, 0, 0, count)
+        && begins_at(code, count, 1, 1)
+        && (count == 1 || has_none_at(code, 1))
+        && has_none_at(code, words)
+        && has_none_at(code, usize::MAX)
 }
 
-/// Whether at a place the instruction with this index begins, of so many words, or none.
-fn answers_at(code: &Code<Global>, place: usize, index: Option<usize>, words: usize) -> bool {
-    let found = index.and_then(|index| code.instructions().get(index).copied());
-    code.index_at(place) == index
-        && code.at(place) == found
-        && found.is_none_or(|instruction| instruction.words() == words)
-        && index.is_none_or(|index| index >= code.instructions().len()
-            || code.place(index) == place)
+/// Whether at a place the instruction with this index begins, of so many words.
+fn begins_at(code: &Code<Global>, place: usize, index: usize, words: usize) -> bool {
+    let Some(&instruction) = code.instructions().get(index) else {
+        return false;
+    };
+    code.place(index) == place
+        && code.index_at(place) == Some(index)
+        && code.at(place) == Some(instruction)
+        && instruction.words() == words
+}
+
+/// Whether no instruction begins at a place.
+fn has_none_at(code: &Code<Global>, place: usize) -> bool {
+    code.index_at(place).is_none() && code.at(place).is_none()
 }
 
 #[test]

@@ -1,6 +1,6 @@
 //! How many words a program may have, and codes that are built and not read.
 use super::EXIT;
-use crate::fixtures::{bytes_of, cut};
+use crate::fixtures::{bytes_of, cut, repeated};
 use bpf_insn::{Code, CodeBuilder, CodeFault, Insn, WORD_LIMIT, WritableRegister, decode, encode};
 use std::alloc::Global;
 
@@ -16,21 +16,11 @@ const SIZES: &str = "95 0 0 0 0 0 0 0 | 1 | | 1 1
 18 0 0 0 0 0 0 0 0 0 0 0 0 0 0 0 | 2047 | 18 0 0 0 0 0 0 0 | refused 17 place 4094 CutWide
 18 0 0 0 0 0 0 0 0 0 0 0 0 0 0 0 | 2048 | 95 0 0 0 0 0 0 0 | refused 12 TooLong";
 
-/// Words so often, and what stands behind them.
-fn repeated(alloc: Global, words: &[u8], count: u32, end: &[u8]) -> Option<Vec<u8>> {
-    let mut bytes = Vec::new(alloc);
-    for _ in 0..count {
-        bytes.extend_from_slice(words).ok()?;
-    }
-    bytes.extend_from_slice(end).ok()?;
-    Some(bytes)
-}
-
 /// The bytes of a row.
 fn bytes_of_size(alloc: Global, words: &str, count: &str, end: &str) -> Option<Vec<u8>> {
     let words = bytes_of(alloc, words)?;
     let end = bytes_of(alloc, end)?;
-    repeated(alloc, &words, count.parse().ok()?, &end)
+    repeated(alloc, b"", &words, count.parse().ok()?, &end).ok()
 }
 
 /// Whether bytes are a code of so many instructions and words, or are refused with this line.
@@ -128,7 +118,7 @@ fn is_limited(alloc: Global) -> bool {
     let Ok(code) = builder.finish() else {
         return false;
     };
-    let Some(bytes) = repeated(alloc, EXIT, 4_096, b"") else {
+    let Ok(bytes) = repeated(alloc, b"", EXIT, 4_096, b"") else {
         return false;
     };
     is_spelled(alloc, &code, (4_096, 4_096), &bytes)

@@ -1,6 +1,7 @@
 //! Moves at the ends of what an offset may be, worked out with whole numbers elsewhere.
+use super::interval;
 use crate::fixtures::cut;
-use bpf_kinds::{Interval, Offsets, near_distances};
+use bpf_kinds::{Offsets, near_distances};
 
 // The ends of an interval in hexadecimal digits, and the signed distances that it is, if all are near.
 const NEAR: &str = "\
@@ -45,10 +46,7 @@ const MOVES: &str = "\
 /// Whether the distances of an interval are those of a row.
 fn is_near(row: &str) -> Option<bool> {
     let (ends, want) = cut(row, " ");
-    let (low, high) = cut(ends, ",");
-    let low = u64::from_str_radix(low, 16).ok()?;
-    let high = u64::from_str_radix(high, 16).ok()?;
-    Some(low <= high && is_offsets(near_distances(Interval { low, high }), want))
+    Some(is_offsets(near_distances(interval(ends, ",")?), want))
 }
 
 /// Whether offsets come by a move and by a move backwards where a row says.
@@ -69,11 +67,11 @@ fn is_offsets(given: Option<Offsets>, text: &str) -> bool {
 }
 
 fn offsets_of(text: &str) -> Option<Offsets> {
-    let (low, high) = text.split_once(',')?;
-    Some(Offsets {
-        low: low.parse().ok()?,
-        high: high.parse().ok()?,
-    })
+    let (low, high) = cut(text, ",");
+    match (low.parse(), high.parse()) {
+        (Ok(low), Ok(high)) => Some(Offsets { low, high }),
+        _ => None,
+    }
 }
 
 #[test]

@@ -1,4 +1,5 @@
 //! Narrowing at the ends of what 31, 32, 63 and 64 bits hold, worked out with whole numbers elsewhere.
+use super::interval;
 use crate::fixtures::cut;
 use crate::names::{condition, width};
 use bpf_insn::{Condition, Width};
@@ -205,8 +206,8 @@ fn is_narrowed(row: &str) -> Option<bool> {
     let comparison = Comparison {
         condition: condition(name)?,
         width: width(bits)?,
-        x: interval_of(x)?,
-        y: interval_of(y)?,
+        x: interval(x, ",")?,
+        y: interval(y, ",")?,
     };
     let (taken, other) = cut(edges, " ");
     Some(has_edge(&comparison, true, taken) && has_edge(&comparison, false, other))
@@ -226,16 +227,8 @@ fn has_edge(comparison: &Comparison, taken: bool, text: &str) -> bool {
 fn narrowed_of(text: &str) -> Option<Narrowed> {
     let (left, right) = cut(text, ";");
     Some(Narrowed {
-        left: interval_of(left)?,
-        right: interval_of(right)?,
-    })
-}
-
-fn interval_of(text: &str) -> Option<Interval> {
-    let (low, high) = text.split_once(',').unwrap_or((text, text));
-    Some(Interval {
-        low: u64::from_str_radix(low, 16).ok()?,
-        high: u64::from_str_radix(high, 16).ok()?,
+        left: interval(left, ",")?,
+        right: interval(right, ",")?,
     })
 }
 

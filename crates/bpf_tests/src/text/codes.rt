@@ -3,7 +3,7 @@ use super::text_of;
 use crate::fixtures::{bytes_of, cut, is_heading};
 use bpf_insn::{decode, encode};
 use bpf_text::{assemble, disassemble};
-use std::alloc::Global;
+use std::alloc::{AllocError, Global};
 
 // Texts, and the bytes of the code that they mean (RFC 9669, sections 3 to 5).
 const TEXTS: &str =
@@ -39,13 +39,16 @@ fn means(alloc: Global, text: &str, bytes: &[u8]) -> bool {
     let Ok(code) = assemble(alloc, text) else {
         return false;
     };
-    encode(alloc, &code).is_ok_and(|encoded| encoded.as_slice() == bytes)
+    let Ok(encoded) = encode(alloc, &code) else {
+        return false;
+    };
+    encoded.as_slice() == bytes
 }
 
 /// Whether the text of a row means the code of its bytes.
 fn is_text(alloc: Global, row: &str) -> bool {
     let (text, bytes) = cut(row, " | ");
-    let Some(text) = text_of(alloc, text) else {
+    let Ok(text) = text_of(alloc, text) else {
         return false;
     };
     let Some(bytes) = bytes_of(alloc, bytes) else {
@@ -206,22 +209,22 @@ stxw [r1+2], r3 | 63 31 02 0 0 0 0 0
 stxdw [r1+2], r3 | 7b 31 02 0 0 0 0 0";
 
 /// Adds the text of a row and an end of line, and its bytes.
-fn push_row(text: &mut String, words: &mut String, row: &str) -> Option<()> {
+fn push_row(text: &mut String, words: &mut String, row: &str) -> Result<(), AllocError> {
     let (line, bytes) = cut(row, " | ");
-    text.push_str(line).ok()?;
-    text.push_str("\n").ok()?;
-    words.push_str(bytes).ok()?;
-    words.push_str(" ").ok()
+    text.push_str(line)?;
+    text.push_str("\n")?;
+    words.push_str(bytes)?;
+    words.push_str(" ")
 }
 
 /// Adds the texts of all rows, and their bytes.
-fn push_rows(text: &mut String, words: &mut String) -> Option<()> {
+fn push_rows(text: &mut String, words: &mut String) -> Result<(), AllocError> {
     for row in LINES.lines() {
         if !is_heading(row) {
             push_row(text, words, row)?;
         }
     }
-    Some(())
+    Ok(())
 }
 
 /// Whether the code of these bytes is disassembled to a text, which means it.
@@ -236,7 +239,7 @@ fn is_disassembled(alloc: Global, bytes: &[u8], want: &str) -> bool {
 fn are_disassembled(alloc: Global) -> bool {
     let mut text = String::new(alloc);
     let mut words = String::new(alloc);
-    if push_rows(&mut text, &mut words).is_none() {
+    if push_rows(&mut text, &mut words).is_err() {
         return false;
     }
     let Some(bytes) = bytes_of(alloc, &words) else {

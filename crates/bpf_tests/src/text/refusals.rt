@@ -81,7 +81,10 @@ exit\r\r$ | refused 20 line 1 Syntax
 /// Whether the text of a row is refused as it says.
 fn is_refused(alloc: Global, row: &str) -> bool {
     let (text, line) = cut(row, " | ");
-    text_of(alloc, text).is_some_and(|text| gives(alloc, &text, line))
+    let Ok(text) = text_of(alloc, text) else {
+        return false;
+    };
+    gives(alloc, &text, line)
 }
 
 #[test]

@@ -1,7 +1,7 @@
 //! Texts up to the limit of words and past it, and long texts.
 use super::gives;
 use crate::fixtures::cut;
-use std::alloc::Global;
+use std::alloc::{AllocError, Global};
 
 // How many lines a text has, of which every so many is `exit` and the others are comments; what stands behind them; and how many words it
 // has, or its refusal.
@@ -11,15 +11,14 @@ const SIZES: &str = "4096|1||4096
 69999|1000|frob|refused 21 line 70000 UnknownMnemonic";
 
 /// So many lines, every so many of them `exit` and the others a comment, and what stands behind them.
-fn lines(alloc: Global, count: u32, step: u32, end: &str) -> Option<String> {
+fn lines(alloc: Global, count: u32, step: u32, end: &str) -> Result<String, AllocError> {
     let mut text = String::new(alloc);
     for line in 1..=count {
         let is_exit = line.is_multiple_of(step);
-        text.push_str(if is_exit { "exit\n" } else { "; nothing\n" })
-            .ok()?;
+        text.push_str(if is_exit { "exit\n" } else { "; nothing\n" })?;
     }
-    text.push_str(end).ok()?;
-    Some(text)
+    text.push_str(end)?;
+    Ok(text)
 }
 
 /// Whether the text of a row gives what it says.
@@ -30,7 +29,10 @@ fn is_of_size(alloc: Global, row: &str) -> bool {
     let (Ok(count), Ok(step)) = (count.parse(), step.parse()) else {
         return false;
     };
-    lines(alloc, count, step, end).is_some_and(|text| gives(alloc, &text, want))
+    let Ok(text) = lines(alloc, count, step, end) else {
+        return false;
+    };
+    gives(alloc, &text, want)
 }
 
 #[test]

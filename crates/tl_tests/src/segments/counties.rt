@@ -1,11 +1,11 @@
 //! Counties worked by hand, and readers and allocators that go wrong in mid-stream.
 use super::files::files_of;
 use super::plain::{push, report_of};
-use crate::fixtures::{Files, RECORD_1, cut, load, reader};
+use crate::fixtures::{Files, RECORD_1, load, reader};
 use linked_list_allocator::LocalHeap;
 use std::alloc::{AllocError, Allocator, Global};
 use tl_records::{Line, LineFault, LineFlaw};
-use tl_segments::{County, CountyFile, Index, LoadFault, Segment};
+use tl_segments::{County, CountyFile, Index, LoadFault, Range, Segment};
 
 /// What the plain program says, of a county that was loaded.
 fn report<A: Allocator>(
@@ -30,15 +30,15 @@ fn push_segments<A: Allocator>(
             push(text, "+", segment.name(n).unwrap_or(b"none"))?;
         }
         for n in 1..segment.ranges() {
-            push(text, "/", starts_at(segment, n))?;
+            push(text, "/", starts_at(segment.range(n)))?;
         }
     }
     Ok(())
 }
 
 /// Where a range starts on the left.
-fn starts_at<A: Allocator>(segment: &Segment<A>, n: u64) -> &[u8] {
-    match segment.range(n) {
+fn starts_at(range: Option<Range<'_>>) -> &[u8] {
+    match range {
         Some(range) => range.fraddl,
         None => b"none",
     }
@@ -261,8 +261,8 @@ fn many_lines(rt: HostRuntime) {
 }
 
 /// The fault of a county one of whose readers passes so many calls and then fails once, and how many calls all of them got.
-fn fault_of(
-    alloc: Global,
+fn fault_of<A: Allocator + Copy>(
+    alloc: A,
     files: &Files,
     failing: CountyFile,
     passing: u64,
@@ -283,19 +283,12 @@ fn calls_of(file: CountyFile, failing: CountyFile, passing: u64) -> u64 {
 }
 
 // The files in the order in which they are read, and how long their lines are.
-const IN_ORDER: &str = "rt4|59
-rt5|57
-rt6|77
-rt1|229";
-
-fn file_named(name: &str) -> CountyFile {
-    match name {
-        "rt4" => CountyFile::Rt4,
-        "rt5" => CountyFile::Rt5,
-        "rt6" => CountyFile::Rt6,
-        _ => CountyFile::Rt1,
-    }
-}
+const IN_ORDER: [(CountyFile, u64); 4] = [
+    (CountyFile::Rt4, 59),
+    (CountyFile::Rt5, 57),
+    (CountyFile::Rt6, 77),
+    (CountyFile::Rt1, 229),
+];
 
 /// Whether each read of a file with two lines of this length is the last one where it fails, behind so many reads of other files.
 fn each_read_stops(
@@ -324,11 +317,9 @@ fn each_read_stops(
 /// The file at whose reads a county of two lines a file doesn't stop, if there is one.
 fn wrong_file(alloc: Global, files: &Files) -> Option<&'static str> {
     let mut before: u64 = 0;
-    for row in IN_ORDER.lines() {
-        let (name, length) = cut(row);
-        let length = length.parse().unwrap_or(0);
-        if !each_read_stops(alloc, files, file_named(name), length, before) {
-            return Some(row);
+    for (file, length) in IN_ORDER {
+        if !each_read_stops(alloc, files, file, length, before) {
+            return Some(file.name());
         }
         before = before.wrapping_add(length.wrapping_mul(2)).wrapping_add(1);
     }
@@ -371,18 +362,24 @@ fn little_memory(rt: HostRuntime) {
     assert!(rt; refused > 100 && refused < 900, "{refused}");
 }
 
+/// Whether the next segment is the record's.
+fn is_record<A: Allocator>(segment: &Result<Option<Segment<A>>, LoadFault>) -> bool {
+    match segment {
+        Ok(Some(segment)) => segment.bytes() == RECORD_1.as_slice(),
+        _ => false,
+    }
+}
+
 /// Whether a line that nothing is joined to gets its segment where there is no memory at all.
-fn is_made_without_memory(alloc: Global) -> Option<bool> {
-    let heap = LocalHeap::new(alloc, 0).ok()?;
-    let index = Index::new(&heap);
-    let mut line = Line::new();
-    let segment = index
-        .next_segment(&mut reader(RECORD_1, u64::MAX), &mut line)
-        .ok()??;
-    Some(segment.bytes() == RECORD_1.as_slice())
+fn is_made_without_memory(alloc: Global) -> bool {
+    let Ok(heap) = LocalHeap::new(alloc, 0) else {
+        return false;
+    };
+    let mut rt1 = reader(RECORD_1, u64::MAX);
+    is_record(&Index::new(&heap).next_segment(&mut rt1, &mut Line::new()))
 }
 
 #[test]
 fn no_memory(rt: HostRuntime) {
-    assert_eq!(rt; is_made_without_memory(rt.alloc()), Some(true));
+    assert!(rt; is_made_without_memory(rt.alloc()));
 }

@@ -18,16 +18,16 @@ pub fn files_of(alloc: Global, row: &str) -> Option<Files> {
     })
 }
 
-// The usual line of each file: a segment with the name Oak and a further range from 9.
-const RT1: &str = "1@1,5@15";
+// The usual line of each file, its tag and the other texts: a segment with the name Oak and a further range from 9.
+const RT1: (&str, &str) = ("1@1", "5@15");
 
-const RT4: &str = "4@1,5@15,7@26";
+const RT4: (&str, &str) = ("4@1", "5@15,7@26");
 
-const RT5: &str = "5@1,7@18,Oak@21";
+const RT5: (&str, &str) = ("5@1", "7@18,Oak@21");
 
-const RT6: &str = "6@1,5@15,9@29";
+const RT6: (&str, &str) = ("6@1", "5@15,9@29");
 
-fn file_of(alloc: Global, usual: &str, length: usize, lines: &str) -> Option<Vec<u8>> {
+fn file_of(alloc: Global, usual: (&str, &str), length: usize, lines: &str) -> Option<Vec<u8>> {
     let mut file = Vec::new(alloc);
     for words in lines.split_whitespace() {
         let (count, word) = words.split_once(':').unwrap_or(("1", words));
@@ -39,7 +39,7 @@ fn file_of(alloc: Global, usual: &str, length: usize, lines: &str) -> Option<Vec
 /// Adds a line so many times.
 fn push_lines(
     file: &mut Vec<u8>,
-    usual: &str,
+    usual: (&str, &str),
     length: usize,
     count: u32,
     word: &str,
@@ -68,15 +68,14 @@ fn end_of(word: &str) -> &'static [u8] {
 }
 
 /// Writes the texts of a line of a file with this usual line.
-fn write_line(line: &mut [u8], usual: &str, texts: &str) {
+fn write_line(line: &mut [u8], usual: (&str, &str), texts: &str) {
+    let (tag, fields) = usual;
+    write_texts(line, tag);
     match texts.strip_prefix('=') {
         Some(others) => {
-            write_texts(line, usual);
+            write_texts(line, fields);
             write_texts(line, others);
         }
-        None => {
-            write_texts(line, usual.get(..3).unwrap_or(""));
-            write_texts(line, texts);
-        }
+        None => write_texts(line, texts),
     }
 }

@@ -68,9 +68,12 @@ fn is_line_feed(byte: &u8) -> bool {
 
 /// A line without its end.
 fn content_of(line: &[u8]) -> &[u8] {
-    match line {
-        [content @ .., b'\r', b'\n'] | [content @ .., b'\n'] => content,
-        _ => line,
+    let [content @ .., b'\n'] = line else {
+        return line;
+    };
+    match content {
+        [content @ .., b'\r'] => content,
+        _ => content,
     }
 }
 
@@ -174,21 +177,23 @@ fn push_names(
         if number_of(&RT4, line) == tlid {
             // FEAT1 to FEAT5.
             for feat in part(line, 18, 58).chunks(8) {
-                push_name(text, number(feat), rt5)?;
+                if let Some(name) = name_of(number(feat), rt5) {
+                    push(text, "+", name)?;
+                }
             }
         }
     }
     Ok(())
 }
 
-/// Writes the name of the first line of type 5 with this number, if there is one.
-fn push_name(text: &mut String, feat: Option<u64>, rt5: &[u8]) -> Result<(), AllocError> {
+/// The name of the first line of type 5 with this number, if there is one.
+fn name_of(feat: Option<u64>, rt5: &[u8]) -> Option<&[u8]> {
     for line in rt5.split_inclusive(is_line_feed) {
         if number_of(&RT5, line) == feat {
-            return push(text, "+", part(line, 20, 50));
+            return Some(part(line, 20, 50));
         }
     }
-    Ok(())
+    None
 }
 
 fn push_ranges(text: &mut String, tlid: Option<u64>, rt6: &[u8]) -> Result<(), AllocError> {
