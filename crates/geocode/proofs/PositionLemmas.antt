@@ -25,12 +25,18 @@ pub abs-share : (way gone whole : ℤ) → nat_abs gone ≤ nat_abs whole → na
 abs-share way gone whole part =
     rw (abs-div (way *ℤ gone) whole, unsigned_abs-mul way gone) (div-le_of_le-mul (nat_abs whole) (product-le (nat_abs way) (nat_abs gone) (nat_abs whole) part))
 
+-- the product has 128 bits at most
+pub product-fits : (way gone whole : ℤ) → nat_abs way < 2 * 10 ^ 9 → nat_abs gone ≤ nat_abs whole → nat_abs whole < 10 ^ 11 → FitsSigned w128 (way *ℤ gone)
+product-fits way gone whole short part small = fits_signed_mul w128 way gone (2 * 10 ^ 9) (10 ^ 11) (omega arith) (omega arith) (omega arith)
+
+-- and so has the quotient
+pub share-fits : (way gone whole : ℤ) → nat_abs way < 2 * 10 ^ 9 → nat_abs gone ≤ nat_abs whole → FitsSigned w128 (int_div (way *ℤ gone) whole)
+share-fits way gone whole short part = fits_signed_from_abs w128 (int_div (way *ℤ gone) whole) (omega (arith, abs-share way gone whole part))
+
 -- the quotient as the code computes it
 pub share_is : (way gone whole : ℤ) → FitsSigned w128 way → FitsSigned w128 gone → FitsSigned w128 whole → nat_abs way < 2 * 10 ^ 9 → nat_abs gone ≤ nat_abs whole → nat_abs whole < 10 ^ 11 → to_z w128 (of_z w128 (int_div (to_z w128 (of_z w128 (to_z w128 (of_z w128 way) *ℤ to_z w128 (of_z w128 gone)))) (to_z w128 (of_z w128 whole)))) ≡ int_div (way *ℤ gone) whole
 share_is way gone whole fits fits' fits'' short part small =
-    let product : FitsSigned w128 (way *ℤ gone) = fits_signed_mul w128 way gone (2 * 10 ^ 9) (10 ^ 11) (omega arith) (omega arith) (omega arith) in
-    let wide : FitsSigned w128 (int_div (way *ℤ gone) whole) = fits_signed_from_abs w128 (int_div (way *ℤ gone) whole) (omega (arith, abs-share way gone whole part)) in
-    rw (to_z-of_z w128 way fits, to_z-of_z w128 gone fits', to_z-of_z w128 whole fits'', to_z-of_z w128 (way *ℤ gone) product, to_z-of_z w128 (int_div (way *ℤ gone) whole) wide) refl
+    rw (to_z-of_z w128 way fits, to_z-of_z w128 gone fits', to_z-of_z w128 whole fits'', to_z-of_z w128 (way *ℤ gone) (product-fits way gone whole short part small), to_z-of_z w128 (int_div (way *ℤ gone) whole) (share-fits way gone whole short part)) refl
 
 -- the difference as the code computes it
 pub difference_is : (a b x y : ℤ) → x ≡ a → y ≡ b → nat_abs a < 10 ^ 11 → nat_abs b < 10 ^ 11 → to_z w128 (of_z w128 (to_z w128 (of_z w128 x) -ℤ to_z w128 (of_z w128 y))) ≡ a -ℤ b

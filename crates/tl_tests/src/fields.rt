@@ -1,5 +1,5 @@
 //! Values of the record layouts, worked by hand, and devices that go wrong in mid-stream.
-use crate::fixtures::{RECORD_1, cut};
+use crate::fixtures::{RECORD_1, cut, write_over};
 use arrayvec::ArrayVec;
 use std::alloc::Global;
 use std::io::{BufReader, ErrorKind, Read, Write};
@@ -159,7 +159,7 @@ fn is_write<W: Write>(writer: &mut Counting<W>, row: &str) -> bool {
     let (failed, rest) = cut(rest);
     let (empty, flushes) = cut(rest);
     let written = match text {
-        "flush" => writer.flush_counted().ok().map(|()| 0),
+        "flush" => writer.flush_counted().ok().and(Some(0)),
         _ => writer.write_counted(text.as_bytes()).ok(),
     };
     written == taken.parse().ok()
@@ -256,26 +256,20 @@ const FAILURES: &str = "1|0|0
 3|3|9
 300|0|0";
 
-/// Whether reading a line fails with so many of its bytes read.
-fn fails_behind<R: CountedRead>(reader: &mut R, bytes: usize) -> bool {
-    let mut content = ArrayVec::new();
-    reader.read_content(&mut content) == Stop::ReadFailed && content.len() == bytes
-}
-
 /// Whether a line's bytes stop, through a buffer over a device that fails after so many calls, behind so many bytes, and with that call.
-fn stops_at(alloc: Global, size: usize, calls: u64, bytes: usize) -> bool {
+fn is_failure(alloc: Global, row: &str) -> bool {
+    let (size, rest) = cut(row);
+    let (calls, bytes) = cut(rest);
+    let calls = count(calls) as u64;
     let device = Fuse::after_calls(b"abcdefghijkl\n".as_slice(), calls, FAILS);
-    let Ok(buffer) = BufReader::with_capacity(alloc, size, device) else {
+    let Ok(buffer) = BufReader::with_capacity(alloc, count(size), device) else {
         return false;
     };
     let mut reader = Buffered::new(buffer);
-    fails_behind(&mut reader, bytes) && reader.get_ref().get_ref().calls == calls.saturating_add(1)
-}
-
-fn is_failure(alloc: Global, row: &str) -> bool {
-    let (size, rest) = cut(row);
-    let (calls, read) = cut(rest);
-    stops_at(alloc, count(size), count(calls) as u64, count(read))
+    let mut content = ArrayVec::new();
+    let stop = reader.read_content(&mut content);
+    let made = reader.get_ref().get_ref().calls;
+    stop == Stop::ReadFailed && content.len() == count(bytes) && made == calls.saturating_add(1)
 }
 
 #[test]
@@ -295,27 +289,12 @@ takes nothing|1|2|a|WriteZero
 takes nothing|4|2|abcd|WriteZero
 takes nothing|5|1|abcde|";
 
-/// What comes of writing `abcde` to a device that goes wrong: the fault, the calls, and the room for the bytes.
-fn written(bytes: usize, burst: Burst) -> (Result<(), WriteFault>, u64, [u8; 8]) {
-    let mut room = [0u8; 8];
-    let inner: &mut [u8] = &mut room;
-    let mut writer = Counting::new(Fuse::after_bytes(inner, bytes, burst));
-    let outcome = write_whole(&mut writer, b"abcde");
-    let calls = writer.get_ref().calls;
-    (outcome, calls, room)
-}
-
 /// Whether an outcome has the fault with this name, or none where the name is empty.
 fn is_fault(outcome: Result<(), WriteFault>, name: &str) -> bool {
     match outcome {
         Ok(()) => name.is_empty(),
         Err(fault) => fault.name() == name,
     }
-}
-
-/// Whether a room begins with these bytes, and has none behind them.
-fn begins_with(room: &[u8], bytes: &[u8]) -> bool {
-    room.get(..bytes.len()) == Some(bytes) && room.get(bytes.len()) == Some(&0)
 }
 
 fn burst_named(way: &str) -> Burst {
@@ -325,13 +304,20 @@ fn burst_named(way: &str) -> Burst {
     }
 }
 
+/// Whether what comes of writing `abcde` to a device that goes wrong is what a row says.
 fn is_text(row: &str) -> bool {
     let (way, rest) = cut(row);
     let (taken, rest) = cut(rest);
     let (calls, rest) = cut(rest);
     let (bytes, name) = cut(rest);
-    let (outcome, made, room) = written(count(taken), burst_named(way));
-    is_fault(outcome, name) && calls.parse() == Ok(made) && begins_with(&room, bytes.as_bytes())
+    let mut expected = [0; 8];
+    write_over(&mut expected, bytes.as_bytes());
+    let mut room = [0; 8];
+    let inner: &mut [u8] = &mut room;
+    let mut writer = Counting::new(Fuse::after_bytes(inner, count(taken), burst_named(way)));
+    let outcome = write_whole(&mut writer, b"abcde");
+    let made = writer.get_ref().calls;
+    is_fault(outcome, name) && calls.parse() == Ok(made) && room == expected
 }
 
 #[test]

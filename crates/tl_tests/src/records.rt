@@ -1,6 +1,6 @@
 //! Lines of record files, worked by hand.
-use crate::fixtures::{RECORD_1, cut};
-use std::alloc::Global;
+use crate::files::{BLANKS, line_of};
+use crate::fixtures::{RECORD_1, cut, write_text};
 use std::io::ErrorKind;
 use tl_fields::{Burst, Counting, Fuse};
 use tl_records::{Line, LineFault, read_line, rt1, rt4, rt5, rt6};
@@ -21,37 +21,6 @@ fn record_of(tag: &str) -> &'static [u8] {
     }
 }
 
-/// The bytes of words of hexadecimal digits. The word `..7` is the record's first 7 bytes, `7..` those behind them.
-fn bytes_of(alloc: Global, record: &[u8], words: &str) -> Option<Vec<u8>> {
-    let mut bytes = Vec::new(alloc);
-    for word in words.split_whitespace() {
-        push_word(&mut bytes, record, word)?;
-    }
-    Some(bytes)
-}
-
-fn push_word(bytes: &mut Vec<u8>, record: &[u8], word: &str) -> Option<()> {
-    match word.split_once("..") {
-        Some((start, end)) => {
-            let start = start.parse().unwrap_or(0);
-            let end = end.parse().unwrap_or(record.len());
-            bytes.extend_from_slice(record.get(start..end)?).ok()
-        }
-        None => push_digits(bytes, word),
-    }
-}
-
-fn push_digits(bytes: &mut Vec<u8>, digits: &str) -> Option<()> {
-    let value = u64::from_str_radix(digits, 16).ok()?;
-    push_last(bytes, &value.to_be_bytes(), digits.len() / 2)
-}
-
-/// Adds so many bytes of a value, the last ones.
-fn push_last(bytes: &mut Vec<u8>, value: &[u8], count: usize) -> Option<()> {
-    let unused = value.len().saturating_sub(count);
-    bytes.extend_from_slice(value.get(unused..)?).ok()
-}
-
 /// Whether a row expects this fault, as its number, its name and its line, or none.
 fn is_as_expected(fault: Option<LineFault>, expected: &str) -> bool {
     let Some(fault) = fault else {
@@ -62,37 +31,42 @@ fn is_as_expected(fault: Option<LineFault>, expected: &str) -> bool {
     number.parse() == Ok(fault.number()) && name == fault.name() && line.parse() == Ok(fault.line)
 }
 
-// A file (LF is 0a, CR is 0d), how many lines it has, and the lines.
+// A file, with `_` for a blank, `^` for CR and `$` for LF, how many lines it has, and the lines.
 const LINES: &str = "|0|
-61620a63640a|2|6162,6364
-61620d0a 63640d0a|2|6162,6364
-61620d0a 6364|2|6162,6364
-61620a 0d0a 6364|3|6162,,6364
-0a0d0a0a|3|,,
-0a0a61|3|,,61
-610d620d 0d0a630d|2|610d620d,630d
-0d|1|0d
-e9ff80000a|1|e9ff8000
-0b0c850a20|2|0b0c85,20";
+ab$cd$|2|ab,cd
+ab^$cd^$|2|ab,cd
+ab^$cd|2|ab,cd
+ab$^$cd|3|ab,,cd
+$^$$|3|,,
+$$a|3|,,a
+a^b^^$c^|2|a^b^,c^
+^|1|^
+\u{e9}\u{ff}\u{80}\0$|1|\u{e9}\u{ff}\u{80}\0
+\u{b}\u{c}\u{85}$_|2|\u{b}\u{c}\u{85},_";
+
+/// The bytes of a text, in a room that they fit in.
+fn bytes_of<'a>(room: &'a mut [u8; 16], text: &str) -> &'a [u8] {
+    write_text(room, 1, text);
+    room.get(..text.chars().count()).unwrap_or(b"too long")
+}
 
 /// Whether the next line has these bytes.
-fn is_next(reader: &mut Counting<&[u8]>, line: &mut Line, bytes: &[u8]) -> bool {
-    read_line(reader, line) == Ok(Some(())) && line.bytes() == bytes
+fn is_next(reader: &mut Counting<&[u8]>, line: &mut Line, text: &str) -> bool {
+    read_line(reader, line) == Ok(Some(())) && line.bytes() == bytes_of(&mut [0; 16], text)
 }
 
-/// Whether the next line has these bytes, in hexadecimal digits.
-fn has_next(alloc: Global, reader: &mut Counting<&[u8]>, line: &mut Line, words: &str) -> bool {
-    bytes_of(alloc, b"", words).is_some_and(|bytes| is_next(reader, line, &bytes))
-}
-
-/// Whether a file has these lines, so many, and no more.
-fn has_lines(alloc: Global, file: &[u8], count: u32, lines: &str) -> bool {
-    let mut expected = lines.split(',');
-    let mut reader = Counting::new(file);
+/// Whether the lines of a row's file are those of the row, so many, and no more.
+fn is_file(row: &str) -> bool {
+    let (file, rest) = cut(row);
+    let (count, lines) = cut(rest);
+    let count = count.parse().unwrap_or(u32::MAX);
+    let mut room = [0; 16];
+    let mut reader = Counting::new(bytes_of(&mut room, file));
     let mut line = Line::new();
+    let mut expected = lines.split(',');
     for before in 0..count {
-        let words = expected.next().unwrap_or("none");
-        if !has_next(alloc, &mut reader, &mut line, words) || line.number() != before + 1 {
+        let text = expected.next().unwrap_or("none");
+        if !is_next(&mut reader, &mut line, text) || line.number() != before + 1 {
             return false;
         }
     }
@@ -100,20 +74,10 @@ fn has_lines(alloc: Global, file: &[u8], count: u32, lines: &str) -> bool {
     read == Ok(None) && line.bytes().is_empty() && line.number() == count
 }
 
-/// Whether the lines of a row's file are those of the row.
-fn is_file(alloc: Global, row: &str) -> bool {
-    let (file, rest) = cut(row);
-    let (count, lines) = cut(rest);
-    let Ok(count) = count.parse() else {
-        return false;
-    };
-    bytes_of(alloc, b"", file).is_some_and(|file| has_lines(alloc, &file, count, lines))
-}
-
 #[test]
 fn lines_of_files(rt: HostRuntime) {
     for row in LINES.lines() {
-        assert!(rt; is_file(rt.alloc(), row), "{row}");
+        assert!(rt; is_file(row), "{row}");
     }
 }
 
@@ -121,165 +85,136 @@ fn lines_of_files(rt: HostRuntime) {
 const LETTERS: &[u8; 231] =
     b"xxxxxxxxxxxxxxxxxxxxxxxxxxxxxxxxxxxxxxxxxxxxxxxxxxxxxxxxxxxxxxxxxxxxxxxxxxxxxxxxxxxxxxxxxxxxxxxxxxxxxxxxxxxxxxxxxxxxxxxxxxxxxxxxxxxxxxxxxxxxxxxxxxxxxxxxxxxxxxxxxxxxxxxxxxxxxxxxxxxxxxxxxxxxxxxxxxxxxxxxxxxxxxxxxxxxxxxxxxxxxxxxxxxxxxx";
 
-// How many lines have been read, the file, of whose letters there are as many as stand behind `..`, how many reads pass before one fails, what
-// comes of the next line, its length, and how many bytes are left.
-const LENGTHS: &str = "0|..227 0a|999|ok|227|0
-0|..228 0d0a|999|ok|228|0
-0|..229 0d0a|999|ok|229|0
-0|..230 0a|999|ok|230|0
-0|..230|999|ok|230|0
-0|..229 0d|999|ok|230|0
-0|..230 0d0a|999|1 WrongLength 1|0|1
-0|..231 0a|999|1 WrongLength 1|0|1
-0|..231|999|1 WrongLength 1|0|0
-0|..0|0|5 Read 1|0|0
-6|..4 0a|3|5 Read 7|0|2
-6|..4 0a|4|5 Read 7|0|1";
+// How many lines have been read, the line by the letters, how many reads pass before one fails, what comes of reading the line, its length,
+// and how many bytes are left.
+const LENGTHS: &str = "0|=*227|999|ok|227|0
+0|=*228~|999|ok|228|0
+0|=*229~|999|ok|229|0
+0|=*230|999|ok|230|0
+0|=*230!|999|ok|230|0
+0|=,^@230*230!|999|ok|230|0
+0|=*230~|999|1 WrongLength 1|0|1
+0|=*231|999|1 WrongLength 1|0|1
+0|=*231!|999|1 WrongLength 1|0|0
+0|=*0!|0|5 Read 1|0|0
+6|=*4|3|5 Read 7|0|2
+6|=*4|4|5 Read 7|0|1";
 
-/// A line behind so many others.
-fn line_behind(others: &str) -> Option<Line> {
+/// A line behind so many others, which are empty.
+fn line_behind(others: u32) -> Line {
     let mut line = Line::new();
-    for _ in 0..others.parse::<u32>().ok()? {
-        read_line(&mut Counting::new(b"\n".as_slice()), &mut line).ok()?;
+    for _ in 0..others {
+        let _ = read_line(&mut Counting::new(b"\n".as_slice()), &mut line);
     }
-    Some(line)
+    line
 }
 
-/// Whether reading the next line from a device is what a row says.
-fn is_read(line: &mut Line, file: &[u8], row: &str) -> bool {
-    let (reads, rest) = cut(row);
+/// Whether reading the line of a row, behind so many others, is what the row says.
+fn is_read(row: &str) -> bool {
+    let (others, rest) = cut(row);
+    let (word, rest) = cut(rest);
+    let (reads, rest) = cut(rest);
     let (expected, rest) = cut(rest);
     let (length, left) = cut(rest);
+    let mut room = BLANKS;
+    let file = line_of(&mut room, LETTERS, 0, word);
     let burst = Burst::Fails(ErrorKind::BrokenPipe);
-    let reads = reads.parse().unwrap_or(0);
-    let mut reader = Counting::new(Fuse::after_calls(file, reads, burst));
-    let fault = read_line(&mut reader, line).err();
+    let mut reader = Counting::new(Fuse::after_calls(file, reads.parse().unwrap_or(0), burst));
+    let mut line = line_behind(others.parse().unwrap_or(0));
+    let fault = read_line(&mut reader, &mut line).err();
     is_as_expected(fault, expected)
         && length.parse() == Ok(line.bytes().len())
         && left.parse() == Ok(reader.get_ref().inner.len())
 }
 
-/// Whether the line behind so many others is that of a row.
-fn is_line(alloc: Global, row: &str) -> bool {
-    let (others, rest) = cut(row);
-    let (file, rest) = cut(rest);
-    let Some(mut line) = line_behind(others) else {
-        return false;
-    };
-    bytes_of(alloc, LETTERS, file).is_some_and(|file| is_read(&mut line, &file, rest))
-}
-
 #[test]
 fn lengths_of_lines(rt: HostRuntime) {
     for row in LENGTHS.lines() {
-        assert!(rt; is_line(rt.alloc(), row), "{row}");
+        assert!(rt; is_read(row), "{row}");
     }
 }
 
-/// The fault of a line of a record type.
-fn fault_of(tag: &str, line: &Line) -> Option<LineFault> {
-    match tag {
-        "1" => rt1(line).err(),
-        "4" => rt4(line).err(),
-        "5" => rt5(line).err(),
-        _ => rt6(line).err(),
-    }
-}
-
-// A record type, a line by the record's bytes, and its fault.
-const FAULTS: &str = "1|0..|ok
-1|..227|1 WrongLength 1
-1|0.. 20|1 WrongLength 1
-1|0.. 0d|ok
-1|0.. 0d0d|1 WrongLength 1
-1|..19 0dff80 22..|ok
-1|34 1..|2 WrongType 1
-1|b1 1..|2 WrongType 1
-1|..5 78 6..|3 BadTlid 1
-1|..5 2020202020 2020202020 15..|3 BadTlid 1
-1|..5 2020202020 2020202030 15..|ok
-1|..14 2d 15..|3 BadTlid 1
-1|..5 0931 7..|3 BadTlid 1
-4|0..|ok
-4|..57|1 WrongLength 1
-4|0.. 20|1 WrongLength 1
-4|31 1..|2 WrongType 1
-4|..5 2020202020 2020202020 15..|3 BadTlid 1
-4|..18 78 19..|ok
-5|0..|ok
-5|..55|1 WrongLength 1
-5|0.. 20|1 WrongLength 1
-5|34 1..|2 WrongType 1
-5|..10 2020202020 202020 18..|4 BadFeature 1
-5|..10 2031203220 202020 18..|4 BadFeature 1
-5|..10 3030303030 303030 18..|ok
-5|..5 2020202020 10..|ok
-6|0..|ok
-6|..75|1 WrongLength 1
-6|0.. 20|1 WrongLength 1
-6|35 1..|2 WrongType 1
-6|..5 2b 6..|3 BadTlid 1
-6||1 WrongLength 1";
-
-/// The one line of a file.
-fn line_of(file: &[u8]) -> Option<Line> {
-    let mut line = Line::new();
-    read_line(&mut Counting::new(file), &mut line).ok()??;
-    Some(line)
-}
-
-/// Whether a line of a record type has this fault, or none.
-fn has_fault(tag: &str, file: &[u8], expected: &str) -> bool {
-    line_of(file).is_some_and(|line| is_as_expected(fault_of(tag, &line), expected))
-}
-
-/// Whether the line of a row has its fault.
-fn is_fault(alloc: Global, row: &str) -> bool {
-    let (tag, rest) = cut(row);
-    let (words, expected) = cut(rest);
-    let Some(mut file) = bytes_of(alloc, record_of(tag), words) else {
-        return false;
-    };
-    file.push(b'\n').is_ok() && has_fault(tag, &file, expected)
-}
-
-#[test]
-fn lines_of_each_type(rt: HostRuntime) {
-    for row in FAULTS.lines() {
-        assert!(rt; is_fault(rt.alloc(), row), "{row}");
-    }
-}
-
-// A record type, CFCC, FEAT2, FETYPE or ZIPL of its record, and the number of TLID or FEAT.
-const FIELDS: &str = "1|A41|123456789
-4|     204|123456789
-5|Rd  |204
-6|36068|123456789";
+// A record type, a line by its record, and its fault, or else CFCC, FEAT2, FETYPE or ZIPL of the record and the number of TLID or FEAT.
+const RECORDS: &str = "1|=|ok|A41|123456789
+1|=*227|1 WrongLength 1
+1|=*229|1 WrongLength 1
+1|=~|ok|A41|123456789
+1|=,^@229*229~|1 WrongLength 1
+1|=,^\u{ff}\u{80}@20|ok|A41|123456789
+1|=,4@1|2 WrongType 1
+1|=,\u{b1}@1|2 WrongType 1
+1|=,x@6|3 BadTlid 1
+1|=,__________@6|3 BadTlid 1
+1|=,_________0@6|ok|A41|0
+1|=,-@15|3 BadTlid 1
+1|=,\t1@6|3 BadTlid 1
+4|=|ok|     204|123456789
+4|=*57|1 WrongLength 1
+4|=*59|1 WrongLength 1
+4|=,1@1|2 WrongType 1
+4|=,__________@6|3 BadTlid 1
+4|=,x@19|ok|     204|123456789
+5|=|ok|Rd  |204
+5|=*55|1 WrongLength 1
+5|=*57|1 WrongLength 1
+5|=,4@1|2 WrongType 1
+5|=,________@11|4 BadFeature 1
+5|=,_1_2____@11|4 BadFeature 1
+5|=,00000000@11|ok|Rd  |0
+5|=,_____@6|ok|Rd  |204
+6|=|ok|36068|123456789
+6|=*75|1 WrongLength 1
+6|=*77|1 WrongLength 1
+6|=,5@1|2 WrongType 1
+6|=,+@6|3 BadTlid 1
+6|*0|1 WrongLength 1";
 
 /// One of the fields of a record, and the number of the field that has one.
 fn fields_of<'a>(tag: &str, line: &'a Line) -> Result<(&'a [u8], u64), LineFault> {
     match tag {
-        "1" => rt1(line).map(|rt1| (rt1.cfcc(), rt1.tlid_number())),
-        "4" => rt4(line).map(|rt4| (rt4.feat2(), rt4.tlid_number())),
-        "5" => rt5(line).map(|rt5| (rt5.fetype(), rt5.feat_number())),
-        _ => rt6(line).map(|rt6| (rt6.zipl(), rt6.tlid_number())),
+        "1" => {
+            let record = rt1(line)?;
+            Ok((record.cfcc(), record.tlid_number()))
+        }
+        "4" => {
+            let record = rt4(line)?;
+            Ok((record.feat2(), record.tlid_number()))
+        }
+        "5" => {
+            let record = rt5(line)?;
+            Ok((record.fetype(), record.feat_number()))
+        }
+        _ => {
+            let record = rt6(line)?;
+            Ok((record.zipl(), record.tlid_number()))
+        }
     }
 }
 
-/// Whether a record has the fields of a row.
-fn has_fields(row: &str) -> bool {
+/// Whether the line of a row has the row's fault or fields.
+fn is_record(row: &str) -> bool {
     let (tag, rest) = cut(row);
+    let (word, rest) = cut(rest);
+    let (expected, rest) = cut(rest);
     let (text, number) = cut(rest);
-    let Some(line) = line_of(record_of(tag)) else {
+    let record = record_of(tag);
+    let mut room = BLANKS;
+    let file = line_of(&mut room, record, record.len(), word);
+    let mut line = Line::new();
+    if read_line(&mut Counting::new(file), &mut line) != Ok(Some(())) {
         return false;
-    };
-    fields_of(tag, &line).is_ok_and(|fields| fields.0 == text.as_bytes()
-        && number.parse() == Ok(fields.1))
+    }
+    match fields_of(tag, &line) {
+        Ok((field, value)) => {
+            expected == "ok" && field == text.as_bytes() && number.parse() == Ok(value)
+        }
+        Err(fault) => is_as_expected(Some(fault), expected),
+    }
 }
 
 #[test]
-fn fields(rt: HostRuntime) {
-    for row in FIELDS.lines() {
-        assert!(rt; has_fields(row), "{row}");
+fn lines_of_each_type(rt: HostRuntime) {
+    for row in RECORDS.lines() {
+        assert!(rt; is_record(row), "{row}");
     }
 }

@@ -1,6 +1,5 @@
 //! Names, house numbers, segments and counties, worked by hand.
 mod counties;
-mod files;
 mod plain;
 
 use crate::fixtures::{RECORD_1, cut, text_of, write_over};
@@ -122,40 +121,30 @@ const LAST: Range<'static> = Range {
     zipr: b"     ",
 };
 
-// The number of a name, and the name.
-const NAMES_IN_ORDER: &str = "\
-0|Main
-1|Oak
-2|Elm
-3|none
-18446744073709551615|none";
+// The number of a name and the name, or the number of a range and its fields in the order of the layout.
+const PARTS: &str = "\
+name|0|Main
+name|1|Oak
+name|2|Elm
+name|3|none
+name|18446744073709551615|none
+range|0|101|199|100|198|36067|36067
+range|1|201|299|||36068|
+range|2|164-20||300|0||
+range|3|none
+range|18446744073709551615|none";
 
-/// Whether a segment has the name of a row, or none.
-fn has_name(segment: &Segment<Global>, row: &str) -> bool {
-    let (number, name) = cut(row);
+/// Whether a segment has the name or the range of a row, or none.
+fn has_part(segment: &Segment<Global>, row: &str) -> bool {
+    let (part, rest) = cut(row);
+    let (number, rest) = cut(rest);
     let Ok(number) = number.parse() else {
         return false;
     };
-    text_of(segment.name(number).unwrap_or(b"none")) == name
-}
-
-// The number of a range, and its fields in the order of the layout.
-const RANGES_IN_ORDER: &str = "\
-0|101|199|100|198|36067|36067
-1|201|299|||36068|
-2|164-20||300|0||
-3|none
-18446744073709551615|none";
-
-/// Whether a segment has the range of a row, or none.
-fn has_range(segment: &Segment<Global>, row: &str) -> bool {
-    let (number, fields) = cut(row);
-    let Ok(number) = number.parse() else {
-        return false;
-    };
-    match segment.range(number) {
-        Some(range) => has_fields(range, fields),
-        None => fields == "none",
+    match (part, segment.range(number)) {
+        ("name", _) => text_of(segment.name(number).unwrap_or(b"none")) == rest,
+        (_, Some(range)) => has_fields(range, rest),
+        (_, None) => rest == "none",
     }
 }
 
@@ -186,21 +175,6 @@ fn segment_of(alloc: Global) -> Result<Segment<Global>, AllocError> {
     Ok(segment)
 }
 
-/// A row that a segment doesn't agree with.
-fn wrong_part(segment: &Segment<Global>) -> Option<&'static str> {
-    for row in NAMES_IN_ORDER.lines() {
-        if !has_name(segment, row) {
-            return Some(row);
-        }
-    }
-    for row in RANGES_IN_ORDER.lines() {
-        if !has_range(segment, row) {
-            return Some(row);
-        }
-    }
-    None
-}
-
 fn counts(segment: &Segment<Global>) -> (u64, u64) {
     (segment.names(), segment.ranges())
 }
@@ -209,6 +183,8 @@ fn counts(segment: &Segment<Global>) -> (u64, u64) {
 fn parts_of_a_segment(rt: HostRuntime) {
     assert!(rt; counts(&Segment::of(rt.alloc(), RECORD_1)) == (0, 1));
     let segment = segment_of(rt.alloc()).expect(&rt, "memory");
-    assert_eq!(rt; wrong_part(&segment), None);
+    for row in PARTS.lines() {
+        assert!(rt; has_part(&segment, row), "{row}");
+    }
     assert!(rt; counts(&segment) == (2, 3) && segment.bytes() == RECORD_1.as_slice());
 }

@@ -1,47 +1,47 @@
 //! Counties worked by hand, and readers and allocators that go wrong in mid-stream.
-use super::files::files_of;
-use super::plain::{push, report_of};
-use crate::fixtures::{Files, RECORD_1, load, reader};
+use super::plain::{are_plain, say};
+use crate::files::files_of;
+use crate::fixtures::{Files, RECORD_1, behind_files, cut, load, reader};
 use linked_list_allocator::LocalHeap;
-use std::alloc::{AllocError, Allocator, Global};
+use std::alloc::{Allocator, Global};
 use tl_records::{Line, LineFault, LineFlaw};
-use tl_segments::{County, CountyFile, Index, LoadFault, Range, Segment};
+use tl_segments::{County, CountyFile, Index, LoadFault, Segment};
 
-/// What the plain program says, of a county that was loaded.
-fn report<A: Allocator>(
-    alloc: Global,
-    county: &Result<County<A>, LoadFault>,
-) -> Result<String, AllocError> {
-    let mut text = String::new(alloc);
+/// Whether this is said of a county that was loaded.
+fn is_said<A: Allocator>(county: &Result<County<A>, LoadFault>, expected: &str) -> bool {
     match county {
-        Err(fault) => text.push_str(fault.line().as_str())?,
-        Ok(county) => push_segments(&mut text, county.segments())?,
+        Err(fault) => fault.line().as_str() == expected,
+        Ok(county) => are_said(county.segments(), expected),
     }
-    Ok(text)
 }
 
-fn push_segments<A: Allocator>(
-    text: &mut String,
-    segments: &[Segment<A>],
-) -> Result<(), AllocError> {
+/// Whether this is said of segments.
+fn are_said<A: Allocator>(segments: &[Segment<A>], expected: &str) -> bool {
+    let mut words = expected.split_terminator(' ');
     for segment in segments {
-        push(text, " ", segment.bytes().get(5..15).unwrap_or(b"none"))?;
-        for n in 1..=segment.names() {
-            push(text, "+", segment.name(n).unwrap_or(b"none"))?;
-        }
-        for n in 1..segment.ranges() {
-            push(text, "/", starts_at(segment.range(n)))?;
+        if say_ranges(segment, say_names(segment, words.next())) != Some("") {
+            return false;
         }
     }
-    Ok(())
+    words.next().is_none()
 }
 
-/// Where a range starts on the left.
-fn starts_at(range: Option<Range<'_>>) -> &[u8] {
-    match range {
-        Some(range) => range.fraddl,
-        None => b"none",
+/// Says the TLID of a segment, and its alternate names.
+fn say_names<'a, A: Allocator>(segment: &Segment<A>, said: Option<&'a str>) -> Option<&'a str> {
+    let mut said = say(said, "", segment.bytes().get(5..15)?);
+    for n in 1..=segment.names() {
+        said = say(said, "+", segment.name(n)?);
     }
+    said
+}
+
+/// Says where the further ranges of a segment start on the left.
+fn say_ranges<'a, A: Allocator>(segment: &Segment<A>, said: Option<&'a str>) -> Option<&'a str> {
+    let mut said = said;
+    for n in 1..segment.ranges() {
+        said = say(said, "/", segment.range(n)?.fraddl);
+    }
+    said
 }
 
 // The lines of types 1, 4, 5 and 6, and what is said of the segments, or the refusal.
@@ -61,7 +61,7 @@ const COUNTIES: &str = "\
 5@15 50@14|50@14,7@26 5@15,8@26|7@18,Oak@21 8@18,Elm@21|50@14,1@29 5@15,2@29|5+Elm/2 50+Oak/1
 |5@15,7@26|7@18,Oak@21|5@15,9@29|
 ||||
-=|=|7@18,Café@21|=|5+Café/9
+=|=|7@18,Caf\u{c3}\u{a9}@21|=|5+Café/9
 = =*227|=|=|=|refused 1 rt1 line 2 WrongLength
 =*229 =|=|=|=|refused 1 rt1 line 1 WrongLength
 = *0 =|=|=|=|refused 1 rt1 line 2 WrongLength
@@ -74,10 +74,10 @@ const COUNTIES: &str = "\
 = -5@9|=|=|=|refused 3 rt1 line 2 BadTlid
 = x@6,5@9|=|=|=|refused 3 rt1 line 2 BadTlid
 = 5@6,5@9|=|=|=|refused 3 rt1 line 2 BadTlid
-= é@6|=|=|=|refused 3 rt1 line 2 BadTlid
+= \u{c3}\u{a9}@6|=|=|=|refused 3 rt1 line 2 BadTlid
 = ^@10,5@11|=|=|=|refused 3 rt1 line 2 BadTlid
 @1|=|=|=|refused 3 rt1 line 1 BadTlid
-=,é@2,^@4|=|=|=|5+Oak/9
+=,\u{c3}\u{a9}@2,^@4|=|=|=|5+Oak/9
 =~ = =~|=|=|=|5+Oak/9 5+Oak/9 5+Oak/9
 =~ =!|=|=|=|5+Oak/9 5+Oak/9
 =~ =~ =*227!|=|=|=|refused 1 rt1 line 3 WrongLength
@@ -100,10 +100,10 @@ const COUNTIES: &str = "\
 =|= -5@9|=|=|refused 3 rt4 line 2 BadTlid
 =|= x@6,5@9|=|=|refused 3 rt4 line 2 BadTlid
 =|= 5@6,5@9|=|=|refused 3 rt4 line 2 BadTlid
-=|= é@6|=|=|refused 3 rt4 line 2 BadTlid
+=|= \u{c3}\u{a9}@6|=|=|refused 3 rt4 line 2 BadTlid
 =|= ^@10,5@11|=|=|refused 3 rt4 line 2 BadTlid
 =|@1|=|=|refused 3 rt4 line 1 BadTlid
-=|=,é@2,^@4|=|=|5+Oak/9
+=|=,\u{c3}\u{a9}@2,^@4|=|=|5+Oak/9
 =|=~ = =~|=|=|5+Oak+Oak+Oak/9
 =|=~ =!|=|=|5+Oak+Oak/9
 =|=~ =~ =*57!|=|=|refused 1 rt4 line 3 WrongLength
@@ -126,10 +126,10 @@ const COUNTIES: &str = "\
 =|=|= -5@14|=|refused 4 rt5 line 2 BadFeature
 =|=|= x@11,5@14|=|refused 4 rt5 line 2 BadFeature
 =|=|= 5@11,5@14|=|refused 4 rt5 line 2 BadFeature
-=|=|= é@11|=|refused 4 rt5 line 2 BadFeature
+=|=|= \u{c3}\u{a9}@11|=|refused 4 rt5 line 2 BadFeature
 =|=|= ^@15,5@16|=|refused 4 rt5 line 2 BadFeature
 =|=|@1|=|refused 4 rt5 line 1 BadFeature
-=|=|=,é@2,^@4|=|5+Oak/9
+=|=|=,\u{c3}\u{a9}@2,^@4|=|5+Oak/9
 =|=|=~ = =~|=|5+Oak/9
 =|=|=~ =!|=|5+Oak/9
 =|=|=~ =~ =*55!|=|refused 1 rt5 line 3 WrongLength
@@ -152,10 +152,10 @@ const COUNTIES: &str = "\
 =|=|=|= -5@9|refused 3 rt6 line 2 BadTlid
 =|=|=|= x@6,5@9|refused 3 rt6 line 2 BadTlid
 =|=|=|= 5@6,5@9|refused 3 rt6 line 2 BadTlid
-=|=|=|= é@6|refused 3 rt6 line 2 BadTlid
+=|=|=|= \u{c3}\u{a9}@6|refused 3 rt6 line 2 BadTlid
 =|=|=|= ^@10,5@11|refused 3 rt6 line 2 BadTlid
 =|=|=|@1|refused 3 rt6 line 1 BadTlid
-=|=|=|=,é@2,^@4|5+Oak/9
+=|=|=|=,\u{c3}\u{a9}@2,^@4|5+Oak/9
 =|=|=|=~ = =~|5+Oak/9/9/9
 =|=|=|=~ =!|5+Oak/9/9
 =|=|=|=~ =~ =*75!|refused 1 rt6 line 3 WrongLength
@@ -194,27 +194,13 @@ const COUNTIES: &str = "\
 =,4@1|=|=|1001:=|refused 7 rt6 line 1001 TooManyRanges
 =|=|1001:=|=|5+Oak/9";
 
-/// Whether this is said of files by a plain program.
-fn is_plain(alloc: Global, files: &Files, expected: &str) -> bool {
-    report_of(alloc, files).is_ok_and(|text| text.trim() == expected)
-}
-
-/// Whether this is said of a county that was loaded.
-fn is_said<A: Allocator>(
-    alloc: Global,
-    county: &Result<County<A>, LoadFault>,
-    expected: &str,
-) -> bool {
-    report(alloc, county).is_ok_and(|text| text.trim() == expected)
-}
-
 /// Whether the files of a row give what it says, by a plain program too.
 fn is_county(alloc: Global, row: &str) -> bool {
-    let (row, expected) = row.rsplit_once('|').unwrap_or((row, "none"));
+    let expected = behind_files(row);
     let Some(files) = files_of(alloc, row) else {
         return false;
     };
-    is_plain(alloc, &files, expected) && is_said(alloc, &load(alloc, &files), expected)
+    are_plain(&files, expected) && is_said(&load(alloc, &files), expected)
 }
 
 #[test]
@@ -226,16 +212,14 @@ fn counties(rt: HostRuntime) {
 
 // The files, the alternate names and the ranges of the last segment, and how many segments there are.
 const LARGE: &str = "\
-=|1000:=,7@34,7@42,7@50,7@58|=|1000:=|5000 1001 1
-=|1000:= 1000:6@15|=|1000:6@15 1000:=|1000 1001 1
-6@15|1000:=|=|1000:=|0 1 1
-1001:= 1001:6@15|=|1001:=|=|0 1 2002";
+=|1000:=,7@34,7@42,7@50,7@58|=|1000:=|5000|1001|1
+=|1000:= 1000:6@15|=|1000:6@15 1000:=|1000|1001|1
+6@15|1000:=|=|1000:=|0|1|1
+1001:= 1001:6@15|=|1001:=|=|0|1|2002";
 
 /// Whether a county's last segment has so many names and ranges, and the county so many segments.
-fn has_counts(county: &County<Global>, expected: &str) -> bool {
-    let (names, rest) = expected.split_once(' ').unwrap_or((expected, ""));
-    let (ranges, count) = rest.split_once(' ').unwrap_or((rest, ""));
-    let segments = county.segments();
+fn has_counts(segments: &[Segment<Global>], expected: [&str; 3]) -> bool {
+    let [names, ranges, count] = expected;
     let Some(last) = segments.last() else {
         return false;
     };
@@ -246,11 +230,16 @@ fn has_counts(county: &County<Global>, expected: &str) -> bool {
 
 /// Whether the county of a row has its counts.
 fn is_large(alloc: Global, row: &str) -> bool {
-    let (row, expected) = row.rsplit_once('|').unwrap_or((row, "none"));
+    let rest = behind_files(row);
+    let (names, rest) = cut(rest);
+    let (ranges, count) = cut(rest);
     let Some(files) = files_of(alloc, row) else {
         return false;
     };
-    load(alloc, &files).is_ok_and(|county| has_counts(&county, expected))
+    match load(alloc, &files) {
+        Ok(county) => has_counts(county.segments(), [names, ranges, count]),
+        Err(_) => false,
+    }
 }
 
 #[test]
@@ -261,8 +250,8 @@ fn many_lines(rt: HostRuntime) {
 }
 
 /// The fault of a county one of whose readers passes so many calls and then fails once, and how many calls all of them got.
-fn fault_of<A: Allocator + Copy>(
-    alloc: A,
+fn fault_of(
+    alloc: Global,
     files: &Files,
     failing: CountyFile,
     passing: u64,
@@ -338,10 +327,10 @@ const SMALL: &str = "= 6@15 =|= 6@15,8@26|= 8@18,Elm@21|= 6@15,7@29 =";
 fn is_refused(alloc: Global, files: &Files, bytes: usize) -> Option<bool> {
     let heap = LocalHeap::new(alloc, bytes).ok()?;
     let county = load(&heap, files);
-    if is_said(alloc, &county, "refused memory") {
+    if is_said(&county, "refused memory") {
         return Some(true);
     }
-    is_said(alloc, &county, "5+Oak/9/9 6+Elm/7 5+Oak/9/9").then_some(false)
+    is_said(&county, "5+Oak/9/9 6+Elm/7 5+Oak/9/9").then_some(false)
 }
 
 /// How many steps of 16 bytes were the last that were too few.

@@ -1,10 +1,9 @@
 //! A county's segments worked out from the bytes of all lines, each time from their beginning.
 use crate::fixtures::{Files, text_of};
-use std::alloc::{AllocError, Global};
 use tl_fields::number;
 
 /// What the lines of a file are like (TIGER/Line 2006), and how they are refused.
-#[derive(Drop)]
+#[derive(Clone, Copy)]
 struct Layout {
     file: &'static str,
     length: usize,
@@ -68,12 +67,10 @@ fn is_line_feed(byte: &u8) -> bool {
 
 /// A line without its end.
 fn content_of(line: &[u8]) -> &[u8] {
-    let [content @ .., b'\n'] = line else {
-        return line;
-    };
-    match content {
-        [content @ .., b'\r'] => content,
-        _ => content,
+    match line {
+        [content @ .., b'\r', b'\n'] => content,
+        [content @ .., b'\n'] => content,
+        _ => line,
     }
 }
 
@@ -107,83 +104,95 @@ fn count_alike(layout: &Layout, file: &[u8], lines: usize, line: &[u8]) -> usize
     count
 }
 
-/// The number of the first line that something is wrong with, and what that is.
-fn refusal_of(layout: &Layout, file: &[u8]) -> Option<(usize, &'static str)> {
-    let mut lines = 0usize;
-    for line in file.split_inclusive(is_line_feed) {
-        lines = lines.wrapping_add(1);
-        let content = content_of(line);
-        if let Some(flaw) = flaw_of(layout, content) {
-            return Some((lines, flaw));
-        }
-        if let Some(flaw) = layout.too_many {
-            if lines > 1000 && count_alike(layout, file, lines, content) > 1000 {
-                return Some((lines, flaw));
-            }
+/// Why a file is refused.
+#[derive(Clone, Copy)]
+struct Refusal {
+    file: &'static str,
+    line: usize,
+    flaw: &'static str,
+}
+
+/// The first line that something is wrong with, and what that is.
+fn refusal_of(layout: &Layout, file: &[u8]) -> Option<Refusal> {
+    let mut line = 0usize;
+    for bytes in file.split_inclusive(is_line_feed) {
+        line = line.wrapping_add(1);
+        let content = content_of(bytes);
+        let flaw = flaw_of(layout, content).or(surplus_of(layout, file, line, content));
+        if let Some(flaw) = flaw {
+            let file = layout.file;
+            return Some(Refusal { file, line, flaw });
         }
     }
     None
 }
 
-/// Writes the refusal of a file, if there is one.
-fn push_refusal(text: &mut String, layout: &Layout, file: &[u8]) -> Result<bool, AllocError> {
-    let Some((line, flaw)) = refusal_of(layout, file) else {
-        return Ok(false);
-    };
-    let (refusal, name) = flaw.split_once(' ').unwrap_or((flaw, ""));
-    write!(text, "refused {refusal} {} line {line} {name}", layout.file)?;
-    Ok(true)
+/// What is wrong where too many of a file's first lines have the number of the last one of them.
+fn surplus_of(layout: &Layout, file: &[u8], lines: usize, last: &[u8]) -> Option<&'static str> {
+    let flaw = layout.too_many?;
+    let is_many = lines > 1000 && count_alike(layout, file, lines, last) > 1000;
+    is_many.then_some(flaw)
 }
 
-/// The TLID of each segment, a `+` before each of its alternate names, and a `/` before where each of its further ranges starts on the left;
-/// or the refusal.
-pub fn report_of(alloc: Global, files: &Files) -> Result<String, AllocError> {
-    let mut text = String::new(alloc);
-    push_report(&mut text, files)?;
-    Ok(text)
+/// Takes a sign and a field behind it off the beginning of what is still to be said, if that is so.
+pub fn say<'a>(said: Option<&'a str>, sign: &str, field: &[u8]) -> Option<&'a str> {
+    said?.strip_prefix(sign)?.strip_prefix(text_of(field))
 }
 
-fn push_report(text: &mut String, files: &Files) -> Result<(), AllocError> {
-    let is_refused = push_refusal(text, &RT4, &files.rt4)?
-        || push_refusal(text, &RT5, &files.rt5)?
-        || push_refusal(text, &RT6, &files.rt6)?
-        || push_refusal(text, &RT1, &files.rt1)?;
-    if is_refused {
-        return Ok(());
+/// Whether this is the refusal's line of text.
+fn is_refusal(refusal: Refusal, expected: &str) -> bool {
+    let (number, name) = refusal.flaw.split_once(' ').unwrap_or(("", ""));
+    let said = say(Some(expected), "refused ", number.as_bytes());
+    let said = say(said, " ", refusal.file.as_bytes());
+    let rest = say(said, " line ", b"").unwrap_or("");
+    let (line, rest) = rest.split_once(' ').unwrap_or(("", ""));
+    line.parse() == Ok(refusal.line) && rest == name
+}
+
+/// Whether this is said of a county's files: of each segment the TLID, a `+` before each of its alternate names, and a `/` before where each
+/// of its further ranges starts on the left; or the refusal.
+pub fn are_plain(files: &Files, expected: &str) -> bool {
+    let refusal = refusal_of(&RT4, &files.rt4)
+        .or(refusal_of(&RT5, &files.rt5))
+        .or(refusal_of(&RT6, &files.rt6))
+        .or(refusal_of(&RT1, &files.rt1));
+    match refusal {
+        Some(refusal) => is_refusal(refusal, expected),
+        None => are_segments(files, expected),
     }
+}
+
+fn are_segments(files: &Files, expected: &str) -> bool {
+    let mut words = expected.split_terminator(' ');
     for line in files.rt1.split_inclusive(is_line_feed) {
-        push(text, " ", part(line, RT1.first, RT1.last))?;
-        let tlid = number_of(&RT1, line);
-        push_names(text, tlid, &files.rt4, &files.rt5)?;
-        push_ranges(text, tlid, &files.rt6)?;
+        let tlid = part(line, 5, 15);
+        let said = say(words.next(), "", tlid);
+        let said = say_names(said, number(tlid), &files.rt4, &files.rt5);
+        if say_ranges(said, number(tlid), &files.rt6) != Some("") {
+            return false;
+        }
     }
-    Ok(())
+    words.next().is_none()
 }
 
-/// Writes a sign and a field behind it.
-pub fn push(text: &mut String, sign: &str, field: &[u8]) -> Result<(), AllocError> {
-    text.push_str(sign)?;
-    text.push_str(text_of(field))?;
-    Ok(())
-}
-
-fn push_names(
-    text: &mut String,
+fn say_names<'a>(
+    said: Option<&'a str>,
     tlid: Option<u64>,
     rt4: &[u8],
     rt5: &[u8],
-) -> Result<(), AllocError> {
+) -> Option<&'a str> {
+    let mut said = said;
     for line in rt4.split_inclusive(is_line_feed) {
         if number_of(&RT4, line) == tlid {
             // FEAT1 to FEAT5.
             for feat in part(line, 18, 58).chunks(8) {
                 if let Some(name) = name_of(number(feat), rt5) {
-                    push(text, "+", name)?;
+                    said = say(said, "+", name);
                 }
             }
         }
     }
-    Ok(())
+    said
 }
 
 /// The name of the first line of type 5 with this number, if there is one.
@@ -196,11 +205,12 @@ fn name_of(feat: Option<u64>, rt5: &[u8]) -> Option<&[u8]> {
     None
 }
 
-fn push_ranges(text: &mut String, tlid: Option<u64>, rt6: &[u8]) -> Result<(), AllocError> {
+fn say_ranges<'a>(said: Option<&'a str>, tlid: Option<u64>, rt6: &[u8]) -> Option<&'a str> {
+    let mut said = said;
     for line in rt6.split_inclusive(is_line_feed) {
         if number_of(&RT6, line) == tlid {
-            push(text, "/", part(line, 18, 29))?;
+            said = say(said, "/", part(line, 18, 29));
         }
     }
-    Ok(())
+    said
 }

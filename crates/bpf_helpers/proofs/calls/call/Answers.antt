@@ -14,3 +14,24 @@ returns-in-NameCopy-clause-frame g c =
 
 pub returns-in-NameIs-clause-frame : goal.returns-in-NameIs-clause-frame
 returns-in-NameIs-clause-frame g c = rw c.in-NameIs.is (sym (write-nothing c.args.frame.now (second c.args.arguments)))
+
+pub returns-in-Field-clause-frame : goal.returns-in-Field-clause-frame
+returns-in-Field-clause-frame g c = rw c.in-Field.is (sym (write-nothing c.args.frame.now (second c.args.arguments)))
+
+pub returns-in-Has-clause-frame : goal.returns-in-Has-clause-frame
+returns-in-Has-clause-frame g c = rw c.in-Has.is (sym (write-nothing c.args.frame.now (second c.args.arguments)))
+
+pub returns-in-Names-clause-frame : goal.returns-in-Names-clause-frame
+returns-in-Names-clause-frame g c = rw c.in-Names.is (sym (write-nothing c.args.frame.now (second c.args.arguments)))
+
+pub returns-in-Ranges-clause-frame : goal.returns-in-Ranges-clause-frame
+returns-in-Ranges-clause-frame g c = rw c.in-Ranges.is (sym (write-nothing c.args.frame.now (second c.args.arguments)))
+
+pub returns-in-InRange-clause-frame : goal.returns-in-InRange-clause-frame
+returns-in-InRange-clause-frame g c = rw c.in-InRange.is (sym (write-nothing c.args.frame.now (second c.args.arguments)))
+
+pub returns-in-Emit-clause-frame : goal.returns-in-Emit-clause-frame
+returns-in-Emit-clause-frame g c = rw c.in-Emit.is (sym (write-nothing c.args.frame.now (second c.args.arguments)))
+
+pub returns-in-Coord-clause-frame : goal.returns-in-Coord-clause-frame
+returns-in-Coord-clause-frame g c = rw c.in-Coord.is (sym (write-nothing c.args.frame.now (second c.args.arguments)))

@@ -1,7 +1,18 @@
 use Rattle.std.proofs.Common.{w64, ◌*ℤ◌, int_div, FitsSigned, arith}
-use Rattle.std.proofs.lemmas.Int.{fits_signed_from_abs, to_z-of_z}
-use Rattle.geocode.proofs.PositionLemmas.{abs-share, share_is}
+use Rattle.std.specs.Int.{w128}
+use Rattle.std.proofs.lemmas.Int.{fits_signed_from_abs, ints, to_z-of_z}
+use Rattle.geocode.proofs.PositionLemmas.{abs-share, product-fits, share-fits, share_is}
 use Rattle.geocode.proofs.position.share_of.Goals as goal
+
+pub overflow_mul-result : goal.overflow_mul-result
+overflow_mul-result c =
+    rw (to_z-of_z w128 c.args.way c.ranges.way, to_z-of_z w128 c.args.gone c.ranges.gone) (product-fits c.args.way c.args.gone c.args.whole c.requires.way c.requires.gone c.requires.whole)
+
+pub nonzero_div-result : goal.nonzero_div-result
+nonzero_div-result c =
+    let product : FitsSigned w128 (c.args.way *ℤ c.args.gone) = product-fits c.args.way c.args.gone c.args.whole c.requires.way c.requires.gone c.requires.whole in
+    let share = share-fits c.args.way c.args.gone c.args.whole c.requires.way c.requires.gone in
+    (grind (arith, ints), rw (to_z-of_z w128 c.args.way c.ranges.way, to_z-of_z w128 c.args.gone c.ranges.gone, to_z-of_z w128 c.args.whole c.ranges.whole, to_z-of_z w128 (c.args.way *ℤ c.args.gone) product) share)
 
 pub overflow_cast-result : goal.overflow_cast-result
 overflow_cast-result c =
