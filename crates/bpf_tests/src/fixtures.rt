@@ -1,10 +1,14 @@
 //! A record, and how rows of text are read.
-use bpf_insn::{Code, decode};
+use bpf_insn::{Code, Insn, decode, encode};
+use bpf_text::assemble;
 use std::alloc::{AllocError, Global};
 
 /// A line of record type 1: the 228 bytes of the layout, blank where nothing is named.
 pub const RECORD: &[u8; 228] =
     b"10006 123456789    Main                                A41        101        199        100        198    3606736067                                                                          -086500000+32400000-086490000+32410000";
+
+/// The bytes of EXIT.
+pub const EXIT: &[u8] = b"\x95\0\0\0\0\0\0\0";
 
 /// The two parts of a row, before and behind a sign. A row without it has nothing behind.
 pub fn cut<'a>(row: &'a str, sign: &str) -> (&'a str, &'a str) {
@@ -29,28 +33,15 @@ pub fn put(bytes: &mut [u8], at: u64, text: &str) {
     }
 }
 
-/// Whether a row is a heading.
-pub fn is_heading(row: &str) -> bool {
-    row.starts_with('#')
-}
-
-/// The bytes of a row, each in hexadecimal digits.
+/// The bytes of hexadecimal digits with spaces between them: two digits are a byte, and so is one that stands alone.
 pub fn bytes_of(alloc: Global, row: &str) -> Option<Vec<u8>> {
     let mut bytes = Vec::new(alloc);
-    for byte in row.split_whitespace() {
-        bytes.push(u8::from_str_radix(byte, 16).ok()?).ok()?;
+    for digits in row.split_whitespace() {
+        let word = u64::from_str_radix(digits, 16).ok()?.to_be_bytes();
+        let unused = word.len().saturating_sub(digits.len().div_ceil(2));
+        bytes.extend_from_slice(word.get(unused..)?).ok()?;
     }
     Some(bytes)
-}
-
-/// The bytes of words in hexadecimal digits.
-fn program_of(alloc: Global, words: &str) -> Option<Vec<u8>> {
-    let mut program = Vec::new(alloc);
-    for word in words.split_whitespace() {
-        let word = hexadecimal(word)?;
-        program.extend_from_slice(&word.to_be_bytes()).ok()?;
-    }
-    Some(program)
 }
 
 /// Words so often, with what stands before and behind them.
@@ -73,6 +64,20 @@ pub fn repeated(
 /// The code whose words stand in a row's last column.
 pub fn code_of(alloc: Global, row: &str) -> Option<Code<Global>> {
     let (_, words) = row.rsplit_once("; ").unwrap_or(("", row));
-    let program = program_of(alloc, words)?;
+    let program = bytes_of(alloc, words)?;
     decode(alloc, &program).ok()
+}
+
+/// The instruction that a line of program text writes.
+pub fn instruction_of(alloc: Global, line: &str) -> Option<Insn> {
+    let code = assemble(alloc, line).ok()?;
+    code.at(0)
+}
+
+/// Whether a code is written as these bytes.
+pub fn is_written(alloc: Global, code: &Code<Global>, bytes: &[u8]) -> bool {
+    match encode(alloc, code) {
+        Ok(encoded) => encoded.as_slice() == bytes,
+        Err(_) => false,
+    }
 }

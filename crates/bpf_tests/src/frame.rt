@@ -7,37 +7,38 @@ use bpf_insn::FRAME_LENGTH;
 use bpf_kinds::Order;
 
 // What is marked in a map and in another, each by the first offset and how many; whether the first has the same marks as the other, more,
-// fewer or others; and the bytes that are written in both, by the first and the last of each run.
+// fewer or others; and the bytes that are written in both, by the first of each run and how many.
 const MAPS: &str = "\
-60+8;60+8;same;60-67
-0+512;0+512;same;0-511
-511+1;448+64;fewer;511-511
+60+8;60+8;same;60+8
+0+512;0+512;same;0+512
+511+1;448+64;fewer;511+1
 64+0;;same;
 ;0+512;fewer;
 0+0 511+0 512+0;0+512;fewer;
-60+8;60+9;fewer;60-67
+60+8;60+9;fewer;60+8
 0+64;64+64;others;
-63+2;0+64 65+447;others;63-63
-0+512;511+1;more;511-511
-0+1;0+511;fewer;0-0
+63+2;0+64 65+447;others;63+1
+0+512;511+1;more;511+1
+0+1;0+511;fewer;0+1
 0+1 2+1 4+1;1+1 3+1 5+1;others;
-60+8 68+4 72+8;63+14;more;63-76
-510+2 0+2;1+510;others;1-1 510-510
-128+64 120+20;127+66;others;127-191
-504+8;496+12;others;504-507
-508+4 504+4;504+8;same;504-511
-154+6 74+24 374+14 219+0;428+0 92+108 60+31 228+15 406+0;others;74-90 92-97 154-159
+60+8 68+4 72+8;63+14;more;63+14
+510+2 0+2;1+510;others;1+1 510+1
+128+64 120+20;127+66;others;127+65
+504+8;496+12;others;504+4
+508+4 504+4;504+8;same;504+8
+154+6 74+24 374+14 219+0;428+0 92+108 60+31 228+15 406+0;others;74+17 92+6 154+6
 136+13 147+30;185+0 381+0 61+52 508+3;others;
-476+29 370+7 184+1 307+126;459+19 74+1 168+4 500+0;others;476-477
-321+22 358+127;70+1 485+0 317+174 456+22 395+0;fewer;321-342 358-484
-363+1 505+0 294+3 407+63 82+7;284+6 285+45 389+2 84+2 237+0;others;84-85 294-296";
+476+29 370+7 184+1 307+126;459+19 74+1 168+4 500+0;others;476+2
+321+22 358+127;70+1 485+0 317+174 456+22 395+0;fewer;321+22 358+127
+363+1 505+0 294+3 407+63 82+7;284+6 285+45 389+2 84+2 237+0;others;84+2 294+3
+";
 
 /// Whether a row says how two maps are to each other, and what is written in both.
 fn is_map(row: &str) -> Option<bool> {
     let (marks, rest) = cut(row, ";");
     let (others, rest) = cut(rest, ";");
     let (order, runs) = cut(rest, ";");
-    let (map, other, written) = (map_of(marks)?, map_of(others)?, bytes_of(runs)?);
+    let ((map, _), (other, _), (_, written)) = (marked(marks)?, marked(others)?, marked(runs)?);
     Some(
         order_of(&map, &other) == order
             && has_exactly(&map.join(&other), &written)
@@ -52,38 +53,28 @@ fn maps(rt: HostRuntime) {
     }
 }
 
-/// The map with so many bytes marked from each offset on.
-fn map_of(text: &str) -> Option<FrameMap> {
+/// The map with so many bytes marked from each offset on, and these bytes as truth values.
+fn marked(text: &str) -> Option<(FrameMap, [bool; FRAME_LENGTH])> {
     let mut map = FrameMap::unwritten();
-    for marks in text.split_whitespace() {
-        let (from, len) = ends_of(marks, "+")?;
-        if from + len <= FRAME_LENGTH {
-            map.mark(from, len);
-        }
-    }
-    Some(map)
-}
-
-/// The bytes of some runs, as truth values.
-fn bytes_of(text: &str) -> Option<[bool; FRAME_LENGTH]> {
     let mut written = [false; FRAME_LENGTH];
     for run in text.split_whitespace() {
-        let (first, last) = ends_of(run, "-")?;
-        for at in 0..FRAME_LENGTH {
-            written[at] = written[at] || first <= at && at <= last;
+        let (from, len) = run_of(run)?;
+        if from + len <= FRAME_LENGTH {
+            map.mark(from, len);
+            written[from..from + len].fill(true);
         }
     }
-    Some(written)
+    Some((map, written))
 }
 
-/// Two numbers below 65,536 round a sign.
-fn ends_of(text: &str, sign: &str) -> Option<(usize, usize)>
-    ensures { IfSome result (λ ends. (ends.0 < 2 ^ 16) × (ends.1 < 2 ^ 16)) }
+/// An offset below 65,536, and how many bytes.
+fn run_of(text: &str) -> Option<(usize, usize)>
+    ensures { IfSome result (λ run. (run.0 < 2 ^ 16) × (run.1 < 2 ^ 16)) }
 {
-    let (first, second) = cut(text, sign);
+    let (from, len) = cut(text, "+");
     Some((
-        usize::from(first.parse::<u16>().ok()?),
-        usize::from(second.parse::<u16>().ok()?),
+        usize::from(from.parse::<u16>().ok()?),
+        usize::from(len.parse::<u16>().ok()?),
     ))
 }
 

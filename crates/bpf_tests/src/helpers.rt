@@ -24,21 +24,15 @@ const NUMBERS: &str = "\
 2147483648 none
 4294967295 none";
 
-fn is_number(row: &str) -> bool {
-    let (number, name) = cut(row, " ");
-    let Ok(number) = number.parse() else {
-        return false;
-    };
-    match Helper::by_number(number) {
-        Some(helper) => helper.name() == name,
-        None => name == "none",
-    }
-}
-
 #[test]
 fn numbers(rt: HostRuntime) {
     for row in NUMBERS.lines() {
-        assert!(rt; is_number(row), "{row}");
+        let (number, name) = cut(row, " ");
+        let found = match Helper::by_number(number.parse().expect(&rt, row)) {
+            Some(helper) => helper.name(),
+            None => "none",
+        };
+        assert!(rt; found == name, "{row}");
     }
 }
 
@@ -175,27 +169,17 @@ const CALLS: &str = "\
 #[test]
 fn calls(rt: HostRuntime) {
     for row in CALLS.lines() {
-        assert!(rt; is_call(rt.alloc(), row), "{row}");
+        assert!(rt; is_call(rt.alloc(), row) == Some(true), "{row}");
     }
 }
 
 /// Whether a call gives what a row says on the row's segment.
-fn is_call(alloc: Global, row: &str) -> bool {
+fn is_call(alloc: Global, row: &str) -> Option<bool> {
     let (texts, rest) = cut(row, "|");
-    let Ok(segment) = segment_of(alloc, texts) else {
-        return false;
-    };
-    is_answered(&segment, rest)
-}
-
-/// Whether a call on a segment gives what a row says.
-fn is_answered(segment: &Segment<Global>, row: &str) -> bool {
-    let (text, rest) = cut(row, "|");
-    let Some(call) = call_of(text) else {
-        return false;
-    };
-    let (helper, arguments) = call;
-    answers(segment, helper, arguments, rest)
+    let (text, rest) = cut(rest, "|");
+    let (helper, arguments) = call_of(text)?;
+    let segment = segment_of(alloc, texts).ok()?;
+    Some(answers(&segment, helper, arguments, rest))
 }
 
 fn answers(segment: &Segment<Global>, helper: Helper, arguments: [u64; 3], row: &str) -> bool
@@ -218,24 +202,19 @@ fn answers(segment: &Segment<Global>, helper: Helper, arguments: [u64; 3], row: 
     answer.parse() == Ok(given) && frame == expected && score == expected_score
 }
 
-/// A segment with two alternate names and two further ranges, whose line has the texts laid over it.
+/// A segment with two alternate names and two further ranges, whose line has the texts laid over it, each from its place on.
 fn segment_of(alloc: Global, texts: &str) -> Result<Segment<Global>, AllocError> {
     let mut line = *LINE;
-    lay(&mut line, texts);
+    for laid in texts.split(';') {
+        let (place, text) = cut(laid, "=");
+        put(&mut line, number_of(place).saturating_sub(1), text);
+    }
     let mut segment = Segment::of(alloc, &line);
     segment.push_name(ACCENTED)?;
     segment.push_name(LONG)?;
     segment.push_range(FURTHER)?;
     segment.push_range(LAST)?;
     Ok(segment)
-}
-
-/// Lays texts over a line, each from its place on.
-fn lay(line: &mut [u8], texts: &str) {
-    for laid in texts.split(';') {
-        let (place, text) = cut(laid, "=");
-        put(line, number_of(place).saturating_sub(1), text);
-    }
 }
 
 /// A helper function and arguments that meet its signature.

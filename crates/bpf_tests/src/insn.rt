@@ -7,8 +7,6 @@ mod instructions;
 mod refusals;
 mod sizes;
 
-const EXIT: &[u8] = b"\x95\0\0\0\0\0\0\0";
-
 /// Whether bytes are refused with this line, or are a code where a row says `ok`.
 fn gives(alloc: Global, bytes: &[u8], line: &str) -> bool {
     match decode(alloc, bytes) {

@@ -19,8 +19,6 @@ mod machine;
 #[cfg(test)]
 mod meaning;
 #[cfg(test)]
-mod names;
-#[cfg(test)]
 mod text;
 #[cfg(test)]
 mod verify;

@@ -3,7 +3,6 @@
 
 use crate::fixtures::{RECORD, code_of, cut, is_exit};
 use bpf_flow::Flow;
-use bpf_insn::Code;
 use bpf_machine::run;
 use bpf_verify::verify;
 use std::alloc::{AllocError, Global};
@@ -33,18 +32,6 @@ const FURTHER: Range<'static> = Range {
     zipr: b"36068",
 };
 
-/// Whether a code, once verified, answers this on a segment.
-fn answers(alloc: Global, code: Code<Global>, segment: &Segment<Global>, wanted: &str) -> bool {
-    let Ok(flow) = Flow::of(code) else {
-        return false;
-    };
-    let Ok(verified) = verify(alloc, flow) else {
-        return false;
-    };
-    let answer = run(&verified, segment);
-    is_exit(wanted, answer.r0, answer.score)
-}
-
 /// A segment with an alternate name and two further ranges.
 fn segment_of(alloc: Global) -> Result<Segment<Global>, AllocError> {
     let mut segment = Segment::of(alloc, RECORD);
@@ -54,27 +41,14 @@ fn segment_of(alloc: Global) -> Result<Segment<Global>, AllocError> {
     Ok(segment)
 }
 
-/// Whether the program of a row answers what the row says.
-fn is_answer(alloc: Global, segment: &Segment<Global>, row: &str) -> bool {
-    let (wanted, program) = cut(row, "; ");
-    let Some(code) = code_of(alloc, program) else {
-        return false;
-    };
-    answers(alloc, code, segment, wanted)
-}
-
-/// The row that's wrong, if there is one.
-fn wrong_row(alloc: Global, segment: &Segment<Global>) -> Option<&'static str> {
-    for row in ANSWERS.lines() {
-        if !is_answer(alloc, segment, row) {
-            return Some(row);
-        }
-    }
-    None
-}
-
 #[test]
 fn runs(rt: HostRuntime) {
     let segment = segment_of(rt.alloc()).expect(&rt, "memory");
-    assert_eq!(rt; wrong_row(rt.alloc(), &segment), None);
+    for row in ANSWERS.lines() {
+        let code = code_of(rt.alloc(), row).expect(&rt, row);
+        let flow = Flow::of(code).expect(&rt, row);
+        let verified = verify(rt.alloc(), flow).expect(&rt, row);
+        let answer = run(&verified, &segment);
+        assert!(rt; is_exit(cut(row, "; ").0, answer.r0, answer.score), "{row}");
+    }
 }

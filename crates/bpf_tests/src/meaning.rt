@@ -1,14 +1,15 @@
 //! Programs worked by hand, or by another tool, on a record whose bytes are known. Each table has a row a line: what comes of the program,
 //! its text, and its words in hexadecimal. What comes of it is its answer, the refusal where it's stuck, or `running`.
 
-use crate::fixtures::{RECORD, code_of, cut, is_exit, is_heading, put};
+use crate::fixtures::{RECORD, code_of, cut, is_exit, put};
 use bpf_insn::{Code, Value};
 use bpf_meaning::{Outcome, State, step, trace};
 use std::alloc::{AllocError, Global};
 use tl_segments::{Range, Segment};
 
-const OUTCOMES: &str = "\
-# Operations, jumps and memory.
+const OUTCOMES: &str = concat!(
+    // Operations, jumps and memory.
+    "\
 1; mov r0, 1; b700000001000000 9500000000000000
 0; mov r0, -1 | add r0, 1; b7000000ffffffff 0700000001000000 9500000000000000
 1; mov r0, 1 | exit | ldxb r0, [r9+0]; b700000001000000 9500000000000000 7190000000000000 9500000000000000
@@ -52,7 +53,9 @@ const OUTCOMES: &str = "\
 2; mov r0, 1 | ja32 +2 | mov r0, 2 | exit | ja32 -3; b700000001000000 0600000002000000 b700000002000000 9500000000000000 06000000fdffffff 9500000000000000
 1; mov r2, 5 | mov r3, -1 | mov r0, 0 | jsgt r2, r3, +1 | exit | mov r0, 1; b702000005000000 b7030000ffffffff b700000000000000 6d32010000000000 9500000000000000 b700000001000000 9500000000000000
 0; mov r2, 5 | mov r3, -1 | mov r0, 0 | jgt r2, r3, +1 | exit | mov r0, 1; b702000005000000 b7030000ffffffff b700000000000000 2d32010000000000 9500000000000000 b700000001000000 9500000000000000
-# Each operation in both widths, at 0, 1, all ones, and the least and the greatest signed numbers.
+",
+    // Each operation in both widths, at 0, 1, all ones, and the least and the greatest signed numbers.
+    "\
 9223372036854775808; lddw r0, 0x7fffffffffffffff | lddw r2, 0x1 | add r0, r2; 18000000ffffffff 00000000ffffff7f 1802000001000000 0000000000000000 0f20000000000000 9500000000000000
 4294967295; lddw r0, 0x0 | lddw r2, 0xffffffffffffffff | add32 r0, r2; 1800000000000000 0000000000000000 18020000ffffffff 00000000ffffffff 0c20000000000000 9500000000000000
 9223372036854775809; lddw r0, 0x8000000000000000 | lddw r2, 0xffffffffffffffff | sub r0, r2; 1800000000000000 0000000000000080 18020000ffffffff 00000000ffffffff 1f20000000000000 9500000000000000
@@ -81,7 +84,9 @@ const OUTCOMES: &str = "\
 4294967295; lddw r0, 0x0 | lddw r2, 0xffffffffffffffff | mov32 r0, r2; 1800000000000000 0000000000000000 18020000ffffffff 00000000ffffffff bc20000000000000 9500000000000000
 18446744073709551615; lddw r0, 0x8000000000000000 | lddw r2, 0xffffffffffffffff | arsh r0, r2; 1800000000000000 0000000000000080 18020000ffffffff 00000000ffffffff cf20000000000000 9500000000000000
 4294967295; lddw r0, 0xffffffff80000000 | lddw r2, 0x7fffffff | arsh32 r0, r2; 1800000000000080 00000000ffffffff 18020000ffffff7f 0000000000000000 cc20000000000000 9500000000000000
-# Loads and stores of each size, across the borders of each other.
+",
+    // Loads and stores of each size, across the borders of each other.
+    "\
 17; lddw r2, 0x8877665544332211 | stxdw [r10-16], r2 | ldxb r0, [r10-16]; 1802000011223344 0000000055667788 7b2af0ff00000000 71a0f0ff00000000 9500000000000000
 136; lddw r2, 0x8877665544332211 | stxdw [r10-16], r2 | ldxb r0, [r10-9]; 1802000011223344 0000000055667788 7b2af0ff00000000 71a0f7ff00000000 9500000000000000
 18446744073709551496; lddw r2, 0x8877665544332211 | stxdw [r10-16], r2 | ldxsb r0, [r10-9]; 1802000011223344 0000000055667788 7b2af0ff00000000 91a0f7ff00000000 9500000000000000
@@ -109,7 +114,9 @@ const OUTCOMES: &str = "\
 808464432; ldxw r0, [r1+224]; 6110e00000000000 9500000000000000
 3472328296244720179; ldxdw r0, [r1+220]; 7910dc0000000000 9500000000000000
 3616707392864006193; ldxdw r0, [r1+0]; 7910000000000000 9500000000000000
-# Each cause with its place, and which one comes first.
+",
+    // Each cause with its place, and which one comes first.
+    "\
 refused 31 place 0 OutOfProgram; mov r0, 1; b700000001000000
 refused 31 place 0 OutOfProgram; ja +0; 0500000000000000
 refused 31 place 1 OutOfProgram; mov r0, 1 | ja -3; b700000001000000 0500fdff00000000
@@ -172,7 +179,9 @@ refused 47 place 0 StoresPointer; stxdw [r10+0], r10 | exit; 7baa000000000000 95
 refused 48 place 1 ComparesPointer; mov r0, 0 | jeq r1, 0, +0 | exit; b700000000000000 1501000000000000 9500000000000000
 refused 48 place 1 ComparesPointer; mov r0, 0 | jne r0, r1, +0 | exit; b700000000000000 5d10000000000000 9500000000000000
 refused 51 place 1 ExitNotNumber; mov r0, r1 | exit; bf10000000000000 9500000000000000
-# Each cause of calls of helper functions.
+",
+    // Each cause of calls of helper functions.
+    "\
 refused 49 place 0 UnknownHelper; call 0 | exit; 8500000000000000 9500000000000000
 refused 49 place 0 UnknownHelper; call 10; 850000000a000000
 refused 49 place 0 UnknownHelper; call -2147483648 | exit; 8500000000000080 9500000000000000
@@ -241,7 +250,9 @@ refused 40 place 2 ReadsNothing(3); mov r3, 1 | call 3 | mov r0, r3 | exit; b703
 refused 40 place 2 ReadsNothing(4); mov r4, 1 | call 3 | mov r0, r4 | exit; b704000001000000 8500000003000000 bf40000000000000 9500000000000000
 refused 40 place 2 ReadsNothing(5); mov r5, 1 | call 3 | mov r0, r5 | exit; b705000001000000 8500000003000000 bf50000000000000 9500000000000000
 refused 40 place 6 ReadsNothing(1); stw [r10-4], 0x6e69616d | mov r1, 0 | mov r2, r10 | add r2, -4 | mov r3, 4 | call 7 | mov r0, r1 | exit; 620afcff6d61696e b701000000000000 bfa2000000000000 07020000fcffffff b703000004000000 8500000007000000 bf10000000000000 9500000000000000
-# What comes of calls on a segment with two alternate names and a further range.
+",
+    // What comes of calls on a segment with two alternate names and a further range.
+    "\
 123456789; mov r1, 0 | call 1 | exit; b701000000000000 8500000001000000 9500000000000000
 36067; mov r1, 6 | call 1 | exit; b701000006000000 8500000001000000 9500000000000000
 0; mov r1, 16 | call 1 | exit; b701000010000000 8500000001000000 9500000000000000
@@ -276,7 +287,8 @@ refused 40 place 6 ReadsNothing(1); stw [r10-4], 0x6e69616d | mov r1, 0 | mov r2
 32410000; mov r1, 3 | call 9 | exit; b701000003000000 8500000009000000 9500000000000000
 11; mov r6, 5 | mov r9, 6 | call 3 | mov r0, r6 | add r0, r9 | exit; b706000005000000 b709000006000000 8500000003000000 bf60000000000000 0f90000000000000 9500000000000000
 49; mov r6, r1 | call 3 | ldxb r0, [r6+0] | exit; bf16000000000000 8500000003000000 7160000000000000 9500000000000000
-";
+"
+);
 
 /// What comes of calls on records with these addresses: FRADDL, TOADDL, FRADDR and TOADDR, which stand behind it.
 const ADDRESSES: &str = "\
@@ -314,21 +326,13 @@ empty; 0; mov r0, 1; b700000001000000
 1; 1; mov r0, 1 | jeq r0, 1, -3 | exit; b700000001000000 1500fdff01000000 9500000000000000
 ";
 
-/// Whether an outcome is the one that a row expects.
-fn is_as_expected(outcome: Outcome, expected: &str) -> bool {
-    match outcome {
+/// Whether so many steps of a code on a segment come to what a row expects.
+fn comes_to(segment: &Segment<Global>, code: &Code<Global>, limit: u64, expected: &str) -> bool {
+    match trace(code, segment, limit) {
         Outcome::Running => expected == "running",
         Outcome::Exit { answer, score } => is_exit(expected, answer, score),
         Outcome::Stuck { place, cause } => cause.line(place).as_str() == expected,
     }
-}
-
-/// Whether so many steps of a program on a segment come to what a row expects.
-fn comes_to(segment: &Segment<Global>, code: &Code<Global>, limit: &str, expected: &str) -> bool {
-    let Ok(limit) = limit.parse() else {
-        return false;
-    };
-    is_as_expected(trace(code, segment, limit), expected)
 }
 
 /// A segment with two alternate names and one further range.
@@ -349,60 +353,35 @@ const FURTHER: Range<'static> = Range {
     zipr: b"36068",
 };
 
-/// Whether the program of a row comes to what the row says.
-fn is_outcome(alloc: Global, row: &str) -> bool {
-    let (expected, program) = cut(row, "; ");
-    let Some(code) = code_of(alloc, program) else {
-        return false;
-    };
-    let Ok(segment) = named_segment(alloc) else {
-        return false;
-    };
-    comes_to(&segment, &code, "20", expected)
-}
-
 #[test]
 fn outcomes(rt: HostRuntime) {
+    let segment = named_segment(rt.alloc()).expect(&rt, "memory");
     for row in OUTCOMES.lines() {
-        let is_right = is_heading(row) || is_outcome(rt.alloc(), row);
-        assert!(rt; is_right, "{row}");
+        let code = code_of(rt.alloc(), row).expect(&rt, row);
+        assert!(rt; comes_to(&segment, &code, 20, cut(row, "; ").0), "{row}");
     }
-}
-
-/// A segment whose record has these addresses.
-fn segment_at(alloc: Global, addresses: &str) -> Segment<Global> {
-    let mut record = *RECORD;
-    put(&mut record, 58, addresses);
-    Segment::of(alloc, &record)
-}
-
-/// Whether the program of a row comes to what the row says on a record with the row's addresses.
-fn is_outcome_at(alloc: Global, row: &str) -> bool {
-    let (expected, rest) = cut(row, "; ");
-    let (addresses, program) = cut(rest, "; ");
-    let Some(code) = code_of(alloc, program) else {
-        return false;
-    };
-    comes_to(&segment_at(alloc, addresses), &code, "20", expected)
-}
-
-/// Whether so many steps of the program of a row come to what the row says.
-fn is_limited(alloc: Global, row: &str) -> bool {
-    let (expected, rest) = cut(row, "; ");
-    let (limit, program) = cut(rest, "; ");
-    let Some(code) = code_of(alloc, program) else {
-        return false;
-    };
-    comes_to(&Segment::of(alloc, RECORD), &code, limit, expected)
 }
 
 #[test]
-fn addresses_and_limits(rt: HostRuntime) {
+fn addresses(rt: HostRuntime) {
     for row in ADDRESSES.lines() {
-        assert!(rt; is_outcome_at(rt.alloc(), row), "{row}");
+        let (expected, addresses) = cut(row, "; ");
+        let mut record = *RECORD;
+        put(&mut record, 58, cut(addresses, ";").0);
+        let segment = Segment::of(rt.alloc(), &record);
+        let code = code_of(rt.alloc(), row).expect(&rt, row);
+        assert!(rt; comes_to(&segment, &code, 20, expected), "{row}");
     }
+}
+
+#[test]
+fn limits(rt: HostRuntime) {
+    let segment = Segment::of(rt.alloc(), RECORD);
     for row in LIMITS.lines() {
-        assert!(rt; is_limited(rt.alloc(), row), "{row}");
+        let (expected, limit) = cut(row, "; ");
+        let limit = cut(limit, ";").0.parse().expect(&rt, row);
+        let code = code_of(rt.alloc(), row).expect(&rt, row);
+        assert!(rt; comes_to(&segment, &code, limit, expected), "{row}");
     }
 }
 
@@ -421,29 +400,22 @@ fn is_value(value: Value, text: &str) -> bool {
     }
 }
 
-/// Whether a code that has ended is at this place with this answer, and has written no byte of the frame.
-fn ends_at(code: &Code<Global>, segment: &Segment<Global>, place: &str, answer: &str) -> bool {
-    let mut state = State::start();
-    run_on(code, segment, &mut state);
-    is_value(state.registers[0], answer)
-        && place.parse() == Ok(state.place)
-        && state.frame.load(511, 1).is_none()
-}
-
-/// Whether a program ends as a row says.
-fn is_end(alloc: Global, row: &str) -> bool {
+/// Whether a code that has ended is at the place of a row with the row's answer, and has written no byte of the frame.
+fn has_end(state: &State, row: &str) -> bool {
     let (answer, rest) = cut(row, "; ");
-    let (place, program) = cut(rest, "; ");
-    let Some(code) = code_of(alloc, program) else {
-        return false;
-    };
-    ends_at(&code, &Segment::of(alloc, RECORD), place, answer)
+    is_value(state.registers[0], answer)
+        && cut(rest, "; ").0.parse() == Ok(state.place)
+        && state.frame.load(511, 1).is_none()
 }
 
 /// A program that has ended leaves the state as it was.
 #[test]
 fn an_end_keeps_the_state(rt: HostRuntime) {
+    let segment = Segment::of(rt.alloc(), RECORD);
     for row in ENDS.lines() {
-        assert!(rt; is_end(rt.alloc(), row), "{row}");
+        let code = code_of(rt.alloc(), row).expect(&rt, row);
+        let mut state = State::start();
+        run_on(&code, &segment, &mut state);
+        assert!(rt; has_end(&state, row), "{row}");
     }
 }

@@ -1,15 +1,16 @@
 //! Verdicts on programs, worked out from the rules by hand. Each table has a row a line: the verdict, which is `accepted` or the refusal's
 //! line, the program's text, and its words in hexadecimal.
 
-use crate::fixtures::{code_of, cut, is_heading, repeated};
+use crate::fixtures::{EXIT, code_of, cut, repeated};
 use bpf_flow::Flow;
 use bpf_insn::{Code, decode};
 use bpf_verify::{VerifyFault, verify};
-use std::alloc::{AllocError, Global};
+use std::alloc::Global;
 
 // Programs, with what is said of them.
-const VERDICTS: &str = "\
-# Operations and jumps.
+const VERDICTS: &str = concat!(
+    // Operations and jumps.
+    "\
 accepted; ldxb r0, [r1+227] | exit; 7110e30000000000 9500000000000000
 refused 44 place 0 OutOfBounds; ldxb r0, [r1+228] | exit; 7110e40000000000 9500000000000000
 accepted; ldxb r2, [r1+55] | mov r0, 0 | jne r2, 65, +1 | mov r0, 1 | exit; 7112370000000000 b700000000000000 5502010041000000 b700000001000000 9500000000000000
@@ -53,7 +54,9 @@ accepted; mov r0, 1 | exit; b700000001000000 9500000000000000
 refused 40 place 0 ReadsNothing(0); exit; 9500000000000000
 accepted; mov32 r2, -1 | mov r0, 0 | jeq32 r2, -1, +1 | ldxb r0, [r9+0] | exit; b4020000ffffffff b700000000000000 16020100ffffffff 7190000000000000 9500000000000000
 refused 40 place 3 ReadsNothing(9); mov32 r2, -1 | mov r0, 0 | jeq r2, -1, +1 | ldxb r0, [r9+0] | exit; b4020000ffffffff b700000000000000 15020100ffffffff 7190000000000000 9500000000000000
-# Each cause at the first instruction, and some in the middle and where they aren't reached.
+",
+    // Each cause at the first instruction, and some in the middle and where they aren't reached.
+    "\
 refused 40 place 0 ReadsNothing(9); mov r0, r9 | mov r0, 1 | exit; bf90000000000000 b700000001000000 9500000000000000
 accepted; mov r0, 1 | ja +1 | mov r0, r9 | exit; b700000001000000 0500010000000000 bf90000000000000 9500000000000000
 refused 40 place 0 ReadsNothing(9); add r9, r8 | mov r0, 1 | exit; 0f89000000000000 b700000001000000 9500000000000000
@@ -100,7 +103,9 @@ refused 51 place 2 ExitNotNumber; mov r0, r10 | mov r2, 1 | exit; bfa00000000000
 refused 51 place 1 ExitNotNumber; mov r0, r1 | exit | mov r0, 1 | exit; bf10000000000000 9500000000000000 b700000001000000 9500000000000000
 refused 40 place 0 ReadsNothing(0); exit | mov r0, 1 | exit; 9500000000000000 b700000001000000 9500000000000000
 accepted; mov r0, 1 | exit | exit; b700000001000000 9500000000000000 9500000000000000
-# Stores to the frame and loads from it.
+",
+    // Stores to the frame and loads from it.
+    "\
 accepted; mov r2, 1 | stxdw [r10-8], r2 | ldxw r3, [r10-8] | ldxw r0, [r10-4] | exit; b702000001000000 7b2af8ff00000000 61a3f8ff00000000 61a0fcff00000000 9500000000000000
 refused 45 place 3 UnwrittenFrame; mov r2, 1 | stxdw [r10-8], r2 | ldxw r3, [r10-8] | ldxdw r0, [r10-12] | exit; b702000001000000 7b2af8ff00000000 61a3f8ff00000000 79a0f4ff00000000 9500000000000000
 refused 45 place 6 UnwrittenFrame; ldxb r3, [r1+55] | and r3, 1 | mov r2, r10 | add r2, -2 | add r2, r3 | stb [r2+0], 7 | ldxb r0, [r10-2] | exit; 7113370000000000 5703000001000000 bfa2000000000000 07020000feffffff 0f32000000000000 7202000007000000 71a0feff00000000 9500000000000000
@@ -118,7 +123,9 @@ refused 45 place 1 UnwrittenFrame; stb [r10-8], 1 | ldxw r0, [r10-8] | exit; 720
 refused 45 place 1 UnwrittenFrame; stb [r10-5], 1 | ldxw r0, [r10-8] | exit; 720afbff01000000 61a0f8ff00000000 9500000000000000
 refused 45 place 2 UnwrittenFrame; sth [r10-8], 1 | stb [r10-5], 1 | ldxw r0, [r10-8] | exit; 6a0af8ff01000000 720afbff01000000 61a0f8ff00000000 9500000000000000
 accepted; stw [r10-8], -1 | ldxsw r0, [r10-8] | exit; 620af8ffffffffff 81a0f8ff00000000 9500000000000000
-# Calls of helper functions.
+",
+    // Calls of helper functions.
+    "\
 accepted; mov r1, -13 | smod r1, 3 | mov r6, r1 | call 8 | mov r0, r6 | exit; b7010000f3ffffff 9701010003000000 bf16000000000000 8500000008000000 bf60000000000000 9500000000000000
 accepted; mov r6, r1 | mov r1, 0 | call 1 | and r0, 15 | add r6, r0 | ldxb r0, [r6+0] | exit; bf16000000000000 b701000000000000 8500000001000000 570000000f000000 0f06000000000000 7160000000000000 9500000000000000
 refused 41 place 3 PointerArithmetic; mov r6, r1 | mov r1, 0 | call 1 | add r6, r0 | ldxb r0, [r6+0] | exit; bf16000000000000 b701000000000000 8500000001000000 0f06000000000000 7160000000000000 9500000000000000
@@ -165,64 +172,43 @@ refused 44 place 4 OutOfBounds; mov r6, r1 | mov r1, 0 | call 2 | add r6, r0 | l
 accepted; call 3 | jle r0, 5000, +1 | ldxb r0, [r9+0] | exit; 8500000003000000 b500010088130000 7190000000000000 9500000000000000
 refused 40 place 2 ReadsNothing(9); call 3 | jle r0, 4999, +1 | ldxb r0, [r9+0] | exit; 8500000003000000 b500010087130000 7190000000000000 9500000000000000
 accepted; call 4 | jeq r0, 0, +1 | jle r0, 1001, +1 | ldxb r0, [r9+0] | exit; 8500000004000000 1500010000000000 b5000100e9030000 7190000000000000 9500000000000000
-";
+"
+);
 
 /// Whether a code's verdict is this one. What is accepted keeps the code.
 fn has_verdict(alloc: Global, code: Code<Global>, verdict: &str) -> bool {
     let count = code.instructions().len();
-    match Flow::of(code) {
-        Ok(flow) => has_flow_verdict(alloc, flow, count, verdict),
-        Err(fault) => fault.line().as_str() == verdict,
-    }
-}
-
-/// Whether the verdict on a flow of so many instructions is this one.
-fn has_flow_verdict(alloc: Global, flow: Flow<Global>, count: usize, verdict: &str) -> bool {
+    let flow = match Flow::of(code) {
+        Ok(flow) => flow,
+        Err(fault) => return fault.line().as_str() == verdict,
+    };
     match verify(alloc, flow) {
         Ok(verified) => verdict == "accepted" && verified.code().instructions().len() == count,
         Err(fault) => fault.line().as_str() == verdict,
     }
 }
 
-/// Whether the verdict on the program of a row is the row's.
-fn is_right(alloc: Global, row: &str) -> bool {
-    let (verdict, program) = cut(row, "; ");
-    let Some(code) = code_of(alloc, program) else {
-        return false;
-    };
-    has_verdict(alloc, code, verdict)
-}
-
 #[test]
 fn verdicts(rt: HostRuntime) {
     for row in VERDICTS.lines() {
-        let is_right = is_heading(row) || is_right(rt.alloc(), row);
-        assert!(rt; is_right, "{row}");
+        let code = code_of(rt.alloc(), row).expect(&rt, row);
+        assert!(rt; has_verdict(rt.alloc(), code, cut(row, "; ").0), "{row}");
     }
 }
 
 /// As many words as a program may have: `ldxb r0, [r1+55]`, `jne r0, 65, +4093` to the last word, 4,093 times `jne r0, 65, +0`, and `exit`.
-fn longest_program(alloc: Global) -> Result<Vec<u8>, AllocError> {
+#[test]
+fn long_code(rt: HostRuntime) {
     let start = b"\x71\x10\x37\0\0\0\0\0\x55\0\xfd\x0f\x41\0\0\0";
     let jump = b"\x55\0\0\0\x41\0\0\0";
-    repeated(alloc, start, jump, 4_093, b"\x95\0\0\0\0\0\0\0")
-}
-
-/// Whether the longest program is accepted.
-fn is_longest_accepted(alloc: Global) -> bool {
-    let Ok(program) = longest_program(alloc) else {
-        return false;
-    };
-    let Ok(code) = decode(alloc, &program) else {
-        return false;
-    };
-    has_verdict(alloc, code, "accepted")
+    let program = repeated(rt.alloc(), start, jump, 4_093, EXIT).expect(&rt, "memory");
+    let code = decode(rt.alloc(), &program).expect(&rt, "a code");
+    assert!(rt; has_verdict(rt.alloc(), code, "accepted"));
 }
 
 // Want of memory has a name and no number.
 #[test]
-fn long_code_and_memory(rt: HostRuntime) {
-    assert!(rt; is_longest_accepted(rt.alloc()));
+fn memory(rt: HostRuntime) {
     let fault = VerifyFault::Memory;
     assert!(rt; (fault.number(), fault.name()) == (None, "memory"));
     assert!(rt; fault.line().as_str() == "refused memory");

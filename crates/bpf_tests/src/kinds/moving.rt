@@ -5,22 +5,23 @@ use bpf_kinds::{Offsets, near_distances};
 
 // The ends of an interval in hexadecimal digits, and the signed distances that it is, if all are near.
 const NEAR: &str = "\
-0,0 0,0
-0,7fff 0,32767
-7fff,7fff 32767,32767
-0,8000 none
-8000,8000 none
-ffffffffffff8000,ffffffffffffffff -32768,-1
-ffffffffffff8000,ffffffffffff8000 -32768,-32768
-ffffffffffffffff,ffffffffffffffff -1,-1
-ffffffffffff7fff,ffffffffffffffff none
-ffffffffffff7fff,ffffffffffff7fff none
-0,ffffffffffffffff none
-5,ffffffffffffffff none
-1,100000000 none
-ffffffff,ffffffff none
-8000000000000000,8000000000000000 none
-7fffffffffffffff,ffffffffffffffff none";
+0-0 0,0
+0-7fff 0,32767
+7fff-7fff 32767,32767
+0-8000 none
+8000-8000 none
+ffffffffffff8000-ffffffffffffffff -32768,-1
+ffffffffffff8000-ffffffffffff8000 -32768,-32768
+ffffffffffffffff-ffffffffffffffff -1,-1
+ffffffffffff7fff-ffffffffffffffff none
+ffffffffffff7fff-ffffffffffff7fff none
+0-ffffffffffffffff none
+5-ffffffffffffffff none
+1-100000000 none
+ffffffff-ffffffff none
+8000000000000000-8000000000000000 none
+7fffffffffffffff-ffffffffffffffff none
+";
 
 // Offsets, distances, and where they come to by a move and by a move backwards.
 const MOVES: &str = "\
@@ -41,12 +42,13 @@ const MOVES: &str = "\
 -32768,32767 -1,-1 none none
 100,200 32567,32567 32667,32767 -32467,-32367
 100,200 0,32568 none -32468,200
--5,5 -32768,-1 none none";
+-5,5 -32768,-1 none none
+";
 
 /// Whether the distances of an interval are those of a row.
 fn is_near(row: &str) -> Option<bool> {
     let (ends, want) = cut(row, " ");
-    Some(is_offsets(near_distances(interval(ends, ",")?), want))
+    Some(is_offsets(near_distances(interval(ends)?), want))
 }
 
 /// Whether offsets come by a move and by a move backwards where a row says.
@@ -75,10 +77,14 @@ fn offsets_of(text: &str) -> Option<Offsets> {
 }
 
 #[test]
-fn moves(rt: HostRuntime) {
+fn distances(rt: HostRuntime) {
     for row in NEAR.lines() {
         assert!(rt; is_near(row) == Some(true), "{row}");
     }
+}
+
+#[test]
+fn moves(rt: HostRuntime) {
     for row in MOVES.lines() {
         assert!(rt; is_moved(row) == Some(true), "{row}");
     }

@@ -1,225 +1,219 @@
 //! Narrowing at the ends of what 31, 32, 63 and 64 bits hold, worked out with whole numbers elsewhere.
 use super::interval;
-use crate::fixtures::cut;
-use crate::names::{condition, width};
-use bpf_insn::{Condition, Width};
-use bpf_kinds::{Interval, Narrowed, refine};
+use crate::fixtures::{cut, instruction_of};
+use bpf_insn::Insn;
+use bpf_kinds::{Narrowed, refine};
+use std::alloc::Global;
 
-// A condition, its width in bits, the two intervals, and what they become where the jump is taken and where it isn't: `same` where
-// nothing is narrowed, `none` where the edge isn't reached. An interval is one number or its two ends, in hexadecimal digits.
+// A jump, the two intervals that it compares, and what they become where it is taken and where it isn't: `same` where nothing is narrowed,
+// `none` where the edge isn't reached. An interval is one number or its two ends, in hexadecimal digits.
 const ROWS: &str = "\
-Equal 64 0,80000000 80000000 80000000;80000000 0,7fffffff;80000000
-Equal 64 0,ffffffff 0 0;0 1,ffffffff;0
-Equal 64 ffffffffffffffff ffffffff,ffffffffffffffff ffffffffffffffff;ffffffffffffffff ffffffffffffffff;ffffffff,fffffffffffffffe
-Equal 64 7fffffff 7fffffff,ffffffffffffffff 7fffffff;7fffffff 7fffffff;80000000,ffffffffffffffff
-Equal 64 7fffffff,ffffffff 100000000 none same
-Equal 64 7fffffff,100000000 ffffffff ffffffff;ffffffff same
-Equal 32 0,1 0 0;0 1;0
-Equal 32 0 0,1 0;0 0;1
-Equal 32 80000000,ffffffff ffffffff ffffffff;ffffffff 80000000,fffffffe;ffffffff
-Equal 32 ffffffff 80000000,ffffffff ffffffff;ffffffff ffffffff;80000000,fffffffe
-Equal 32 1 7fffffff,80000000 none same
-Equal 32 1,7fffffff 80000000 none same
-Equal 32 ffffffffffffffff 7fffffff none same
-Equal 32 ffffffff,100000000 100000000 same same
-Equal 32 100000000 100000000,8000000000000000 same same
-Equal 64 0,ffffffffffffffff 0,ffffffffffffffff same same
-Greater 64 0,100000000 0,ffffffff 1,100000000;0,ffffffff 0,ffffffff;0,ffffffff
-Greater 64 7fffffff,ffffffff 0,ffffffff 7fffffff,ffffffff;0,fffffffe 7fffffff,ffffffff;7fffffff,ffffffff
-Greater 64 ffffffff 80000000,ffffffffffffffff ffffffff;80000000,fffffffe ffffffff;ffffffff,ffffffffffffffff
-Greater 64 80000000,ffffffffffffffff 7fffffffffffffff 8000000000000000,ffffffffffffffff;7fffffffffffffff 80000000,7fffffffffffffff;7fffffffffffffff
-Greater 64 1,7fffffff 8000000000000000 none same
-Greater 64 7fffffff 7fffffffffffffff none same
-Greater 32 1 0,ffffffff 1;0 1;1,ffffffff
-Greater 32 0,ffffffff 0,7fffffff 1,ffffffff;0,7fffffff 0,7fffffff;0,7fffffff
-Greater 32 7fffffff,ffffffff 1,ffffffff 7fffffff,ffffffff;1,fffffffe 7fffffff,ffffffff;7fffffff,ffffffff
-Greater 32 7fffffff,ffffffff 80000000 80000001,ffffffff;80000000 7fffffff,80000000;80000000
-Greater 32 80000000 80000000 none same
-Greater 32 1,80000000 80000000 none same
-Greater 32 7fffffff 100000000 same none
-Greater 32 ffffffff,100000000 100000000 same same
-Greater 32 ffffffff,8000000000000000 100000000 same same
-Greater 64 0 0 none same
-Greater 64 0,ffffffffffffffff ffffffffffffffff none same
-GreaterOrEqual 64 0,ffffffffffffffff 1,7fffffffffffffff 1,ffffffffffffffff;1,7fffffffffffffff 0,7ffffffffffffffe;1,7fffffffffffffff
-GreaterOrEqual 64 0,7fffffffffffffff 100000000 100000000,7fffffffffffffff;100000000 0,ffffffff;100000000
-GreaterOrEqual 64 ffffffff,7fffffffffffffff 1,ffffffffffffffff ffffffff,7fffffffffffffff;1,7fffffffffffffff ffffffff,7fffffffffffffff;100000000,ffffffffffffffff
-GreaterOrEqual 64 8000000000000000 0,ffffffffffffffff 8000000000000000;0,8000000000000000 8000000000000000;8000000000000001,ffffffffffffffff
-GreaterOrEqual 64 1,80000000 8000000000000000 none same
-GreaterOrEqual 64 1,7fffffff 7fffffffffffffff,8000000000000000 none same
-GreaterOrEqual 32 0,80000000 0,ffffffff 0,80000000;0,80000000 0,80000000;1,ffffffff
-GreaterOrEqual 32 0,ffffffff ffffffff ffffffff;ffffffff 0,fffffffe;ffffffff
-GreaterOrEqual 32 1,ffffffff 80000000,ffffffff 80000000,ffffffff;80000000,ffffffff 1,fffffffe;80000000,ffffffff
-GreaterOrEqual 32 80000000 1,ffffffff 80000000;1,80000000 80000000;80000001,ffffffff
-GreaterOrEqual 32 80000000 80000000 same none
-GreaterOrEqual 32 7fffffff 1,7fffffff same none
-GreaterOrEqual 32 80000000 ffffffffffffffff none same
-GreaterOrEqual 32 ffffffff ffffffff,100000000 same same
-GreaterOrEqual 32 100000000 ffffffff,7fffffffffffffff same same
-SharesBit 64 100000000 0 none same
-SharesBit 64 1,8000000000000000 0,8000000000000000 same same
-SharesBit 64 8000000000000000 ffffffffffffffff same none
-SharesBit 64 7fffffff 7fffffffffffffff,ffffffffffffffff same same
-SharesBit 64 1,80000000 7fffffff same same
-SharesBit 32 80000000 0 none same
-SharesBit 32 80000000,ffffffff 0,7fffffff same same
-SharesBit 32 7fffffff ffffffff same none
-SharesBit 32 0,1 ffffffff same same
-SharesBit 32 7fffffff 7fffffff,80000000 same same
-SharesBit 32 8000000000000000 ffffffffffffffff none same
-SharesBit 32 ffffffff,100000000 ffffffff same same
-SharesBit 32 100000000,8000000000000000 100000000 same same
-NotEqual 64 0,80000000 80000000 0,7fffffff;80000000 80000000;80000000
-NotEqual 64 8000000000000000 0,8000000000000000 8000000000000000;0,7fffffffffffffff 8000000000000000;8000000000000000
-NotEqual 64 ffffffff ffffffff,ffffffffffffffff ffffffff;100000000,ffffffffffffffff ffffffff;ffffffff
-NotEqual 64 1,ffffffffffffffff 1 2,ffffffffffffffff;1 1;1
-NotEqual 64 80000000 ffffffff same none
-NotEqual 64 7fffffff,ffffffff 7fffffff,7fffffffffffffff same 7fffffff,ffffffff;7fffffff,ffffffff
-NotEqual 32 0,7fffffff 0 1,7fffffff;0 0;0
-NotEqual 32 1 0,1 1;0 1;1
-NotEqual 32 7fffffff,ffffffff ffffffff 7fffffff,fffffffe;ffffffff ffffffff;ffffffff
-NotEqual 32 0 0,ffffffff 0;1,ffffffff 0;0
-NotEqual 32 1,80000000 1,7fffffff same 1,7fffffff;1,7fffffff
-NotEqual 32 1 7fffffff same none
-NotEqual 32 8000000000000000 8000000000000000 none same
-NotEqual 32 ffffffff,100000000 ffffffff same same
-NotEqual 32 0,100000000 ffffffff,100000000 same same
-NotEqual 64 ffffffffffffffff ffffffffffffffff none same
-NotEqual 64 0 0 none same
-SignedGreater 64 ffffffff,100000000 0,7fffffffffffffff ffffffff,100000000;0,ffffffff ffffffff,100000000;ffffffff,7fffffffffffffff
-SignedGreater 64 0,100000000 0,7fffffff 1,100000000;0,7fffffff 0,7fffffff;0,7fffffff
-SignedGreater 64 7fffffffffffffff 7fffffff,7fffffffffffffff 7fffffffffffffff;7fffffff,7ffffffffffffffe 7fffffffffffffff;7fffffffffffffff
-SignedGreater 64 ffffffff,7fffffffffffffff ffffffff 100000000,7fffffffffffffff;ffffffff ffffffff;ffffffff
-SignedGreater 64 1,ffffffff ffffffff none same
-SignedGreater 64 7fffffff,100000000 1,7fffffff same 7fffffff;7fffffff
-SignedGreater 64 ffffffffffffffff 8000000000000000 same none
-SignedGreater 64 7fffffffffffffff,ffffffffffffffff ffffffffffffffff same same
-SignedGreater 64 100000000,7fffffffffffffff ffffffffffffffff same same
-SignedGreater 32 0,7fffffff 1 2,7fffffff;1 0,1;1
-SignedGreater 32 7fffffff 0,7fffffff 7fffffff;0,7ffffffe 7fffffff;7fffffff
-SignedGreater 32 1,7fffffff 0,7fffffff 1,7fffffff;0,7ffffffe 1,7fffffff;1,7fffffff
-SignedGreater 32 0,7fffffff 0,1 1,7fffffff;0,1 0,1;0,1
-SignedGreater 32 1 1 none same
-SignedGreater 32 7fffffffffffffff 1 none same
-SignedGreater 32 7fffffff,80000000 7fffffff,100000000 same same
-SignedGreater 32 7fffffff,ffffffff 100000000 same same
-SignedGreaterOrEqual 64 0,7fffffff 1 1,7fffffff;1 0;1
-SignedGreaterOrEqual 64 0,ffffffff 1,80000000 1,ffffffff;1,80000000 0,7fffffff;1,80000000
-SignedGreaterOrEqual 64 ffffffff 80000000,7fffffffffffffff ffffffff;80000000,ffffffff ffffffff;100000000,7fffffffffffffff
-SignedGreaterOrEqual 64 80000000,100000000 7fffffff,7fffffffffffffff 80000000,100000000;7fffffff,100000000 80000000,100000000;80000001,7fffffffffffffff
-SignedGreaterOrEqual 64 7fffffff,ffffffff 1,80000000 same 7fffffff;80000000
-SignedGreaterOrEqual 64 1,7fffffff 1 same none
-SignedGreaterOrEqual 64 ffffffff 8000000000000000 same none
-SignedGreaterOrEqual 64 7fffffffffffffff,8000000000000000 7fffffffffffffff,8000000000000000 same same
-SignedGreaterOrEqual 64 7fffffffffffffff,ffffffffffffffff 0,8000000000000000 same same
-SignedGreaterOrEqual 32 0,7fffffff 1,7fffffff 1,7fffffff;1,7fffffff 0,7ffffffe;1,7fffffff
-SignedGreaterOrEqual 32 1 0,7fffffff 1;0,1 1;2,7fffffff
-SignedGreaterOrEqual 32 1,7fffffff 7fffffff 7fffffff;7fffffff 1,7ffffffe;7fffffff
-SignedGreaterOrEqual 32 0,1 0,7fffffff 0,1;0,1 0,1;1,7fffffff
-SignedGreaterOrEqual 32 1 1 same none
-SignedGreaterOrEqual 32 ffffffffffffffff 100000000 none same
-SignedGreaterOrEqual 32 7fffffff,ffffffff 7fffffff,ffffffff same same
-SignedGreaterOrEqual 32 7fffffff 7fffffff,100000000 same same
-Less 64 0,80000000 7fffffff,80000000 0,7fffffff;7fffffff,80000000 7fffffff,80000000;7fffffff,80000000
-Less 64 0,ffffffffffffffff 80000000 0,7fffffff;80000000 80000000,ffffffffffffffff;80000000
-Less 64 80000000,ffffffff 1,ffffffffffffffff 80000000,ffffffff;80000001,ffffffffffffffff 80000000,ffffffff;1,ffffffff
-Less 64 80000000 0,ffffffffffffffff 80000000;80000001,ffffffffffffffff 80000000;0,80000000
-Less 64 7fffffff,7fffffffffffffff 100000000,8000000000000000 same 100000000,7fffffffffffffff;100000000,7fffffffffffffff
-Less 64 7fffffff,8000000000000000 7fffffff,ffffffff 7fffffff,fffffffe;80000000,ffffffff same
-Less 32 1 0,80000000 1;2,80000000 1;0,1
-Less 32 0,1 1 0;1 1;1
-Less 32 1,ffffffff 7fffffff,80000000 1,7fffffff;7fffffff,80000000 7fffffff,ffffffff;7fffffff,80000000
-Less 32 7fffffff,80000000 7fffffff,ffffffff 7fffffff,80000000;80000000,ffffffff 7fffffff,80000000;7fffffff,80000000
-Less 32 1 7fffffff same none
-Less 32 1,7fffffff 80000000 same none
-Less 32 ffffffffffffffff ffffffff none same
-Less 32 ffffffff,100000000 ffffffff,100000000 same same
-Less 32 ffffffff,ffffffffffffffff 100000000 same same
-Less 64 ffffffffffffffff 0,ffffffffffffffff none same
-Less 64 0,ffffffffffffffff 0 none same
-LessOrEqual 64 0,ffffffffffffffff 1,80000000 0,80000000;1,80000000 2,ffffffffffffffff;1,80000000
-LessOrEqual 64 1,7fffffffffffffff 0,8000000000000000 1,7fffffffffffffff;1,8000000000000000 1,7fffffffffffffff;0,7ffffffffffffffe
-LessOrEqual 64 100000000 ffffffff,ffffffffffffffff 100000000;100000000,ffffffffffffffff 100000000;ffffffff
-LessOrEqual 64 0,ffffffffffffffff 7fffffffffffffff 0,7fffffffffffffff;7fffffffffffffff 8000000000000000,ffffffffffffffff;7fffffffffffffff
-LessOrEqual 64 100000000,8000000000000000 1 none same
-LessOrEqual 64 80000000,100000000 100000000 same none
-LessOrEqual 32 0,7fffffff 0,1 0,1;0,1 1,7fffffff;0,1
-LessOrEqual 32 0,ffffffff 1 0,1;1 2,ffffffff;1
-LessOrEqual 32 7fffffff,ffffffff 0,ffffffff 7fffffff,ffffffff;7fffffff,ffffffff 7fffffff,ffffffff;0,fffffffe
-LessOrEqual 32 80000000 1,ffffffff 80000000;80000000,ffffffff 80000000;1,7fffffff
-LessOrEqual 32 7fffffff 80000000 same none
-LessOrEqual 32 80000000 7fffffff none same
-LessOrEqual 32 8000000000000000 ffffffff same none
-LessOrEqual 32 ffffffff ffffffff,100000000 same same
-LessOrEqual 32 1,ffffffff 100000000 same same
-LessOrEqual 64 0,ffffffffffffffff 0,ffffffffffffffff same 1,ffffffffffffffff;0,fffffffffffffffe
-SignedLess 64 0,7fffffffffffffff 1 0;1 1,7fffffffffffffff;1
-SignedLess 64 1 0,ffffffff 1;2,ffffffff 1;0,1
-SignedLess 64 0,7fffffff 0,7fffffffffffffff 0,7fffffff;1,7fffffffffffffff 0,7fffffff;0,7fffffff
-SignedLess 64 0,7fffffffffffffff ffffffff,7fffffffffffffff 0,7ffffffffffffffe;ffffffff,7fffffffffffffff ffffffff,7fffffffffffffff;ffffffff,7fffffffffffffff
-SignedLess 64 80000000 100000000 same none
-SignedLess 64 7fffffff,100000000 7fffffff,100000000 7fffffff,ffffffff;80000000,100000000 same
-SignedLess 64 ffffffff 8000000000000000 none same
-SignedLess 64 ffffffffffffffff 7fffffffffffffff,ffffffffffffffff same same
-SignedLess 64 ffffffffffffffff 80000000,ffffffffffffffff same same
-SignedLess 32 0,1 0,7fffffff 0,1;1,7fffffff 0,1;0,1
-SignedLess 32 0,7fffffff 1,7fffffff 0,7ffffffe;1,7fffffff 1,7fffffff;1,7fffffff
-SignedLess 32 1 1,7fffffff 1;2,7fffffff 1;1
-SignedLess 32 1,7fffffff 7fffffff 1,7ffffffe;7fffffff 7fffffff;7fffffff
-SignedLess 32 1 1 none same
-SignedLess 32 7fffffffffffffff ffffffffffffffff none same
-SignedLess 32 100000000 7fffffff,80000000 same same
-SignedLess 32 ffffffff,100000000 7fffffff,80000000 same same
-SignedLessOrEqual 64 ffffffff 0,ffffffff ffffffff;ffffffff ffffffff;0,fffffffe
-SignedLessOrEqual 64 1,7fffffff 0,7fffffff 1,7fffffff;1,7fffffff 1,7fffffff;0,7ffffffe
-SignedLessOrEqual 64 7fffffff,7fffffffffffffff 7fffffff,ffffffff 7fffffff,ffffffff;7fffffff,ffffffff 80000000,7fffffffffffffff;7fffffff,ffffffff
-SignedLessOrEqual 64 1,7fffffffffffffff ffffffff 1,ffffffff;ffffffff 100000000,7fffffffffffffff;ffffffff
-SignedLessOrEqual 64 7fffffff,80000000 1 none same
-SignedLessOrEqual 64 1 1,100000000 same none
-SignedLessOrEqual 64 8000000000000000 8000000000000000 same none
-SignedLessOrEqual 64 ffffffffffffffff 8000000000000000,ffffffffffffffff same same
-SignedLessOrEqual 64 ffffffff,ffffffffffffffff 7fffffffffffffff same same
-SignedLessOrEqual 32 0,7fffffff 1 0,1;1 2,7fffffff;1
-SignedLessOrEqual 32 7fffffff 0,7fffffff 7fffffff;7fffffff 7fffffff;0,7ffffffe
-SignedLessOrEqual 32 0,7fffffff 0,1 0,1;0,1 1,7fffffff;0,1
-SignedLessOrEqual 32 1,7fffffff 0,7fffffff 1,7fffffff;1,7fffffff 1,7fffffff;0,7ffffffe
-SignedLessOrEqual 32 1 1 same none
-SignedLessOrEqual 32 ffffffff ffffffffffffffff same none
-SignedLessOrEqual 32 7fffffff,ffffffff 80000000,ffffffff same same
-SignedLessOrEqual 32 80000000,100000000 ffffffff,100000000 same same";
-
-/// A condition with its width, and two intervals.
-#[derive(Drop)]
-struct Comparison {
-    condition: Condition,
-    width: Width,
-    x: Interval,
-    y: Interval,
-}
+jeq r1, r2, +0: 0-80000000 80000000 80000000;80000000 0-7fffffff;80000000
+jeq r1, r2, +0: 0-ffffffff 0 0;0 1-ffffffff;0
+jeq r1, r2, +0: ffffffffffffffff ffffffff-ffffffffffffffff ffffffffffffffff;ffffffffffffffff ffffffffffffffff;ffffffff-fffffffffffffffe
+jeq r1, r2, +0: 7fffffff 7fffffff-ffffffffffffffff 7fffffff;7fffffff 7fffffff;80000000-ffffffffffffffff
+jeq r1, r2, +0: 7fffffff-ffffffff 100000000 none same
+jeq r1, r2, +0: 7fffffff-100000000 ffffffff ffffffff;ffffffff same
+jeq32 r1, r2, +0: 0-1 0 0;0 1;0
+jeq32 r1, r2, +0: 0 0-1 0;0 0;1
+jeq32 r1, r2, +0: 80000000-ffffffff ffffffff ffffffff;ffffffff 80000000-fffffffe;ffffffff
+jeq32 r1, r2, +0: ffffffff 80000000-ffffffff ffffffff;ffffffff ffffffff;80000000-fffffffe
+jeq32 r1, r2, +0: 1 7fffffff-80000000 none same
+jeq32 r1, r2, +0: 1-7fffffff 80000000 none same
+jeq32 r1, r2, +0: ffffffffffffffff 7fffffff none same
+jeq32 r1, r2, +0: ffffffff-100000000 100000000 same same
+jeq32 r1, r2, +0: 100000000 100000000-8000000000000000 same same
+jeq r1, r2, +0: 0-ffffffffffffffff 0-ffffffffffffffff same same
+jgt r1, r2, +0: 0-100000000 0-ffffffff 1-100000000;0-ffffffff 0-ffffffff;0-ffffffff
+jgt r1, r2, +0: 7fffffff-ffffffff 0-ffffffff 7fffffff-ffffffff;0-fffffffe 7fffffff-ffffffff;7fffffff-ffffffff
+jgt r1, r2, +0: ffffffff 80000000-ffffffffffffffff ffffffff;80000000-fffffffe ffffffff;ffffffff-ffffffffffffffff
+jgt r1, r2, +0: 80000000-ffffffffffffffff 7fffffffffffffff 8000000000000000-ffffffffffffffff;7fffffffffffffff 80000000-7fffffffffffffff;7fffffffffffffff
+jgt r1, r2, +0: 1-7fffffff 8000000000000000 none same
+jgt r1, r2, +0: 7fffffff 7fffffffffffffff none same
+jgt32 r1, r2, +0: 1 0-ffffffff 1;0 1;1-ffffffff
+jgt32 r1, r2, +0: 0-ffffffff 0-7fffffff 1-ffffffff;0-7fffffff 0-7fffffff;0-7fffffff
+jgt32 r1, r2, +0: 7fffffff-ffffffff 1-ffffffff 7fffffff-ffffffff;1-fffffffe 7fffffff-ffffffff;7fffffff-ffffffff
+jgt32 r1, r2, +0: 7fffffff-ffffffff 80000000 80000001-ffffffff;80000000 7fffffff-80000000;80000000
+jgt32 r1, r2, +0: 80000000 80000000 none same
+jgt32 r1, r2, +0: 1-80000000 80000000 none same
+jgt32 r1, r2, +0: 7fffffff 100000000 same none
+jgt32 r1, r2, +0: ffffffff-100000000 100000000 same same
+jgt32 r1, r2, +0: ffffffff-8000000000000000 100000000 same same
+jgt r1, r2, +0: 0 0 none same
+jgt r1, r2, +0: 0-ffffffffffffffff ffffffffffffffff none same
+jge r1, r2, +0: 0-ffffffffffffffff 1-7fffffffffffffff 1-ffffffffffffffff;1-7fffffffffffffff 0-7ffffffffffffffe;1-7fffffffffffffff
+jge r1, r2, +0: 0-7fffffffffffffff 100000000 100000000-7fffffffffffffff;100000000 0-ffffffff;100000000
+jge r1, r2, +0: ffffffff-7fffffffffffffff 1-ffffffffffffffff ffffffff-7fffffffffffffff;1-7fffffffffffffff ffffffff-7fffffffffffffff;100000000-ffffffffffffffff
+jge r1, r2, +0: 8000000000000000 0-ffffffffffffffff 8000000000000000;0-8000000000000000 8000000000000000;8000000000000001-ffffffffffffffff
+jge r1, r2, +0: 1-80000000 8000000000000000 none same
+jge r1, r2, +0: 1-7fffffff 7fffffffffffffff-8000000000000000 none same
+jge32 r1, r2, +0: 0-80000000 0-ffffffff 0-80000000;0-80000000 0-80000000;1-ffffffff
+jge32 r1, r2, +0: 0-ffffffff ffffffff ffffffff;ffffffff 0-fffffffe;ffffffff
+jge32 r1, r2, +0: 1-ffffffff 80000000-ffffffff 80000000-ffffffff;80000000-ffffffff 1-fffffffe;80000000-ffffffff
+jge32 r1, r2, +0: 80000000 1-ffffffff 80000000;1-80000000 80000000;80000001-ffffffff
+jge32 r1, r2, +0: 80000000 80000000 same none
+jge32 r1, r2, +0: 7fffffff 1-7fffffff same none
+jge32 r1, r2, +0: 80000000 ffffffffffffffff none same
+jge32 r1, r2, +0: ffffffff ffffffff-100000000 same same
+jge32 r1, r2, +0: 100000000 ffffffff-7fffffffffffffff same same
+jset r1, r2, +0: 100000000 0 none same
+jset r1, r2, +0: 1-8000000000000000 0-8000000000000000 same same
+jset r1, r2, +0: 8000000000000000 ffffffffffffffff same none
+jset r1, r2, +0: 7fffffff 7fffffffffffffff-ffffffffffffffff same same
+jset r1, r2, +0: 1-80000000 7fffffff same same
+jset32 r1, r2, +0: 80000000 0 none same
+jset32 r1, r2, +0: 80000000-ffffffff 0-7fffffff same same
+jset32 r1, r2, +0: 7fffffff ffffffff same none
+jset32 r1, r2, +0: 0-1 ffffffff same same
+jset32 r1, r2, +0: 7fffffff 7fffffff-80000000 same same
+jset32 r1, r2, +0: 8000000000000000 ffffffffffffffff none same
+jset32 r1, r2, +0: ffffffff-100000000 ffffffff same same
+jset32 r1, r2, +0: 100000000-8000000000000000 100000000 same same
+jne r1, r2, +0: 0-80000000 80000000 0-7fffffff;80000000 80000000;80000000
+jne r1, r2, +0: 8000000000000000 0-8000000000000000 8000000000000000;0-7fffffffffffffff 8000000000000000;8000000000000000
+jne r1, r2, +0: ffffffff ffffffff-ffffffffffffffff ffffffff;100000000-ffffffffffffffff ffffffff;ffffffff
+jne r1, r2, +0: 1-ffffffffffffffff 1 2-ffffffffffffffff;1 1;1
+jne r1, r2, +0: 80000000 ffffffff same none
+jne r1, r2, +0: 7fffffff-ffffffff 7fffffff-7fffffffffffffff same 7fffffff-ffffffff;7fffffff-ffffffff
+jne32 r1, r2, +0: 0-7fffffff 0 1-7fffffff;0 0;0
+jne32 r1, r2, +0: 1 0-1 1;0 1;1
+jne32 r1, r2, +0: 7fffffff-ffffffff ffffffff 7fffffff-fffffffe;ffffffff ffffffff;ffffffff
+jne32 r1, r2, +0: 0 0-ffffffff 0;1-ffffffff 0;0
+jne32 r1, r2, +0: 1-80000000 1-7fffffff same 1-7fffffff;1-7fffffff
+jne32 r1, r2, +0: 1 7fffffff same none
+jne32 r1, r2, +0: 8000000000000000 8000000000000000 none same
+jne32 r1, r2, +0: ffffffff-100000000 ffffffff same same
+jne32 r1, r2, +0: 0-100000000 ffffffff-100000000 same same
+jne r1, r2, +0: ffffffffffffffff ffffffffffffffff none same
+jne r1, r2, +0: 0 0 none same
+jsgt r1, r2, +0: ffffffff-100000000 0-7fffffffffffffff ffffffff-100000000;0-ffffffff ffffffff-100000000;ffffffff-7fffffffffffffff
+jsgt r1, r2, +0: 0-100000000 0-7fffffff 1-100000000;0-7fffffff 0-7fffffff;0-7fffffff
+jsgt r1, r2, +0: 7fffffffffffffff 7fffffff-7fffffffffffffff 7fffffffffffffff;7fffffff-7ffffffffffffffe 7fffffffffffffff;7fffffffffffffff
+jsgt r1, r2, +0: ffffffff-7fffffffffffffff ffffffff 100000000-7fffffffffffffff;ffffffff ffffffff;ffffffff
+jsgt r1, r2, +0: 1-ffffffff ffffffff none same
+jsgt r1, r2, +0: 7fffffff-100000000 1-7fffffff same 7fffffff;7fffffff
+jsgt r1, r2, +0: ffffffffffffffff 8000000000000000 same none
+jsgt r1, r2, +0: 7fffffffffffffff-ffffffffffffffff ffffffffffffffff same same
+jsgt r1, r2, +0: 100000000-7fffffffffffffff ffffffffffffffff same same
+jsgt32 r1, r2, +0: 0-7fffffff 1 2-7fffffff;1 0-1;1
+jsgt32 r1, r2, +0: 7fffffff 0-7fffffff 7fffffff;0-7ffffffe 7fffffff;7fffffff
+jsgt32 r1, r2, +0: 1-7fffffff 0-7fffffff 1-7fffffff;0-7ffffffe 1-7fffffff;1-7fffffff
+jsgt32 r1, r2, +0: 0-7fffffff 0-1 1-7fffffff;0-1 0-1;0-1
+jsgt32 r1, r2, +0: 1 1 none same
+jsgt32 r1, r2, +0: 7fffffffffffffff 1 none same
+jsgt32 r1, r2, +0: 7fffffff-80000000 7fffffff-100000000 same same
+jsgt32 r1, r2, +0: 7fffffff-ffffffff 100000000 same same
+jsge r1, r2, +0: 0-7fffffff 1 1-7fffffff;1 0;1
+jsge r1, r2, +0: 0-ffffffff 1-80000000 1-ffffffff;1-80000000 0-7fffffff;1-80000000
+jsge r1, r2, +0: ffffffff 80000000-7fffffffffffffff ffffffff;80000000-ffffffff ffffffff;100000000-7fffffffffffffff
+jsge r1, r2, +0: 80000000-100000000 7fffffff-7fffffffffffffff 80000000-100000000;7fffffff-100000000 80000000-100000000;80000001-7fffffffffffffff
+jsge r1, r2, +0: 7fffffff-ffffffff 1-80000000 same 7fffffff;80000000
+jsge r1, r2, +0: 1-7fffffff 1 same none
+jsge r1, r2, +0: ffffffff 8000000000000000 same none
+jsge r1, r2, +0: 7fffffffffffffff-8000000000000000 7fffffffffffffff-8000000000000000 same same
+jsge r1, r2, +0: 7fffffffffffffff-ffffffffffffffff 0-8000000000000000 same same
+jsge32 r1, r2, +0: 0-7fffffff 1-7fffffff 1-7fffffff;1-7fffffff 0-7ffffffe;1-7fffffff
+jsge32 r1, r2, +0: 1 0-7fffffff 1;0-1 1;2-7fffffff
+jsge32 r1, r2, +0: 1-7fffffff 7fffffff 7fffffff;7fffffff 1-7ffffffe;7fffffff
+jsge32 r1, r2, +0: 0-1 0-7fffffff 0-1;0-1 0-1;1-7fffffff
+jsge32 r1, r2, +0: 1 1 same none
+jsge32 r1, r2, +0: ffffffffffffffff 100000000 none same
+jsge32 r1, r2, +0: 7fffffff-ffffffff 7fffffff-ffffffff same same
+jsge32 r1, r2, +0: 7fffffff 7fffffff-100000000 same same
+jlt r1, r2, +0: 0-80000000 7fffffff-80000000 0-7fffffff;7fffffff-80000000 7fffffff-80000000;7fffffff-80000000
+jlt r1, r2, +0: 0-ffffffffffffffff 80000000 0-7fffffff;80000000 80000000-ffffffffffffffff;80000000
+jlt r1, r2, +0: 80000000-ffffffff 1-ffffffffffffffff 80000000-ffffffff;80000001-ffffffffffffffff 80000000-ffffffff;1-ffffffff
+jlt r1, r2, +0: 80000000 0-ffffffffffffffff 80000000;80000001-ffffffffffffffff 80000000;0-80000000
+jlt r1, r2, +0: 7fffffff-7fffffffffffffff 100000000-8000000000000000 same 100000000-7fffffffffffffff;100000000-7fffffffffffffff
+jlt r1, r2, +0: 7fffffff-8000000000000000 7fffffff-ffffffff 7fffffff-fffffffe;80000000-ffffffff same
+jlt32 r1, r2, +0: 1 0-80000000 1;2-80000000 1;0-1
+jlt32 r1, r2, +0: 0-1 1 0;1 1;1
+jlt32 r1, r2, +0: 1-ffffffff 7fffffff-80000000 1-7fffffff;7fffffff-80000000 7fffffff-ffffffff;7fffffff-80000000
+jlt32 r1, r2, +0: 7fffffff-80000000 7fffffff-ffffffff 7fffffff-80000000;80000000-ffffffff 7fffffff-80000000;7fffffff-80000000
+jlt32 r1, r2, +0: 1 7fffffff same none
+jlt32 r1, r2, +0: 1-7fffffff 80000000 same none
+jlt32 r1, r2, +0: ffffffffffffffff ffffffff none same
+jlt32 r1, r2, +0: ffffffff-100000000 ffffffff-100000000 same same
+jlt32 r1, r2, +0: ffffffff-ffffffffffffffff 100000000 same same
+jlt r1, r2, +0: ffffffffffffffff 0-ffffffffffffffff none same
+jlt r1, r2, +0: 0-ffffffffffffffff 0 none same
+jle r1, r2, +0: 0-ffffffffffffffff 1-80000000 0-80000000;1-80000000 2-ffffffffffffffff;1-80000000
+jle r1, r2, +0: 1-7fffffffffffffff 0-8000000000000000 1-7fffffffffffffff;1-8000000000000000 1-7fffffffffffffff;0-7ffffffffffffffe
+jle r1, r2, +0: 100000000 ffffffff-ffffffffffffffff 100000000;100000000-ffffffffffffffff 100000000;ffffffff
+jle r1, r2, +0: 0-ffffffffffffffff 7fffffffffffffff 0-7fffffffffffffff;7fffffffffffffff 8000000000000000-ffffffffffffffff;7fffffffffffffff
+jle r1, r2, +0: 100000000-8000000000000000 1 none same
+jle r1, r2, +0: 80000000-100000000 100000000 same none
+jle32 r1, r2, +0: 0-7fffffff 0-1 0-1;0-1 1-7fffffff;0-1
+jle32 r1, r2, +0: 0-ffffffff 1 0-1;1 2-ffffffff;1
+jle32 r1, r2, +0: 7fffffff-ffffffff 0-ffffffff 7fffffff-ffffffff;7fffffff-ffffffff 7fffffff-ffffffff;0-fffffffe
+jle32 r1, r2, +0: 80000000 1-ffffffff 80000000;80000000-ffffffff 80000000;1-7fffffff
+jle32 r1, r2, +0: 7fffffff 80000000 same none
+jle32 r1, r2, +0: 80000000 7fffffff none same
+jle32 r1, r2, +0: 8000000000000000 ffffffff same none
+jle32 r1, r2, +0: ffffffff ffffffff-100000000 same same
+jle32 r1, r2, +0: 1-ffffffff 100000000 same same
+jle r1, r2, +0: 0-ffffffffffffffff 0-ffffffffffffffff same 1-ffffffffffffffff;0-fffffffffffffffe
+jslt r1, r2, +0: 0-7fffffffffffffff 1 0;1 1-7fffffffffffffff;1
+jslt r1, r2, +0: 1 0-ffffffff 1;2-ffffffff 1;0-1
+jslt r1, r2, +0: 0-7fffffff 0-7fffffffffffffff 0-7fffffff;1-7fffffffffffffff 0-7fffffff;0-7fffffff
+jslt r1, r2, +0: 0-7fffffffffffffff ffffffff-7fffffffffffffff 0-7ffffffffffffffe;ffffffff-7fffffffffffffff ffffffff-7fffffffffffffff;ffffffff-7fffffffffffffff
+jslt r1, r2, +0: 80000000 100000000 same none
+jslt r1, r2, +0: 7fffffff-100000000 7fffffff-100000000 7fffffff-ffffffff;80000000-100000000 same
+jslt r1, r2, +0: ffffffff 8000000000000000 none same
+jslt r1, r2, +0: ffffffffffffffff 7fffffffffffffff-ffffffffffffffff same same
+jslt r1, r2, +0: ffffffffffffffff 80000000-ffffffffffffffff same same
+jslt32 r1, r2, +0: 0-1 0-7fffffff 0-1;1-7fffffff 0-1;0-1
+jslt32 r1, r2, +0: 0-7fffffff 1-7fffffff 0-7ffffffe;1-7fffffff 1-7fffffff;1-7fffffff
+jslt32 r1, r2, +0: 1 1-7fffffff 1;2-7fffffff 1;1
+jslt32 r1, r2, +0: 1-7fffffff 7fffffff 1-7ffffffe;7fffffff 7fffffff;7fffffff
+jslt32 r1, r2, +0: 1 1 none same
+jslt32 r1, r2, +0: 7fffffffffffffff ffffffffffffffff none same
+jslt32 r1, r2, +0: 100000000 7fffffff-80000000 same same
+jslt32 r1, r2, +0: ffffffff-100000000 7fffffff-80000000 same same
+jsle r1, r2, +0: ffffffff 0-ffffffff ffffffff;ffffffff ffffffff;0-fffffffe
+jsle r1, r2, +0: 1-7fffffff 0-7fffffff 1-7fffffff;1-7fffffff 1-7fffffff;0-7ffffffe
+jsle r1, r2, +0: 7fffffff-7fffffffffffffff 7fffffff-ffffffff 7fffffff-ffffffff;7fffffff-ffffffff 80000000-7fffffffffffffff;7fffffff-ffffffff
+jsle r1, r2, +0: 1-7fffffffffffffff ffffffff 1-ffffffff;ffffffff 100000000-7fffffffffffffff;ffffffff
+jsle r1, r2, +0: 7fffffff-80000000 1 none same
+jsle r1, r2, +0: 1 1-100000000 same none
+jsle r1, r2, +0: 8000000000000000 8000000000000000 same none
+jsle r1, r2, +0: ffffffffffffffff 8000000000000000-ffffffffffffffff same same
+jsle r1, r2, +0: ffffffff-ffffffffffffffff 7fffffffffffffff same same
+jsle32 r1, r2, +0: 0-7fffffff 1 0-1;1 2-7fffffff;1
+jsle32 r1, r2, +0: 7fffffff 0-7fffffff 7fffffff;7fffffff 7fffffff;0-7ffffffe
+jsle32 r1, r2, +0: 0-7fffffff 0-1 0-1;0-1 1-7fffffff;0-1
+jsle32 r1, r2, +0: 1-7fffffff 0-7fffffff 1-7fffffff;1-7fffffff 1-7fffffff;0-7ffffffe
+jsle32 r1, r2, +0: 1 1 same none
+jsle32 r1, r2, +0: ffffffff ffffffffffffffff same none
+jsle32 r1, r2, +0: 7fffffff-ffffffff 80000000-ffffffff same same
+jsle32 r1, r2, +0: 80000000-100000000 ffffffff-100000000 same same
+";
 
 /// Whether a row says what its intervals become on both edges.
-fn is_narrowed(row: &str) -> Option<bool> {
-    let (name, rest) = cut(row, " ");
-    let (bits, rest) = cut(rest, " ");
+fn is_narrowed(alloc: Global, row: &str) -> Option<bool> {
+    let (line, rest) = cut(row, ": ");
     let (x, rest) = cut(rest, " ");
     let (y, edges) = cut(rest, " ");
-    let comparison = Comparison {
-        condition: condition(name)?,
-        width: width(bits)?,
-        x: interval(x, ",")?,
-        y: interval(y, ",")?,
+    let (left, right) = (interval(x)?, interval(y)?);
+    let Insn::JumpIf {
+        condition,
+        width,
+        ..
+    } = instruction_of(alloc, line)?
+    else {
+        return None;
     };
     let (taken, other) = cut(edges, " ");
-    Some(has_edge(&comparison, true, taken) && has_edge(&comparison, false, other))
+    let same = Narrowed { left, right };
+    let is_taken = is_edge(refine(condition, width, left, right, true), same, taken);
+    Some(is_taken && is_edge(refine(condition, width, left, right, false), same, other))
 }
 
-/// Whether the intervals become on an edge what a row says.
-fn has_edge(comparison: &Comparison, taken: bool, text: &str) -> bool {
-    let (x, y) = (comparison.x, comparison.y);
-    let given = refine(comparison.condition, comparison.width, x, y, taken);
+/// Whether these are the intervals that a row says of an edge.
+fn is_edge(given: Option<Narrowed>, same: Narrowed, text: &str) -> bool {
     match text {
         "none" => given.is_none(),
-        "same" => given == Some(Narrowed { left: x, right: y }),
+        "same" => given == Some(same),
         _ => given.is_some() && given == narrowed_of(text),
     }
 }
@@ -227,14 +221,14 @@ fn has_edge(comparison: &Comparison, taken: bool, text: &str) -> bool {
 fn narrowed_of(text: &str) -> Option<Narrowed> {
     let (left, right) = cut(text, ";");
     Some(Narrowed {
-        left: interval(left, ",")?,
-        right: interval(right, ",")?,
+        left: interval(left)?,
+        right: interval(right)?,
     })
 }
 
 #[test]
 fn edges(rt: HostRuntime) {
     for row in ROWS.lines() {
-        assert!(rt; is_narrowed(row) == Some(true), "{row}");
+        assert!(rt; is_narrowed(rt.alloc(), row) == Some(true), "{row}");
     }
 }

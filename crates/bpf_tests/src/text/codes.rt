@@ -1,71 +1,59 @@
 //! Texts that mean a code.
-use super::text_of;
-use crate::fixtures::{bytes_of, cut, is_heading};
-use bpf_insn::{decode, encode};
+use crate::fixtures::{bytes_of, cut, is_written};
+use bpf_insn::decode;
 use bpf_text::{assemble, disassemble};
-use std::alloc::{AllocError, Global};
+use std::alloc::Global;
 
-// Texts, and the bytes of the code that they mean (RFC 9669, sections 3 to 5).
-const TEXTS: &str =
-    "ldxb r2, [r1+55]$mov r0, 0$jne r2, 65, out$mov r0, 1$out:$exit$ | 71 12 37 0 0 0 0 0 b7 0 0 0 0 0 0 0 55 02 01 0 41 0 0 0 b7 0 0 0 01 0 0 0 95 0 0 0 0 0 0 0
-ja over$lddw r1, 0x1$over:$exit | 05 0 02 0 0 0 0 0 18 01 0 0 01 0 0 0 0 0 0 0 0 0 0 0 95 0 0 0 0 0 0 0
-ja end$end: | 05 0 0 0 0 0 0 0
-back:$ja32 back | 06 0 0 0 ff ff ff ff
-back:$jlt32 r1, r2, back | ae 21 ff ff 0 0 0 0
-r0:$mov:$exit:$ja mov | 05 0 ff ff 0 0 0 0
-\t exit \t; the end\r$;\r$ \t\r$ | 95 0 0 0 0 0 0 0
-exit;mov$$ | 95 0 0 0 0 0 0 0
-add\tr1 ,\t r2 | 0f 21 0 0 0 0 0 0
-add r1,r2 | 0f 21 0 0 0 0 0 0
-add r1, 2147483647 | 07 01 0 0 ff ff ff 7f
-add r1, -2147483648 | 07 01 0 0 0 0 0 80
-add r1, -0 | 07 01 0 0 0 0 0 0
-add r1, 00000000000000000002 | 07 01 0 0 02 0 0 0
-add r1, 0xffFFffFE | 07 01 0 0 fe ff ff ff
-add r1, 0x10 | 07 01 0 0 10 0 0 0
-lddw r9, 18446744073709551615 | 18 09 0 0 ff ff ff ff 0 0 0 0 ff ff ff ff
-lddw r9, 0x1122334455667788 | 18 09 0 0 88 77 66 55 0 0 0 0 44 33 22 11
-ldxb r0, [r10] | 71 a0 0 0 0 0 0 0
-ldxb r0, [r10-32768] | 71 a0 0 80 0 0 0 0
-ldxb r0, [r10+32767] | 71 a0 ff 7f 0 0 0 0
-ja -32768 | 05 0 0 80 0 0 0 0
-ja +32767 | 05 0 ff 7f 0 0 0 0
-ja32 -2147483648 | 06 0 0 0 0 0 0 80
-ja32 +2147483647 | 06 0 0 0 ff ff ff 7f
+// Texts, and the bytes of the code that they mean (RFC 9669, sections 3 to 5). A dollar sign ends a row, since texts have ends of lines.
+const TEXTS: &str = "\
+ldxb r2, [r1+55]\nmov r0, 0\njne r2, 65, out\nmov r0, 1\nout:\nexit\n | 71 12 37 0 0 0 0 0 b7 0 0 0 0 0 0 0 55 02 01 0 41 0 0 0 b7 0 0 0 01 0 0 0 95 0 0 0 0 0 0 0$
+ja over\nlddw r1, 0x1\nover:\nexit | 05 0 02 0 0 0 0 0 18 01 0 0 01 0 0 0 0 0 0 0 0 0 0 0 95 0 0 0 0 0 0 0$
+ja end\nend: | 05 0 0 0 0 0 0 0$
+back:\nja32 back | 06 0 0 0 ff ff ff ff$
+back:\njlt32 r1, r2, back | ae 21 ff ff 0 0 0 0$
+r0:\nmov:\nexit:\nja mov | 05 0 ff ff 0 0 0 0$
+\t exit \t; the end\r\n;\r\n \t\r\n | 95 0 0 0 0 0 0 0$
+exit;mov\n\n | 95 0 0 0 0 0 0 0$
+add\tr1 ,\t r2 | 0f 21 0 0 0 0 0 0$
+add r1,r2 | 0f 21 0 0 0 0 0 0$
+add r1, 2147483647 | 07 01 0 0 ff ff ff 7f$
+add r1, -2147483648 | 07 01 0 0 0 0 0 80$
+add r1, -0 | 07 01 0 0 0 0 0 0$
+add r1, 00000000000000000002 | 07 01 0 0 02 0 0 0$
+add r1, 0xffFFffFE | 07 01 0 0 fe ff ff ff$
+add r1, 0x10 | 07 01 0 0 10 0 0 0$
+lddw r9, 18446744073709551615 | 18 09 0 0 ff ff ff ff 0 0 0 0 ff ff ff ff$
+lddw r9, 0x1122334455667788 | 18 09 0 0 88 77 66 55 0 0 0 0 44 33 22 11$
+ldxb r0, [r10] | 71 a0 0 0 0 0 0 0$
+ldxb r0, [r10-32768] | 71 a0 0 80 0 0 0 0$
+ldxb r0, [r10+32767] | 71 a0 ff 7f 0 0 0 0$
+ja -32768 | 05 0 0 80 0 0 0 0$
+ja +32767 | 05 0 ff 7f 0 0 0 0$
+ja32 -2147483648 | 06 0 0 0 0 0 0 80$
+ja32 +2147483647 | 06 0 0 0 ff ff ff 7f$
 call -1 | 85 0 0 0 ff ff ff ff";
 
 /// Whether a text means the code of these bytes.
 fn means(alloc: Global, text: &str, bytes: &[u8]) -> bool {
-    let Ok(code) = assemble(alloc, text) else {
-        return false;
-    };
-    let Ok(encoded) = encode(alloc, &code) else {
-        return false;
-    };
-    encoded.as_slice() == bytes
-}
-
-/// Whether the text of a row means the code of its bytes.
-fn is_text(alloc: Global, row: &str) -> bool {
-    let (text, bytes) = cut(row, " | ");
-    let Ok(text) = text_of(alloc, text) else {
-        return false;
-    };
-    let Some(bytes) = bytes_of(alloc, bytes) else {
-        return false;
-    };
-    means(alloc, &text, &bytes)
+    match assemble(alloc, text) {
+        Ok(code) => is_written(alloc, &code, bytes),
+        Err(_) => false,
+    }
 }
 
 #[test]
 fn texts(rt: HostRuntime) {
-    for row in TEXTS.lines() {
-        assert!(rt; is_text(rt.alloc(), row), "{row}");
+    for row in TEXTS.split("$\n") {
+        let (text, words) = cut(row, " | ");
+        let bytes = bytes_of(rt.alloc(), words).expect(&rt, row);
+        assert!(rt; means(rt.alloc(), text, &bytes), "{row}");
     }
 }
 
 // Each mnemonic in each form of its operands, as the disassembler writes it, and its bytes.
-const LINES: &str = "# Operations.
+const LINES: &str = concat!(
+    // Operations.
+    "\
 add r1, r2 | 0f 21 0 0 0 0 0 0
 add r1, -3 | 07 01 0 0 fd ff ff ff
 sub r1, r2 | 1f 21 0 0 0 0 0 0
@@ -94,7 +82,9 @@ mov r1, r2 | bf 21 0 0 0 0 0 0
 mov r1, 3 | b7 01 0 0 03 0 0 0
 arsh r1, r2 | cf 21 0 0 0 0 0 0
 arsh r1, 3 | c7 01 0 0 03 0 0 0
-# Operations of 32 bits.
+",
+    // Operations of 32 bits.
+    "\
 add32 r1, r2 | 0c 21 0 0 0 0 0 0
 add32 r1, 3 | 04 01 0 0 03 0 0 0
 sub32 r1, r2 | 1c 21 0 0 0 0 0 0
@@ -123,7 +113,9 @@ mov32 r1, r2 | bc 21 0 0 0 0 0 0
 mov32 r1, 3 | b4 01 0 0 03 0 0 0
 arsh32 r1, r2 | cc 21 0 0 0 0 0 0
 arsh32 r1, 3 | c4 01 0 0 03 0 0 0
-# Other changes of a register.
+",
+    // Other changes of a register.
+    "\
 neg r1 | 87 01 0 0 0 0 0 0
 neg32 r1 | 84 01 0 0 0 0 0 0
 movsx8 r1, r2 | bf 21 08 0 0 0 0 0
@@ -140,7 +132,9 @@ be64 r1 | dc 01 0 0 40 0 0 0
 swap16 r1 | d7 01 0 0 10 0 0 0
 swap32 r1 | d7 01 0 0 20 0 0 0
 swap64 r1 | d7 01 0 0 40 0 0 0
-# Jumps.
+",
+    // Jumps.
+    "\
 ja -2 | 05 0 fe ff 0 0 0 0
 ja32 +0 | 06 0 0 0 0 0 0 0
 jeq r10, r2, +1 | 1d 2a 01 0 0 0 0 0
@@ -165,7 +159,9 @@ jslt r1, r2, +1 | cd 21 01 0 0 0 0 0
 jslt r1, 3, +1 | c5 01 01 0 03 0 0 0
 jsle r1, r2, +1 | dd 21 01 0 0 0 0 0
 jsle r1, 3, +1 | d5 01 01 0 03 0 0 0
-# Jumps that compare 32 bits.
+",
+    // Jumps that compare 32 bits.
+    "\
 jeq32 r1, r2, -1 | 1e 21 ff ff 0 0 0 0
 jeq32 r1, 3, -1 | 16 01 ff ff 03 0 0 0
 jgt32 r1, r2, -1 | 2e 21 ff ff 0 0 0 0
@@ -188,7 +184,9 @@ jslt32 r1, r2, -1 | ce 21 ff ff 0 0 0 0
 jslt32 r1, 3, -1 | c6 01 ff ff 03 0 0 0
 jsle32 r1, r2, -1 | de 21 ff ff 0 0 0 0
 jsle32 r1, 3, -1 | d6 01 ff ff 03 0 0 0
-# Calls, the end, and memory.
+",
+    // Calls, the end, and memory.
+    "\
 call 7 | 85 0 0 0 07 0 0 0
 exit | 95 0 0 0 0 0 0 0
 lddw r1, 0x00000000deadbeef | 18 01 0 0 ef be ad de 0 0 0 0 0 0 0 0
@@ -206,54 +204,25 @@ stdw [r1+2], 7 | 7a 01 02 0 07 0 0 0
 stxb [r1+2], r10 | 73 a1 02 0 0 0 0 0
 stxh [r1+2], r3 | 6b 31 02 0 0 0 0 0
 stxw [r1+2], r3 | 63 31 02 0 0 0 0 0
-stxdw [r1+2], r3 | 7b 31 02 0 0 0 0 0";
-
-/// Adds the text of a row and an end of line, and its bytes.
-fn push_row(text: &mut String, words: &mut String, row: &str) -> Result<(), AllocError> {
-    let (line, bytes) = cut(row, " | ");
-    text.push_str(line)?;
-    text.push_str("\n")?;
-    words.push_str(bytes)?;
-    words.push_str(" ")
-}
-
-/// Adds the texts of all rows, and their bytes.
-fn push_rows(text: &mut String, words: &mut String) -> Result<(), AllocError> {
-    for row in LINES.lines() {
-        if !is_heading(row) {
-            push_row(text, words, row)?;
-        }
-    }
-    Ok(())
-}
-
-/// Whether the code of these bytes is disassembled to a text, which means it.
-fn is_disassembled(alloc: Global, bytes: &[u8], want: &str) -> bool {
-    let Ok(code) = decode(alloc, bytes) else {
-        return false;
-    };
-    disassemble(alloc, &code).is_ok_and(|text| text.as_str() == want) && means(alloc, want, bytes)
-}
-
-/// Whether the codes of all rows together are disassembled to their texts.
-fn are_disassembled(alloc: Global) -> bool {
-    let mut text = String::new(alloc);
-    let mut words = String::new(alloc);
-    if push_rows(&mut text, &mut words).is_err() {
-        return false;
-    }
-    let Some(bytes) = bytes_of(alloc, &words) else {
-        return false;
-    };
-    is_disassembled(alloc, &bytes, &text)
-}
+stxdw [r1+2], r3 | 7b 31 02 0 0 0 0 0
+"
+);
 
 // Lines are assembled one by one, and disassembled and assembled together.
 #[test]
 fn mnemonics(rt: HostRuntime) {
+    let mut text = String::new(rt.alloc());
+    let mut bytes = Vec::new(rt.alloc());
     for row in LINES.lines() {
-        let is_right = is_heading(row) || is_text(rt.alloc(), row);
-        assert!(rt; is_right, "{row}");
+        let (line, words) = cut(row, " | ");
+        let word = bytes_of(rt.alloc(), words).expect(&rt, row);
+        assert!(rt; means(rt.alloc(), line, &word), "{row}");
+        bytes.extend_from_slice(&word).expect(&rt, "memory");
+        text.push_str(line).expect(&rt, "memory");
+        text.push('\n').expect(&rt, "memory");
     }
-    assert!(rt; are_disassembled(rt.alloc()));
+    let code = decode(rt.alloc(), &bytes).expect(&rt, "a code");
+    let disassembled = disassemble(rt.alloc(), &code).expect(&rt, "memory");
+    assert!(rt; disassembled.as_str() == text.as_str());
+    assert!(rt; means(rt.alloc(), &text, &bytes));
 }

@@ -21,23 +21,15 @@ fn lines(alloc: Global, count: u32, step: u32, end: &str) -> Result<String, Allo
     Ok(text)
 }
 
-/// Whether the text of a row gives what it says.
-fn is_of_size(alloc: Global, row: &str) -> bool {
-    let (count, rest) = cut(row, "|");
-    let (step, rest) = cut(rest, "|");
-    let (end, want) = cut(rest, "|");
-    let (Ok(count), Ok(step)) = (count.parse(), step.parse()) else {
-        return false;
-    };
-    let Ok(text) = lines(alloc, count, step, end) else {
-        return false;
-    };
-    gives(alloc, &text, want)
-}
-
 #[test]
 fn sizes(rt: HostRuntime) {
     for row in SIZES.lines() {
-        assert!(rt; is_of_size(rt.alloc(), row), "{row}");
+        let (count, rest) = cut(row, "|");
+        let (step, rest) = cut(rest, "|");
+        let (end, want) = cut(rest, "|");
+        let count = count.parse().expect(&rt, row);
+        let step = step.parse().expect(&rt, row);
+        let text = lines(rt.alloc(), count, step, end).expect(&rt, row);
+        assert!(rt; gives(rt.alloc(), &text, want), "{row}");
     }
 }
