@@ -10,6 +10,8 @@ mod counties;
 #[cfg(test)]
 mod devices;
 #[cfg(test)]
+mod endings;
+#[cfg(test)]
 mod fixtures;
 #[cfg(test)]
 mod geocodes;

@@ -1,51 +1,28 @@
-//! The command `run`: type 1 files and their rows.
-use super::fixtures::{MemoryFile, bytes_of, cell, run_command};
-use std::alloc::{AllocError, Global};
-use std::test::Fail;
+//! Rows of the command `run` over type 1 files. The last of these, of 600 lines, has more bytes than twice the buffer that it is read through, and so have its
+//! rows.
 
-const RUN: &str = "run --program p.bpf --data d 01001";
-
-// The program, the type 1 file, the rows, the status, and what is said.
-const FILES: &str = r"
-ONE EXIT | LINE \n LINE \n | 0\t LINE \n 0\t LINE \n | 0 |
-ONE EXIT |  |  | 0 |
-71 10 e3 00 00 00 00 00 EXIT | LINE \n | 0\t LINE \n | 0 |
-ONE EXIT | LINE \r\n LINE \n LINE | 0\t LINE \n 0\t LINE \n 0\t LINE \n | 0 |
-ONE EXIT | LINE \r\n LINE:227 \n LINE | 0\t LINE \n | 1 | refused 1 rt1 line 2 WrongLength
-71 10 37 00 00 00 00 00 07 00 00 00 bf ff ff ff EXIT | LINE \n LINE@55=H01 \n LINE@55=___ \n | 0\t LINE@55=H01 \n 0\t LINE@55=___ \n | 0 |
-71 12 37 00 00 00 00 00 b7 00 00 00 00 00 00 00 55 02 01 00 41 00 00 00 ONE EXIT | LINE \n LINE@55=H01 \n LINE@55=___ \n | 0\t LINE \n | 0 |
-ONE EXIT 71 90 00 00 00 00 00 00 EXIT | LINE \n | 0\t LINE \n | 0 |
-ONE EXIT | LINE \n LINE:227 \n | 0\t LINE \n | 1 | refused 1 rt1 line 2 WrongLength
-ONE EXIT | LINE:229 \n LINE \n |  | 1 | refused 1 rt1 line 1 WrongLength
-ONE EXIT | LINE:230 \n |  | 1 | refused 1 rt1 line 1 WrongLength
-ONE EXIT | LINE:231 \n |  | 1 | refused 1 rt1 line 1 WrongLength
-ONE EXIT | LINE \r |  | 1 | refused 1 rt1 line 1 WrongLength
-ONE EXIT | LINE \r\r\n |  | 1 | refused 1 rt1 line 1 WrongLength
-ONE EXIT | LINE \n \n | 0\t LINE \n | 1 | refused 1 rt1 line 2 WrongLength
-ONE EXIT | \n LINE \n |  | 1 | refused 1 rt1 line 1 WrongLength
-ONE EXIT | LINE \n LINE@0=4 \n | 0\t LINE \n | 1 | refused 2 rt1 line 2 WrongType
-ONE EXIT | LINE@5=__________ \n |  | 1 | refused 3 rt1 line 1 BadTlid
-ONE EXIT | LINE@5=_12_456789 \n |  | 1 | refused 3 rt1 line 1 BadTlid
-ONE EXIT | LINE@0=42345__________ \n |  | 1 | refused 2 rt1 line 1 WrongType
-ONE EXIT | LINE@30=\r \n | 0\t LINE@30=\r \n | 0 |
-ONE EXIT | LINE@19=\xc3\xa9\xff\x80 \n | 0\t LINE@19=\xc3\xa9\xff\x80 \n | 0 |
+pub const FILES: &str = r"
+extractd run --program p.bpf --data d 01001 | 0\t LINE \n 0\t LINE \n | 0 | | p.bpf: ONE EXIT | d/TGR01001.RT1: LINE \n LINE \n
+extractd run --program p.bpf --data d 01001 | | 0 | | p.bpf: ONE EXIT | d/TGR01001.RT1:
+extractd run --program p.bpf --data d 01001 | 0\t LINE \n | 0 | | p.bpf: 71 10 e3 00 00 00 00 00 EXIT | d/TGR01001.RT1: LINE \n
+extractd run --program p.bpf --data d 01001 | 0\t LINE \n 0\t LINE \n 0\t LINE \n | 0 | | p.bpf: ONE EXIT | d/TGR01001.RT1: LINE \r\n LINE \n LINE
+extractd run --program p.bpf --data d 01001 | 0\t LINE \n | 1 | refused 1 rt1 line 2 WrongLength | p.bpf: ONE EXIT | d/TGR01001.RT1: LINE \r\n ..227 \n LINE
+extractd run --program p.bpf --data d 01001 | 0\t ..55 H01 58.. \n 0\t ..55 ___ 58.. \n | 0 | | p.bpf: 71 10 37 00 00 00 00 00 07 00 00 00 bf ff ff ff EXIT | d/TGR01001.RT1: LINE \n ..55 H01 58.. \n ..55 ___ 58.. \n
+extractd run --program p.bpf --data d 01001 | 0\t LINE \n | 0 | | p.bpf: 71 12 37 00 00 00 00 00 b7 00 00 00 00 00 00 00 55 02 01 00 41 00 00 00 ONE EXIT | d/TGR01001.RT1: LINE \n ..55 H01 58.. \n ..55 ___ 58.. \n
+extractd run --program p.bpf --data d 01001 | 0\t LINE \n | 0 | | p.bpf: ONE EXIT 71 90 00 00 00 00 00 00 EXIT | d/TGR01001.RT1: LINE \n
+extractd run --program p.bpf --data d 01001 | 0\t LINE \n | 1 | refused 1 rt1 line 2 WrongLength | p.bpf: ONE EXIT | d/TGR01001.RT1: LINE \n ..227 \n
+extractd run --program p.bpf --data d 01001 | | 1 | refused 1 rt1 line 1 WrongLength | p.bpf: ONE EXIT | d/TGR01001.RT1: LINE _ \n LINE \n
+extractd run --program p.bpf --data d 01001 | | 1 | refused 1 rt1 line 1 WrongLength | p.bpf: ONE EXIT | d/TGR01001.RT1: LINE __ \n
+extractd run --program p.bpf --data d 01001 | | 1 | refused 1 rt1 line 1 WrongLength | p.bpf: ONE EXIT | d/TGR01001.RT1: LINE ___ \n
+extractd run --program p.bpf --data d 01001 | | 1 | refused 1 rt1 line 1 WrongLength | p.bpf: ONE EXIT | d/TGR01001.RT1: LINE \r
+extractd run --program p.bpf --data d 01001 | | 1 | refused 1 rt1 line 1 WrongLength | p.bpf: ONE EXIT | d/TGR01001.RT1: LINE \r\r\n
+extractd run --program p.bpf --data d 01001 | 0\t LINE \n | 1 | refused 1 rt1 line 2 WrongLength | p.bpf: ONE EXIT | d/TGR01001.RT1: LINE \n \n
+extractd run --program p.bpf --data d 01001 | | 1 | refused 1 rt1 line 1 WrongLength | p.bpf: ONE EXIT | d/TGR01001.RT1: \n LINE \n
+extractd run --program p.bpf --data d 01001 | 0\t LINE \n | 1 | refused 2 rt1 line 2 WrongType | p.bpf: ONE EXIT | d/TGR01001.RT1: LINE \n 4 1.. \n
+extractd run --program p.bpf --data d 01001 | | 1 | refused 3 rt1 line 1 BadTlid | p.bpf: ONE EXIT | d/TGR01001.RT1: ..5 __________ 15.. \n
+extractd run --program p.bpf --data d 01001 | | 1 | refused 3 rt1 line 1 BadTlid | p.bpf: ONE EXIT | d/TGR01001.RT1: ..5 _12_456789 15.. \n
+extractd run --program p.bpf --data d 01001 | | 1 | refused 2 rt1 line 1 WrongType | p.bpf: ONE EXIT | d/TGR01001.RT1: 42345__________ 15.. \n
+extractd run --program p.bpf --data d 01001 | 0\t ..30 \r 31.. \n | 0 | | p.bpf: ONE EXIT | d/TGR01001.RT1: ..30 \r 31.. \n
+extractd run --program p.bpf --data d 01001 | 0\t ..19 c3 a9 ff 80 23.. \n | 0 | | p.bpf: ONE EXIT | d/TGR01001.RT1: ..19 c3 a9 ff 80 23.. \n
+extractd run --program p.bpf --data d 01001 | 0\t LINE \n *600 | 0 | | p.bpf: ONE EXIT | d/TGR01001.RT1: LINE \n *600
 ";
-
-/// Whether the program and the file of a row give its rows, its status and what is said.
-fn is_right(alloc: Global, row: &str) -> Result<bool, AllocError> {
-    let program = bytes_of(alloc, cell(row, 0))?;
-    let file = bytes_of(alloc, cell(row, 1))?;
-    let rows = bytes_of(alloc, cell(row, 2))?;
-    let program = MemoryFile::new("p.bpf", program.as_slice());
-    let rt1 = MemoryFile::new("d/TGR01001.RT1", file.as_slice());
-    let ending = run_command(alloc, RUN, &[program, rt1])?;
-    Ok(ending.is_right(cell(row, 3), cell(row, 4), rows.as_slice()))
-}
-
-#[test]
-fn type_1_files(rt: HostRuntime) -> Result<(), Fail> {
-    for row in FILES.trim().lines() {
-        assert!(rt; is_right(rt.alloc(), row)?, "{row}");
-    }
-    Ok(())
-}

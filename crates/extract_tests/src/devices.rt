@@ -1,68 +1,16 @@
 //! Readers and writers that go wrong in mid-stream, and the order in which they are called.
-use crate::fixtures::{EVERY, Files, bytes_of, cut, files_of, is_as_expected, reader, row_count};
+use crate::fixtures::{
+    Files, NONE, RECORD, bytes_of, cell, extract_of, files_of, is_as_expected, program_of,
+};
 use extract::{ExtractFault, extract};
-use std::alloc::{Allocator, Global};
+use std::alloc::Global;
 use std::cell::Cell;
 use std::io;
 use std::io::{ErrorKind, Read, Write};
+use std::test::Fail;
 use tl_fields::{Burst, Counting, Fuse};
 use tl_records::{LineFault, LineFlaw};
 use tl_segments::{CountyFile, LoadFault};
-
-/// A reader of a file that passes so many calls and then fails once, where it is the one that fails.
-fn device(
-    bytes: &[u8],
-    file: CountyFile,
-    failing: CountyFile,
-    passing: u64,
-    kind: ErrorKind,
-) -> Counting<Fuse<&[u8]>> {
-    let calls = if file == failing { passing } else { u64::MAX };
-    reader(bytes, calls, kind)
-}
-
-/// The fault of an extract one of whose readers fails, and how many calls all of them got.
-fn fault_of<A: Allocator + Copy>(
-    alloc: A,
-    program: &[u8],
-    files: &Files,
-    failing: CountyFile,
-    passing: u64,
-    out: &mut Counting<Vec<u8>>,
-) -> (Option<ExtractFault>, u64) {
-    let mut rt1 = device(
-        &files.rt1,
-        CountyFile::Rt1,
-        failing,
-        passing,
-        ErrorKind::Interrupted,
-    );
-    let mut rt4 = device(
-        &files.rt4,
-        CountyFile::Rt4,
-        failing,
-        passing,
-        ErrorKind::BrokenPipe,
-    );
-    let mut rt5 = device(
-        &files.rt5,
-        CountyFile::Rt5,
-        failing,
-        passing,
-        ErrorKind::Interrupted,
-    );
-    let mut rt6 = device(
-        &files.rt6,
-        CountyFile::Rt6,
-        failing,
-        passing,
-        ErrorKind::BrokenPipe,
-    );
-    let fault = extract(alloc, program, &mut rt1, &mut rt4, &mut rt5, &mut rt6, out).err();
-    let joined = rt4.get_ref().calls.wrapping_add(rt5.get_ref().calls);
-    let others = rt6.get_ref().calls.wrapping_add(rt1.get_ref().calls);
-    (fault, joined.wrapping_add(others))
-}
 
 // The files in the order in which they are read, how long their lines are, and how long the rows.
 const IN_ORDER: [(CountyFile, u64, u64); 4] = [
@@ -85,16 +33,14 @@ fn stops_at(
     alloc: Global,
     program: &[u8],
     files: &Files,
-    file: CountyFile,
-    reads: (u64, u64),
-    lines: u64,
-    row: u64,
+    (file, length, row): (CountyFile, u64, u64),
+    (before, passing): (u64, u64),
 ) -> bool {
-    let (before, passing) = reads;
+    let lines = passing.checked_div(length).unwrap_or(0);
     let mut out = Counting::new(Vec::new(alloc));
-    let given = fault_of(alloc, program, files, file, passing, &mut out);
+    let given = extract_of(alloc, program, files, (file, passing), &mut out);
     let calls = before.wrapping_add(passing).wrapping_add(1);
-    given == (Some(read_fault(file, lines)), calls)
+    given == (Err(read_fault(file, lines)), calls)
         && out.get_ref().len() as u64 == lines.wrapping_mul(row)
 }
 
@@ -104,13 +50,11 @@ fn each_read_stops(
     alloc: Global,
     program: &[u8],
     files: &Files,
-    (file, length, row): (CountyFile, u64, u64),
+    file: (CountyFile, u64, u64),
     before: u64,
 ) -> bool {
-    for passing in 0..=length.wrapping_mul(2) {
-        let lines = passing.checked_div(length).unwrap_or(0);
-        let reads = (before, passing);
-        if !stops_at(alloc, program, files, file, reads, lines, row) {
+    for passing in 0..=file.1.wrapping_mul(2) {
+        if !stops_at(alloc, program, files, file, (before, passing)) {
             return false;
         }
     }
@@ -120,20 +64,22 @@ fn each_read_stops(
 /// The file at whose reads an extract of two lines a file doesn't stop, if there is one.
 fn wrong_file(alloc: Global, program: &[u8], files: &Files) -> Option<&'static str> {
     let mut before: u64 = 0;
-    for (file, length, row) in IN_ORDER {
-        if !each_read_stops(alloc, program, files, (file, length, row), before) {
-            return Some(file.name());
+    for file in IN_ORDER {
+        if !each_read_stops(alloc, program, files, file, before) {
+            return Some(file.0.name());
         }
-        before = before.wrapping_add(length.wrapping_mul(2)).wrapping_add(1);
+        before = before.wrapping_add(file.1.wrapping_mul(2)).wrapping_add(1);
     }
     None
 }
 
 #[test]
-fn each_read_fails(rt: HostRuntime) {
-    let program = bytes_of(rt.alloc(), EVERY).expect(&rt, "bytes");
-    let files = files_of(rt.alloc(), "= =;= =;= =;= =").expect(&rt, "files");
+fn each_read_fails(rt: HostRuntime) -> Result<(), Fail> {
+    let row = "every; = 0a = 0a; = 0a = 0a; = 0a = 0a; = 0a = 0a";
+    let program = program_of(rt.alloc(), row)?;
+    let files = files_of(rt.alloc(), row)?;
     assert_eq!(rt; wrong_file(rt.alloc(), &program, &files), None);
+    Ok(())
 }
 
 // Hands on so many bytes a write at most.
@@ -168,14 +114,15 @@ fn burst_named(name: &str) -> Burst {
     }
 }
 
-/// How many writes of rows and reads there are until a device without room for more bytes goes wrong, which the two rows of 231 bytes fill.
+/// How many writes of rows and reads there are until a device without room for more bytes goes wrong, which the two rows of 231 bytes fill. Each of the
+/// three empty files is read once.
 fn calls_until(room: u64) -> (u64, u64) {
     match room {
-        0 => (1, 229),
-        1..231 => (2, 229),
-        231 => (2, 458),
-        232..462 => (3, 458),
-        _ => (2, 459),
+        0 => (1, 232),
+        1..231 => (2, 232),
+        231 => (2, 461),
+        232..462 => (3, 461),
+        _ => (2, 462),
     }
 }
 
@@ -188,62 +135,59 @@ fn writes_of(step: usize, room: u64, rows: u64) -> u64 {
     }
 }
 
-/// A file, and its rows.
-#[derive(Clone, Copy)]
-struct Lines<'a> {
-    file: &'a [u8],
-    text: &'a [u8],
-}
-
 /// Whether an extract of two lines to a device that goes wrong behind so many bytes has the refusal of a row, and wrote these bytes.
-fn is_cut_off(alloc: Global, program: &[u8], lines: Lines<'_>, room: usize, row: &str) -> bool {
-    let (step, rest) = cut(row);
-    let (burst, line) = cut(rest);
-    let step = step.parse().unwrap_or(0);
+fn is_cut_off(
+    alloc: Global,
+    program: &[u8],
+    files: &Files,
+    text: &[u8],
+    room: usize,
+    row: &str,
+) -> bool {
+    let step = cell(row, 0).parse().unwrap_or(0);
     let inner = Vec::new(alloc);
     let narrow = Narrow { inner, step };
-    let mut out = Counting::new(Fuse::after_bytes(narrow, room, burst_named(burst)));
-    let mut rt1 = reader(lines.file, u64::MAX, ErrorKind::BrokenPipe);
-    let given = row_count(alloc, program, &mut rt1, &mut out);
+    let mut out = Counting::new(Fuse::after_bytes(narrow, room, burst_named(cell(row, 1))));
+    let (given, reads) = extract_of(alloc, program, files, NONE, &mut out);
     let fuse = out.get_ref();
-    let (rows, reads) = calls_until(room as u64);
-    let calls = (writes_of(step, room as u64, rows), reads);
-    is_as_expected(&given, if room < 462 { line } else { "2" })
-        && lines.text.get(..room) == Some(fuse.inner.inner.as_slice())
-        && (fuse.calls, rt1.get_ref().calls) == calls
+    let (rows, all_reads) = calls_until(room as u64);
+    let expected = if room < 462 { cell(row, 2) } else { "2" };
+    is_as_expected(&given, expected)
+        && text.get(..room) == Some(fuse.inner.inner.as_slice())
+        && (fuse.calls, reads) == (writes_of(step, room as u64, rows), all_reads)
 }
 
 /// The device that is wrong with so much room, if there is one.
 fn wrong_device(
     alloc: Global,
     program: &[u8],
-    lines: Lines<'_>,
+    files: &Files,
+    text: &[u8],
     room: usize,
 ) -> Option<&'static str> {
     for row in DEVICES.lines() {
-        if !is_cut_off(alloc, program, lines, room, row) {
+        if !is_cut_off(alloc, program, files, text, room, row) {
             return Some(row);
         }
     }
     None
 }
 
+// A file of two lines, and its rows.
+const TWO_LINES: &str = "every; = 0a = 0a";
+
+const TWO_ROWS: &str = "0 09 = 0a 0 09 = 0a";
+
 #[test]
-fn each_write_fails(rt: HostRuntime) {
-    let program = bytes_of(rt.alloc(), EVERY).expect(&rt, "bytes");
-    let text = bytes_of(rt.alloc(), "3009 RECORD 0a 3009 RECORD 0a").expect(&rt, "bytes");
-    let file = bytes_of(rt.alloc(), "RECORD 0a RECORD 0a").expect(&rt, "bytes");
-    let lines = Lines {
-        file: &file,
-        text: &text,
-    };
+fn each_write_fails(rt: HostRuntime) -> Result<(), Fail> {
+    let program = program_of(rt.alloc(), TWO_LINES)?;
+    let files = files_of(rt.alloc(), TWO_LINES)?;
+    let text = bytes_of(rt.alloc(), RECORD, TWO_ROWS)?;
     for room in 0..=462 {
-        assert_eq!(rt;
-            wrong_device(rt.alloc(), &program, lines, room),
-            None,
-            "{room}"
-        );
+        let wrong = wrong_device(rt.alloc(), &program, &files, &text, room);
+        assert_eq!(rt; wrong, None, "{room}");
     }
+    Ok(())
 }
 
 /// A reader of lines of 229 bytes that asks, before the first byte of each, whether the rows of all lines before it have been written.
@@ -296,9 +240,9 @@ impl Write for Telling<'_> {
 }
 
 #[test]
-fn rows_are_written_before_the_next_line_is_read(rt: HostRuntime) {
-    let program = bytes_of(rt.alloc(), EVERY).expect(&rt, "bytes");
-    let file = bytes_of(rt.alloc(), "RECORD 0a RECORD 0a RECORD 0a").expect(&rt, "bytes");
+fn rows_are_written_before_the_next_line_is_read(rt: HostRuntime) -> Result<(), Fail> {
+    let program = program_of(rt.alloc(), "every")?;
+    let file = bytes_of(rt.alloc(), RECORD, "= 0a = 0a = 0a")?;
     let written = Cell::new(0);
     let mut rt1 = Asking::new(file.as_slice(), &written);
     let mut out = Counting::new(Telling { written: &written });
@@ -313,4 +257,5 @@ fn rows_are_written_before_the_next_line_is_read(rt: HostRuntime) {
     );
     assert!(rt; (rows, written.get()) == (Ok(3), 693));
     assert!(rt; !rt1.get_ref().is_any_missing);
+    Ok(())
 }

@@ -1,213 +1,166 @@
-//! Programs and the rows that they choose of a file of type 1.
+//! Programs, the rows that they choose of a county's four files, and the rows themselves.
 use crate::fixtures::{
-    EVERY, NOT_ROADS, RECORD, ROADS, bytes_of, cut, good_reader, is_as_expected, row_count,
+    Files, NONE, RECORD, bytes_of, cell, extract_of, files_of, is_as_expected, program_of,
 };
 use extract::{row, row_text};
 use std::alloc::{AllocError, Global};
+use std::test::Fail;
 use tl_fields::{Burst, Counting, Fuse};
 use tl_segments::Segment;
 
-// A program, its words, and the number of rows of a file of one record, or the refusal. The program's bytes are looked at before its jumps,
-// these before its end, and that before what its instructions do.
+// The program, the files of types 1, 4, 5 and 6, the number of rows, or the refusal, the rows, and where they are said how many reads and writes there are.
+//
+// First programs over a file of one record, with what they are at the end. A program's bytes are looked at before its jumps, these before its end, and that
+// before what its instructions do. Then files of type 1; `not_roads` and `roads` choose by the class's first letter. Then all four files: the score of
+// `counts` is 10,000 times the number of alternate names, and the number of ranges; `finds` looks for Oak among the first two alternate names.
 const PROGRAMS: &str = "\
-mov r0, 1 | exit; b700000001000000 9500000000000000; 1
-mov r0, 0 | exit; b700000000000000 9500000000000000; 0
-no bytes; ; refused 10 Empty
-mov r0, 1 | ja -1 | an opcode that no instruction has; b700000001000000 0500ffff00000000 ff00000000000000; refused 13 place 2 UnknownOpcode
-exit | half of lddw r0, 0; 9500000000000000 1800000000000000; refused 17 place 1 CutWide
-mov r0, r1 | ja -1 | ja +9 | ja +1 | lddw r0, 1; bf10000000000000 0500ffff00000000 0500090000000000 0500010000000000 1800000001000000 0000000000000000; refused 30 place 1 BackwardJump
-exit | ja +1 | ja -1 | exit; 9500000000000000 0500010000000000 0500ffff00000000 9500000000000000; refused 30 place 2 BackwardJump
-exit | ja +9 | mov r0, 1; 9500000000000000 0500090000000000 b700000001000000; refused 31 place 1 OutOfProgram
-exit | ja +1 | lddw r0, 1; 9500000000000000 0500010000000000 1800000001000000 0000000000000000; refused 32 place 1 IntoWide
-exit | mov r0, 1; 9500000000000000 b700000001000000; refused 33 place 1 LastNotExit
-exit; 9500000000000000; refused 40 place 0 ReadsNothing(0)
-mov r0, 1 | exit | call 1 | exit; b700000001000000 9500000000000000 8500000001000000 9500000000000000; 1
-mov r0, r1 | ja +0 | exit; bf10000000000000 0500000000000000 9500000000000000; refused 51 place 2 ExitNotNumber
-ldxb r0, [r1+227] | exit; 7110e30000000000 9500000000000000; 1
-ldxb r0, [r1+228] | exit; 7110e40000000000 9500000000000000; refused 44 place 0 OutOfBounds
-ldxb r3, [r1+55] | jeq r3, 65, +1 | mov r2, 1 | mov r0, r2 | exit; 7113370000000000 1503010041000000 b702000001000000 bf20000000000000 9500000000000000; refused 40 place 3 ReadsNothing(2)
-the same behind mov r2, 0; b702000000000000 7113370000000000 1503010041000000 b702000001000000 bf20000000000000 9500000000000000; 0
-mov r0, 7 | div r0, 0 | exit; b700000007000000 3700000000000000 9500000000000000; 0
-mov r0, 7 | mod r0, 0 | exit; b700000007000000 9700000000000000 9500000000000000; 1
-lddw r0, 0x100000007 | mod32 r0, 0 | jeq r0, 7, +1 | mov r0, 0 | exit; 1800000007000000 0000000001000000 9400000000000000 1500010007000000 b700000000000000 9500000000000000; 1
-mov32 r2, -1 | mov r0, 0 | jne r2, -1, +1 | mov r0, 1 | exit; b4020000ffffffff b700000000000000 55020100ffffffff b700000001000000 9500000000000000; 0
-mov32 r2, -1 | mov r0, 0 | jne32 r2, -1, +1 | mov r0, 1 | exit; b4020000ffffffff b700000000000000 56020100ffffffff b700000001000000 9500000000000000; 1
-mov r0, 1 | ja +1 | ldxb r0, [r9+0] | exit; b700000001000000 0500010000000000 7190000000000000 9500000000000000; 1
-lddw r0, 0x1122334455667788 | be16 r0 | jeq r0, 34935, +1 | mov r0, 0 | exit; 1800000088776655 0000000044332211 dc00000010000000 1500010077880000 b700000000000000 9500000000000000; 1
-lddw r0, 0x1122334455667788 | le32 r0 | jeq r0, 1432778632, +1 | mov r0, 0 | exit; 1800000088776655 0000000044332211 d400000020000000 1500010088776655 b700000000000000 9500000000000000; 1
-mov r0, 0 | ldxb r2, [r1+55] | jgt r2, 227, +2 | add r1, r2 | ldxb r0, [r1+0] | exit; b700000000000000 7112370000000000 25020200e3000000 0f21000000000000 7110000000000000 9500000000000000; 1
-the same with add r0, -32 | exit; b700000000000000 7112370000000000 25020200e3000000 0f21000000000000 7110000000000000 07000000e0ffffff 9500000000000000; 0
-the same with jgt r2, 228; b700000000000000 7112370000000000 25020200e4000000 0f21000000000000 7110000000000000 9500000000000000; refused 44 place 4 OutOfBounds
-the same with jsgt r2, 227; b700000000000000 7112370000000000 65020200e3000000 0f21000000000000 7110000000000000 9500000000000000; 1";
+b700000001000000 9500000000000000; = 0a;;;; 1; 0 09 = 0a; 233 1; mov r0, 1 | exit
+b700000000000000 9500000000000000; = 0a;;;; 0;; 233 0; mov r0, 0 | exit
+; = 0a;;;; refused 10 Empty;; 0 0; no bytes
+b700000001000000 0500ffff00000000 ff00000000000000; = 0a;;;; refused 13 place 2 UnknownOpcode;; 0 0; mov r0, 1 | ja -1 | an opcode that no instruction has
+9500000000000000 1800000000000000; = 0a;;;; refused 17 place 1 CutWide;; 0 0; exit | half of lddw r0, 0
+bf10000000000000 0500ffff00000000 0500090000000000 0500010000000000 1800000001000000 0000000000000000; = 0a;;;; refused 30 place 1 BackwardJump;; 0 0; mov r0, r1 | ja -1 | ja +9 | ja +1 | lddw r0, 1
+9500000000000000 0500010000000000 0500ffff00000000 9500000000000000; = 0a;;;; refused 30 place 2 BackwardJump;; 0 0; exit | ja +1 | ja -1 | exit
+9500000000000000 0500090000000000 b700000001000000; = 0a;;;; refused 31 place 1 OutOfProgram;; 0 0; exit | ja +9 | mov r0, 1
+9500000000000000 0500010000000000 1800000001000000 0000000000000000; = 0a;;;; refused 32 place 1 IntoWide;; 0 0; exit | ja +1 | lddw r0, 1
+9500000000000000 b700000001000000; = 0a;;;; refused 33 place 1 LastNotExit;; 0 0; exit | mov r0, 1
+9500000000000000; = 0a;;;; refused 40 place 0 ReadsNothing(0);; 0 0; exit
+b700000001000000 9500000000000000 8500000001000000 9500000000000000; = 0a;;;; 1; 0 09 = 0a; 233 1; mov r0, 1 | exit | call 1 | exit
+bf10000000000000 0500000000000000 9500000000000000; = 0a;;;; refused 51 place 2 ExitNotNumber;; 0 0; mov r0, r1 | ja +0 | exit
+7110e30000000000 9500000000000000; = 0a;;;; 1; 0 09 = 0a; 233 1; ldxb r0, [r1+227] | exit
+7110e40000000000 9500000000000000; = 0a;;;; refused 44 place 0 OutOfBounds;; 0 0; ldxb r0, [r1+228] | exit
+7113370000000000 1503010041000000 b702000001000000 bf20000000000000 9500000000000000; = 0a;;;; refused 40 place 3 ReadsNothing(2);; 0 0; ldxb r3, [r1+55] | jeq r3, 65, +1 | mov r2, 1 | mov r0, r2 | exit
+b702000000000000 7113370000000000 1503010041000000 b702000001000000 bf20000000000000 9500000000000000; = 0a;;;; 0;; 233 0; the same behind mov r2, 0
+b700000007000000 3700000000000000 9500000000000000; = 0a;;;; 0;; 233 0; mov r0, 7 | div r0, 0 | exit
+b700000007000000 9700000000000000 9500000000000000; = 0a;;;; 1; 0 09 = 0a; 233 1; mov r0, 7 | mod r0, 0 | exit
+1800000007000000 0000000001000000 9400000000000000 1500010007000000 b700000000000000 9500000000000000; = 0a;;;; 1; 0 09 = 0a; 233 1; lddw r0, 0x100000007 | mod32 r0, 0 | jeq r0, 7, +1 | mov r0, 0 | exit
+b4020000ffffffff b700000000000000 55020100ffffffff b700000001000000 9500000000000000; = 0a;;;; 0;; 233 0; mov32 r2, -1 | mov r0, 0 | jne r2, -1, +1 | mov r0, 1 | exit
+b4020000ffffffff b700000000000000 56020100ffffffff b700000001000000 9500000000000000; = 0a;;;; 1; 0 09 = 0a; 233 1; mov32 r2, -1 | mov r0, 0 | jne32 r2, -1, +1 | mov r0, 1 | exit
+b700000001000000 0500010000000000 7190000000000000 9500000000000000; = 0a;;;; 1; 0 09 = 0a; 233 1; mov r0, 1 | ja +1 | ldxb r0, [r9+0] | exit
+1800000088776655 0000000044332211 dc00000010000000 1500010077880000 b700000000000000 9500000000000000; = 0a;;;; 1; 0 09 = 0a; 233 1; lddw r0, 0x1122334455667788 | be16 r0 | jeq r0, 34935, +1 | mov r0, 0 | exit
+1800000088776655 0000000044332211 d400000020000000 1500010088776655 b700000000000000 9500000000000000; = 0a;;;; 1; 0 09 = 0a; 233 1; lddw r0, 0x1122334455667788 | le32 r0 | jeq r0, 1432778632, +1 | mov r0, 0 | exit
+b700000000000000 7112370000000000 25020200e3000000 0f21000000000000 7110000000000000 9500000000000000; = 0a;;;; 1; 0 09 = 0a; 233 1; mov r0, 0 | ldxb r2, [r1+55] | jgt r2, 227, +2 | add r1, r2 | ldxb r0, [r1+0] | exit
+b700000000000000 7112370000000000 25020200e3000000 0f21000000000000 7110000000000000 07000000e0ffffff 9500000000000000; = 0a;;;; 0;; 233 0; the same with add r0, -32 | exit
+b700000000000000 7112370000000000 25020200e4000000 0f21000000000000 7110000000000000 9500000000000000; = 0a;;;; refused 44 place 4 OutOfBounds;; 0 0; the same with jgt r2, 228
+b700000000000000 7112370000000000 65020200e3000000 0f21000000000000 7110000000000000 9500000000000000; = 0a;;;; 1; 0 09 = 0a; 233 1; the same with jsgt r2, 227
+every;;;;; 0;
+every; = 0a = 0a;;;; 2; 0 09 = 0a 0 09 = 0a
+every; = 0d 0a = 0d 0a;;;; 2; 0 09 = 0a 0 09 = 0a
+every; = 0d 0a = 0a =;;;; 3; 0 09 = 0a 0 09 = 0a 0 09 = 0a
+every; = 0a ..19 ff 80 c3 a9 23..;;;; 2; 0 09 = 0a 0 09 ..19 ff 80 c3 a9 23.. 0a
+every; = 0a ..19 0d 20..;;;; 2; 0 09 = 0a 0 09 ..19 0d 20.. 0a
+every; ..5 7 6.. 0a ..13 39 30 15..;;;; 2; 0 09 ..5 7 6.. 0a 0 09 ..13 39 30 15.. 0a
+every; = 0d 0a ..227 0a =;;;; refused 1 rt1 line 2 WrongLength; 0 09 = 0a
+every; = 0a = 20 0a =;;;; refused 1 rt1 line 2 WrongLength; 0 09 = 0a
+every; = 0a = 20 20 0a =;;;; refused 1 rt1 line 2 WrongLength; 0 09 = 0a
+every; = 0a = 20 20 20 0a =;;;; refused 1 rt1 line 2 WrongLength; 0 09 = 0a
+every; = 0a 0a =;;;; refused 1 rt1 line 2 WrongLength; 0 09 = 0a
+every; = 0a 0a;;;; refused 1 rt1 line 2 WrongLength; 0 09 = 0a
+every; = 0a 0d 0a =;;;; refused 1 rt1 line 2 WrongLength; 0 09 = 0a
+every; = 0a = 0d;;;; refused 1 rt1 line 2 WrongLength; 0 09 = 0a
+every; = 0a = 0d 0d 0a =;;;; refused 1 rt1 line 2 WrongLength; 0 09 = 0a
+every; = 0a = 0a 0;;;; refused 1 rt1 line 3 WrongLength; 0 09 = 0a 0 09 = 0a
+every; = 0d = 0a =;;;; refused 1 rt1 line 1 WrongLength;
+every; = 0a 2 1..;;;; refused 2 rt1 line 2 WrongType; 0 09 = 0a
+every; = 0a 4 1.. 0a =;;;; refused 2 rt1 line 2 WrongType; 0 09 = 0a
+every; = 0a ..5 20 20 20 20 20 20 20 20 20 20 15..;;;; refused 3 rt1 line 2 BadTlid; 0 09 = 0a
+every; = 0a ..5 20 1234 5678x 15..;;;; refused 3 rt1 line 2 BadTlid; 0 09 = 0a
+every; ..14 - 15.. 0a =;;;; refused 3 rt1 line 1 BadTlid;
+every; = 0a 20006 20 20 20 20 20 20 20 20 20 20 15..;;;; refused 2 rt1 line 2 WrongType; 0 09 = 0a
+not_roads;;;;; 0;
+not_roads; = 0a ..55 H01 58.. 0a ..55 20 20 20 58.. 0a;;;; 2; 0 09 ..55 H01 58.. 0a 0 09 ..55 20 20 20 58.. 0a
+roads;;;;; 0;
+roads; = 0a ..55 H01 58.. 0a ..55 20 20 20 58.. 0a;;;; 1; 0 09 = 0a
+counts; = 0a;;;; 1; 1 09 = 0a
+counts; = 0a; = 0a; = 0a; = 0a; 1; 10002 09 = 0a
+counts; = 0a; ..33 8 34.. 0a; = 0a; = 0a ..17 2 18.. 0a ..5 0000000005 15.. 0a; 1; 10003 09 = 0a
+counts; = 0a; ..41 8 42.. 0a; ..17 8 20 20 Elm 23.. 0a = 0a ..20 Ash 23.. 0a;; 1; 20001 09 = 0a
+counts; = 0a; ..33 1 34..41 8 42..49 x 50..57 7 0a = 0a; = 0a;; 1; 30001 09 = 0a
+counts; = 0a; ..5 0 6.. 0a; ..10 0000000 17.. 0a; ..5 123456789 20 15.. 0a; 1; 10002 09 = 0a
+counts; = 0a ..5 0000000005 15.. 0a = 0a; = 0a = 0a ..5 0000000005 15.. 0a; = 0a; ..5 0000000005 15.. 0a; 3; 20001 09 = 0a 10002 09 ..5 0000000005 15.. 0a 20001 09 = 0a
+counts; = 0a; ..33 7 34..41 7 42..49 7 50..57 7 0a *1000 ..5 0000000005 15.. 0a *1000; = 0a; ..5 0000000005 15.. 0a *1000 = 0a *1000; 1; 50001001 09 = 0a
+counts;; = 0a; = 0a; = 0a; 0;
+counts; = 0a = 0a = 20 0a = 0a; = 0a; = 0a; = 0a; refused 1 rt1 line 3 WrongLength; 10002 09 = 0a 10002 09 = 0a
+counts; = 0a 4 1.. 0a = 0a; = 0a; = 0a; = 0a; refused 2 rt1 line 2 WrongType; 10002 09 = 0a
+finds; = 0a; = 0a; = 0a;; 1; 0 09 = 0a
+finds; = 0a; ..41 8 42.. 0a; ..17 8 20 20 Elm 23.. 0a = 0a ..20 Ash 23.. 0a;; 1; 0 09 = 0a
+finds; = 0a; ..25 8 26..33 7 34.. 0a; ..17 8 20 20 Elm 23.. 0a = 0a;; 1; 0 09 = 0a
+finds; = 0a; ..25 8 26..33 8 34..41 7 42.. 0a; ..17 8 20 20 Elm 23.. 0a = 0a;; 0;
+finds; = 0a; = 0a; ..20 Ash 23.. 0a = 0a;; 0;
+finds; = 0a; = 0a; ..20 OAK 23.. 0a;; 1; 0 09 = 0a
+finds; = 0a ..5 0000000005 15.. 0a ..19 Oak 20 23.. 0a; ..5 0000000005 15.. 0a; = 0a;; 1; 0 09 ..5 0000000005 15.. 0a
+finds; ..19 Oak 20 23.. 0a;; = 0a;; 0;
+stuck; 4 1.. 0a; ..14 x 15.. 0a; ..17 x 18.. 0a; ..75 0a; refused 40 place 0 ReadsNothing(0);
+counts; ..227 0a; = 0a; ..55 0a; = 0a; refused 1 rt5 line 1 WrongLength;
+counts; = 0a; = 0a; ..17 20 18.. 0a; = 0a; refused 4 rt5 line 1 BadFeature;
+counts; = 0a; = 0a *1001; = 0a; = 0a; refused 6 rt4 line 1001 TooManyNames;
+counts; = 0a; = 0a; = 0a; = 0a *1001; refused 7 rt6 line 1001 TooManyRanges;
+counts; = 0a; ..5 0000000005 15.. 0a *1001; = 0a; = 0a; refused 6 rt4 line 1001 TooManyNames;
+counts;; = 0a; = 0a; ..5 0000000005 15.. 0a *1001; refused 7 rt6 line 1001 TooManyRanges;
+counts; = 0a; = 0a *1001; ..17 x 18.. 0a; = 0a *1001; refused 6 rt4 line 1001 TooManyNames;
+counts; = 0a; = 0a; ..17 x 18.. 0a; = 0a *1001; refused 4 rt5 line 1 BadFeature;
+counts; = 0a; = 0a 0a; = 0a; = 0a; refused 1 rt4 line 2 WrongLength;
+counts; = 0a; ..14 x 15.. 0a; ..17 x 18.. 0a; = 0a; refused 3 rt4 line 1 BadTlid;
+counts; = 0a; ..14 x 15.. 0a; = 0a; ..75 0a; refused 3 rt4 line 1 BadTlid;
+counts; 4 1.. 0a; ..14 x 15.. 0a; = 0a; = 0a; refused 3 rt4 line 1 BadTlid;
+counts; = 0a; = 0a; ..17 x 18.. 0a; ..75 0a; refused 4 rt5 line 1 BadFeature;
+counts; 4 1.. 0a; = 0a; ..17 x 18.. 0a; = 0a; refused 4 rt5 line 1 BadFeature;
+counts; 4 1.. 0a; = 0a; = 0a; ..75 0a; refused 1 rt6 line 1 WrongLength;";
 
-/// How many reads and writes there are of a file of one record, and the bytes of its row.
-fn calls_of(rows: Option<u64>, text: &[u8]) -> (u64, u64, &[u8]) {
-    match rows {
-        Some(1) => (230, 1, text),
-        Some(_) => (230, 0, b""),
-        None => (0, 0, b""),
-    }
+/// Whether the program of a row does with the row's files what the row says.
+fn is_right(alloc: Global, row: &str) -> Result<bool, AllocError> {
+    let program = program_of(alloc, row)?;
+    let files = files_of(alloc, row)?;
+    let rows = bytes_of(alloc, RECORD, cell(row, 6))?;
+    Ok(has_outcome(alloc, &program, &files, row, &rows))
 }
 
-/// Whether a program has this number of rows, or this refusal, of a file of one record with this row.
-fn has_outcome(alloc: Global, program: &[u8], expected: &str, file: &[u8], text: &[u8]) -> bool {
-    let mut rt1 = good_reader(file);
+fn has_outcome(alloc: Global, program: &[u8], files: &Files, row: &str, rows: &[u8]) -> bool {
     let mut out = Counting::new(Fuse::after_calls(Vec::new(alloc), u64::MAX, Burst::TakesNothing));
-    let given = row_count(alloc, program, &mut rt1, &mut out);
+    let (given, reads) = extract_of(alloc, program, files, NONE, &mut out);
     let fuse = out.get_ref();
-    let calls = (rt1.get_ref().calls, fuse.calls, fuse.inner.as_slice());
-    is_as_expected(&given, expected) && calls == calls_of(given.ok(), text)
+    is_as_expected(&given, cell(row, 5))
+        && fuse.inner.as_slice() == rows
+        && are_calls(cell(row, 7), reads, fuse.calls)
 }
 
-/// Whether the program of a row has the row's outcome.
-fn is_program(alloc: Global, row: &str, file: &[u8], text: &[u8]) -> bool {
-    let (words, expected) = cut(cut(row).1);
-    bytes_of(alloc, words).is_some_and(|program| has_outcome(
-        alloc,
-        &program,
-        expected.trim(),
-        file,
-        text,
-    ))
-}
-
-/// The row of a table that is wrong of a file with this row, if there is one.
-fn wrong_program(
-    alloc: Global,
-    table: &'static str,
-    file: &[u8],
-    text: &[u8],
-) -> Option<&'static str> {
-    for row in table.lines() {
-        if !is_program(alloc, row, file, text) {
-            return Some(row);
-        }
-    }
-    None
-}
-
-#[test]
-fn programs(rt: HostRuntime) {
-    let text = bytes_of(rt.alloc(), "3009 RECORD 0a").expect(&rt, "bytes");
-    let file = text.get(2..).unwrap_or(b"");
-    assert_eq!(rt; wrong_program(rt.alloc(), PROGRAMS, file, &text), None);
-}
-
-// A file, the number of its rows, or the refusal, and the rows.
-const FILES: &str = "; 0;
-RECORD 0a RECORD 0a; 2; 3009 RECORD 0a 3009 RECORD 0a
-RECORD 0d0a RECORD 0d0a; 2; 3009 RECORD 0a 3009 RECORD 0a
-RECORD 0d0a RECORD 0a RECORD; 3; 3009 RECORD 0a 3009 RECORD 0a 3009 RECORD 0a
-RECORD 0a ..19 ff80c3a9 23..; 2; 3009 RECORD 0a 3009 ..19 ff80c3a9 23.. 0a
-RECORD 0a ..19 0d 20..; 2; 3009 RECORD 0a 3009 ..19 0d 20.. 0a
-..5 37 6.. 0a ..13 3930 15..; 2; 3009 ..5 37 6.. 0a 3009 ..13 3930 15.. 0a
-RECORD 0d0a ..227 0a RECORD; refused 1 rt1 line 2 WrongLength; 3009 RECORD 0a
-RECORD 0a RECORD 200a RECORD; refused 1 rt1 line 2 WrongLength; 3009 RECORD 0a
-RECORD 0a RECORD 20200a RECORD; refused 1 rt1 line 2 WrongLength; 3009 RECORD 0a
-RECORD 0a RECORD 2020200a RECORD; refused 1 rt1 line 2 WrongLength; 3009 RECORD 0a
-RECORD 0a 0a RECORD; refused 1 rt1 line 2 WrongLength; 3009 RECORD 0a
-RECORD 0a 0a; refused 1 rt1 line 2 WrongLength; 3009 RECORD 0a
-RECORD 0a 0d0a RECORD; refused 1 rt1 line 2 WrongLength; 3009 RECORD 0a
-RECORD 0a RECORD 0d; refused 1 rt1 line 2 WrongLength; 3009 RECORD 0a
-RECORD 0a RECORD 0d0d0a RECORD; refused 1 rt1 line 2 WrongLength; 3009 RECORD 0a
-RECORD 0a RECORD 0a30; refused 1 rt1 line 3 WrongLength; 3009 RECORD 0a 3009 RECORD 0a
-RECORD 0d RECORD 0a RECORD; refused 1 rt1 line 1 WrongLength;
-RECORD 0a 32 1..; refused 2 rt1 line 2 WrongType; 3009 RECORD 0a
-RECORD 0a 34 1.. 0a RECORD; refused 2 rt1 line 2 WrongType; 3009 RECORD 0a
-RECORD 0a ..5 2020202020 2020202020 15..; refused 3 rt1 line 2 BadTlid; 3009 RECORD 0a
-RECORD 0a ..5 2031323334 3536373878 15..; refused 3 rt1 line 2 BadTlid; 3009 RECORD 0a
-..14 2d 15.. 0a RECORD; refused 3 rt1 line 1 BadTlid;
-RECORD 0a 3230303036 2020202020 2020202020 15..; refused 2 rt1 line 2 WrongType; 3009 RECORD 0a";
-
-// The same for the programs that choose by the class's first letter.
-const NOT_ROADS_OF: &str = "; 0;
-RECORD 0a ..55 483031 58.. 0a ..55 202020 58.. 0a; 2; 3009 ..55 483031 58.. 0a 3009 ..55 202020 58.. 0a";
-
-const ROADS_OF: &str = "; 0;
-RECORD 0a ..55 483031 58.. 0a ..55 202020 58.. 0a; 1; 3009 RECORD 0a";
-
-/// Whether the rows of a file are these.
-fn has_rows(alloc: Global, program: &[u8], file: &[u8], expected: &str, text: &[u8]) -> bool {
-    let mut out = Counting::new(Vec::new(alloc));
-    let given = row_count(alloc, program, &mut good_reader(file), &mut out);
-    is_as_expected(&given, expected) && out.get_ref().as_slice() == text
-}
-
-/// Whether a program does with a file what a row says.
-fn is_file(alloc: Global, program: &[u8], row: &str) -> bool {
-    let (file, rest) = cut(row);
-    let (expected, text) = cut(rest);
-    let Some(file) = bytes_of(alloc, file) else {
-        return false;
-    };
-    bytes_of(alloc, text).is_some_and(|text| has_rows(
-        alloc,
-        program,
-        &file,
-        expected.trim(),
-        &text,
-    ))
-}
-
-/// The row of a table that is wrong for a program, if there is one.
-fn wrong_row(alloc: Global, program: &[u8], table: &'static str) -> Option<&'static str> {
-    for row in table.lines() {
-        if !is_file(alloc, program, row) {
-            return Some(row);
-        }
-    }
-    None
-}
-
-/// The row of a table that is wrong for a program of these words, or the words.
-fn wrong_of(alloc: Global, words: &'static str, table: &'static str) -> Option<&'static str> {
-    match bytes_of(alloc, words) {
-        Some(program) => wrong_row(alloc, &program, table),
-        None => Some(words),
+/// Whether a cell has these numbers of reads and writes, or none.
+fn are_calls(cell: &str, reads: u64, writes: u64) -> bool {
+    match cell.split_once(' ') {
+        Some(calls) => (calls.0.parse(), calls.1.parse()) == (Ok(reads), Ok(writes)),
+        None => cell.is_empty(),
     }
 }
 
 #[test]
-fn files(rt: HostRuntime) {
-    assert_eq!(rt; wrong_of(rt.alloc(), EVERY, FILES), None);
-    assert_eq!(rt; wrong_of(rt.alloc(), NOT_ROADS, NOT_ROADS_OF), None);
-    assert_eq!(rt; wrong_of(rt.alloc(), ROADS, ROADS_OF), None);
+fn rows(rt: HostRuntime) -> Result<(), Fail> {
+    for row in PROGRAMS.lines() {
+        assert!(rt; is_right(rt.alloc(), row)?, "{row}");
+    }
+    Ok(())
 }
 
-/// Whether the row of a segment with this score is these bytes.
-fn has_row(alloc: Global, segment: &Segment<Global>, score: u64, text: &[u8]) -> bool {
-    let mut out = Counting::new(Vec::new(alloc));
-    row(score, segment, &mut out).is_ok()
-        && out.get_ref().as_slice() == text
-        && row_text(score, segment).as_slice() == text
-}
+// Scores, and the rows of the record with them.
+const SCORES: &str = "\
+0; 0 09 = 0a
+42; 34 32 09 = 0a
+18446744073709551615; 18446744073709551615 09 = 0a";
 
-const SCORES: &str = "0
-42
-18446744073709551615";
-
-/// Whether the row of a segment of the record with this score is the score, a tab and the record.
-fn is_row(alloc: Global, score: &str) -> bool {
+/// Whether the row of a segment of the record with a score is the one that is said.
+fn is_row(alloc: Global, line: &str) -> Result<bool, AllocError> {
+    let text = bytes_of(alloc, RECORD, cell(line, 1))?;
     let segment = Segment::of(alloc, RECORD);
-    let Ok(number) = score.parse() else {
-        return false;
-    };
-    row_of(alloc, score).is_ok_and(|text| has_row(alloc, &segment, number, &text))
+    let score = cell(line, 0).parse().unwrap_or(1);
+    let mut out = Counting::new(Vec::new(alloc));
+    let is_written = row(score, &segment, &mut out).is_ok();
+    let is_text = row_text(score, &segment).as_slice() == text.as_slice();
+    Ok(is_written && is_text && *out.get_ref() == text)
 }
 
 #[test]
-fn rows_of_scores(rt: HostRuntime) {
-    for score in SCORES.lines() {
-        assert!(rt; is_row(rt.alloc(), score), "{score}");
+fn rows_of_scores(rt: HostRuntime) -> Result<(), Fail> {
+    for line in SCORES.lines() {
+        assert!(rt; is_row(rt.alloc(), line)?, "{line}");
     }
-}
-
-/// The row of the record with a score.
-fn row_of(alloc: Global, score: &str) -> Result<Vec<u8>, AllocError> {
-    let mut text = Vec::new(alloc);
-    text.extend_from_slice(score.as_bytes())?;
-    text.push(b'\t')?;
-    text.extend_from_slice(RECORD)?;
-    text.push(b'\n')?;
-    Ok(text)
+    Ok(())
 }
