@@ -8,7 +8,8 @@ use std::test::Fail;
 use tl_fields::{Burst, Counting, Fuse};
 use tl_segments::Segment;
 
-// The program, the files of types 1, 4, 5 and 6, the number of rows, or the refusal, the rows, and where they are said how many reads and writes there are.
+// The program, the files of types 1, 4, 5 and 6, the number of rows, or the refusal, the rows, how many reads and writes there are, if that is said, and
+// the program as text, where it has no name.
 //
 // First programs over a file of one record, with what they are at the end. A program's bytes are looked at before its jumps, these before its end, and that
 // before what its instructions do. Then files of type 1; `not_roads` and `roads` choose by the class's first letter. Then all four files: the score of

@@ -215,14 +215,27 @@ fn are_next(hits: &mut Iter<'_, Hit>, house: House, segment: &Segment<Global>) -
     true
 }
 
+/// Whether the next hits are those of a name on segments, by a plain program.
+fn are_next_of(
+    hits: &mut Iter<'_, Hit>,
+    house: House,
+    name: &str,
+    segments: &[Segment<Global>],
+) -> bool {
+    for segment in segments {
+        if plain_has_name(segment, name) && !are_next(hits, house, segment) {
+            return false;
+        }
+    }
+    true
+}
+
 /// Whether these are the hits of a name, by a plain program.
 fn are_plain(hits: &[Hit], house: House, name: &str, counties: &[County<Global>]) -> bool {
     let mut hits = hits.iter();
     for county in counties {
-        for segment in county.segments() {
-            if plain_has_name(segment, name) && !are_next(&mut hits, house, segment) {
-                return false;
-            }
+        if !are_next_of(&mut hits, house, name, county.segments()) {
+            return false;
         }
     }
     hits.next().is_none()

@@ -184,12 +184,18 @@ fn say_names<'a>(
     let mut said = said;
     for line in rt4.split_inclusive(is_line_feed) {
         if number_of(&RT4, line) == tlid {
-            // FEAT1 to FEAT5.
-            for feat in part(line, 18, 58).chunks(8) {
-                if let Some(name) = name_of(number(feat), rt5) {
-                    said = say(said, "+", name);
-                }
-            }
+            said = say_features(said, line, rt5);
+        }
+    }
+    said
+}
+
+/// Says the names of FEAT1 to FEAT5 of a line of type 4.
+fn say_features<'a>(said: Option<&'a str>, line: &[u8], rt5: &[u8]) -> Option<&'a str> {
+    let mut said = said;
+    for feat in part(line, 18, 58).chunks(8) {
+        if let Some(name) = name_of(number(feat), rt5) {
+            said = say(said, "+", name);
         }
     }
     said
