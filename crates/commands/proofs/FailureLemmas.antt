@@ -3,7 +3,7 @@ use Rattle.std.proofs.Common.{◌≡◌, ◌≢◌, ◌⊎◌, ℕ, List, Bool, 
 use Rattle.std.specs.Prelude.{◌==◌, ◌||◌, if◌then◌else◌}
 use Rattle.std.specs.Io.KnownBytes.{Keeps}
 use Rattle.tl_fields.specs.Device.{Writer}
-use Rattle.commands.specs.Command.{IsCarriedOut, IsRefusal}
+use Rattle.commands.specs.Command.{IsCarriedOut, IsRefusal, LacksLine}
 use Rattle.commands.specs.Failure.{Says, file_status, refusal_status, status}
 use Rattle.commands.specs.declared.request.Request.{Request}
 use Rattle.commands.specs.declared.failure.Failure.{Failure}
@@ -52,16 +52,26 @@ refusal_said request known (NotUtf8 name) out unflushed out' errors errors' is k
 refusal_said request known (NoLine line) out unflushed out' errors errors' is kept said one = absurd (omega arith)
 refusal_said request known (Output error) out unflushed out' errors errors' is kept said one = absurd (omega arith)
 
--- where it isn't a refusal by a library nothing is promised
-pub unless_refused : (request : Request) (known : List ℕ → Option (List ℕ)) (failure : Failure) (out out' : Writer)
-    → status failure ≢ 1 → IsCarriedOut request known (Err failure) out out'
-unless_refused request known (Refusal number line) out out' other = λ one. absurd (other one)
-unless_refused request known (File name error) out out' other = tt
-unless_refused request known (CountyFile folder code file error) out out' other = tt
-unless_refused request known (NotUtf8 name) out out' other = tt
-unless_refused request known (NoLine line) out out' other = tt
-unless_refused request known (Output error) out out' other = tt
+-- where it's neither a refusal by a library nor a line that isn't there nothing is promised
+pub promises_nothing : (request : Request) (known : List ℕ → Option (List ℕ)) (failure : Failure) (out out' : Writer)
+    → (status failure ≢ 1) × (status failure ≢ 2) → IsCarriedOut request known (Err failure) out out'
+promises_nothing request known (Refusal number line) out out' other = λ one. absurd (other.0 one)
+promises_nothing request known (File name error) out out' other = tt
+promises_nothing request known (CountyFile folder code file error) out out' other = tt
+promises_nothing request known (NotUtf8 name) out out' other = tt
+promises_nothing request known (NoLine line) out out' other = absurd (other.1 refl)
+promises_nothing request known (Output error) out out' other = tt
 
-pub file_not_refused : (fault : FileFault) (failure : Failure) → status failure ≡ file_status fault → status failure ≢ 1
-file_not_refused (Unusable error) failure is one = omega (arith, is, one)
-file_not_refused Memory failure is one = omega (arith, is, one)
+pub file_unusable : (fault : FileFault) (failure : Failure) → status failure ≡ file_status fault → (status failure ≢ 1) × (status failure ≢ 2)
+file_unusable (Unusable error) failure is = (λ one. omega (arith, is, one), λ two. omega (arith, is, two))
+file_unusable Memory failure is = (λ one. omega (arith, is, one), λ two. omega (arith, is, two))
+
+-- a line is lacked where the status is 2
+pub line_lacked : (request : Request) (known : List ℕ → Option (List ℕ)) (failure : Failure) (out out' : Writer)
+    → IsCarriedOut request known (Err failure) out out' → status failure ≡ 2 → LacksLine request known
+line_lacked request known (Refusal number line) out out' is two = absurd (refusal_not_usage number two)
+line_lacked request known (File name error) out out' is two = absurd (omega arith)
+line_lacked request known (CountyFile folder code file error) out out' is two = absurd (omega arith)
+line_lacked request known (NotUtf8 name) out out' is two = absurd (omega arith)
+line_lacked request known (NoLine line) out out' is two = is
+line_lacked request known (Output error) out out' is two = absurd (omega arith)

@@ -11,7 +11,7 @@ use Rattle.commands.specs.declared.request.Request.TheVariants as request
 use Rattle.commands.specs.declared.trace.Trace.{Trace}
 use Rattle.commands.specs.declared.failure.Failure.{Failure}
 use Rattle.commands.specs.declared.failure.Failure.TheVariants.{Refusal, File, CountyFile, NotUtf8, NoLine, Output}
-use Rattle.commands.proofs.FailureLemmas.{unless_refused}
+use Rattle.commands.proofs.FailureLemmas.{promises_nothing}
 
 module _ (trace : Trace) (known : List ℕ → Option (List ℕ)) (program : List ℕ) (old new : CountyReaders) (hold : HoldInputs trace known program old) where
   -- the outcome was handed to the output
@@ -28,7 +28,7 @@ module _ (trace : Trace) (known : List ℕ → Option (List ℕ)) (program : Lis
     written = written.0;
     counts = written.1;
   }
-  outcome_written outcome (Err failure) out out' is written unusable = unless_refused (request.Trace trace) known failure out out' unusable.0
+  outcome_written outcome (Err failure) out out' is written unusable = promises_nothing (request.Trace trace) known failure out out' unusable
 
   -- there is no outcome
   pub no_outcome : (failure : Failure) (out : Writer) → EndsAs trace program old new (Err failure) → IsCarriedOut (request.Trace trace) known (Err failure) out out
@@ -36,5 +36,5 @@ module _ (trace : Trace) (known : List ℕ → Option (List ℕ)) (program : Lis
   no_outcome (File name error) out fault = tt
   no_outcome (CountyFile folder code file error) out fault = tt
   no_outcome (NotUtf8 name) out fault = tt
-  no_outcome (NoLine line) out fault = tt
+  no_outcome (NoLine line) out without = record { program = program; old = old; hold = hold; new = new; without = without }
   no_outcome (Output error) out fault = tt

@@ -12,7 +12,7 @@ use Rattle.commands.specs.Verify as verify
 use Rattle.commands.specs.declared.request.Request.{Request}
 use Rattle.commands.specs.declared.request.Request.TheVariants.{Run, Trace, Geocode, Verify, Assemble, Disassemble}
 use Rattle.commands.specs.declared.failure.Failure.{Failure}
-use Rattle.commands.specs.declared.failure.Failure.TheVariants.{Refusal}
+use Rattle.commands.specs.declared.failure.Failure.TheVariants.{Refusal, NoLine}
 
 -- what was asked for was written, whole
 abbrev pub IsWritten : Request → (List ℕ → Option (List ℕ)) → Writer → Writer → Type 0
@@ -32,11 +32,17 @@ IsRefused (Verify asked) known number line out out' = verify.IsRefused asked kno
 IsRefused (Assemble asked) known number line out out' = assemble.IsRefused asked known number line out out'
 IsRefused (Disassemble asked) known number line out out' = disassemble.IsRefused asked known number line out out'
 
--- How a request is carried out: it is written; or refused by a library; or neither, where a file or the output can't be used, a line isn't
--- there, or memory is wanting.
+-- the line that was asked for isn't in the file of type 1; no other command asks for a line
+abbrev pub LacksLine : Request → (List ℕ → Option (List ℕ)) → Type 0
+LacksLine (Trace asked) known = trace.LacksLine asked known
+LacksLine request known = ⊥
+
+-- How a request is carried out: it is written; or refused by a library; or the line that was asked for isn't there. Where a file or the
+-- output can't be used, or memory is wanting, nothing is promised.
 abbrev pub IsCarriedOut : Request → (List ℕ → Option (List ℕ)) → Result (Unit {0}) Failure → Writer → Writer → Type 0
 IsCarriedOut request known (Ok done) out out' = IsWritten request known out out'
 IsCarriedOut request known (Err (Refusal number line)) out out' = refusal_status number ≡ 1 → IsRefused request known number line.bytes out out'
+IsCarriedOut request known (Err (NoLine line)) out out' = LacksLine request known
 IsCarriedOut request known (Err failure) out out' = ⊤
 
 -- the output was flushed, and holds what it held; no other count of it has changed

@@ -1,5 +1,5 @@
 -- What `trace` writes, and what it is refused for.
-use Rattle.std.specs.Prelude.{◌≡◌, ℕ, suc, List, [], ◌∷◌, ◌++◌, codes, decimal, Option, Some, ⊤, Result, Ok, Err}
+use Rattle.std.specs.Prelude.{◌≡◌, ◌<◌, ◌⊎◌, ℕ, suc, List, [], ◌∷◌, ◌++◌, length, codes, decimal, Option, Some, ⊤, Result, Ok, Err}
 use Rattle.std.specs.Io.KnownBytes.{Appends, Keeps}
 use Rattle.std.specs.List.{slice_get}
 use Rattle.bpf_insn.specs.Code.{IsCodeOf, IsFirstFault}
@@ -18,7 +18,7 @@ use Rattle.tl_segments.specs.declared.fault.LoadFault.{LoadFault}
 use Rattle.commands.specs.County.{HoldCounty}
 use Rattle.commands.specs.declared.trace.Trace.{Trace}
 use Rattle.commands.specs.declared.failure.Failure.{Failure}
-use Rattle.commands.specs.declared.failure.Failure.TheVariants.{Refusal}
+use Rattle.commands.specs.declared.failure.Failure.TheVariants.{Refusal, NoLine}
 
 -- what is said of an outcome
 abbrev pub outcome_text : Outcome → List ℕ
@@ -36,6 +36,10 @@ pub record IsSegmentOfLine (county : CountyParts) (line : ℕ) (segment : Conten
   pub is_place : line ≡ suc place
   pub is_segment : slice_get county.segments place ≡ Some segment
 
+-- type 1 has no such line, which counts from 1
+abbrev pub HasNoLine : CountyParts → ℕ → Type 0
+HasNoLine county line = (line ≡ 0) ⊎ (length county.segments < line)
+
 -- The program has a code, the county is loaded, and on the segment of the line the code has this outcome within the limit of steps.
 pub record IsOutcomeOn (trace : Trace) (program : List ℕ) (old new : CountyReaders) (outcome : Outcome) : Type 0 where
   pub code : List Insn
@@ -45,6 +49,14 @@ pub record IsOutcomeOn (trace : Trace) (program : List ℕ) (old new : CountyRea
   pub segment : Contents
   pub of_line : IsSegmentOfLine county trace.line segment
   pub traced : IsTraced code segment trace.limit outcome
+
+-- The program has a code and the county is loaded, but there is no such line.
+pub record IsWithoutLine (trace : Trace) (program : List ℕ) (old new : CountyReaders) : Type 0 where
+  pub code : List Insn
+  pub is_code : IsCodeOf program code
+  pub county : CountyParts
+  pub loads : LoadsCounty county old new
+  pub no_line : HasNoLine county trace.line
 
 -- why there is no outcome: the first fault of the program's bytes; or of the county's files, where the program has a code
 pub data IsTraceFault (program : List ℕ) (old new : CountyReaders) (number : Option ℕ) (line : List ℕ) : Type 0 where
@@ -57,6 +69,7 @@ pub data IsTraceFault (program : List ℕ) (old new : CountyReaders) (number : O
 abbrev pub EndsAs : Trace → List ℕ → CountyReaders → CountyReaders → Result Outcome Failure → Type 0
 EndsAs trace program old new (Ok outcome) = IsOutcomeOn trace program old new outcome
 EndsAs trace program old new (Err (Refusal number line)) = IsTraceFault program old new number line.bytes
+EndsAs trace program old new (Err (NoLine line)) = IsWithoutLine trace program old new
 EndsAs trace program old new (Err failure) = ⊤
 
 -- the bytes that are known of the program and of the county's files are these
@@ -83,3 +96,11 @@ pub record IsRefused (trace : Trace) (known : List ℕ → Option (List ℕ)) (n
   pub new : CountyReaders
   pub fault : IsTraceFault program old new number line
   pub unwritten : out' ≡ out
+
+-- The line that was asked for isn't there.
+pub record LacksLine (trace : Trace) (known : List ℕ → Option (List ℕ)) : Type 0 where
+  pub program : List ℕ
+  pub old : CountyReaders
+  pub hold : HoldInputs trace known program old
+  pub new : CountyReaders
+  pub without : IsWithoutLine trace program old new

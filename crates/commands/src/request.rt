@@ -1,7 +1,7 @@
 //! What a command is asked for, done, and its exit status.
 ghost use Rattle.std.specs.Prelude.{◌≡◌, ◌≢◌, ◌≤◌, ◌⊎◌};
 ghost use Rattle.tl_fields.specs.Device.{writer};
-ghost use Rattle.commands.specs.Command.{IsCarriedOut, IsDone, IsFlushed, IsRefusal};
+ghost use Rattle.commands.specs.Command.{IsCarriedOut, IsDone, IsFlushed, IsRefusal, LacksLine};
 ghost use Rattle.commands.specs.Failure.{KeepsOnUsage, TellsOpens};
 
 use crate::assemble::Assemble;
@@ -45,7 +45,8 @@ impl<'a> Request<'a> {
         ensures refused { result ≡ 1 → IsRefusal self.entry (F.bytes files.old)
             (writer W.contents W.counts out.old) (writer W.contents W.counts out.new)
             (writer E.contents E.counts errors.old) (writer E.contents E.counts errors.new) }
-        ensures usage { result ≡ 2 → out.new ≡ out.old }
+        ensures usage { result ≡ 2 → LacksLine self.entry (F.bytes files.old) }
+        ensures untouched { result ≡ 2 → out.new ≡ out.old }
         // An open that failed is never passed over.
         ensures opens { result ≢ 3 → F.failed_opens files.new ≡ F.failed_opens files.old }
     {

@@ -1,10 +1,10 @@
 //! `trace`: what a program comes to on one segment of a county.
-ghost use Rattle.std.specs.Prelude.{◌≡◌, ◌≤◌, ◌+◌, [], ◌∷◌, ◌++◌, decimal, length, IfSome};
+ghost use Rattle.std.specs.Prelude.{◌≡◌, ◌≤◌, ◌+◌, [], ◌∷◌, ◌++◌, decimal, length, MatchOption};
 ghost use Rattle.tl_fields.specs.Device.{writer};
 ghost use Rattle.commands.specs.Command.{IsCarriedOut};
 ghost use Rattle.commands.specs.County.{county_readers};
 ghost use Rattle.commands.specs.Failure.{KeepsOnUsage, TellsOpens};
-ghost use Rattle.commands.specs.Trace.{EndsAs, IsSegmentOfLine, outcome_line};
+ghost use Rattle.commands.specs.Trace.{EndsAs, HasNoLine, IsSegmentOfLine, outcome_line};
 ghost use Rattle.commands.specs.declared.request.Request.{Request};
 
 use crate::county::{CountyInputs, open_county};
@@ -101,7 +101,7 @@ impl<'a> Trace<'a> {
 
 /// The segment of a line of type 1, which counts from 1.
 fn segment_of_line<A: Allocator>(county: &County<A>, line: u64) -> Option<&Segment<A>>
-    ensures { IfSome result (λ segment. IsSegmentOfLine county.now line segment.now) }
+    ensures { MatchOption result (HasNoLine county.now line) (λ segment. IsSegmentOfLine county.now line segment.now) }
 {
     let place = usize::try_from(line.checked_sub(1)?).ok()?;
     county.segments().get(place)

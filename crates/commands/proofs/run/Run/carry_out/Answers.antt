@@ -3,14 +3,14 @@ use Rattle.std.specs.Io.KnownBytes.{Keeps}
 use Rattle.tl_fields.specs.Device.{writer}
 use Rattle.commands.specs.declared.request.Request.TheVariants as request
 use Rattle.commands.proofs.CountyLemmas.{keeps_both, hold_as}
-use Rattle.commands.proofs.FailureLemmas.{file_not_refused, unless_refused}
+use Rattle.commands.proofs.FailureLemmas.{file_unusable, promises_nothing}
 use Rattle.commands.proofs.run.Run.carry_out.Goals as goal
 
 pub returns-in-Err-read_to_end-clause-outcome : goal.returns-in-Err-read_to_end-clause-outcome
 returns-in-Err-read_to_end-clause-outcome g c =
-    unless_refused (request.Run c.args.self) (g.F.Files.bytes c.args.files.now) c.of_file-in-Err-read_to_end.result
+    promises_nothing (request.Run c.args.self) (g.F.Files.bytes c.args.files.now) c.of_file-in-Err-read_to_end.result
     (writer g.W.Write.contents g.W.CountedWrite.counts c.args.out.now) (writer g.W.Write.contents g.W.CountedWrite.counts c.args.out.now)
-    (file_not_refused c.in-Err-read_to_end.fault c.of_file-in-Err-read_to_end.result c.of_file-in-Err-read_to_end.ensures)
+    (file_unusable c.in-Err-read_to_end.fault c.of_file-in-Err-read_to_end.result c.of_file-in-Err-read_to_end.ensures)
 
 pub returns-in-Ok-extract-clause-outcome : goal.returns-in-Ok-extract-clause-outcome
 returns-in-Ok-extract-clause-outcome g c = (
