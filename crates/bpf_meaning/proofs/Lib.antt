@@ -7,3 +7,6 @@ pub mod CallLemmas
 pub mod WholeLemmas
 pub mod RegisterLemmas
 pub mod RecordLemmas
+pub mod CheckLemmas
+pub mod TagLemmas
+pub mod WalkForesees

@@ -22,7 +22,8 @@ use Rattle.bpf_helpers.specs.declared.helper.Helper.{Helper}
 use Rattle.bpf_helpers.proofs.RecordLemmas.{calls_alike}
 use Rattle.bpf_meaning.specs.Memory.{FrameByte, Byte, written_bytes}
 use Rattle.bpf_meaning.specs.State.{start}
-use Rattle.bpf_meaning.specs.Effect.{area_bytes, arguments_in, call_change, effect_of, frame_offset, go_on, go_to, instruction_effect, jump, lend_frame, lie_within, load_bytes, load_value, number_or, operand, pointer_in, read, set_register, store_at, store_change, ◌>>=◌}
+use Rattle.bpf_meaning.specs.Walk.{compared_operand}
+use Rattle.bpf_meaning.specs.Effect.{value_registers, compare, area_bytes, arguments_in, call_change, effect_of, frame_offset, go_on, go_to, instruction_effect, jump, lend_frame, lie_within, load_bytes, load_value, number_or, operand, pointer_in, read, set_register, store_at, store_change, ◌>>=◌}
 use Rattle.bpf_meaning.specs.Step.{Configuration, Running, Exited, Stuck, after, carry_out, next_of, state_after}
 use Rattle.bpf_meaning.specs.Run.{Answers, FollowSteps}
 use Rattle.bpf_meaning.specs.RecordAlone.{call_reads_record_alone, instruction_reads_record_alone, reads_record_alone}
@@ -105,7 +106,8 @@ row_of_record code segment state next (Alu operation width destination source) a
 row_of_record code segment state next (MoveSignExtended extension destination source) alone = then_passes GoesOnOfRecord _ _ (λ x. goes_on_of_record code next _ tt)
 row_of_record code segment state next (Negate width destination) alone = then_passes GoesOnOfRecord _ _ (λ x. goes_on_of_record code next _ tt)
 row_of_record code segment state next (ByteSwap order width destination) alone = then_passes GoesOnOfRecord _ _ (λ x. goes_on_of_record code next _ tt)
-row_of_record code segment state next (JumpIf condition width left right offset) alone = then_passes GoesOnOfRecord _ _ (jumps_of_record code state.place next offset)
+row_of_record code segment state next (JumpIf condition width left right offset) alone =
+    then_passes GoesOnOfRecord (read state left.number) _ (λ x. then_passes GoesOnOfRecord (compared_operand (value_registers state) width right) _ (λ y. then_passes GoesOnOfRecord (compare condition width x y) _ (jumps_of_record code state.place next offset)))
 row_of_record code segment state next (Jump distance) alone = goes_to_of_record code _
 row_of_record code segment state next (Call immediate) alone =
     then_keeps IsOfRecord GoesOnOfRecord _ _ (call_of_record state (by_number (cast_unsigned w32 immediate)) alone) (goes_on_of_record code next)

@@ -16,7 +16,8 @@ use Rattle.bpf_meaning.specs.Memory.{FrameByte, Byte, IsByte, Unwritten, store}
 use Rattle.bpf_meaning.specs.State.{HoldsBytes, IsWhole, start}
 use Rattle.bpf_insn.specs.Memory.{store_length}
 use Rattle.bpf_helpers.specs.Helper.{by_number}
-use Rattle.bpf_meaning.specs.Effect.{effect, effect_of, instruction_effect, go_on, go_to, jump, lie_within, store_at, store_change, pointer_in, frame_offset, operand, read, number_or, CanBeMade, CanBeCarriedOut, ◌>>=◌}
+use Rattle.bpf_meaning.specs.Walk.{compared_operand}
+use Rattle.bpf_meaning.specs.Effect.{value_registers, compare, effect, effect_of, instruction_effect, go_on, go_to, jump, lie_within, store_at, store_change, pointer_in, frame_offset, operand, read, number_or, CanBeMade, CanBeCarriedOut, ◌>>=◌}
 use Rattle.bpf_meaning.specs.Step.{Configuration, Running, Exited, Stuck, after, carry_out, next_of}
 use Rattle.bpf_meaning.specs.Run.{Step, FollowSteps, IsRun, last_of, end_of}
 use Rattle.bpf_meaning.specs.declared.cause.Cause.{Cause}
@@ -72,7 +73,8 @@ row_within code segment state next (Alu operation width destination source) = th
 row_within code segment state next (MoveSignExtended extension destination source) = then_passes (CanBeCarriedOut state) _ _ (λ x. goes_on_within code state next _ tt)
 row_within code segment state next (Negate width destination) = then_passes (CanBeCarriedOut state) _ _ (λ x. goes_on_within code state next _ tt)
 row_within code segment state next (ByteSwap order width destination) = then_passes (CanBeCarriedOut state) _ _ (λ x. goes_on_within code state next _ tt)
-row_within code segment state next (JumpIf condition width left right offset) = then_passes (CanBeCarriedOut state) _ _ (jumps_within code state state.place next offset)
+row_within code segment state next (JumpIf condition width left right offset) =
+    then_passes (CanBeCarriedOut state) (read state left.number) _ (λ x. then_passes (CanBeCarriedOut state) (compared_operand (value_registers state) width right) _ (λ y. then_passes (CanBeCarriedOut state) (compare condition width x y) _ (jumps_within code state state.place next offset)))
 row_within code segment state next (Jump distance) = goes_to_within code state _
 row_within code segment state next (Call immediate) =
     then_keeps (CanBeMade state) (CanBeCarriedOut state) _ _ (called_can_be_made state (by_number (cast_unsigned w32 immediate))) (goes_on_within code state next)

@@ -34,6 +34,9 @@ use Rattle.bpf_helpers.specs.declared.signature.Argument.TheVariants as argument
 use Rattle.bpf_helpers.specs.declared.signature.FrameUse.{FrameUse}
 use Rattle.bpf_helpers.specs.declared.signature.FrameUse.TheVariants as frame_use
 use Rattle.bpf_helpers.specs.declared.signature.FrameUse.TheVariants.{Writes, Reads}
+use Rattle.bpf_meaning.specs.Tags as tags
+use Rattle.bpf_meaning.specs.Walk as walk
+use Rattle.bpf_meaning.specs.Walk.{Registers, Domain}
 use Rattle.bpf_meaning.specs.Memory as memory
 use Rattle.bpf_meaning.specs.Memory.{FrameByte, number_of, all_written}
 use Rattle.bpf_meaning.specs.State.{register_value}
@@ -45,12 +48,7 @@ use Rattle.bpf_meaning.specs.declared.effect.Effect.{Effect}
 use Rattle.bpf_meaning.specs.declared.effect.Effect.TheVariants.{GoOn, End}
 use Rattle.bpf_insn.specs.declared.memory.TheConstants.{FRAME_LENGTH}
 use Rattle.bpf_meaning.specs.declared.state.State.{State}
-
--- one check after the other: the first that fails gives the cause
-infixl 10 ◌>>=◌
-abbrev pub ◌>>=◌ : {A B : Type 0} → Result A Cause → (A → Result B Cause) → Result B Cause
-(Ok x) >>= f = f x
-(Err cause) >>= f = Err cause
+pub use Rattle.bpf_meaning.specs.Checks.{◌>>=◌}
 
 -- a value that is read from a register
 abbrev pub read_value : ℕ → Value → Result Value Cause
@@ -67,67 +65,41 @@ abbrev pub number_or : Cause → Value → Result ℕ Cause
 number_or cause (Number n) = Ok n
 number_or cause value = Err cause
 
--- the number in a register, of which an instruction makes another; nothing is made so of a pointer
-abbrev pub number_in : State → ℕ → Result ℕ Cause
-number_in state register = read state register >>= number_or PointerArithmetic
-
--- the second operand
-abbrev pub operand : State → Source → Result Value Cause
-operand state (Immediate value) = Ok (Number (immediate_operand value))
-operand state (Register register) = read state register.number
-
--- the pointer into an area at an offset, which must lie in the range of offsets
-abbrev pub pointer_to : Area → ℤ → Result Value Cause
-pointer_to area offset = if is_offset offset then Ok (Pointer (record { area = area; offset = offset })) else Err LeavesArea
+-- an offset, which must lie in the range of offsets
+abbrev pub offset_or : ℤ → Result ℤ Cause
+offset_or offset = if is_offset offset then Ok offset else Err LeavesArea
 
 -- a number that a pointer may be moved by, read as two's complement: it must lie in the range of offsets, too
 abbrev pub near_distance : ℕ → Result ℤ Cause
 near_distance number = if is_offset (cast_signed w64 number) then Ok (cast_signed w64 number) else Err PointerArithmetic
 
--- a pointer moved by a number of bytes, forwards and backwards
-abbrev pub move_pointer : PointerParts → ℕ → Result Value Cause
-move_pointer pointer number = near_distance number >>= λ distance. pointer_to pointer.area (pointer.offset +ℤ distance)
+-- a value by its tag
+abbrev pub tagged_value : Value → tags.Tagged ℕ ℤ
+tagged_value Empty = tags.Empty
+tagged_value (Number n) = tags.Number n
+tagged_value (Pointer pointer) = tags.Pointer pointer.area pointer.offset
 
-abbrev pub move_pointer_back : PointerParts → ℕ → Result Value Cause
-move_pointer_back pointer number = near_distance number >>= λ distance. pointer_to pointer.area (pointer.offset -ℤ distance)
-
--- an operation of 64 bits on a pointer and a number
-abbrev pub operate_on_pointer : Operation → PointerParts → ℕ → Result Value Cause
-operate_on_pointer Add pointer y = move_pointer pointer y
-operate_on_pointer Subtract pointer y = move_pointer_back pointer y
-operate_on_pointer operation pointer y = Err PointerArithmetic
-
--- an operation of 64 bits on a number and a pointer
-abbrev pub operate_with_pointer : Operation → ℕ → PointerParts → Result Value Cause
-operate_with_pointer Add x pointer = move_pointer pointer x
-operate_with_pointer operation x pointer = Err PointerArithmetic
-
--- An operation on two values. With 64 bits a number may be added to a pointer, in either order, and taken from one; nothing else may be
--- done with one.
-abbrev pub operate : Operation → Width → Value → Value → Result Value Cause
-operate operation width (Number x) (Number y) = Ok (Number (result_of operation width x y))
-operate operation Bits64 (Pointer pointer) (Number y) = operate_on_pointer operation pointer y
-operate operation Bits64 (Number x) (Pointer pointer) = operate_with_pointer operation x pointer
-operate operation width x y = Err PointerArithmetic
-
--- a move copies any value with 64 bits, and with 32 the low half of a number (section 4.1: MOV)
-abbrev pub move_value : Width → Value → Result Value Cause
-move_value Bits64 value = Ok value
-move_value Bits32 (Number n) = Ok (Number (low_bits w32 n))
-move_value Bits32 value = Err PointerArithmetic
-
--- what an arithmetic instruction gives; a move doesn't read its destination
-abbrev pub operation_value : State → Operation → Width → ℕ → Source → Result Value Cause
-operation_value state Move width destination source = operand state source >>= move_value width
-operation_value state operation width destination source = read state destination >>= λ x. operand state source >>= λ y. operate operation width x y
+-- values, of numbers and offsets
+abbrev pub value_tags : tags.Tags
+value_tags = record {
+  Values = Value;
+  Numbers = ℕ;
+  Offsets = ℤ;
+  Distances = ℤ;
+  tagged = tagged_value;
+  number = Number;
+  pointer = λ area offset. Pointer (record { area = area; offset = offset });
+  result = result_of;
+  low_half = low_bits w32;
+  distance = near_distance;
+  forwards = λ offset distance. offset_or (offset +ℤ distance);
+  backwards = λ offset distance. offset_or (offset -ℤ distance);
+}
 
 -- whether a conditional jump is taken
 abbrev pub compare : Condition → Width → Value → Value → Result Bool Cause
 compare condition width (Number x) (Number y) = Ok (is_met condition width x y)
 compare condition width x y = Err ComparesPointer
-
-abbrev pub comparison : State → Condition → Width → ℕ → Source → Result Bool Cause
-comparison state condition width left right = read state left >>= λ x. operand state right >>= λ y. compare condition width x y
 
 -- the pointer in a register that is the base of a load or a store
 abbrev pub only_pointer : Value → Result PointerParts Cause
@@ -162,6 +134,29 @@ load_bytes format bytes offset =
 abbrev pub load_value : Contents → State → LoadFormat → ℕ → ℤ → Result Value Cause
 load_value segment state format base offset =
     pointer_in state base >>= λ pointer. load_bytes format (area_bytes segment state pointer.area) (pointer.offset +ℤ offset)
+
+-- what registers hold, where they hold values
+abbrev pub value_registers : State → Registers
+value_registers state = record {
+  Value = Value;
+  Number = ℕ;
+  Pointer = PointerParts;
+  read = read state;
+  number = Number;
+  number_or = number_or;
+  pointer_in = pointer_in state;
+  immediate = λ immediate. Number (immediate_operand immediate);
+  compared = λ width immediate. Number (immediate_operand immediate);
+  wide = wide_number;
+  extend = extension_of;
+  negate = negate;
+  byte_swap = byte_swap;
+  move = tags.move value_tags;
+  operate = tags.operate value_tags;
+}
+
+abbrev pub operand : State → Source → Result Value Cause
+operand state source = walk.operand (value_registers state) source
 
 -- an offset into the frame: the record is read-only
 abbrev pub frame_offset : Area → ℤ → Result ℤ Cause
@@ -251,30 +246,28 @@ go_to code (negsuc before) = Err OutOfProgram
 abbrev pub jump : List Insn → ℕ → ℤ → Result Effect Cause
 jump code place distance = go_to code (pos (place + 1) +ℤ distance)
 
+-- what an instruction sees and can do where registers hold values, at a state behind whose instruction the next one begins at this place
+abbrev pub values : List Insn → Contents → State → ℕ → Domain
+values code segment state next = record {
+  registers = value_registers state;
+  Offset = ℤ;
+  Change = Change;
+  Outcome = Effect;
+  load = λ format pointer offset. load_bytes format (area_bytes segment state pointer.area) (pointer.offset +ℤ offset);
+  frame = λ pointer offset. frame_offset pointer.area (pointer.offset +ℤ offset);
+  store_at = λ from offset size number. store_at from size number;
+  call = call_helper state;
+  set = set_register code next;
+  go_on = go_on code next;
+  jump = jump code state.place;
+  branch = λ conditional x y. compare conditional.condition conditional.width x y >>= λ taken.
+      if taken then jump code state.place conditional.distance else go_on code next Nothing;
+  end = λ answer. Ok (End answer);
+}
+
 -- the effect of an instruction behind which the next one begins at this place
 abbrev pub instruction_effect : List Insn → Contents → State → ℕ → Insn → Result Effect Cause
-instruction_effect code segment state next (Alu operation width destination source) =
-    operation_value state operation width destination.number source >>= set_register code next destination
-instruction_effect code segment state next (MoveSignExtended extension destination source) =
-    number_in state source.number >>= λ x. set_register code next destination (Number (extension_of extension x))
-instruction_effect code segment state next (Negate width destination) =
-    number_in state destination.number >>= λ x. set_register code next destination (Number (negate width x))
-instruction_effect code segment state next (ByteSwap order width destination) =
-    number_in state destination.number >>= λ x. set_register code next destination (Number (byte_swap order width x))
-instruction_effect code segment state next (JumpIf condition width left right offset) =
-    comparison state condition width left.number right >>= λ taken. if taken then jump code state.place offset else go_on code next Nothing
-instruction_effect code segment state next (Jump distance) = jump code state.place (words distance)
-instruction_effect code segment state next (Call immediate) =
-    call_change state (by_number (cast_unsigned w32 immediate)) >>= go_on code next
-instruction_effect code segment state next Exit = read state 0 >>= number_or ExitNotNumber >>= λ answer. Ok (End answer)
-instruction_effect code segment state next (Load format destination base offset) =
-    load_value segment state format base.number offset >>= set_register code next destination
-instruction_effect code segment state next (StoreImmediate size base offset immediate) =
-    store_change state size base.number offset (Immediate immediate) >>= go_on code next
-instruction_effect code segment state next (Store size base offset source) =
-    store_change state size base.number offset (Register source) >>= go_on code next
-instruction_effect code segment state next (WideLoad destination immediate next_immediate) =
-    set_register code next destination (Number (wide_number immediate next_immediate))
+instruction_effect code segment state next insn = walk.walk (values code segment state next) insn
 
 -- the effect by what stands at the place
 abbrev pub effect_of : List Insn → Contents → State → Option Insn → Result Effect Cause

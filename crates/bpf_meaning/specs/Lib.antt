@@ -1,6 +1,9 @@
 pub mod Memory
 pub mod State
 pub mod Cause
+pub mod Checks
+pub mod Tags
+pub mod Walk
 pub mod Effect
 pub mod Step
 pub mod Run

@@ -1,12 +1,13 @@
 //! What instructions make of registers and immediates.
 ghost use Rattle.std.specs.Prelude.{◌≡◌, ◌≤◌};
-ghost use Rattle.bpf_meaning.specs.Effect.{compare, comparison, move_pointer, move_pointer_back, move_value, near_distance, number_in, number_or, operand, operate, operate_on_pointer, operate_with_pointer, operation_value, pointer_to};
+ghost use Rattle.bpf_meaning.specs.Effect.{compare, near_distance, number_or, offset_or, value_registers, value_tags};
+ghost use Rattle.bpf_meaning.specs.Tags.{move, move_pointer, move_pointer_back, operate, operate_on_pointer, operate_with_pointer};
+ghost use Rattle.bpf_meaning.specs.Walk.{number_in, operand, operation_value};
 
 use crate::cause::Cause;
 use crate::state::State;
 use bpf_insn::{
-    Area, Condition, Operation, Pointer, Register, Source, Value, Width, WritableRegister,
-    immediate_operand,
+    Condition, Operation, Pointer, Source, Value, Width, WritableRegister, immediate_operand,
 };
 
 /// The number that a value is, or the cause where it's none.
@@ -24,7 +25,7 @@ pub(crate) fn number_or(cause: Cause, value: Value) -> Result<u64, Cause>
 #[inline(always)]
 pub(crate) fn number_in(state: &State, register: u8) -> Result<u64, Cause>
     requires { register ≤ 10 }
-    ensures { result ≡ number_in state.now register }
+    ensures { result ≡ number_in (value_registers state.now) register }
 {
     number_or(Cause::PointerArithmetic, state.read(register)?)
 }
@@ -32,7 +33,7 @@ pub(crate) fn number_in(state: &State, register: u8) -> Result<u64, Cause>
 /// The second operand.
 #[inline(always)]
 pub(crate) fn operand(state: &State, source: Source) -> Result<Value, Cause>
-    ensures { result ≡ operand state.now source }
+    ensures { result ≡ operand (value_registers state.now) source }
 {
     match source {
         Source::Immediate(immediate) => Ok(Value::Number(immediate_operand(immediate))),
@@ -49,7 +50,7 @@ pub(crate) fn operation_value(
     destination: WritableRegister,
     source: Source,
 ) -> Result<Value, Cause>
-    ensures { result ≡ operation_value state.now operation width destination.number source }
+    ensures { result ≡ operation_value (value_registers state.now) operation width destination.number source }
 {
     match operation {
         Operation::Move => move_value(width, operand(state, source)?),
@@ -64,7 +65,7 @@ pub(crate) fn operation_value(
 /// What a move gives: any value with 64 bits, the low half of a number with 32.
 #[inline(always)]
 fn move_value(width: Width, value: Value) -> Result<Value, Cause>
-    ensures { result ≡ move_value width value }
+    ensures { result ≡ move value_tags width value }
 {
     match (width, value) {
         (Width::Bits64, value) => Ok(value),
@@ -76,63 +77,65 @@ fn move_value(width: Width, value: Value) -> Result<Value, Cause>
 /// An operation on two values.
 #[inline(always)]
 fn operate(operation: Operation, width: Width, x: Value, y: Value) -> Result<Value, Cause>
-    ensures { result ≡ operate operation width x y }
+    ensures { result ≡ operate value_tags operation width x y }
 {
     match (width, x, y) {
         (_, Value::Number(x), Value::Number(y)) => {
             Ok(Value::Number(operation.apply(width, x, y)))
         }
         (Width::Bits64, Value::Pointer(pointer), Value::Number(y)) => {
-            operate_on_pointer(operation, pointer, y)
+            let offset = operate_on_pointer(operation, pointer.offset, y)?;
+            Ok(Value::Pointer(Pointer {
+                area: pointer.area,
+                offset,
+            }))
         }
         (Width::Bits64, Value::Number(x), Value::Pointer(pointer)) => {
-            operate_with_pointer(operation, x, pointer)
+            let offset = operate_with_pointer(operation, x, pointer.offset)?;
+            Ok(Value::Pointer(Pointer {
+                area: pointer.area,
+                offset,
+            }))
         }
         _ => Err(Cause::PointerArithmetic),
     }
 }
 
-/// An operation on a pointer and a number.
-fn operate_on_pointer(operation: Operation, pointer: Pointer, y: u64) -> Result<Value, Cause>
-    ensures { result ≡ operate_on_pointer operation pointer y }
+/// An operation on a pointer's offset and a number.
+fn operate_on_pointer(operation: Operation, offset: i16, y: u64) -> Result<i16, Cause>
+    ensures { result ≡ operate_on_pointer value_tags operation offset y }
 {
     match operation {
-        Operation::Add => move_pointer(pointer, y),
-        Operation::Subtract => move_pointer_back(pointer, y),
+        Operation::Add => move_pointer(offset, y),
+        Operation::Subtract => move_pointer_back(offset, y),
         _ => Err(Cause::PointerArithmetic),
     }
 }
 
-/// An operation on a number and a pointer.
-fn operate_with_pointer(operation: Operation, x: u64, pointer: Pointer) -> Result<Value, Cause>
-    ensures { result ≡ operate_with_pointer operation x pointer }
+/// An operation on a number and a pointer's offset.
+fn operate_with_pointer(operation: Operation, x: u64, offset: i16) -> Result<i16, Cause>
+    ensures { result ≡ operate_with_pointer value_tags operation x offset }
 {
     match operation {
-        Operation::Add => move_pointer(pointer, x),
+        Operation::Add => move_pointer(offset, x),
         _ => Err(Cause::PointerArithmetic),
     }
 }
 
-/// A pointer moved forwards by a number of bytes.
-fn move_pointer(pointer: Pointer, number: u64) -> Result<Value, Cause>
-    ensures { result ≡ move_pointer pointer number }
+/// An offset moved forwards by a number of bytes.
+fn move_pointer(offset: i16, number: u64) -> Result<i16, Cause>
+    ensures { result ≡ move_pointer value_tags offset number }
 {
     let distance = near_distance(number)?;
-    pointer_to(
-        pointer.area,
-        i32::from(pointer.offset) + i32::from(distance),
-    )
+    offset_or(i32::from(offset) + i32::from(distance))
 }
 
 /// The same backwards.
-fn move_pointer_back(pointer: Pointer, number: u64) -> Result<Value, Cause>
-    ensures { result ≡ move_pointer_back pointer number }
+fn move_pointer_back(offset: i16, number: u64) -> Result<i16, Cause>
+    ensures { result ≡ move_pointer_back value_tags offset number }
 {
     let distance = near_distance(number)?;
-    pointer_to(
-        pointer.area,
-        i32::from(pointer.offset) - i32::from(distance),
-    )
+    offset_or(i32::from(offset) - i32::from(distance))
 }
 
 /// A number that a pointer may be moved by, read as two's complement.
@@ -145,35 +148,19 @@ fn near_distance(number: u64) -> Result<i16, Cause>
     }
 }
 
-/// The pointer into an area at an offset, which must lie in the range of offsets.
-fn pointer_to(area: Area, offset: i32) -> Result<Value, Cause>
-    ensures { result ≡ pointer_to area offset }
+/// An offset, which must lie in the range of offsets.
+fn offset_or(offset: i32) -> Result<i16, Cause>
+    ensures { result ≡ offset_or offset }
 {
     match i16::try_from(offset) {
-        Ok(offset) => Ok(Value::Pointer(Pointer { area, offset })),
+        Ok(offset) => Ok(offset),
         Err(_) => Err(Cause::LeavesArea),
     }
 }
 
-/// Whether a conditional jump is taken.
-#[inline(always)]
-pub(crate) fn comparison(
-    state: &State,
-    condition: Condition,
-    width: Width,
-    left: Register,
-    right: Source,
-) -> Result<bool, Cause>
-    ensures { result ≡ comparison state.now condition width left.number right }
-{
-    let x = state.read(left.number)?;
-    let y = operand(state, right)?;
-    compare(condition, width, x, y)
-}
-
 /// Whether two values meet a condition.
 #[inline(always)]
-fn compare(condition: Condition, width: Width, x: Value, y: Value) -> Result<bool, Cause>
+pub(crate) fn compare(condition: Condition, width: Width, x: Value, y: Value) -> Result<bool, Cause>
     ensures { result ≡ compare condition width x y }
 {
     match (x, y) {

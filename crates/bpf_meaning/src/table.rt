@@ -1,13 +1,14 @@
 //! The instruction table: the checks of each instruction in their order, and its effect.
 ghost use Rattle.std.specs.Prelude.{◌≡◌, ◌<◌};
 ghost use Rattle.bpf_insn.specs.declared.code.TheConstants.{WORD_LIMIT};
-ghost use Rattle.bpf_meaning.specs.Effect.{effect, instruction_effect};
+ghost use Rattle.bpf_meaning.specs.Effect.{effect, values};
+ghost use Rattle.bpf_meaning.specs.Walk.{walk};
 
 use crate::calls::call_change;
 use crate::cause::Cause;
 use crate::effect::{Change, Effect};
 use crate::memory::{load_value, store_change};
-use crate::operands::{comparison, number_in, number_or, operation_value};
+use crate::operands::{compare, number_in, number_or, operand, operation_value};
 use crate::progress::{go_on, jump, set_register};
 use crate::state::State;
 use bpf_helpers::Helper;
@@ -43,7 +44,7 @@ fn instruction_effect<A: Allocator, B: Allocator>(
     insn: Insn,
 ) -> Result<Effect, Cause>
     requires { state.now.place < WORD_LIMIT }
-    ensures { result ≡ instruction_effect code.now segment.now state.now next insn }
+    ensures { result ≡ walk (values code.now segment.now state.now next) insn }
 {
     match insn {
         Insn::Alu {
@@ -87,7 +88,9 @@ fn instruction_effect<A: Allocator, B: Allocator>(
             right,
             offset,
         } => {
-            if comparison(state, condition, width, left, right)? {
+            let x = state.read(left.number)?;
+            let y = operand(state, right)?;
+            if compare(condition, width, x, y)? {
                 jump(code, state.place, i32::from(offset))
             } else {
                 go_on(code, next, Change::Nothing)

@@ -36,8 +36,12 @@ use Rattle.bpf_kinds.specs.Results.{alu}
 use Rattle.bpf_kinds.specs.declared.interval.Interval.{Interval}
 use Rattle.bpf_meaning.specs.declared.state.State.{State}
 use Rattle.bpf_verify.specs.declared.state.AbstractState.{AbstractState}
-use Rattle.bpf_verify.specs.Edges.{or_cause, move_pointer, move_pointer_back, operate_on_pointer, operate_with_pointer, operate, move_kind, read, operand, operation_kind}
-use Rattle.bpf_verify.proofs.SoundChecks.{Sound, then_sound, HasValue, HasState, read_sound, passes_if, weaker}
+use Rattle.bpf_verify.specs.Edges.{or_cause, tagged_kind, kind_pointer, kind_tags}
+use Rattle.bpf_meaning.specs.Effect.{offset_or, tagged_value, value_tags}
+use Rattle.bpf_meaning.specs.Tags.{operate, move}
+use Rattle.bpf_meaning.specs.Checks.{Sound}
+use Rattle.bpf_meaning.proofs.CheckLemmas.{passes_if}
+use Rattle.bpf_meaning.proofs.TagLemmas.{Relate, Agree, operate_agrees, move_agrees}
 
 -- The low halves of numbers, which 32-bit operations take, and the low 64 bits. An immediate is any number in definitions, so these laws
 -- ask nothing of the interval.
@@ -101,130 +105,42 @@ near_sound x n admits = by_test (nat_lt x.high (2 ^ 15) || nat_le (2 ^ 64 - 2 ^ 
     by_test true near = passes_if offsets.Admits (Ok (offsets.between (cast_signed w64 x.low) (cast_signed w64 x.high))) (Ok (cast_signed w64 n)) (is_offset (cast_signed w64 n)) PointerArithmetic (near_offset x.low n x.high admits.above admits.below near) (record { above = near_above x.low n x.high admits.above admits.below near; below = near_below x.low n x.high admits.above admits.below near })
     by_test false far = tt
 
--- a value that is a pointer into an area, at one of these offsets
-record PointsInto (area : Area) (x : Offsets) (held : Value) : Type 0 where
-  offset : ℤ
-  is_pointer : held ≡ value.Pointer (record { area = area; offset = offset })
-  admits : offsets.Admits x offset
+-- offsets behind a move
+moved_sound : (found : Option Offsets) (offset : ℤ) → ((moved : Offsets) → found ≡ Some moved → IsTrue (is_offset offset) × offsets.Admits moved offset) → Sound offsets.Admits (or_cause LeavesArea found) (offset_or offset)
+moved_sound None offset all = tt
+moved_sound (Some moved) offset all = let there = all moved refl in passes_if offsets.Admits (Ok moved) (Ok offset) (is_offset offset) LeavesArea there.0 there.1
 
--- a pointer at a moved offset
-at_offset_sound : (area : Area) (moved : Offsets) (offset : ℤ) → IsTrue (is_offset offset) × offsets.Admits moved offset → Sound (PointsInto area) (Ok moved) (effect.pointer_to area offset)
-at_offset_sound area moved offset there =
-    passes_if (PointsInto area) (Ok moved) (Ok (value.Pointer (record { area = area; offset = offset }))) (is_offset offset) LeavesArea there.0
-    (record { offset = offset; is_pointer = refl; admits = there.1 })
+tags_related : (x : Kind) (v : Value) → kind.Admits x v → Relate Admits offsets.Admits (tagged_kind x) (tagged_value v)
+tags_related Nothing v admits = tt
+tags_related (Number x) (value.Number n) admits = admits
+tags_related (Record x) (value.Pointer pointer) admits = admits
+tags_related (Frame x) (value.Pointer pointer) admits = admits
+tags_related x v admits = absurd admits
 
-move_by_sound : (area : Area) (x distances : Offsets) (offset distance : ℤ) → offsets.Admits x offset → offsets.Admits distances distance → Sound (PointsInto area) (or_cause LeavesArea (move_by x distances)) (effect.pointer_to area (offset +ℤ distance))
-move_by_sound area x distances offset distance here by = by_option (move_by x distances) refl
-  where
-    by_option : (moved : Option Offsets) → move_by x distances ≡ moved → Sound (PointsInto area) (or_cause LeavesArea moved) (effect.pointer_to area (offset +ℤ distance))
-    by_option None is = tt
-    by_option (Some moved) is = at_offset_sound area moved (offset +ℤ distance) (move_by-admits x distances moved offset distance is here by)
+pointer_related : (into : Area) (x : Offsets) (offset : ℤ) → offsets.Admits x offset → kind.Admits (kind_pointer into x) (value.Pointer (record { area = into; offset = offset }))
+pointer_related area.Record x offset admits = (refl, admits)
+pointer_related area.Frame x offset admits = (refl, admits)
 
-move_back_by_sound : (area : Area) (x distances : Offsets) (offset distance : ℤ) → offsets.Admits x offset → offsets.Admits distances distance → Sound (PointsInto area) (or_cause LeavesArea (move_back_by x distances)) (effect.pointer_to area (offset -ℤ distance))
-move_back_by_sound area x distances offset distance here by = by_option (move_back_by x distances) refl
-  where
-    by_option : (moved : Option Offsets) → move_back_by x distances ≡ moved → Sound (PointsInto area) (or_cause LeavesArea moved) (effect.pointer_to area (offset -ℤ distance))
-    by_option None is = tt
-    by_option (Some moved) is = at_offset_sound area moved (offset -ℤ distance) (move_back_by-admits x distances moved offset distance is here by)
+tags_agree : Agree kind_tags value_tags
+tags_agree = record {
+  Numbers = Admits;
+  Offsets = offsets.Admits;
+  Distances = offsets.Admits;
+  Values = kind.Admits;
+  tagged = tags_related;
+  number = λ x n admits. admits;
+  pointer = pointer_related;
+  result = alu_sound;
+  low_half = cut_admits Bits32;
+  distance = near_sound;
+  forwards = λ x offset d distance here by. moved_sound (move_by x d) _ (λ moved is. move_by-admits x d moved offset distance is here by);
+  backwards = λ x offset d distance here by. moved_sound (move_back_by x d) _ (λ moved is. move_back_by-admits x d moved offset distance is here by);
+}
 
-move_pointer_sound : (pointer : PointerParts) (x : Offsets) (y : Interval) (n : ℕ) → offsets.Admits x pointer.offset → Admits y n → Sound (PointsInto pointer.area) (move_pointer x y) (effect.move_pointer pointer n)
-move_pointer_sound pointer x y n here by =
-    then_sound offsets.Admits (PointsInto pointer.area) _ _ _ _ (near_sound y n by) (λ distances distance. move_by_sound pointer.area x distances pointer.offset distance here)
+pub operate_sound : (operation : Operation) (width : Width) (x y : Kind) (v w : Value) → kind.Admits x v → kind.Admits y w → Sound kind.Admits (operate kind_tags operation width x y) (operate value_tags operation width v w)
+unfolding tags_agree
+operate_sound = operate_agrees kind_tags value_tags tags_agree
 
-move_pointer_back_sound : (pointer : PointerParts) (x : Offsets) (y : Interval) (n : ℕ) → offsets.Admits x pointer.offset → Admits y n → Sound (PointsInto pointer.area) (move_pointer_back x y) (effect.move_pointer_back pointer n)
-move_pointer_back_sound pointer x y n here by =
-    then_sound offsets.Admits (PointsInto pointer.area) _ _ _ _ (near_sound y n by) (λ distances distance. move_back_by_sound pointer.area x distances pointer.offset distance here)
-
-operate_on_pointer_sound : (operation : Operation) (pointer : PointerParts) (x : Offsets) (y : Interval) (n : ℕ) → offsets.Admits x pointer.offset → Admits y n → Sound (PointsInto pointer.area) (operate_on_pointer operation x y) (effect.operate_on_pointer operation pointer n)
-operate_on_pointer_sound Add pointer x y n here by = move_pointer_sound pointer x y n here by
-operate_on_pointer_sound Subtract pointer x y n here by = move_pointer_back_sound pointer x y n here by
-operate_on_pointer_sound operation pointer x y n here by = tt
-
-operate_with_pointer_sound : (operation : Operation) (pointer : PointerParts) (x : Offsets) (y : Interval) (n : ℕ) → offsets.Admits x pointer.offset → Admits y n → Sound (PointsInto pointer.area) (operate_with_pointer operation y x) (effect.operate_with_pointer operation n pointer)
-operate_with_pointer_sound Add pointer x y n here by = move_pointer_sound pointer x y n here by
-operate_with_pointer_sound operation pointer x y n here by = tt
-
--- moved pointers are values of the kind with the moved offsets
-
-to_record : (into : Area) (abstract : Result Offsets Cause) (concrete : Result Value Cause) → into ≡ area.Record → Sound (PointsInto into) abstract concrete → Sound kind.Admits (abstract >>= λ moved. Ok (Record moved)) concrete
-to_record into (Err cause) concrete is sound = tt
-to_record into (Ok moved) (Err cause) is sound = absurd sound
-to_record into (Ok moved) (Ok held) is sound = subst (kind.Admits (Record moved)) (sym sound.is_pointer) (is, sound.admits)
-
-to_frame : (into : Area) (abstract : Result Offsets Cause) (concrete : Result Value Cause) → into ≡ area.Frame → Sound (PointsInto into) abstract concrete → Sound kind.Admits (abstract >>= λ moved. Ok (Frame moved)) concrete
-to_frame into (Err cause) concrete is sound = tt
-to_frame into (Ok moved) (Err cause) is sound = absurd sound
-to_frame into (Ok moved) (Ok held) is sound = subst (kind.Admits (Frame moved)) (sym sound.is_pointer) (is, sound.admits)
-
--- an operation on two kinds
-
-with_number : (operation : Operation) (width : Width) (x : Interval) (y : Kind) (m : ℕ) (w : Value) → Admits x m → kind.Admits y w → Sound kind.Admits (operate operation width (Number x) y) (effect.operate operation width (value.Number m) w)
-with_number operation width x (Number y) m (value.Number n) left right = alu_sound operation width x y m n left right
-with_number operation Bits64 x (Record y) m (value.Pointer pointer) left right =
-    to_record pointer.area _ _ right.0 (operate_with_pointer_sound operation pointer y x m right.1 left)
-with_number operation Bits64 x (Frame y) m (value.Pointer pointer) left right =
-    to_frame pointer.area _ _ right.0 (operate_with_pointer_sound operation pointer y x m right.1 left)
-with_number operation Bits32 x (Record y) m w left right = tt
-with_number operation Bits32 x (Frame y) m w left right = tt
-with_number operation Bits32 x Nothing m w left right = tt
-with_number operation Bits64 x Nothing m w left right = tt
-with_number operation width x (Number y) m value.Empty left right = absurd right
-with_number operation width x (Number y) m (value.Pointer pointer) left right = absurd right
-with_number operation Bits64 x (Record y) m value.Empty left right = absurd right
-with_number operation Bits64 x (Record y) m (value.Number n) left right = absurd right
-with_number operation Bits64 x (Frame y) m value.Empty left right = absurd right
-with_number operation Bits64 x (Frame y) m (value.Number n) left right = absurd right
-
-with_record : (operation : Operation) (width : Width) (x : Offsets) (y : Kind) (pointer : PointerParts) (w : Value) → (pointer.area ≡ area.Record) × offsets.Admits x pointer.offset → kind.Admits y w → Sound kind.Admits (operate operation width (Record x) y) (effect.operate operation width (value.Pointer pointer) w)
-with_record operation Bits64 x (Number y) pointer (value.Number n) left right =
-    to_record pointer.area _ _ left.0 (operate_on_pointer_sound operation pointer x y n left.1 right)
-with_record operation Bits64 x (Number y) pointer value.Empty left right = absurd right
-with_record operation Bits64 x (Number y) pointer (value.Pointer other) left right = absurd right
-with_record operation Bits64 x (Record y) pointer w left right = tt
-with_record operation Bits64 x (Frame y) pointer w left right = tt
-with_record operation Bits64 x Nothing pointer w left right = tt
-with_record operation Bits32 x y pointer w left right = tt
-
-with_frame : (operation : Operation) (width : Width) (x : Offsets) (y : Kind) (pointer : PointerParts) (w : Value) → (pointer.area ≡ area.Frame) × offsets.Admits x pointer.offset → kind.Admits y w → Sound kind.Admits (operate operation width (Frame x) y) (effect.operate operation width (value.Pointer pointer) w)
-with_frame operation Bits64 x (Number y) pointer (value.Number n) left right =
-    to_frame pointer.area _ _ left.0 (operate_on_pointer_sound operation pointer x y n left.1 right)
-with_frame operation Bits64 x (Number y) pointer value.Empty left right = absurd right
-with_frame operation Bits64 x (Number y) pointer (value.Pointer other) left right = absurd right
-with_frame operation Bits64 x (Record y) pointer w left right = tt
-with_frame operation Bits64 x (Frame y) pointer w left right = tt
-with_frame operation Bits64 x Nothing pointer w left right = tt
-with_frame operation Bits32 x y pointer w left right = tt
-
-pub operate_sound : (operation : Operation) (width : Width) (x y : Kind) (v w : Value) → kind.Admits x v → kind.Admits y w → Sound kind.Admits (operate operation width x y) (effect.operate operation width v w)
-operate_sound operation width (Number x) y (value.Number m) w left right = with_number operation width x y m w left right
-operate_sound operation width (Record x) y (value.Pointer pointer) w left right = with_record operation width x y pointer w left right
-operate_sound operation width (Frame x) y (value.Pointer pointer) w left right = with_frame operation width x y pointer w left right
-operate_sound operation width Nothing y v w left right = tt
-operate_sound operation width x y v w left right = absurd left
-
--- a move, whose operand is any
-
-move_sound : (width : Width) (x : Kind) (v : Value) → kind.Admits x v → Sound kind.Admits (move_kind width x) (effect.move_value width v)
-move_sound Bits64 x v admits = admits
-move_sound Bits32 (Number x) (value.Number n) admits = cut_admits Bits32 x n admits
-move_sound Bits32 (Number x) v admits = absurd admits
-move_sound Bits32 (Record x) v admits = tt
-move_sound Bits32 (Frame x) v admits = tt
-move_sound Bits32 Nothing v admits = tt
-
--- the second operand
-
-pub operand_sound : (known : AbstractState) (state : State) → HasState known state → (source : Source) → Sound kind.Admits (operand known source) (effect.operand state source)
-operand_sound known state has (Immediate immediate) = immediate_operand-admits immediate
-operand_sound known state has (Register register) = weaker HasValue kind.Admits _ _ (λ x v has. has.admits) (read_sound known state has register.number)
-
--- what an arithmetic instruction gives
-
-two_operands : (known : AbstractState) (state : State) → HasState known state → (operation : Operation) (width : Width) (destination : ℕ) (source : Source) → Sound kind.Admits (read known destination >>= λ x. operand known source >>= λ y. operate operation width x y) (effect.read state destination >>= λ x. effect.operand state source >>= λ y. effect.operate operation width x y)
-two_operands known state has operation width destination source =
-    then_sound HasValue kind.Admits _ _ _ _ (read_sound known state has destination) (λ x v left.
-    then_sound kind.Admits kind.Admits _ _ _ _ (operand_sound known state has source) (λ y w right. operate_sound operation width x y v w left.admits right))
-
-pub operation_sound : (known : AbstractState) (state : State) → HasState known state → (operation : Operation) (width : Width) (destination : ℕ) (source : Source) → Sound kind.Admits (operation_kind known operation width destination source) (effect.operation_value state operation width destination source)
-operation_sound known state has Move width destination source = then_sound kind.Admits kind.Admits _ _ _ _ (operand_sound known state has source) (move_sound width)
-operation_sound known state has operation width destination source = two_operands known state has operation width destination source
+pub move_sound : (width : Width) (x : Kind) (v : Value) → kind.Admits x v → Sound kind.Admits (move kind_tags width x) (move value_tags width v)
+unfolding tags_agree
+move_sound = move_agrees kind_tags value_tags tags_agree

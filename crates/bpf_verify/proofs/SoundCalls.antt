@@ -42,7 +42,9 @@ use Rattle.bpf_verify.specs.Edges.{are_allowed, argument_kind, argument_in, argu
 use Rattle.bpf_verify.specs.State.{AdmitsState}
 use Rattle.bpf_verify.specs.declared.calls.LentBytes.{LentBytes}
 use Rattle.bpf_verify.specs.declared.state.AbstractState.{AbstractState}
-use Rattle.bpf_verify.proofs.SoundChecks.{Sound, then_sound, passes_if, HasValue, HasState, read_sound}
+use Rattle.bpf_meaning.specs.Checks.{Sound}
+use Rattle.bpf_meaning.proofs.CheckLemmas.{then_sound, passes_if}
+use Rattle.bpf_verify.proofs.SoundChecks.{HasValue, HasState, read_sound}
 use Rattle.bpf_verify.proofs.SoundMarks.{marked_are_written, marks_admit}
 use Rattle.bpf_verify.proofs.SoundMemory.{Stores}
 

@@ -21,14 +21,15 @@ use Rattle.bpf_kinds.proofs.NarrowingLaws.{refine-keeps}
 use Rattle.bpf_meaning.specs.Effect as effect
 use Rattle.bpf_meaning.specs.State.{register_value}
 use Rattle.bpf_meaning.specs.declared.state.State.{State}
-use Rattle.bpf_verify.specs.Edges.{is_register, with_narrowed, narrowed_note, branch, compare, branches}
+use Rattle.bpf_verify.specs.Edges.{is_register, with_narrowed, narrowed_note, branch, compare}
 use Rattle.bpf_verify.specs.State as known_state
 use Rattle.bpf_verify.specs.declared.state.AbstractState.{AbstractState}
 use Rattle.bpf_verify.specs.declared.comparison.Comparison.{Comparison}
 use Rattle.bpf_verify.specs.declared.state.Edges.{Edges}
 use Rattle.bpf_verify.specs.declared.state.Note.TheVariants.{Reached}
 use Rattle.bpf_verify.proofs.SoundArithmetic.{low_twice}
-use Rattle.bpf_verify.proofs.SoundChecks.{Sound, then_sound, HasNumber, HasState, IsReadOf, read_holds}
+use Rattle.bpf_meaning.specs.Checks.{Sound}
+use Rattle.bpf_verify.proofs.SoundChecks.{HasNumber, HasState, IsReadOf}
 use Rattle.bpf_verify.proofs.SoundStates.{narrows_keep}
 
 -- what is known on the edge that a comparison takes
@@ -96,10 +97,10 @@ low_proper Bits64 n = record { ordered = omega arith; fits = omega arith }
 met_low : (condition : Condition) (width : Width) (m n : ℕ) → is_met condition width m (low_bits (operand_bits width) n) ≡ is_met condition width m n
 met_low condition width m n = ap (λ (k : ℕ). arithmetic.is_met_on condition (operand_bits width) (low_bits (operand_bits width) m) k) (low_twice width n)
 
-abbrev with_source : Condition → Width → RegisterParts → Source → Comparison
+abbrev pub with_source : Condition → Width → RegisterParts → Source → Comparison
 with_source condition width left right = record { condition = condition; width = width; left = left; right = right }
 
-with_immediate : (known : AbstractState) (state : State) → HasState known state → (condition : Condition) (width : Width) (left : RegisterParts) (immediate : ℤ) (x : Kind) (v : Value) → IsReadOf (register_value state left.number) x v → Sound (TakesEdge state) (compare known (with_source condition width left (Immediate immediate)) x (Number (single (low_bits (operand_bits width) (arithmetic.immediate_operand immediate))))) (effect.compare condition width v (value.Number (arithmetic.immediate_operand immediate)))
+pub with_immediate : (known : AbstractState) (state : State) → HasState known state → (condition : Condition) (width : Width) (left : RegisterParts) (immediate : ℤ) (x : Kind) (v : Value) → IsReadOf (register_value state left.number) x v → Sound (TakesEdge state) (compare known (with_source condition width left (Immediate immediate)) x (Number (single (low_bits (operand_bits width) (arithmetic.immediate_operand immediate))))) (effect.compare condition width v (value.Number (arithmetic.immediate_operand immediate)))
 with_immediate known state has condition width left immediate (Number x) (value.Number m) first =
     let n = arithmetic.immediate_operand immediate in
     let low = low_bits (operand_bits width) n in
@@ -111,7 +112,7 @@ with_immediate known state has condition width left immediate (Record x) v first
 with_immediate known state has condition width left immediate (Frame x) v first = tt
 with_immediate known state has condition width left immediate Nothing v first = tt
 
-with_register : (known : AbstractState) (state : State) → HasState known state → (condition : Condition) (width : Width) (left right : RegisterParts) (x y : Kind) (v w : Value) → IsReadOf (register_value state left.number) x v → IsReadOf (register_value state right.number) y w → Sound (TakesEdge state) (compare known (with_source condition width left (Register right)) x y) (effect.compare condition width v w)
+pub with_register : (known : AbstractState) (state : State) → HasState known state → (condition : Condition) (width : Width) (left right : RegisterParts) (x y : Kind) (v w : Value) → IsReadOf (register_value state left.number) x v → IsReadOf (register_value state right.number) y w → Sound (TakesEdge state) (compare known (with_source condition width left (Register right)) x y) (effect.compare condition width v w)
 with_register known state has condition width left right (Number x) (Number y) (value.Number m) (value.Number n) first second =
     edges_take known state has (with_source condition width left (Register right)) x y m n
     (record { first = record { proper = first.has.proper; admits = first.has.admits }; second = record { proper = second.has.proper; admits = second.has.admits }; on_left = first.same; on_right = second.same })
@@ -123,11 +124,3 @@ with_register known state has condition width left right (Number x) Nothing v w 
 with_register known state has condition width left right (Record x) y v w first second = tt
 with_register known state has condition width left right (Frame x) y v w first second = tt
 with_register known state has condition width left right Nothing y v w first second = tt
-
-pub branches_sound : (known : AbstractState) (state : State) → HasState known state → (condition : Condition) (width : Width) (left : RegisterParts) (right : Source) → Sound (TakesEdge state) (branches known (with_source condition width left right)) (effect.comparison state condition width left.number right)
-branches_sound known state has condition width left (Immediate immediate) =
-    then_sound (IsReadOf (register_value state left.number)) (TakesEdge state) _ _ _ _ (read_holds known state has left.number) (with_immediate known state has condition width left immediate)
-branches_sound known state has condition width left (Register right) =
-    then_sound (IsReadOf (register_value state left.number)) (TakesEdge state) _ _ _ _ (read_holds known state has left.number) (λ x v first.
-    then_sound (IsReadOf (register_value state right.number)) (TakesEdge state) _ _ _ _ (read_holds known state has right.number) (λ y w second.
-    with_register known state has condition width left right x y v w first second))

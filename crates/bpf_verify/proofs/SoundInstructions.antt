@@ -17,29 +17,33 @@ use Rattle.bpf_kinds.specs.Kind as kind
 use Rattle.bpf_kinds.specs.declared.interval.Interval.{Interval}
 use Rattle.bpf_kinds.specs.declared.kind.Kind.{Kind}
 use Rattle.bpf_kinds.specs.declared.kind.Kind.TheVariants.{Number}
-use Rattle.bpf_kinds.proofs.ResultLemmas.{negate-admits, extend-admits, byte_swap-admits, wide_number-admits}
+use Rattle.bpf_kinds.proofs.ResultLemmas.{negate-admits, extend-admits, byte_swap-admits, wide_number-admits, immediate_operand-admits}
 use Rattle.bpf_meaning.specs.Effect as effect
 use Rattle.bpf_meaning.specs.Effect.{◌>>=◌}
 use Rattle.tl_segments.specs.Segment.{Contents, IsSegment}
 use Rattle.bpf_meaning.specs.Step.{carry_out}
 use Rattle.bpf_meaning.specs.declared.cause.Cause.{Cause}
-use Rattle.bpf_meaning.specs.declared.cause.Cause.TheVariants.{OutOfProgram, IntoWide, ExitNotNumber}
+use Rattle.bpf_meaning.specs.declared.cause.Cause.TheVariants.{OutOfProgram, IntoWide, StoresPointer}
 use Rattle.bpf_meaning.specs.declared.effect.Change.{Change}
 use Rattle.bpf_meaning.specs.declared.effect.Change.TheVariants.{Nothing, SetRegister}
 use Rattle.bpf_meaning.specs.declared.effect.Effect.{Effect}
 use Rattle.bpf_meaning.specs.declared.effect.Effect.TheVariants.{GoOn, End}
 use Rattle.bpf_meaning.specs.declared.state.State.{State}
+use Rattle.bpf_meaning.specs.State.{register_value}
+use Rattle.bpf_meaning.specs.Walk.{walk}
 use Rattle.bpf_verify.specs.Edges as edge
-use Rattle.bpf_verify.specs.Edges.{instruction_edges}
+use Rattle.bpf_verify.specs.Edges.{kinds}
 use Rattle.bpf_verify.specs.State as known_state
 use Rattle.bpf_verify.specs.declared.state.AbstractState.{AbstractState}
 use Rattle.bpf_verify.specs.declared.state.Edges.{Edges}
-use Rattle.bpf_verify.proofs.SoundChecks.{Sound, then_sound, HasNumber, HasValue, HasState, read_sound, number_in_sound, number_or_sound}
-use Rattle.bpf_verify.proofs.SoundArithmetic.{operation_sound}
+use Rattle.bpf_meaning.specs.Checks.{Sound}
+use Rattle.bpf_verify.proofs.SoundChecks.{HasNumber, HasState, IsReadOf, read_holds, number_or_sound, number_or_admits}
+use Rattle.bpf_verify.proofs.SoundArithmetic.{operate_sound, move_sound}
 use Rattle.bpf_verify.proofs.SoundStates.{writes_admit}
-use Rattle.bpf_verify.proofs.SoundComparison.{TakesEdge, branches_sound}
-use Rattle.bpf_verify.proofs.SoundMemory.{Stores, load_sound, store_sound}
+use Rattle.bpf_verify.proofs.SoundComparison.{TakesEdge, with_immediate, with_register}
+use Rattle.bpf_verify.proofs.SoundMemory.{Stores, PointsWithin, IsFrom, pointers_sound, load_from_sound, from_sound, store_at_sound}
 use Rattle.bpf_verify.proofs.SoundCalls.{call_sound}
+use Rattle.bpf_meaning.proofs.WalkForesees.{Foresees, walk_foreseen, any_fits}
 
 -- The program goes on at the next place, or at a jump's target, and what is known on that edge admits the state there.
 
@@ -85,22 +89,6 @@ set_sound : (code : List Insn) (segment : Contents) (known : AbstractState) (sta
 set_sound code segment known state insn next stands goes_on destination x v admits =
     next_sound code segment state insn next _ (SetRegister destination v) (stands.followed goes_on) (writes_admit segment known state stands.has destination x v admits)
 
--- of a number another one is made
-number_sound : (code : List Insn) (segment : Contents) (known : AbstractState) (state : State) (insn : Insn) (next : ℕ) → Stands code segment known state insn next → (insn ≡ Exit → ⊥) → (destination : WritableRegister) (source : ℕ) (f : Interval → Interval) (g : ℕ → ℕ) → ((x : Interval) (n : ℕ) → interval.IsProper x → interval.Admits x n → interval.Admits (f x) (g n)) → Sound (Follows code segment state insn next) (edge.number_in known source >>= λ x. edge.set_register known destination.number (Number (f x))) (effect.number_in state source >>= λ x. effect.set_register code next destination (value.Number (g x)))
-number_sound code segment known state insn next stands goes_on destination source f g all =
-    then_sound HasNumber (Follows code segment state insn next) _ _ _ _ (number_in_sound known state stands.has source) (λ x n has.
-    set_sound code segment known state insn next stands goes_on destination (Number (f x)) (value.Number (g n)) (all x n has.proper has.admits))
-
--- a result of checks is written
-result_sound : (code : List Insn) (segment : Contents) (known : AbstractState) (state : State) (insn : Insn) (next : ℕ) → Stands code segment known state insn next → (insn ≡ Exit → ⊥) → (destination : WritableRegister) (abstract : Result Kind Cause) (concrete : Result Value Cause) → Sound kind.Admits abstract concrete → Sound (Follows code segment state insn next) (abstract >>= edge.set_register known destination.number) (concrete >>= effect.set_register code next destination)
-result_sound code segment known state insn next stands goes_on destination abstract concrete sound =
-    then_sound kind.Admits (Follows code segment state insn next) _ _ _ _ sound (set_sound code segment known state insn next stands goes_on destination)
-
--- bytes are stored
-change_sound : (code : List Insn) (segment : Contents) (known : AbstractState) (state : State) (insn : Insn) (next : ℕ) → Stands code segment known state insn next → (insn ≡ Exit → ⊥) → (abstract : Result AbstractState Cause) (concrete : Result Change Cause) → Sound (Stores segment state) abstract concrete → Sound (Follows code segment state insn next) (abstract >>= edge.go_on) (concrete >>= effect.go_on code next)
-change_sound code segment known state insn next stands goes_on abstract concrete sound =
-    then_sound (Stores segment state) (Follows code segment state insn next) _ _ _ _ sound (λ behind change admits. next_sound code segment state insn next _ change (stands.followed goes_on) admits)
-
 -- the edge of a conditional jump
 branch_sound : (code : List Insn) (segment : Contents) (known : AbstractState) (state : State) (insn : Insn) (next : ℕ) → Stands code segment known state insn next → (insn ≡ Exit → ⊥) → (distance : ℤ) → jump_distance insn ≡ Some distance → (edges : Edges) (taken : Bool) → TakesEdge state edges taken → Sound (Follows code segment state insn next) (Ok edges) (if taken then effect.jump code state.place distance else effect.go_on code next Nothing)
 branch_sound code segment known state insn next stands goes_on distance jumps edges true admits = target_sound code segment state insn next edges distance jumps (stands.leads distance jumps) admits
@@ -111,32 +99,45 @@ taken_sound code segment known state insn next stands goes_on distance jumps (Er
 taken_sound code segment known state insn next stands goes_on distance jumps (Ok edges) (Err cause) sound = absurd sound
 taken_sound code segment known state insn next stands goes_on distance jumps (Ok edges) (Ok taken) sound = branch_sound code segment known state insn next stands goes_on distance jumps edges taken sound
 
-exit_sound : (code : List Insn) (segment : Contents) (known : AbstractState) (state : State) (insn : Insn) (next : ℕ) → HasState known state → Sound (Follows code segment state insn next) (edge.exit known) (effect.read state 0 >>= effect.number_or ExitNotNumber >>= λ answer. Ok (End answer))
-exit_sound code segment known state insn next has =
-    then_sound HasNumber (Follows code segment state insn next) _ _ _ _ (then_sound HasValue HasNumber _ _ _ _ (read_sound known state has 0) (number_or_sound ExitNotNumber)) (λ x n among. tt)
+-- each step of an instruction
+kinds_foresee : (code : List Insn) (segment : Contents) (known : AbstractState) (state : State) (insn : Insn) (next : ℕ) → Stands code segment known state insn next → Foresees (kinds known) (effect.values code segment state next) insn
+kinds_foresee code segment known state insn next stands = record {
+  Fits = λ immediate. Unit {0};
+  Read = λ register. IsReadOf (register_value state register);
+  Values = kind.Admits;
+  Numbers = HasNumber;
+  Stored = interval.Admits;
+  Pointers = PointsWithin;
+  Offsets = IsFrom;
+  Changes = Stores segment state;
+  Outcomes = Follows code segment state insn next;
+  read = read_holds known state stands.has;
+  any = λ register x v is. is.has.admits;
+  number_or = λ cause register x v is. number_or_sound cause x v is.has;
+  stored = number_or_admits StoresPointer;
+  pointer_in = pointers_sound known state stands.has;
+  immediate = λ immediate fits. immediate_operand-admits immediate;
+  wide = λ immediate next fits. wide_number-admits immediate next;
+  extend = λ extension x n has. extend-admits extension x n has.proper has.admits;
+  negate = λ width x n has. negate-admits width x n has.proper has.admits;
+  byte_swap = λ order width x n has. byte_swap-admits order width x n has.proper has.admits;
+  move = move_sound;
+  operate = operate_sound;
+  load = λ format p q offset points. load_from_sound segment known state stands.is_segment stands.has format p.area p.offsets q offset points.into points.admits;
+  frame = λ p q offset points. from_sound p.area p.offsets q offset points.into points.admits;
+  store_at = λ x from offset size m n is stored. store_at_sound segment known state stands.has x offset from size n is;
+  call = λ helper. call_sound segment known state stands.is_segment stands.has (Some helper);
+  set = set_sound code segment known state insn next stands;
+  go_on = λ goes_on behind change admits. next_sound code segment state insn next _ change (stands.followed goes_on) admits;
+  jump = λ distance jumps. target_sound code segment state insn next _ distance jumps (stands.leads distance jumps) stands.has.admits;
+  with_immediate = λ goes_on condition width left immediate offset x v fits jumps first.
+      taken_sound code segment known state insn next stands goes_on offset jumps _ _ (with_immediate known state stands.has condition width left immediate x v first);
+  with_register = λ goes_on condition width left right offset x y v w jumps first second.
+      taken_sound code segment known state insn next stands goes_on offset jumps _ _ (with_register known state stands.has condition width left right x y v w first second);
+  end = λ x n among. tt;
+}
 
 -- each row of the instruction table
-pub instruction_sound : (code : List Insn) (segment : Contents) (known : AbstractState) (state : State) (insn : Insn) (next : ℕ) → Stands code segment known state insn next → Sound (Follows code segment state insn next) (instruction_edges known insn) (effect.instruction_effect code segment state next insn)
-instruction_sound code segment known state (Alu operation width destination source) next stands =
-    result_sound code segment known state _ next stands (λ e. cc) destination _ _ (operation_sound known state stands.has operation width destination.number source)
-instruction_sound code segment known state (MoveSignExtended extension destination source) next stands =
-    number_sound code segment known state _ next stands (λ e. cc) destination source.number _ _ (extend-admits extension)
-instruction_sound code segment known state (Negate width destination) next stands =
-    number_sound code segment known state _ next stands (λ e. cc) destination destination.number _ _ (negate-admits width)
-instruction_sound code segment known state (ByteSwap order width destination) next stands =
-    number_sound code segment known state _ next stands (λ e. cc) destination destination.number _ _ (byte_swap-admits order width)
-instruction_sound code segment known state (JumpIf condition width left right offset) next stands =
-    taken_sound code segment known state _ next stands (λ e. cc) offset refl _ _ (branches_sound known state stands.has condition width left right)
-instruction_sound code segment known state (Jump distance) next stands =
-    target_sound code segment state _ next _ (words distance) refl (stands.leads (words distance) refl) stands.has.admits
-instruction_sound code segment known state (Call immediate) next stands =
-    change_sound code segment known state _ next stands (λ e. cc) _ _ (call_sound segment known state stands.is_segment stands.has (by_number (cast_unsigned w32 immediate)))
-instruction_sound code segment known state Exit next stands = exit_sound code segment known state Exit next stands.has
-instruction_sound code segment known state (Load format destination base offset) next stands =
-    result_sound code segment known state _ next stands (λ e. cc) destination _ _ (load_sound segment known state stands.is_segment stands.has format base.number offset)
-instruction_sound code segment known state (StoreImmediate size base offset immediate) next stands =
-    change_sound code segment known state _ next stands (λ e. cc) _ _ (store_sound segment known state stands.has size base.number offset (Immediate immediate))
-instruction_sound code segment known state (Store size base offset source) next stands =
-    change_sound code segment known state _ next stands (λ e. cc) _ _ (store_sound segment known state stands.has size base.number offset (Register source))
-instruction_sound code segment known state (WideLoad destination immediate next_immediate) next stands =
-    set_sound code segment known state _ next stands (λ e. cc) destination _ _ (wide_number-admits immediate next_immediate)
+pub instruction_sound : (code : List Insn) (segment : Contents) (known : AbstractState) (state : State) (insn : Insn) (next : ℕ) → Stands code segment known state insn next → Sound (Follows code segment state insn next) (walk (kinds known) insn) (effect.instruction_effect code segment state next insn)
+unfolding kinds_foresee
+instruction_sound code segment known state insn next stands = walk_foreseen (kinds known) (effect.values code segment state next) insn (kinds_foresee code segment known state insn next stands) (any_fits insn)

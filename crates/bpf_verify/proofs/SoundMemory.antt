@@ -34,20 +34,21 @@ use Rattle.bpf_insn.specs.declared.memory.TheConstants.{FRAME_LENGTH}
 use Rattle.tl_segments.specs.declared.segment.TheConstants.{RECORD_LENGTH}
 use Rattle.bpf_meaning.specs.declared.state.State.{State}
 use Rattle.bpf_meaning.proofs.FrameLemmas.{HoldBytes, bytes-map, part_has_number, stored_stays, is_written-store_inside}
-use Rattle.bpf_verify.specs.Edges.{only_pointers, pointers_in, lie_within, all_marked, mark_bytes, load_from, load_kind, frame_offsets, store_at, store, operand, number_or}
+use Rattle.bpf_verify.specs.Edges.{only_pointers, pointers_in, lie_within, all_marked, mark_bytes, load_from, frame_offsets, store_at}
 use Rattle.bpf_verify.specs.State.{AdmitsState}
 use Rattle.bpf_verify.specs.declared.memory.Pointers.{Pointers}
 use Rattle.bpf_verify.specs.declared.state.AbstractState.{AbstractState}
-use Rattle.bpf_verify.proofs.SoundArithmetic.{operand_sound}
 use Rattle.bpf_verify.proofs.SoundMarks.{AreWritten, lies_within, marked_are_written, marks_admit}
-use Rattle.bpf_verify.proofs.SoundChecks.{Sound, then_sound, passes_if, HasValue, HasState, read_sound, number_or_admits}
+use Rattle.bpf_meaning.specs.Checks.{Sound}
+use Rattle.bpf_meaning.proofs.CheckLemmas.{then_sound, passes_if}
+use Rattle.bpf_verify.proofs.SoundChecks.{HasValue, HasState, read_sound}
 
 -- the base
 
 -- a pointer into the area, at one of the offsets
-record PointsWithin (pointers : Pointers) (pointer : PointerParts) : Type 0 where
-  into : pointer.area ≡ pointers.area
-  admits : Admits pointers.offsets pointer.offset
+pub record PointsWithin (pointers : Pointers) (pointer : PointerParts) : Type 0 where
+  pub into : pointer.area ≡ pointers.area
+  pub admits : Admits pointers.offsets pointer.offset
 
 only_pointers_sound : (x : Kind) (v : Value) → HasValue x v → Sound PointsWithin (only_pointers x) (effect.only_pointer v)
 only_pointers_sound (Record x) (value.Pointer pointer) has = record { into = has.admits.0; admits = has.admits.1 }
@@ -57,7 +58,7 @@ only_pointers_sound (Frame x) v has = absurd has.admits
 only_pointers_sound (Number x) v has = tt
 only_pointers_sound Nothing v has = tt
 
-pointers_sound : (known : AbstractState) (state : State) → HasState known state → (base : ℕ) → Sound PointsWithin (pointers_in known base) (effect.pointer_in state base)
+pub pointers_sound : (known : AbstractState) (state : State) → HasState known state → (base : ℕ) → Sound PointsWithin (pointers_in known base) (effect.pointer_in state base)
 pointers_sound known state has base = then_sound HasValue PointsWithin _ _ _ _ (read_sound known state has base) only_pointers_sound
 
 -- loads
@@ -119,7 +120,7 @@ frame_sound known state has load_format x at offset admits = by_tests (lie_withi
     by_tests true false within marked = tt
     by_tests false marked outside is = tt
 
-load_from_sound : (segment : Contents) (known : AbstractState) (state : State) → IsSegment segment → HasState known state → (load_format : LoadFormat) (into : Area) (x : Offsets) (pointer : PointerParts) (offset : ℤ) → pointer.area ≡ into → Admits x pointer.offset
+pub load_from_sound : (segment : Contents) (known : AbstractState) (state : State) → IsSegment segment → HasState known state → (load_format : LoadFormat) (into : Area) (x : Offsets) (pointer : PointerParts) (offset : ℤ) → pointer.area ≡ into → Admits x pointer.offset
     → Sound kind.Admits (load_from known load_format (record { area = into; offsets = x }) offset) (effect.load_bytes load_format (effect.area_bytes segment state pointer.area) (pointer.offset +ℤ offset))
 load_from_sound segment known state is has load_format area.Record x pointer offset into admits =
     subst (λ (a : Area). Sound kind.Admits (load_from known load_format (record { area = area.Record; offsets = x }) offset) (effect.load_bytes load_format (effect.area_bytes segment state a) (pointer.offset +ℤ offset))) (sym into)
@@ -128,20 +129,15 @@ load_from_sound segment known state is has load_format area.Frame x pointer offs
     subst (λ (a : Area). Sound kind.Admits (load_from known load_format (record { area = area.Frame; offsets = x }) offset) (effect.load_bytes load_format (effect.area_bytes segment state a) (pointer.offset +ℤ offset))) (sym into)
     (frame_sound known state has load_format x pointer.offset offset admits)
 
-pub load_sound : (segment : Contents) (known : AbstractState) (state : State) → IsSegment segment → HasState known state → (load_format : LoadFormat) (base : ℕ) (offset : ℤ) → Sound kind.Admits (load_kind known load_format base offset) (effect.load_value segment state load_format base offset)
-load_sound segment known state is has load_format base offset =
-    then_sound PointsWithin kind.Admits _ _ _ _ (pointers_sound known state has base) (λ pointers pointer points.
-    load_from_sound segment known state is has load_format pointers.area pointers.offsets pointer offset points.into points.admits)
-
 -- stores
 
 -- an offset with another one added
-record IsFrom (offset : ℤ) (x : Offsets) (from : ℤ) : Type 0 where
-  at : ℤ
-  sum : from ≡ at +ℤ offset
-  admits : Admits x at
+pub record IsFrom (offset : ℤ) (x : Offsets) (from : ℤ) : Type 0 where
+  pub at : ℤ
+  pub sum : from ≡ at +ℤ offset
+  pub admits : Admits x at
 
-from_sound : (into : Area) (x : Offsets) (pointer : PointerParts) (offset : ℤ) → pointer.area ≡ into → Admits x pointer.offset → Sound (IsFrom offset) (frame_offsets (record { area = into; offsets = x })) (effect.frame_offset pointer.area (pointer.offset +ℤ offset))
+pub from_sound : (into : Area) (x : Offsets) (pointer : PointerParts) (offset : ℤ) → pointer.area ≡ into → Admits x pointer.offset → Sound (IsFrom offset) (frame_offsets (record { area = into; offsets = x })) (effect.frame_offset pointer.area (pointer.offset +ℤ offset))
 from_sound area.Record x pointer offset into admits = tt
 from_sound area.Frame x pointer offset into admits =
     subst (λ (a : Area). Sound (IsFrom offset) (Ok x) (effect.frame_offset a (pointer.offset +ℤ offset))) (sym into)
@@ -164,7 +160,7 @@ stores_admit segment known state has x at offset size number admits within =
     (λ i written. stored_stays state.frame.bytes (unsigned_abs (at +ℤ offset)) (store_length size) number i fits written)
     (λ i above below. is_written-store_inside state.frame.bytes (unsigned_abs (at +ℤ offset)) (store_length size) number i fits above below)
 
-store_at_sound : (segment : Contents) (known : AbstractState) (state : State) → HasState known state → (x : Offsets) (offset from : ℤ) (size : StoreSize) (number : ℕ) → IsFrom offset x from → Sound (Stores segment state) (store_at known x offset size) (effect.store_at from size number)
+pub store_at_sound : (segment : Contents) (known : AbstractState) (state : State) → HasState known state → (x : Offsets) (offset from : ℤ) (size : StoreSize) (number : ℕ) → IsFrom offset x from → Sound (Stores segment state) (store_at known x offset size) (effect.store_at from size number)
 store_at_sound segment known state has x offset from size number is = by_test (lie_within x offset (store_length size) FRAME_LENGTH) refl
   where
     by_test : (within : Bool) → lie_within x offset (store_length size) FRAME_LENGTH ≡ within → Sound (Stores segment state) (if within then Ok (mark_bytes known x offset (store_length size)) else Err OutOfBounds) (effect.store_at from size number)
@@ -174,13 +170,3 @@ store_at_sound segment known state has x offset from size number is = by_test (l
         (passes_if (Stores segment state) (Ok (mark_bytes known x offset (store_length size))) (Ok (StoreBytes (unsigned_abs (is.at +ℤ offset)) size number)) (effect.lie_within (is.at +ℤ offset) (store_length size) FRAME_LENGTH) OutOfBounds inside
         (stores_admit segment known state has x is.at offset size number is.admits within))
     by_test false outside = tt
-
-pub store_sound : (segment : Contents) (known : AbstractState) (state : State) → HasState known state → (size : StoreSize) (base : ℕ) (offset : ℤ) (source : Source) → Sound (Stores segment state) (store known size base offset source) (effect.store_change state size base offset source)
-store_sound segment known state has size base offset source =
-    then_sound PointsWithin (Stores segment state) _ _ _ _ (pointers_sound known state has base) (λ pointers pointer points.
-    then_sound (IsFrom offset) (Stores segment state) _ _ _ _ (from_sound pointers.area pointers.offsets pointer offset points.into points.admits) (λ x from is.
-    then_sound interval.Admits (Stores segment state) _ _ _ _ number_sound (λ numbers number among.
-    store_at_sound segment known state has x offset from size number is)))
-  where
-    number_sound : Sound interval.Admits (operand known source >>= number_or StoresPointer) (effect.operand state source >>= effect.number_or StoresPointer)
-    number_sound = then_sound kind.Admits interval.Admits _ _ _ _ (operand_sound known state has source) (number_or_admits StoresPointer)

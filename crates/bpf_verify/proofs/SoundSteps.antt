@@ -33,7 +33,7 @@ use Rattle.bpf_verify.specs.StateLaws.{admits_more}
 use Rattle.bpf_verify.specs.declared.state.Edges.{Edges}
 use Rattle.bpf_verify.specs.declared.state.Note.{Note}
 use Rattle.bpf_verify.specs.declared.state.Note.TheVariants.{Unreached, Reached}
-use Rattle.bpf_verify.proofs.SoundChecks.{Sound}
+use Rattle.bpf_meaning.specs.Checks.{Sound}
 use Rattle.bpf_verify.proofs.SoundInstructions.{Follows, instruction_sound}
 use Rattle.bpf_verify.proofs.SoundPlaces.{is_followed}
 

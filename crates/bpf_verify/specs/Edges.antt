@@ -38,7 +38,9 @@ use Rattle.bpf_helpers.specs.declared.signature.FrameUse.{FrameUse}
 use Rattle.bpf_helpers.specs.declared.signature.FrameUse.TheVariants as frame_use
 use Rattle.bpf_helpers.specs.declared.signature.FrameUse.TheVariants.{Writes, Reads}
 use Rattle.bpf_insn.specs.Memory.{load_length, store_length}
-use Rattle.bpf_meaning.specs.Effect.{◌>>=◌}
+use Rattle.bpf_meaning.specs.Checks.{◌>>=◌}
+use Rattle.bpf_meaning.specs.Tags as tags
+use Rattle.bpf_meaning.specs.Walk.{Registers, Domain, compared_operand, walk}
 use Rattle.bpf_meaning.specs.declared.cause.Cause.{Cause}
 use Rattle.bpf_meaning.specs.declared.cause.Cause.TheVariants.{ReadsNothing, PointerArithmetic, LeavesArea, NotPointer, OutOfBounds, UnwrittenFrame, WritesRecord, StoresPointer, ComparesPointer, UnknownHelper, BadArgument, ExitNotNumber}
 use Rattle.bpf_insn.specs.declared.memory.TheConstants.{FRAME_LENGTH}
@@ -68,63 +70,39 @@ abbrev pub number_or : Cause → Kind → Result Interval Cause
 number_or cause (Number x) = Ok x
 number_or cause kind = Err cause
 
--- the numbers in a register, of which an instruction makes others; nothing is made so of a pointer
-abbrev pub number_in : AbstractState → ℕ → Result Interval Cause
-number_in known register = read known register >>= number_or PointerArithmetic
-
--- the second operand
-abbrev pub operand : AbstractState → Source → Result Kind Cause
-operand known (Immediate value) = Ok (Number (immediate_operand value))
-operand known (Register register) = read known register.number
-
 -- a result, or the cause where there is none
 abbrev pub or_cause : {A : Type 0} → Cause → Option A → Result A Cause
 or_cause cause (Some found) = Ok found
 or_cause cause None = Err cause
 
--- pointers moved by numbers of bytes, forwards and backwards
-abbrev pub move_pointer : Offsets → Interval → Result Offsets Cause
-move_pointer offsets x = or_cause PointerArithmetic (near_distances x) >>= λ distances. or_cause LeavesArea (move_by offsets distances)
+-- a kind by its tag
+abbrev pub tagged_kind : Kind → tags.Tagged Interval Offsets
+tagged_kind Nothing = tags.Empty
+tagged_kind (Number x) = tags.Number x
+tagged_kind (Record x) = tags.Pointer area.Record x
+tagged_kind (Frame x) = tags.Pointer area.Frame x
 
-abbrev pub move_pointer_back : Offsets → Interval → Result Offsets Cause
-move_pointer_back offsets x = or_cause PointerArithmetic (near_distances x) >>= λ distances. or_cause LeavesArea (move_back_by offsets distances)
+-- pointers into an area
+abbrev pub kind_pointer : Area → Offsets → Kind
+kind_pointer area.Record x = Record x
+kind_pointer area.Frame x = Frame x
 
--- an operation of 64 bits on pointers and numbers
-abbrev pub operate_on_pointer : Operation → Offsets → Interval → Result Offsets Cause
-operate_on_pointer Add offsets y = move_pointer offsets y
-operate_on_pointer Subtract offsets y = move_pointer_back offsets y
-operate_on_pointer operation offsets y = Err PointerArithmetic
-
--- an operation of 64 bits on numbers and pointers
-abbrev pub operate_with_pointer : Operation → Interval → Offsets → Result Offsets Cause
-operate_with_pointer Add x offsets = move_pointer offsets x
-operate_with_pointer operation x offsets = Err PointerArithmetic
-
--- An operation on two kinds. With 64 bits a number may be added to a pointer, in either order, and taken from one; nothing else may be
--- done with one.
-abbrev pub operate : Operation → Width → Kind → Kind → Result Kind Cause
-operate operation width (Number x) (Number y) = Ok (Number (alu operation width x y))
-operate operation Bits64 (Record offsets) (Number y) = operate_on_pointer operation offsets y >>= λ moved. Ok (Record moved)
-operate operation Bits64 (Frame offsets) (Number y) = operate_on_pointer operation offsets y >>= λ moved. Ok (Frame moved)
-operate operation Bits64 (Number x) (Record offsets) = operate_with_pointer operation x offsets >>= λ moved. Ok (Record moved)
-operate operation Bits64 (Number x) (Frame offsets) = operate_with_pointer operation x offsets >>= λ moved. Ok (Frame moved)
-operate operation width x y = Err PointerArithmetic
-
--- a move copies any kind with 64 bits, and with 32 the low halves of numbers
-abbrev pub move_kind : Width → Kind → Result Kind Cause
-move_kind Bits64 kind = Ok kind
-move_kind Bits32 (Number x) = Ok (Number (cut w32 x))
-move_kind Bits32 kind = Err PointerArithmetic
-
--- what an arithmetic instruction gives; a move doesn't read its destination
-abbrev pub operation_kind : AbstractState → Operation → Width → ℕ → Source → Result Kind Cause
-operation_kind known Move width destination source = operand known source >>= move_kind width
-operation_kind known operation width destination source = read known destination >>= λ x. operand known source >>= λ y. operate operation width x y
-
--- the second operand of a comparison: an immediate is compared with the low bits of a register, so many as the comparison has
-abbrev pub compared_operand : AbstractState → Width → Source → Result Kind Cause
-compared_operand known width (Immediate value) = Ok (Number (single (low_bits (operand_bits width) (arithmetic.immediate_operand value))))
-compared_operand known width (Register register) = read known register.number
+-- kinds, of intervals and ranges of offsets
+abbrev pub kind_tags : tags.Tags
+kind_tags = record {
+  Values = Kind;
+  Numbers = Interval;
+  Offsets = Offsets;
+  Distances = Offsets;
+  tagged = tagged_kind;
+  number = Number;
+  pointer = kind_pointer;
+  result = alu;
+  low_half = cut w32;
+  distance = λ x. or_cause PointerArithmetic (near_distances x);
+  forwards = λ x distances. or_cause LeavesArea (move_by x distances);
+  backwards = λ x distances. or_cause LeavesArea (move_back_by x distances);
+}
 
 -- two registers are one
 abbrev pub is_register : ℕ → Source → Bool
@@ -153,10 +131,6 @@ compare known comparison (Number x) (Number y) =
     Ok (record { next = branch known comparison x y false; target = branch known comparison x y true })
 compare known comparison x y = Err ComparesPointer
 
-abbrev pub branches : AbstractState → Comparison → Result Edges Cause
-branches known comparison =
-    read known comparison.left.number >>= λ x. compared_operand known comparison.width comparison.right >>= λ y. compare known comparison x y
-
 -- the pointers in a register that is the base of a load or a store
 abbrev pub only_pointers : Kind → Result Pointers Cause
 only_pointers (Record offsets) = Ok (record { area = area.Record; offsets = offsets })
@@ -165,6 +139,30 @@ only_pointers kind = Err NotPointer
 
 abbrev pub pointers_in : AbstractState → ℕ → Result Pointers Cause
 pointers_in known register = read known register >>= only_pointers
+
+-- what is known of the registers; an immediate is compared with the low bits of a register, so many as the comparison has
+abbrev pub kind_registers : AbstractState → Registers
+kind_registers known = record {
+  Value = Kind;
+  Number = Interval;
+  Pointer = Pointers;
+  read = read known;
+  number = Number;
+  number_or = number_or;
+  pointer_in = pointers_in known;
+  immediate = λ immediate. Number (immediate_operand immediate);
+  compared = λ width immediate. Number (single (low_bits (operand_bits width) (arithmetic.immediate_operand immediate)));
+  wide = wide_number;
+  extend = extend;
+  negate = negate;
+  byte_swap = byte_swap;
+  move = tags.move kind_tags;
+  operate = tags.operate kind_tags;
+}
+
+abbrev pub branches : AbstractState → Comparison → Result Edges Cause
+branches known comparison =
+    read known comparison.left.number >>= λ x. compared_operand (kind_registers known) comparison.width comparison.right >>= λ y. compare known comparison x y
 
 -- so many bytes from each offset on, with another offset added, lie within the first ones, so many, of an area
 abbrev pub lie_within : Offsets → ℤ → ℕ → ℕ → Bool
@@ -195,9 +193,6 @@ abbrev pub load_from : AbstractState → LoadFormat → Pointers → ℤ → Res
 load_from known format pointers offset =
     if lie_within pointers.offsets offset (load_length format) (area_length pointers.area) then load_area known format pointers offset else Err OutOfBounds
 
-abbrev pub load_kind : AbstractState → LoadFormat → ℕ → ℤ → Result Kind Cause
-load_kind known format base offset = pointers_in known base >>= λ pointers. load_from known format pointers offset
-
 -- offsets into the frame: the record is read-only
 abbrev pub frame_offsets : Pointers → Result Offsets Cause
 frame_offsets pointers = frame_only pointers.area pointers.offsets
@@ -218,11 +213,6 @@ mark_bytes known offsets offset count =
 abbrev pub store_at : AbstractState → Offsets → ℤ → StoreSize → Result AbstractState Cause
 store_at known offsets offset size =
     if lie_within offsets offset (store_length size) FRAME_LENGTH then Ok (mark_bytes known offsets offset (store_length size)) else Err OutOfBounds
-
-abbrev pub store : AbstractState → StoreSize → ℕ → ℤ → Source → Result AbstractState Cause
-store known size base offset source =
-    pointers_in known base >>= λ pointers. frame_offsets pointers >>= λ offsets.
-    operand known source >>= number_or StoresPointer >>= λ x. store_at known offsets offset size
 
 -- the numbers of an interval lie in one that a prototype allows
 abbrev pub are_allowed : Interval → Interval → Bool
@@ -304,31 +294,25 @@ exit known = read known 0 >>= number_or ExitNotNumber >>= end
 abbrev pub set_register : AbstractState → ℕ → Kind → Result Edges Cause
 set_register known register kind = go_on (with_kind known register kind)
 
--- the edges of an instruction, a row each
-abbrev pub instruction_edges : AbstractState → Insn → Result Edges Cause
-instruction_edges known (Alu operation width destination source) =
-    operation_kind known operation width destination.number source >>= set_register known destination.number
-instruction_edges known (MoveSignExtended extension destination source) =
-    number_in known source.number >>= λ x. set_register known destination.number (Number (extend extension x))
-instruction_edges known (Negate width destination) =
-    number_in known destination.number >>= λ x. set_register known destination.number (Number (negate width x))
-instruction_edges known (ByteSwap order width destination) =
-    number_in known destination.number >>= λ x. set_register known destination.number (Number (byte_swap order width x))
-instruction_edges known (JumpIf condition width left right offset) =
-    branches known (record { condition = condition; width = width; left = left; right = right })
-instruction_edges known (Jump distance) = jump known
-instruction_edges known (Call immediate) = call known (by_number (cast_unsigned w32 immediate)) >>= go_on
-instruction_edges known Exit = exit known
-instruction_edges known (Load format destination base offset) =
-    load_kind known format base.number offset >>= set_register known destination.number
-instruction_edges known (StoreImmediate size base offset immediate) =
-    store known size base.number offset (Immediate immediate) >>= go_on
-instruction_edges known (Store size base offset source) =
-    store known size base.number offset (Register source) >>= go_on
-instruction_edges known (WideLoad destination immediate next_immediate) =
-    set_register known destination.number (Number (wide_number immediate next_immediate))
+-- what is known of values
+abbrev pub kinds : AbstractState → Domain
+kinds known = record {
+  registers = kind_registers known;
+  Offset = Offsets;
+  Change = AbstractState;
+  Outcome = Edges;
+  load = load_from known;
+  frame = λ pointers offset. frame_offsets pointers;
+  store_at = λ offsets offset size number. store_at known offsets offset size;
+  call = λ helper. call known (Some helper);
+  set = λ destination. set_register known destination.number;
+  go_on = go_on;
+  jump = λ distance. jump known;
+  branch = λ jump. compare known (record { condition = jump.condition; width = jump.width; left = jump.left; right = jump.right });
+  end = end;
+}
 
 -- the edges by what is known: an instruction that isn't reached fails no check, and leads nowhere
 abbrev pub edges : Note → Insn → Result Edges Cause
 edges Unreached insn = Ok (record { next = Unreached; target = Unreached })
-edges (Reached known) insn = instruction_edges known insn
+edges (Reached known) insn = walk (kinds known) insn

@@ -3,7 +3,8 @@ ghost use Rattle.std.specs.Prelude.{◌≡◌, IfOk};
 ghost use Rattle.bpf_kinds.specs.Interval as interval;
 ghost use Rattle.bpf_kinds.specs.Kind as kinds;
 ghost use Rattle.bpf_verify.specs.State.{AreProperEdges, IsProper, IsProperState};
-ghost use Rattle.bpf_verify.specs.Edges.{branch, branches, compare, compared_operand, with_narrowed};
+ghost use Rattle.bpf_meaning.specs.Walk.{compared_operand};
+ghost use Rattle.bpf_verify.specs.Edges.{branch, branches, compare, kind_registers, with_narrowed};
 
 use crate::state::{AbstractState, Edges, Note};
 use bpf_insn::{Condition, Register, Source, Width, immediate_operand};
@@ -34,7 +35,7 @@ impl Comparison {
     /// What is compared with the left register. An immediate is compared with its low bits, so many as the comparison has.
     fn compared_operand(self, known: &AbstractState) -> Result<Kind, Cause>
         requires { IsProperState known.now }
-        ensures value { result ≡ compared_operand known.now self.width self.right }
+        ensures value { result ≡ compared_operand (kind_registers known.now) self.width self.right }
         ensures proper { IfOk result kinds.IsProper }
     {
         match self.right {

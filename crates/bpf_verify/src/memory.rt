@@ -3,7 +3,9 @@ ghost use Rattle.std.specs.Prelude.{◌≡◌, ◌≤◌, IfOk};
 ghost use Rattle.bpf_kinds.specs.Kind as kinds;
 ghost use Rattle.bpf_kinds.specs.Offsets as pointer_offsets;
 ghost use Rattle.bpf_verify.specs.State.{IsProperState};
-ghost use Rattle.bpf_verify.specs.Edges.{area_length, lie_within, load_from, load_kind, pointers_in, store, store_at};
+ghost use Rattle.bpf_meaning.specs.Walk.{load_value, store};
+ghost use Rattle.bpf_verify.specs.Edges.{area_length, lie_within, load_from, pointers_in, store_at};
+ghost use Rattle.bpf_verify.specs.Edges.{kinds as known_kinds};
 
 use crate::operands::{number_or, operand};
 use crate::state::AbstractState;
@@ -70,7 +72,7 @@ pub(crate) fn load_kind(
     offset: i16,
 ) -> Result<Kind, Cause>
     requires { IsProperState known.now }
-    ensures value { result ≡ load_kind known.now format base.number offset }
+    ensures value { result ≡ load_value (known_kinds known.now) format base.number offset }
     ensures proper { IfOk result kinds.IsProper }
 {
     let pointers = pointers_in(known, base)?;
@@ -109,7 +111,7 @@ pub(crate) fn store(
     source: Source,
 ) -> Result<AbstractState, Cause>
     requires { IsProperState known.now }
-    ensures value { result ≡ store known.now size base.number offset source }
+    ensures value { result ≡ store (known_kinds known.now) size base.number offset source }
     ensures proper { IfOk result IsProperState }
 {
     let pointers = pointers_in(known, base)?;

@@ -4,7 +4,9 @@ ghost use Rattle.bpf_kinds.specs.Interval as interval;
 ghost use Rattle.bpf_kinds.specs.Kind as kinds;
 ghost use Rattle.bpf_kinds.specs.Offsets as offset;
 ghost use Rattle.bpf_verify.specs.State.{IsProperState};
-ghost use Rattle.bpf_verify.specs.Edges.{move_kind, move_pointer, move_pointer_back, number_in, number_or, operand, operate, operate_on_pointer, operate_with_pointer, operation_kind};
+ghost use Rattle.bpf_meaning.specs.Tags.{move, move_pointer, move_pointer_back, operate, operate_on_pointer, operate_with_pointer};
+ghost use Rattle.bpf_meaning.specs.Walk.{number_in, operand, operation_value};
+ghost use Rattle.bpf_verify.specs.Edges.{kind_registers, kind_tags, number_or};
 
 use crate::state::AbstractState;
 use bpf_insn::{Operation, Source, Width, WritableRegister};
@@ -25,7 +27,7 @@ pub(crate) fn number_or(cause: Cause, kind: Kind) -> Result<Interval, Cause>
 pub(crate) fn number_in(known: &AbstractState, register: u8) -> Result<Interval, Cause>
     requires in_range { register ≤ 10 }
     requires proper { IsProperState known.now }
-    ensures value { result ≡ number_in known.now register }
+    ensures value { result ≡ number_in (kind_registers known.now) register }
     ensures proper { IfOk result interval.IsProper }
 {
     number_or(Cause::PointerArithmetic, known.read(register)?)
@@ -34,7 +36,7 @@ pub(crate) fn number_in(known: &AbstractState, register: u8) -> Result<Interval,
 /// The second operand.
 pub(crate) fn operand(known: &AbstractState, source: Source) -> Result<Kind, Cause>
     requires { IsProperState known.now }
-    ensures value { result ≡ operand known.now source }
+    ensures value { result ≡ operand (kind_registers known.now) source }
     ensures proper { IfOk result kinds.IsProper }
 {
     match source {
@@ -52,7 +54,7 @@ pub(crate) fn operation_kind(
     source: Source,
 ) -> Result<Kind, Cause>
     requires { IsProperState known.now }
-    ensures value { result ≡ operation_kind known.now operation width destination.number source }
+    ensures value { result ≡ operation_value (kind_registers known.now) operation width destination.number source }
     ensures proper { IfOk result kinds.IsProper }
 {
     match operation {
@@ -68,7 +70,7 @@ pub(crate) fn operation_kind(
 /// What a move gives: any kind with 64 bits, the low halves of numbers with 32.
 fn move_kind(width: Width, kind: Kind) -> Result<Kind, Cause>
     requires { kinds.IsProper kind }
-    ensures value { result ≡ move_kind width kind }
+    ensures value { result ≡ move kind_tags width kind }
     ensures proper { IfOk result kinds.IsProper }
 {
     match (width, kind) {
@@ -82,7 +84,7 @@ fn move_kind(width: Width, kind: Kind) -> Result<Kind, Cause>
 fn operate(operation: Operation, width: Width, x: Kind, y: Kind) -> Result<Kind, Cause>
     requires left { kinds.IsProper x }
     requires right { kinds.IsProper y }
-    ensures value { result ≡ operate operation width x y }
+    ensures value { result ≡ operate kind_tags operation width x y }
     ensures proper { IfOk result kinds.IsProper }
 {
     match (width, x, y) {
@@ -107,7 +109,7 @@ fn operate(operation: Operation, width: Width, x: Kind, y: Kind) -> Result<Kind,
 fn operate_on_pointer(operation: Operation, offsets: Offsets, y: Interval) -> Result<Offsets, Cause>
     requires offsets { offset.IsProper offsets }
     requires number { interval.IsProper y }
-    ensures value { result ≡ operate_on_pointer operation offsets y }
+    ensures value { result ≡ operate_on_pointer kind_tags operation offsets y }
     ensures proper { IfOk result offset.IsProper }
 {
     match operation {
@@ -125,7 +127,7 @@ fn operate_with_pointer(
 ) -> Result<Offsets, Cause>
     requires offsets { offset.IsProper offsets }
     requires number { interval.IsProper x }
-    ensures value { result ≡ operate_with_pointer operation x offsets }
+    ensures value { result ≡ operate_with_pointer kind_tags operation x offsets }
     ensures proper { IfOk result offset.IsProper }
 {
     match operation {
@@ -138,7 +140,7 @@ fn operate_with_pointer(
 fn move_pointer(offsets: Offsets, x: Interval) -> Result<Offsets, Cause>
     requires offsets { offset.IsProper offsets }
     requires number { interval.IsProper x }
-    ensures value { result ≡ move_pointer offsets x }
+    ensures value { result ≡ move_pointer kind_tags offsets x }
     ensures proper { IfOk result offset.IsProper }
 {
     let distances = near_distances(x).ok_or(Cause::PointerArithmetic)?;
@@ -149,7 +151,7 @@ fn move_pointer(offsets: Offsets, x: Interval) -> Result<Offsets, Cause>
 fn move_pointer_back(offsets: Offsets, x: Interval) -> Result<Offsets, Cause>
     requires offsets { offset.IsProper offsets }
     requires number { interval.IsProper x }
-    ensures value { result ≡ move_pointer_back offsets x }
+    ensures value { result ≡ move_pointer_back kind_tags offsets x }
     ensures proper { IfOk result offset.IsProper }
 {
     let distances = near_distances(x).ok_or(Cause::PointerArithmetic)?;

@@ -2,7 +2,9 @@
 ghost use Rattle.std.specs.Prelude.{◌≡◌, IfOk};
 ghost use Rattle.bpf_kinds.specs.Kind as kinds;
 ghost use Rattle.bpf_verify.specs.State.{AreProperEdges, IsProperState};
-ghost use Rattle.bpf_verify.specs.Edges.{exit, go_on, instruction_edges, jump, set_register};
+ghost use Rattle.bpf_meaning.specs.Walk.{walk};
+ghost use Rattle.bpf_verify.specs.Edges.{exit, go_on, jump, set_register};
+ghost use Rattle.bpf_verify.specs.Edges.{kinds as known_kinds};
 
 use crate::calls::call;
 use crate::comparison::Comparison;
@@ -69,7 +71,7 @@ fn exit(known: &AbstractState) -> Result<Edges, Cause>
 /// known before it: one arm a row.
 pub(crate) fn instruction_edges(known: &AbstractState, insn: Insn) -> Result<Edges, Cause>
     requires { IsProperState known.now }
-    ensures value { result ≡ instruction_edges known.now insn }
+    ensures value { result ≡ walk (known_kinds known.now) insn }
     ensures proper { IfOk result AreProperEdges }
 {
     match insn {
