@@ -1,9 +1,5 @@
 pub mod MoveLemmas
 pub mod CallLemmas
-pub mod CodeLemmas
-pub mod NoteLemmas
-pub mod VisitLemmas
-pub mod AnnotationLemmas
 pub mod SoundChecks
 pub mod SoundStates
 pub mod SoundArithmetic
@@ -15,3 +11,5 @@ pub mod SoundInstructions
 pub mod SoundPlaces
 pub mod SoundSteps
 pub mod SoundRuns
+pub mod StateLaws
+pub mod PassLemmas

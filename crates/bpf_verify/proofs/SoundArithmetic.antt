@@ -35,8 +35,8 @@ use Rattle.bpf_kinds.specs.Interval.{IsProper, Admits, cut, between, full}
 use Rattle.bpf_kinds.specs.Results.{alu}
 use Rattle.bpf_kinds.specs.declared.interval.Interval.{Interval}
 use Rattle.bpf_meaning.specs.declared.state.State.{State}
-use Rattle.bpf_verify.specs.declared.state.AbstractState.{AbstractState}
-use Rattle.bpf_verify.specs.Edges.{or_cause, tagged_kind, kind_pointer, kind_tags}
+use Rattle.bpf_verify.specs.declared.state.Known.{Known}
+use Rattle.bpf_verify.specs.Transfer.{or_cause, tagged_kind, kind_pointer, kind_tags}
 use Rattle.bpf_meaning.specs.Effect.{offset_or, tagged_value, value_tags}
 use Rattle.bpf_meaning.specs.Tags.{operate, move}
 use Rattle.bpf_meaning.specs.Checks.{Sound}

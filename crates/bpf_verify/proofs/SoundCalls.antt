@@ -38,10 +38,10 @@ use Rattle.bpf_meaning.proofs.CallLemmas.{IfPasses, called_can_be_made}
 use Rattle.bpf_meaning.proofs.FrameLemmas.{all_written-part, written_stays, is_written-write_inside}
 use Rattle.tl_segments.specs.Segment.{Contents, IsSegment}
 use Rattle.bpf_frame.specs.FrameMap as map
-use Rattle.bpf_verify.specs.Edges.{are_allowed, argument_kind, argument_in, arguments_in, lie_within, lend_bytes, lend_read, lend_frame, all_marked, mark_bytes, state_after, call}
-use Rattle.bpf_verify.specs.State.{AdmitsState}
+use Rattle.bpf_verify.specs.Transfer.{are_allowed, argument_kind, argument_in, arguments_in, lie_within, lend_bytes, lend_read, lend_frame, all_marked, mark_bytes, state_after, call}
+use Rattle.bpf_verify.specs.State.{AdmitsKnown}
 use Rattle.bpf_verify.specs.declared.calls.LentBytes.{LentBytes}
-use Rattle.bpf_verify.specs.declared.state.AbstractState.{AbstractState}
+use Rattle.bpf_verify.specs.declared.state.Known.{Known}
 use Rattle.bpf_meaning.specs.Checks.{Sound}
 use Rattle.bpf_meaning.proofs.CheckLemmas.{then_sound, passes_if}
 use Rattle.bpf_verify.proofs.SoundChecks.{HasValue, HasState, read_sound}
@@ -93,7 +93,7 @@ argument_sound number argument.Frame (Number x) v has = tt
 argument_sound number argument.Frame (Record x) v has = tt
 argument_sound number argument.Frame Nothing v has = tt
 
-argument_in_sound : (known : AbstractState) (state : State) → HasState known state → (number : ℕ) (wanted : Argument) → Sound IsWord (argument_in known number wanted) (effect.argument_in state number wanted)
+argument_in_sound : (known : Known) (state : State) → HasState known state → (number : ℕ) (wanted : Argument) → Sound IsWord (argument_in known number wanted) (effect.argument_in state number wanted)
 argument_in_sound known state has number argument.Unused = tt
 argument_in_sound known state has number (argument.Number allowed) = then_sound HasValue IsWord _ _ _ _ (read_sound known state has number) (argument_sound number (argument.Number allowed))
 argument_in_sound known state has number argument.Frame = then_sound HasValue IsWord _ _ _ _ (read_sound known state has number) (argument_sound number argument.Frame)
@@ -103,7 +103,7 @@ record AreWords (kinds : List Kind) (words : List ℕ) : Type 0 where
   second : IsWord (get_or kinds 1 Nothing) (second words)
   third : IsWord (get_or kinds 2 Nothing) (third words)
 
-arguments_sound : (known : AbstractState) (state : State) → HasState known state → (wanted : List Argument) → Sound AreWords (arguments_in known wanted) (effect.arguments_in state wanted)
+arguments_sound : (known : Known) (state : State) → HasState known state → (wanted : List Argument) → Sound AreWords (arguments_in known wanted) (effect.arguments_in state wanted)
 arguments_sound known state has wanted =
     then_sound IsWord AreWords _ _ _ _ (argument_in_sound known state has 1 (get_or wanted 0 argument.Unused)) (λ x a one.
     then_sound IsWord AreWords _ _ _ _ (argument_in_sound known state has 2 (get_or wanted 1 argument.Unused)) (λ y b two.
@@ -161,18 +161,18 @@ abbrev written : State → List ℕ → List ℕ → State
 written state words bytes = record state { frame = record state.frame { bytes = write state.frame.bytes (second words) (map Byte bytes) } }
 
 -- what is known behind a call of the frame, whatever it writes
-record IsLent (state : State) (frame : FrameUse) (after : AbstractState) (words : List ℕ) : Type 0 where
-  admits : (bytes : List ℕ) → length bytes ≡ written_length frame words → AdmitsState after (written state words bytes)
+record IsLent (state : State) (frame : FrameUse) (after : Known) (words : List ℕ) : Type 0 where
+  admits : (bytes : List ℕ) → length bytes ≡ written_length frame words → AdmitsKnown after (written state words bytes)
 
-writes_none : (known : AbstractState) (state : State) (words : List ℕ) → AdmitsState known state → (bytes : List ℕ) → length bytes ≡ 0 → AdmitsState known (written state words bytes)
+writes_none : (known : Known) (state : State) (words : List ℕ) → AdmitsKnown known state → (bytes : List ℕ) → length bytes ≡ 0 → AdmitsKnown known (written state words bytes)
 writes_none known state words admits [] none = record {
   registers = admits.registers;
   frame = subst (λ (memory : List FrameByte). map.Admits known.frame (is_written memory)) (sym (write-nothing state.frame.bytes (second words))) admits.frame;
 }
 writes_none known state words admits (byte ∷ bytes) none = absurd (omega arith)
 
-writes_some : (known : AbstractState) (state : State) → HasState known state → (lent : LentBytes) (words : List ℕ) → AreLent lent words → (bytes : List ℕ) → length bytes ≡ third words
-    → AdmitsState (mark_bytes known lent.offsets (pos 0) lent.count.low) (written state words bytes)
+writes_some : (known : Known) (state : State) → HasState known state → (lent : LentBytes) (words : List ℕ) → AreLent lent words → (bytes : List ℕ) → length bytes ≡ third words
+    → AdmitsKnown (mark_bytes known lent.offsets (pos 0) lent.count.low) (written state words bytes)
 writes_some known state has lent words is bytes count =
     let at = is.offset.offset in
     let inside = lent_inside lent words is in
@@ -186,7 +186,7 @@ writes_some known state has lent words is bytes count =
     fewer_within : (low high : ℤ) (least most : ℕ) → least ≤ most → (int_le (pos 0) (low +ℤ pos 0) && int_le ((high +ℤ pos 0) +ℤ pos most) (pos FRAME_LENGTH)) ≡ true → (int_le (pos 0) (low +ℤ pos 0) && int_le ((high +ℤ pos 0) +ℤ pos least) (pos FRAME_LENGTH)) ≡ true
     fewer_within low high least most less within = grind (arith, ints, nat_tests)
 
-reads_sound : (known : AbstractState) (state : State) → HasState known state → (lent : LentBytes) (words : List ℕ) → AreLent lent words → Sound (IsLent state frame_use.Reads) (lend_read known lent) (effect.lend_written state words)
+reads_sound : (known : Known) (state : State) → HasState known state → (lent : LentBytes) (words : List ℕ) → AreLent lent words → Sound (IsLent state frame_use.Reads) (lend_read known lent) (effect.lend_written state words)
 reads_sound known state has lent words is = by_test (all_marked known lent.offsets (pos 0) lent.count.high) refl
   where
     by_test : (marked : Bool) → all_marked known lent.offsets (pos 0) lent.count.high ≡ marked → Sound (IsLent state frame_use.Reads) (if marked then Ok known else Err UnwrittenFrame) (effect.lend_written state words)
@@ -204,7 +204,7 @@ then_known First Second (Err cause) concrete f first second = tt
 then_known First Second (Ok x) (Ok y) f first second = second x y first
 then_known First Second (Ok x) (Err cause) f first second = absurd first
 
-lend_frame_sound : (known : AbstractState) (state : State) → HasState known state → (frame : FrameUse) (kinds : List Kind) (words : List ℕ) → AreWords kinds words → Sound (IsLent state frame) (lend_frame known frame kinds) (effect.lend_frame state frame words)
+lend_frame_sound : (known : Known) (state : State) → HasState known state → (frame : FrameUse) (kinds : List Kind) (words : List ℕ) → AreWords kinds words → Sound (IsLent state frame) (lend_frame known frame kinds) (effect.lend_frame state frame words)
 lend_frame_sound known state has frame_use.Nothing kinds words are = record { admits = writes_none known state words has.admits }
 lend_frame_sound known state has frame_use.Writes kinds words are =
     then_known AreLent (IsLent state frame_use.Writes) _ _ (λ lent. mark_bytes known lent.offsets (pos 0) lent.count.low) (lend_bytes_sound (get_or kinds 1 Nothing) (get_or kinds 2 Nothing) words are.second are.third)
@@ -228,7 +228,7 @@ registers_admit kinds values x n admits all (suc (suc (suc (suc (suc (suc regist
     subst (λ (k : Kind). kind.Admits k (get_or (drop 6 values) register value.Empty)) (sym (get_or-drop 6 kinds register Nothing))
     (subst (kind.Admits (get_or kinds (6 + register) Nothing)) (sym (get_or-drop 6 values register value.Empty)) (all (6 + register)))
 
-call_admits : (segment : Contents) (state : State) (helper : Helper) (after : AbstractState) (words : List ℕ) → IsSegment segment → MeetsSignature helper words → IsLent state (signature helper).frame after words → Stores segment state (state_after (signature helper).answer after) (CallHelper helper words)
+call_admits : (segment : Contents) (state : State) (helper : Helper) (after : Known) (words : List ℕ) → IsSegment segment → MeetsSignature helper words → IsLent state (signature helper).frame after words → Stores segment state (state_after (signature helper).answer after) (CallHelper helper words)
 call_admits segment state helper after words is_segment meets lent =
     let called = step.called segment state helper words in
     let bytes = written_bytes (bytes_read (signature helper).frame words state.frame.bytes) in
@@ -238,14 +238,14 @@ call_admits segment state helper after words is_segment meets lent =
       frame = admits.frame;
     }
 
-made_sound : (segment : Contents) (state : State) (helper : Helper) → IsSegment segment → (abstract : Result AbstractState Cause) (concrete : Result (List ℕ) Cause) → Sound (IsLent state (signature helper).frame) abstract concrete
+made_sound : (segment : Contents) (state : State) (helper : Helper) → IsSegment segment → (abstract : Result Known Cause) (concrete : Result (List ℕ) Cause) → Sound (IsLent state (signature helper).frame) abstract concrete
     → IfPasses (effect.CanBeMade state) (concrete >>= λ words. Ok (CallHelper helper words))
     → Sound (Stores segment state) (abstract >>= λ after. Ok (state_after (signature helper).answer after)) (concrete >>= λ words. Ok (CallHelper helper words))
 made_sound segment state helper is (Err cause) concrete sound can = tt
 made_sound segment state helper is (Ok after) (Err cause) sound can = absurd sound
 made_sound segment state helper is (Ok after) (Ok words) lent can = call_admits segment state helper after words is can.meets lent
 
-pub call_sound : (segment : Contents) (known : AbstractState) (state : State) → IsSegment segment → HasState known state → (found : Option Helper) → Sound (Stores segment state) (call known found) (effect.call_change state found)
+pub call_sound : (segment : Contents) (known : Known) (state : State) → IsSegment segment → HasState known state → (found : Option Helper) → Sound (Stores segment state) (call known found) (effect.call_change state found)
 call_sound segment known state is has None = tt
 call_sound segment known state is has (Some helper) =
     made_sound segment state helper is _ _

@@ -14,9 +14,9 @@ use Rattle.bpf_meaning.proofs.CheckLemmas.{weaker}
 use Rattle.bpf_meaning.specs.State.{IsWhole, HoldsBytes, register_value}
 use Rattle.bpf_meaning.specs.declared.cause.Cause.{Cause}
 use Rattle.bpf_meaning.specs.declared.state.State.{State}
-use Rattle.bpf_verify.specs.Edges.{read_kind, read, number_or}
-use Rattle.bpf_verify.specs.State.{kind_of, IsProperState, AdmitsState}
-use Rattle.bpf_verify.specs.declared.state.AbstractState.{AbstractState}
+use Rattle.bpf_verify.specs.Transfer.{read_kind, read, number_or}
+use Rattle.bpf_verify.specs.State.{kind_of, IsProperKnown, AdmitsKnown}
+use Rattle.bpf_verify.specs.declared.state.Known.{Known}
 
 -- a proper interval and one of its numbers
 pub record HasNumber (x : Interval) (n : ℕ) : Type 0 where
@@ -29,13 +29,13 @@ pub record HasValue (known : Kind) (held : Value) : Type 0 where
   pub admits : kind.Admits known held
 
 -- a proper abstract state and a whole state of which it is known
-pub record HasState (known : AbstractState) (state : State) : Type 0 where
-  pub proper : IsProperState known
-  pub admits : AdmitsState known state
+pub record HasState (known : Known) (state : State) : Type 0 where
+  pub proper : IsProperKnown known
+  pub admits : AdmitsKnown known state
   pub whole : IsWhole state
   pub bytes : HoldsBytes state
 
-pub has_value : (known : AbstractState) (state : State) → HasState known state → (register : ℕ) → HasValue (kind_of known register) (register_value state register)
+pub has_value : (known : Known) (state : State) → HasState known state → (register : ℕ) → HasValue (kind_of known register) (register_value state register)
 has_value known state has register = record { proper = has.proper.kinds register; admits = has.admits.registers register }
 
 -- a value that is read, which is what the register holds
@@ -56,10 +56,10 @@ read_kind_sound register (Frame x) value.Empty has = absurd has.admits
 read_kind_sound register (Frame x) (value.Number n) has = absurd has.admits
 read_kind_sound register (Frame x) (value.Pointer pointer) has = record { has = has; same = refl }
 
-pub read_holds : (known : AbstractState) (state : State) → HasState known state → (register : ℕ) → Sound (IsReadOf (register_value state register)) (read known register) (effect.read state register)
+pub read_holds : (known : Known) (state : State) → HasState known state → (register : ℕ) → Sound (IsReadOf (register_value state register)) (read known register) (effect.read state register)
 read_holds known state has register = read_kind_sound register _ _ (has_value known state has register)
 
-pub read_sound : (known : AbstractState) (state : State) → HasState known state → (register : ℕ) → Sound HasValue (read known register) (effect.read state register)
+pub read_sound : (known : Known) (state : State) → HasState known state → (register : ℕ) → Sound HasValue (read known register) (effect.read state register)
 read_sound known state has register = weaker (IsReadOf (register_value state register)) HasValue _ _ (λ x v is. is.has) (read_holds known state has register)
 
 pub number_or_sound : (cause : Cause) (known : Kind) (held : Value) → HasValue known held → Sound HasNumber (number_or cause known) (effect.number_or cause held)

@@ -21,12 +21,13 @@ use Rattle.bpf_kinds.proofs.NarrowingLaws.{refine-keeps}
 use Rattle.bpf_meaning.specs.Effect as effect
 use Rattle.bpf_meaning.specs.State.{register_value}
 use Rattle.bpf_meaning.specs.declared.state.State.{State}
-use Rattle.bpf_verify.specs.Edges.{is_register, with_narrowed, narrowed_note, branch, compare}
+use Rattle.bpf_verify.specs.Transfer.{is_register, with_narrowed, narrowed, on_edge, edges_to, branch, compare}
 use Rattle.bpf_verify.specs.State as known_state
-use Rattle.bpf_verify.specs.declared.state.AbstractState.{AbstractState}
+use Rattle.bpf_verify.specs.declared.state.Known.{Known}
 use Rattle.bpf_verify.specs.declared.comparison.Comparison.{Comparison}
-use Rattle.bpf_verify.specs.declared.state.Edges.{Edges}
-use Rattle.bpf_verify.specs.declared.state.Note.TheVariants.{Reached}
+use Rattle.bpf_verify.specs.State.{Edges}
+use Rattle.bpf_verify.specs.declared.successors.Edge.TheVariants.{Unchanged}
+use Rattle.bpf_verify.specs.declared.successors.Successors.TheVariants.{Branch}
 use Rattle.bpf_verify.proofs.SoundArithmetic.{low_twice}
 use Rattle.bpf_meaning.specs.Checks.{Sound}
 use Rattle.bpf_verify.proofs.SoundChecks.{HasNumber, HasState, IsReadOf}
@@ -49,7 +50,7 @@ record Operands (state : State) (left : ℕ) (right : Source) (x y : Interval) (
   on_left : register_value state left ≡ value.Number m
   on_right : RightHolds state right n
 
-with_narrowed_admits : (known : AbstractState) (state : State) → known_state.AdmitsState known state → (left : ℕ) (right : Source) (both : Narrowed) (m n : ℕ) → register_value state left ≡ value.Number m → RightHolds state right n → Admits both.left m → Admits both.right n → known_state.AdmitsState (with_narrowed known left right both) state
+with_narrowed_admits : (known : Known) (state : State) → known_state.AdmitsKnown known state → (left : ℕ) (right : Source) (both : Narrowed) (m n : ℕ) → register_value state left ≡ value.Number m → RightHolds state right n → Admits both.left m → Admits both.right n → known_state.AdmitsKnown (with_narrowed known left right both) state
 with_narrowed_admits known state admits left (Immediate immediate) both m n holds other first second =
     narrows_keep known state admits left (Number both.left) (subst (kind.Admits (Number both.left)) (sym holds) first)
 with_narrowed_admits known state admits left (Register register) both m n holds other first second =
@@ -58,7 +59,7 @@ with_narrowed_admits known state admits left (Register register) both m n holds 
     register.number (Number both.right) (subst (kind.Admits (Number both.right)) (sym other) second)
 
 -- an edge of a conditional jump
-branch_admits : (known : AbstractState) (state : State) → HasState known state → (comparison : Comparison) (x y : Interval) (m n : ℕ) (taken : Bool) → Operands state comparison.left.number comparison.right x y m n → is_met comparison.condition comparison.width m n ≡ taken → known_state.Admits (branch known comparison x y taken) state
+branch_admits : (known : Known) (state : State) → HasState known state → (comparison : Comparison) (x y : Interval) (m n : ℕ) (taken : Bool) → Operands state comparison.left.number comparison.right x y m n → is_met comparison.condition comparison.width m n ≡ taken → known_state.Admits (on_edge known comparison (branch comparison x y taken)) state
 branch_admits known state has comparison x y m n taken operands answer = by_test (is_register left right)
   where
     left : ℕ
@@ -67,18 +68,18 @@ branch_admits known state has comparison x y m n taken operands answer = by_test
     right : Source
     right = comparison.right
 
-    by_test : (same : Bool) → known_state.Admits (if same then Reached known else narrowed_note known left right (refine comparison.condition comparison.width x y taken)) state
+    by_test : (same : Bool) → known_state.Admits (on_edge known comparison (if same then Unchanged else narrowed (refine comparison.condition comparison.width x y taken))) state
     by_test true = has.admits
     by_test false =
         let kept = refine-keeps comparison.condition comparison.width x y m n taken operands.first.proper operands.second.proper operands.first.admits operands.second.admits answer in
-        subst (λ (refined : Option Narrowed). known_state.Admits (narrowed_note known left right refined) state) (sym kept.1)
+        subst (λ (refined : Option Narrowed). known_state.Admits (on_edge known comparison (narrowed refined)) state) (sym kept.1)
         (with_narrowed_admits known state has.admits left right kept.0 m n operands.on_left operands.on_right kept.2 kept.3)
 
 -- both edges, where the operands are numbers
-abbrev edges_of : AbstractState → Comparison → Interval → Interval → Edges
-edges_of known comparison x y = record { next = branch known comparison x y false; target = branch known comparison x y true }
+abbrev edges_of : Known → Comparison → Interval → Interval → Edges
+edges_of known comparison x y = edges_to known (Branch comparison (branch comparison x y false) (branch comparison x y true))
 
-edges_take : (known : AbstractState) (state : State) → HasState known state → (comparison : Comparison) (x y : Interval) (m n : ℕ) → Operands state comparison.left.number comparison.right x y m n → TakesEdge state (edges_of known comparison x y) (is_met comparison.condition comparison.width m n)
+edges_take : (known : Known) (state : State) → HasState known state → (comparison : Comparison) (x y : Interval) (m n : ℕ) → Operands state comparison.left.number comparison.right x y m n → TakesEdge state (edges_of known comparison x y) (is_met comparison.condition comparison.width m n)
 edges_take known state has comparison x y m n operands = by_answer (is_met comparison.condition comparison.width m n) refl
   where
     by_answer : (taken : Bool) → is_met comparison.condition comparison.width m n ≡ taken → TakesEdge state (edges_of known comparison x y) taken
@@ -100,7 +101,7 @@ met_low condition width m n = ap (λ (k : ℕ). arithmetic.is_met_on condition (
 abbrev pub with_source : Condition → Width → RegisterParts → Source → Comparison
 with_source condition width left right = record { condition = condition; width = width; left = left; right = right }
 
-pub with_immediate : (known : AbstractState) (state : State) → HasState known state → (condition : Condition) (width : Width) (left : RegisterParts) (immediate : ℤ) (x : Kind) (v : Value) → IsReadOf (register_value state left.number) x v → Sound (TakesEdge state) (compare known (with_source condition width left (Immediate immediate)) x (Number (single (low_bits (operand_bits width) (arithmetic.immediate_operand immediate))))) (effect.compare condition width v (value.Number (arithmetic.immediate_operand immediate)))
+pub with_immediate : (known : Known) (state : State) → HasState known state → (condition : Condition) (width : Width) (left : RegisterParts) (immediate : ℤ) (x : Kind) (v : Value) → IsReadOf (register_value state left.number) x v → Sound (TakesEdge state) (compare known (with_source condition width left (Immediate immediate)) x (Number (single (low_bits (operand_bits width) (arithmetic.immediate_operand immediate))))) (effect.compare condition width v (value.Number (arithmetic.immediate_operand immediate)))
 with_immediate known state has condition width left immediate (Number x) (value.Number m) first =
     let n = arithmetic.immediate_operand immediate in
     let low = low_bits (operand_bits width) n in
@@ -112,7 +113,7 @@ with_immediate known state has condition width left immediate (Record x) v first
 with_immediate known state has condition width left immediate (Frame x) v first = tt
 with_immediate known state has condition width left immediate Nothing v first = tt
 
-pub with_register : (known : AbstractState) (state : State) → HasState known state → (condition : Condition) (width : Width) (left right : RegisterParts) (x y : Kind) (v w : Value) → IsReadOf (register_value state left.number) x v → IsReadOf (register_value state right.number) y w → Sound (TakesEdge state) (compare known (with_source condition width left (Register right)) x y) (effect.compare condition width v w)
+pub with_register : (known : Known) (state : State) → HasState known state → (condition : Condition) (width : Width) (left right : RegisterParts) (x y : Kind) (v w : Value) → IsReadOf (register_value state left.number) x v → IsReadOf (register_value state right.number) y w → Sound (TakesEdge state) (compare known (with_source condition width left (Register right)) x y) (effect.compare condition width v w)
 with_register known state has condition width left right (Number x) (Number y) (value.Number m) (value.Number n) first second =
     edges_take known state has (with_source condition width left (Register right)) x y m n
     (record { first = record { proper = first.has.proper; admits = first.has.admits }; second = record { proper = second.has.proper; admits = second.has.admits }; on_left = first.same; on_right = second.same })

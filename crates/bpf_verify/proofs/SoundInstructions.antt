@@ -31,11 +31,11 @@ use Rattle.bpf_meaning.specs.declared.effect.Effect.TheVariants.{GoOn, End}
 use Rattle.bpf_meaning.specs.declared.state.State.{State}
 use Rattle.bpf_meaning.specs.State.{register_value}
 use Rattle.bpf_meaning.specs.Walk.{walk}
-use Rattle.bpf_verify.specs.Edges as edge
-use Rattle.bpf_verify.specs.Edges.{kinds}
+use Rattle.bpf_verify.specs.Transfer as edge
+use Rattle.bpf_verify.specs.Transfer.{kinds}
 use Rattle.bpf_verify.specs.State as known_state
-use Rattle.bpf_verify.specs.declared.state.AbstractState.{AbstractState}
-use Rattle.bpf_verify.specs.declared.state.Edges.{Edges}
+use Rattle.bpf_verify.specs.declared.state.Known.{Known}
+use Rattle.bpf_verify.specs.State.{Edges}
 use Rattle.bpf_meaning.specs.Checks.{Sound}
 use Rattle.bpf_verify.proofs.SoundChecks.{HasNumber, HasState, IsReadOf, read_holds, number_or_sound, number_or_admits}
 use Rattle.bpf_verify.proofs.SoundArithmetic.{operate_sound, move_sound}
@@ -65,7 +65,7 @@ Follows code segment state insn next edges (GoOn change place) = GoesToNext code
 Follows code segment state insn next edges (End answer) = Unit {0}
 
 -- an instruction that stands at a state's place in a code whose jumps lead on
-pub record Stands (code : List Insn) (segment : Contents) (known : AbstractState) (state : State) (insn : Insn) (next : ℕ) : Type 0 where
+pub record Stands (code : List Insn) (segment : Contents) (known : Known) (state : State) (insn : Insn) (next : ℕ) : Type 0 where
   pub is_segment : IsSegment segment
   pub has : HasState known state
   pub followed : (insn ≡ Exit → ⊥) → IsSome (instruction_at code next)
@@ -85,22 +85,22 @@ target_sound code segment state insn next edges distance jumps leads admits =
     (inr (record { distance = distance; jumps = jumps; is_target = leads.is_target; later = leads.later; begins = leads.begins; admits = admits })))
 
 -- a register is written
-set_sound : (code : List Insn) (segment : Contents) (known : AbstractState) (state : State) (insn : Insn) (next : ℕ) → Stands code segment known state insn next → (insn ≡ Exit → ⊥) → (destination : WritableRegister) (x : Kind) (v : Value) → kind.Admits x v → Sound (Follows code segment state insn next) (edge.set_register known destination.number x) (effect.set_register code next destination v)
+set_sound : (code : List Insn) (segment : Contents) (known : Known) (state : State) (insn : Insn) (next : ℕ) → Stands code segment known state insn next → (insn ≡ Exit → ⊥) → (destination : WritableRegister) (x : Kind) (v : Value) → kind.Admits x v → Sound (Follows code segment state insn next) (edge.set_register known destination.number x) (effect.set_register code next destination v)
 set_sound code segment known state insn next stands goes_on destination x v admits =
     next_sound code segment state insn next _ (SetRegister destination v) (stands.followed goes_on) (writes_admit segment known state stands.has destination x v admits)
 
 -- the edge of a conditional jump
-branch_sound : (code : List Insn) (segment : Contents) (known : AbstractState) (state : State) (insn : Insn) (next : ℕ) → Stands code segment known state insn next → (insn ≡ Exit → ⊥) → (distance : ℤ) → jump_distance insn ≡ Some distance → (edges : Edges) (taken : Bool) → TakesEdge state edges taken → Sound (Follows code segment state insn next) (Ok edges) (if taken then effect.jump code state.place distance else effect.go_on code next Nothing)
+branch_sound : (code : List Insn) (segment : Contents) (known : Known) (state : State) (insn : Insn) (next : ℕ) → Stands code segment known state insn next → (insn ≡ Exit → ⊥) → (distance : ℤ) → jump_distance insn ≡ Some distance → (edges : Edges) (taken : Bool) → TakesEdge state edges taken → Sound (Follows code segment state insn next) (Ok edges) (if taken then effect.jump code state.place distance else effect.go_on code next Nothing)
 branch_sound code segment known state insn next stands goes_on distance jumps edges true admits = target_sound code segment state insn next edges distance jumps (stands.leads distance jumps) admits
 branch_sound code segment known state insn next stands goes_on distance jumps edges false admits = next_sound code segment state insn next edges Nothing (stands.followed goes_on) admits
 
-taken_sound : (code : List Insn) (segment : Contents) (known : AbstractState) (state : State) (insn : Insn) (next : ℕ) → Stands code segment known state insn next → (insn ≡ Exit → ⊥) → (distance : ℤ) → jump_distance insn ≡ Some distance → (abstract : Result Edges Cause) (concrete : Result Bool Cause) → Sound (TakesEdge state) abstract concrete → Sound (Follows code segment state insn next) abstract (concrete >>= λ taken. if taken then effect.jump code state.place distance else effect.go_on code next Nothing)
+taken_sound : (code : List Insn) (segment : Contents) (known : Known) (state : State) (insn : Insn) (next : ℕ) → Stands code segment known state insn next → (insn ≡ Exit → ⊥) → (distance : ℤ) → jump_distance insn ≡ Some distance → (abstract : Result Edges Cause) (concrete : Result Bool Cause) → Sound (TakesEdge state) abstract concrete → Sound (Follows code segment state insn next) abstract (concrete >>= λ taken. if taken then effect.jump code state.place distance else effect.go_on code next Nothing)
 taken_sound code segment known state insn next stands goes_on distance jumps (Err cause) concrete sound = tt
 taken_sound code segment known state insn next stands goes_on distance jumps (Ok edges) (Err cause) sound = absurd sound
 taken_sound code segment known state insn next stands goes_on distance jumps (Ok edges) (Ok taken) sound = branch_sound code segment known state insn next stands goes_on distance jumps edges taken sound
 
 -- each step of an instruction
-kinds_foresee : (code : List Insn) (segment : Contents) (known : AbstractState) (state : State) (insn : Insn) (next : ℕ) → Stands code segment known state insn next → Foresees (kinds known) (effect.values code segment state next) insn
+kinds_foresee : (code : List Insn) (segment : Contents) (known : Known) (state : State) (insn : Insn) (next : ℕ) → Stands code segment known state insn next → Foresees (kinds known) (effect.values code segment state next) insn
 kinds_foresee code segment known state insn next stands = record {
   Fits = λ immediate. Unit {0};
   Read = λ register. IsReadOf (register_value state register);
@@ -138,6 +138,6 @@ kinds_foresee code segment known state insn next stands = record {
 }
 
 -- each row of the instruction table
-pub instruction_sound : (code : List Insn) (segment : Contents) (known : AbstractState) (state : State) (insn : Insn) (next : ℕ) → Stands code segment known state insn next → Sound (Follows code segment state insn next) (walk (kinds known) insn) (effect.instruction_effect code segment state next insn)
+pub instruction_sound : (code : List Insn) (segment : Contents) (known : Known) (state : State) (insn : Insn) (next : ℕ) → Stands code segment known state insn next → Sound (Follows code segment state insn next) (walk (kinds known) insn) (effect.instruction_effect code segment state next insn)
 unfolding kinds_foresee
 instruction_sound code segment known state insn next stands = walk_foreseen (kinds known) (effect.values code segment state next) insn (kinds_foresee code segment known state insn next stands) (any_fits insn)

@@ -14,9 +14,9 @@ use Rattle.bpf_meaning.specs.Effect as effect
 use Rattle.bpf_meaning.specs.Memory.{FrameByte, is_written}
 use Rattle.bpf_meaning.specs.State.{register_value}
 use Rattle.bpf_meaning.specs.declared.state.State.{State}
-use Rattle.bpf_verify.specs.Edges.{lie_within, all_marked, mark_bytes}
-use Rattle.bpf_verify.specs.State.{kind_of, IsProperState, AdmitsState}
-use Rattle.bpf_verify.specs.declared.state.AbstractState.{AbstractState}
+use Rattle.bpf_verify.specs.Transfer.{lie_within, all_marked, mark_bytes}
+use Rattle.bpf_verify.specs.State.{kind_of, IsProperKnown, AdmitsKnown}
+use Rattle.bpf_verify.specs.declared.state.Known.{Known}
 use Rattle.bpf_verify.proofs.SoundChecks.{HasState}
 
 -- bytes that lie within an area from each of the offsets on, lie within it from one of them on
@@ -44,7 +44,7 @@ lie_between low high at offset count above below within = record {
 }
 
 -- bytes that have their marks from each of the offsets on are written from one of them on
-pub marked_are_written : (known : AbstractState) (state : State) → HasState known state → (x : Offsets) (at offset : ℤ) (count : ℕ) → Admits x at → lie_within x offset count FRAME_LENGTH ≡ true → all_marked known x offset count ≡ true → AreWritten state.frame.bytes (at +ℤ offset) count
+pub marked_are_written : (known : Known) (state : State) → HasState known state → (x : Offsets) (at offset : ℤ) (count : ℕ) → Admits x at → lie_within x offset count FRAME_LENGTH ≡ true → all_marked known x offset count ≡ true → AreWritten state.frame.bytes (at +ℤ offset) count
 marked_are_written known state has x at offset zero admits within marked i above below = absurd (omega arith)
 marked_are_written known state has x at offset (suc more) admits within marked i above below =
     let ends = lie_between x.low x.high at offset (suc more) admits.above admits.below within in
@@ -55,21 +55,21 @@ marked_are_written known state has x at offset (suc more) admits within marked i
     ((all_written_is known.frame.marks from to (omega arith) (omega arith)).0 marked) (omega arith) (omega arith)
 
 -- what is known where bytes are written from one of the offsets on
-pub marks_admit : (known : AbstractState) (after : State) (before : ℕ → Bool) (x : Offsets) (at offset : ℤ) (count : ℕ) → IsProperState known
+pub marks_admit : (known : Known) (after : State) (before : ℕ → Bool) (x : Offsets) (at offset : ℤ) (count : ℕ) → IsProperKnown known
     → ((register : ℕ) → kind.Admits (kind_of known register) (register_value after register)) → map.Admits known.frame before → Admits x at → lie_within x offset count FRAME_LENGTH ≡ true
-    → ((i : ℕ) → IsTrue (before i) → IsTrue (is_written after.frame.bytes i)) → AreWritten after.frame.bytes (at +ℤ offset) count → AdmitsState (mark_bytes known x offset count) after
+    → ((i : ℕ) → IsTrue (before i) → IsTrue (is_written after.frame.bytes i)) → AreWritten after.frame.bytes (at +ℤ offset) count → AdmitsKnown (mark_bytes known x offset count) after
 marks_admit known after before x at offset count proper registers frame admits within stay written = by_test (int_eq x.low x.high) refl
   where
     from : ℕ
     from = unsigned_abs (x.low +ℤ offset)
 
-    marked : AbstractState
+    marked : Known
     marked = record known { frame = record known.frame { marks = map.mark known.frame.marks from count } }
 
     only_one : (low high z : ℤ) → low ≤ℤ z → z ≤ℤ high → int_eq low high ≡ true → z ≡ low
     only_one low high z above below one = grind (arith, ints, nat_tests)
 
-    by_test : (one : Bool) → int_eq x.low x.high ≡ one → AdmitsState (if one then marked else known) after
+    by_test : (one : Bool) → int_eq x.low x.high ≡ one → AdmitsKnown (if one then marked else known) after
     by_test true one =
         let same : at ≡ x.low = only_one x.low x.high at admits.above admits.below one in
         let ends = lie_between x.low x.high at offset count admits.above admits.below within in

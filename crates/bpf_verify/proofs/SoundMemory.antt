@@ -34,10 +34,10 @@ use Rattle.bpf_insn.specs.declared.memory.TheConstants.{FRAME_LENGTH}
 use Rattle.tl_segments.specs.declared.segment.TheConstants.{RECORD_LENGTH}
 use Rattle.bpf_meaning.specs.declared.state.State.{State}
 use Rattle.bpf_meaning.proofs.FrameLemmas.{HoldBytes, bytes-map, part_has_number, stored_stays, is_written-store_inside}
-use Rattle.bpf_verify.specs.Edges.{only_pointers, pointers_in, lie_within, all_marked, mark_bytes, load_from, frame_offsets, store_at}
-use Rattle.bpf_verify.specs.State.{AdmitsState}
+use Rattle.bpf_verify.specs.Transfer.{only_pointers, pointers_in, lie_within, all_marked, mark_bytes, load_from, frame_offsets, store_at}
+use Rattle.bpf_verify.specs.State.{AdmitsKnown}
 use Rattle.bpf_verify.specs.declared.memory.Pointers.{Pointers}
-use Rattle.bpf_verify.specs.declared.state.AbstractState.{AbstractState}
+use Rattle.bpf_verify.specs.declared.state.Known.{Known}
 use Rattle.bpf_verify.proofs.SoundMarks.{AreWritten, lies_within, marked_are_written, marks_admit}
 use Rattle.bpf_meaning.specs.Checks.{Sound}
 use Rattle.bpf_meaning.proofs.CheckLemmas.{then_sound, passes_if}
@@ -58,7 +58,7 @@ only_pointers_sound (Frame x) v has = absurd has.admits
 only_pointers_sound (Number x) v has = tt
 only_pointers_sound Nothing v has = tt
 
-pub pointers_sound : (known : AbstractState) (state : State) → HasState known state → (base : ℕ) → Sound PointsWithin (pointers_in known base) (effect.pointer_in state base)
+pub pointers_sound : (known : Known) (state : State) → HasState known state → (base : ℕ) → Sound PointsWithin (pointers_in known base) (effect.pointer_in state base)
 pointers_sound known state has base = then_sound HasValue PointsWithin _ _ _ _ (read_sound known state has base) only_pointers_sound
 
 -- loads
@@ -110,7 +110,7 @@ record_sound segment is load_format x at offset admits = by_test (lie_within x o
         (part_written segment.bytes (at +ℤ offset) (load_length load_format) (subst (λ (n : ℕ). effect.lie_within (at +ℤ offset) (load_length load_format) n ≡ true) (sym is.bytes.length) inside))
     by_test false outside = tt
 
-frame_sound : (known : AbstractState) (state : State) → HasState known state → (load_format : LoadFormat) (x : Offsets) (at offset : ℤ) → Admits x at → Sound kind.Admits (if lie_within x offset (load_length load_format) FRAME_LENGTH then (if all_marked known x offset (load_length load_format) then Ok (Number (load load_format)) else Err UnwrittenFrame) else Err OutOfBounds) (effect.load_bytes load_format state.frame.bytes (at +ℤ offset))
+frame_sound : (known : Known) (state : State) → HasState known state → (load_format : LoadFormat) (x : Offsets) (at offset : ℤ) → Admits x at → Sound kind.Admits (if lie_within x offset (load_length load_format) FRAME_LENGTH then (if all_marked known x offset (load_length load_format) then Ok (Number (load load_format)) else Err UnwrittenFrame) else Err OutOfBounds) (effect.load_bytes load_format state.frame.bytes (at +ℤ offset))
 frame_sound known state has load_format x at offset admits = by_tests (lie_within x offset (load_length load_format) FRAME_LENGTH) (all_marked known x offset (load_length load_format)) refl refl
   where
     by_tests : (within marked : Bool) → lie_within x offset (load_length load_format) FRAME_LENGTH ≡ within → all_marked known x offset (load_length load_format) ≡ marked → Sound kind.Admits (if within then (if marked then Ok (Number (load load_format)) else Err UnwrittenFrame) else Err OutOfBounds) (effect.load_bytes load_format state.frame.bytes (at +ℤ offset))
@@ -120,7 +120,7 @@ frame_sound known state has load_format x at offset admits = by_tests (lie_withi
     by_tests true false within marked = tt
     by_tests false marked outside is = tt
 
-pub load_from_sound : (segment : Contents) (known : AbstractState) (state : State) → IsSegment segment → HasState known state → (load_format : LoadFormat) (into : Area) (x : Offsets) (pointer : PointerParts) (offset : ℤ) → pointer.area ≡ into → Admits x pointer.offset
+pub load_from_sound : (segment : Contents) (known : Known) (state : State) → IsSegment segment → HasState known state → (load_format : LoadFormat) (into : Area) (x : Offsets) (pointer : PointerParts) (offset : ℤ) → pointer.area ≡ into → Admits x pointer.offset
     → Sound kind.Admits (load_from known load_format (record { area = into; offsets = x }) offset) (effect.load_bytes load_format (effect.area_bytes segment state pointer.area) (pointer.offset +ℤ offset))
 load_from_sound segment known state is has load_format area.Record x pointer offset into admits =
     subst (λ (a : Area). Sound kind.Admits (load_from known load_format (record { area = area.Record; offsets = x }) offset) (effect.load_bytes load_format (effect.area_bytes segment state a) (pointer.offset +ℤ offset))) (sym into)
@@ -144,14 +144,14 @@ from_sound area.Frame x pointer offset into admits =
     (record { at = pointer.offset; sum = refl; admits = admits })
 
 -- what is known behind a change
-abbrev pub Stores : Contents → State → AbstractState → Change → Type 0
-Stores segment state known change = AdmitsState known (carry_out segment state change)
+abbrev pub Stores : Contents → State → Known → Change → Type 0
+Stores segment state known change = AdmitsKnown known (carry_out segment state change)
 
 from_ends : (from : ℤ) (count bytes : ℕ) → effect.lie_within from count bytes ≡ true → unsigned_abs from + count ≤ bytes
 from_ends (pos at) count bytes within = ends_inside at count bytes within
 from_ends (negsuc n) count bytes within = absurd (false≢true within)
 
-stores_admit : (segment : Contents) (known : AbstractState) (state : State) → HasState known state → (x : Offsets) (at offset : ℤ) (size : StoreSize) (number : ℕ) → Admits x at → lie_within x offset (store_length size) FRAME_LENGTH ≡ true
+stores_admit : (segment : Contents) (known : Known) (state : State) → HasState known state → (x : Offsets) (at offset : ℤ) (size : StoreSize) (number : ℕ) → Admits x at → lie_within x offset (store_length size) FRAME_LENGTH ≡ true
     → Stores segment state (mark_bytes known x offset (store_length size)) (StoreBytes (unsigned_abs (at +ℤ offset)) size number)
 stores_admit segment known state has x at offset size number admits within =
     let inside = from_ends (at +ℤ offset) (store_length size) FRAME_LENGTH (lies_within x at offset (store_length size) FRAME_LENGTH admits within) in
@@ -160,7 +160,7 @@ stores_admit segment known state has x at offset size number admits within =
     (λ i written. stored_stays state.frame.bytes (unsigned_abs (at +ℤ offset)) (store_length size) number i fits written)
     (λ i above below. is_written-store_inside state.frame.bytes (unsigned_abs (at +ℤ offset)) (store_length size) number i fits above below)
 
-pub store_at_sound : (segment : Contents) (known : AbstractState) (state : State) → HasState known state → (x : Offsets) (offset from : ℤ) (size : StoreSize) (number : ℕ) → IsFrom offset x from → Sound (Stores segment state) (store_at known x offset size) (effect.store_at from size number)
+pub store_at_sound : (segment : Contents) (known : Known) (state : State) → HasState known state → (x : Offsets) (offset from : ℤ) (size : StoreSize) (number : ℕ) → IsFrom offset x from → Sound (Stores segment state) (store_at known x offset size) (effect.store_at from size number)
 store_at_sound segment known state has x offset from size number is = by_test (lie_within x offset (store_length size) FRAME_LENGTH) refl
   where
     by_test : (within : Bool) → lie_within x offset (store_length size) FRAME_LENGTH ≡ within → Sound (Stores segment state) (if within then Ok (mark_bytes known x offset (store_length size)) else Err OutOfBounds) (effect.store_at from size number)

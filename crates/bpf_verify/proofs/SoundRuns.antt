@@ -11,7 +11,7 @@ use Rattle.bpf_verify.specs.Annotation.{Annotation, HasGoodAnnotation}
 use Rattle.bpf_verify.proofs.SoundSteps.{IsVerified, IsOnItsWay, ComesTo, step_comes, starts}
 use Rattle.bpf_verify.proofs.SoundPlaces.{count_from, count_from-start, count_from-later}
 
--- Each configuration of a run is a state at an instruction, of which the annotation's note is known, or an exit.
+-- Each configuration of a run is a state at an instruction, of which the annotation's abstract is known, or an exit.
 
 abbrev pub IsAdmitted : List Insn → Annotation → Configuration → Type 0
 IsAdmitted code annotation (Running state) = IsOnItsWay code annotation state

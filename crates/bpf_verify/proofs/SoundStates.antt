@@ -12,8 +12,8 @@ use Rattle.bpf_meaning.specs.State.{register_value}
 use Rattle.bpf_meaning.specs.Step.{carry_out}
 use Rattle.bpf_meaning.specs.declared.effect.Change.TheVariants.{SetRegister}
 use Rattle.bpf_meaning.specs.declared.state.State.{State}
-use Rattle.bpf_verify.specs.State.{with_kind, AdmitsState}
-use Rattle.bpf_verify.specs.declared.state.AbstractState.{AbstractState}
+use Rattle.bpf_verify.specs.State.{with_kind, AdmitsKnown}
+use Rattle.bpf_verify.specs.declared.state.Known.{Known}
 use Rattle.bpf_verify.proofs.SoundChecks.{HasState}
 
 -- a register is written, on both sides
@@ -27,7 +27,7 @@ set_admits (k ∷ kinds) (w ∷ values) (suc register) x v same a all zero = all
 set_admits (k ∷ kinds) (w ∷ values) (suc register) x v same a all (suc number) =
     set_admits kinds values register x v (omega arith) a (λ n. all (suc n)) number
 
-pub writes_admit : (segment : Contents) (known : AbstractState) (state : State) → HasState known state → (register : WritableRegister) (x : Kind) (v : Value) → kind.Admits x v → AdmitsState (with_kind known register.number x) (carry_out segment state (SetRegister register v))
+pub writes_admit : (segment : Contents) (known : Known) (state : State) → HasState known state → (register : WritableRegister) (x : Kind) (v : Value) → kind.Admits x v → AdmitsKnown (with_kind known register.number x) (carry_out segment state (SetRegister register v))
 writes_admit segment known state has register x v admits = record {
   registers = set_admits known.registers state.registers register.number x v (let many = has.proper.count in let all = has.whole.registers in omega arith) admits has.admits.registers;
   frame = has.admits.frame;
@@ -41,6 +41,6 @@ set_keeps (k ∷ kinds) values zero x a all (suc number) = all (suc number)
 set_keeps (k ∷ kinds) values (suc register) x a all zero = all zero
 set_keeps (k ∷ kinds) values (suc register) x a all (suc number) = set_keeps kinds (λ n. values (suc n)) register x a (λ n. all (suc n)) number
 
-pub narrows_keep : (known : AbstractState) (state : State) → AdmitsState known state → (register : ℕ) (x : Kind) → kind.Admits x (register_value state register) → AdmitsState (with_kind known register x) state
+pub narrows_keep : (known : Known) (state : State) → AdmitsKnown known state → (register : ℕ) (x : Kind) → kind.Admits x (register_value state register) → AdmitsKnown (with_kind known register x) state
 narrows_keep known state admits register x a =
     record { registers = set_keeps known.registers (register_value state) register x a admits.registers; frame = admits.frame }

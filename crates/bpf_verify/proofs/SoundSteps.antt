@@ -27,18 +27,18 @@ use Rattle.bpf_insn.specs.declared.memory.TheConstants.{FRAME_LENGTH}
 use Rattle.bpf_meaning.specs.declared.state.State.{State}
 use Rattle.bpf_meaning.proofs.WholeLemmas.{step_whole, step_bytes, start_bytes}
 use Rattle.bpf_verify.specs.Annotation.{Annotation, PassesAt, IsGood}
-use Rattle.bpf_verify.specs.Edges.{edges}
-use Rattle.bpf_verify.specs.State.{entry, IsProper, Admits, AdmitsState}
-use Rattle.bpf_verify.specs.StateLaws.{admits_more}
-use Rattle.bpf_verify.specs.declared.state.Edges.{Edges}
-use Rattle.bpf_verify.specs.declared.state.Note.{Note}
-use Rattle.bpf_verify.specs.declared.state.Note.TheVariants.{Unreached, Reached}
+use Rattle.bpf_verify.specs.Transfer.{transfer}
+use Rattle.bpf_verify.specs.State.{entry, IsProper, Admits, AdmitsKnown}
+use Rattle.bpf_verify.proofs.StateLaws.{admits_more}
+use Rattle.bpf_verify.specs.State.{Edges}
+use Rattle.bpf_verify.specs.State.{AbstractState}
+use Rattle.bpf_verify.specs.State.{Unreached, Reached}
 use Rattle.bpf_meaning.specs.Checks.{Sound}
 use Rattle.bpf_verify.proofs.SoundInstructions.{Follows, instruction_sound}
 use Rattle.bpf_verify.proofs.SoundPlaces.{is_followed}
 
 -- a state at another place
-elsewhere : (note : Note) (state : State) (place : ℕ) → Admits note state → Admits note (record state { place = place })
+elsewhere : (abstract : AbstractState) (state : State) (place : ℕ) → Admits abstract state → Admits abstract (record state { place = place })
 elsewhere Unreached state place admits = absurd admits
 elsewhere (Reached known) state place admits = record { registers = admits.registers; frame = admits.frame }
 
@@ -48,7 +48,7 @@ pub record IsVerified (code : List Insn) (segment : Contents) (annotation : Anno
   pub good : IsGood code annotation
   pub is_segment : IsSegment segment
 
--- a state at an instruction, of which the annotation's note is known
+-- a state at an instruction, of which the annotation's abstract is known
 pub record IsOnItsWay (code : List Insn) (annotation : Annotation) (state : State) : Type 0 where
   pub whole : IsWhole state
   pub bytes : HoldsBytes state
@@ -90,7 +90,7 @@ after_is code segment state insn stands = ap (λ (found : Option Insn). next_of 
 pub step_comes : (code : List Insn) (segment : Contents) (annotation : Annotation) (state : State) → IsVerified code segment annotation → IsOnItsWay code annotation state → ComesTo code annotation state (after code segment state)
 step_comes code segment annotation state verified way =
     subst (ComesTo code annotation state) (sym is)
-    (effect_comes code segment annotation state way.insn verified.is_segment way.whole way.bytes passes _ is (by_note (annotation state.place) (verified.good.proper state.place) way.admits passes.passes))
+    (effect_comes code segment annotation state way.insn verified.is_segment way.whole way.bytes passes _ is (by_state (annotation state.place) (verified.good.proper state.place) way.admits passes.passes))
   where
     next : ℕ
     next = state.place + length (spelling way.insn)
@@ -101,9 +101,9 @@ step_comes code segment annotation state verified way =
     passes : PassesAt annotation state.place way.insn
     passes = verified.good.passes state.place way.insn (instruction_within code state.place (ap is_some way.stands)) way.stands
 
-    by_note : (note : Note) → IsProper note → Admits note state → edges note way.insn ≡ Ok passes.edges → Sound (Follows code segment state way.insn next) (Ok passes.edges) (instruction_effect code segment state next way.insn)
-    by_note Unreached proper admits e = absurd admits
-    by_note (Reached known) proper admits e =
+    by_state : (abstract : AbstractState) → IsProper abstract → Admits abstract state → transfer abstract way.insn ≡ Ok passes.edges → Sound (Follows code segment state way.insn next) (Ok passes.edges) (instruction_effect code segment state next way.insn)
+    by_state Unreached proper admits e = absurd admits
+    by_state (Reached known) proper admits e =
         subst (λ (r : Result Edges Cause). Sound (Follows code segment state way.insn next) r (instruction_effect code segment state next way.insn)) e
         (instruction_sound code segment known state way.insn next (record {
           is_segment = verified.is_segment;
@@ -128,7 +128,7 @@ admits_each (x ∷ kinds) (held ∷ values) all (suc number) = admits_each kinds
 single_offset : (n : ℕ) → offsets.Admits (offsets.between (pos n) (pos n)) (pos n)
 single_offset n = record { above = omega (arith, ints); below = omega (arith, ints) }
 
-entry_admits_start : AdmitsState entry start
+entry_admits_start : AdmitsKnown entry start
 entry_admits_start = record {
   registers = admits_each entry.registers start.registers
       (tt, ((refl, single_offset 0), (tt, (tt, (tt, (tt, (tt, (tt, (tt, (tt, ((refl, single_offset FRAME_LENGTH), tt)))))))))));

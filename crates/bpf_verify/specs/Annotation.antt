@@ -1,31 +1,28 @@
--- Annotations of a code: what is known before each instruction, by its place. Forward codes with one that is good to its end are those that
+-- Annotations of a code: an abstract state for each place. Forward codes with one that is good to its end are those that
 -- are accepted, which is this project's own rule.
 use Rattle.std.specs.Prelude.{◌≡◌, ℕ, ℤ, pos, ◌+◌, ◌+ℤ◌, ◌<◌, List, length, Some, Ok, Err}
 use Rattle.bpf_insn.specs.Code.{instruction_at, spelling, word_count}
 use Rattle.bpf_insn.specs.Jump.{jump_distance}
 use Rattle.bpf_insn.specs.declared.instruction.Insn.{Insn}
 use Rattle.bpf_meaning.specs.declared.cause.Cause.{Cause}
-use Rattle.bpf_verify.specs.Edges as edge
-use Rattle.bpf_verify.specs.State.{entry, IsProper, IsWithin}
-use Rattle.bpf_verify.specs.declared.state.Edges.{Edges}
-use Rattle.bpf_verify.specs.declared.state.Note.{Note}
-use Rattle.bpf_verify.specs.declared.state.Note.TheVariants.{Reached}
+use Rattle.bpf_verify.specs.Transfer.{transfer}
+use Rattle.bpf_verify.specs.State.{AbstractState, Reached, Edges, entry, IsProper, IsWithin}
 use Rattle.bpf_verify.specs.declared.fault.VerifyFault.{VerifyFault}
 use Rattle.bpf_verify.specs.declared.fault.VerifyFault.TheVariants.{Refused, Memory}
 
--- what is known before the instruction at each place
+-- an abstract state for each place
 abbrev pub Annotation : Type 0
-Annotation = ℕ → Note
+Annotation = ℕ → AbstractState
 
--- at this place no check of the instruction fails, and what is known on each edge lies within what is known where it leads
+-- at this place no check of the instruction fails, and the state on each edge is below the state where it leads
 pub record PassesAt (annotation : Annotation) (place : ℕ) (insn : Insn) : Type 0 where
   pub edges : Edges
-  pub passes : edge.edges (annotation place) insn ≡ Ok edges
+  pub passes : transfer (annotation place) insn ≡ Ok edges
   pub next : IsWithin edges.next (annotation (place + length (spelling insn)))
   pub target : (distance : ℤ) (to : ℕ) → jump_distance insn ≡ Some distance → pos (place + 1) +ℤ distance ≡ pos to
       → IsWithin edges.target (annotation to)
 
--- the start lies within what is known at place 0, and each instruction before a place passes
+-- what is known at the start is below the state at place 0, and each instruction before a place passes
 pub record IsGoodUpTo (code : List Insn) (end : ℕ) (annotation : Annotation) : Type 0 where
   pub proper : (place : ℕ) → IsProper (annotation place)
   pub entry : IsWithin (Reached entry) (annotation 0)
@@ -45,7 +42,7 @@ pub record IsRefusedAt (code : List Insn) (place : ℕ) (cause : Cause) : Type 0
   pub good : IsGoodUpTo code place annotation
   pub insn : Insn
   pub stands : instruction_at code place ≡ Some insn
-  pub fails : edge.edges (annotation place) insn ≡ Err cause
+  pub fails : transfer (annotation place) insn ≡ Err cause
 
 -- why a code is refused
 abbrev pub IsVerifyFault : List Insn → VerifyFault → Type 0

@@ -1,6 +1,5 @@
 pub mod State
-pub mod StateLaws
-pub mod Edges
+pub mod Transfer
 pub mod Annotation
 pub mod Pass
 pub mod Verified

@@ -1,55 +1,66 @@
--- The one pass over a code: notes of what is known before each instruction, and what each instruction adds to them.
-use Rattle.std.specs.Prelude.{ℕ, ℤ, pos, negsuc, ◌+◌, ◌-◌, List, ◌∷◌, replicate, slice_get, slice_set, get_or, Option, Some, None, Result, Ok}
-use Rattle.bpf_insn.specs.Code.{index_at, place_of}
+-- The one pass over a code: it goes over places upwards, takes the state at each, and propagates what the transfer function gives to where
+-- the edges lead. What it keeps is an annotation as a list of states, by place.
+use Rattle.std.specs.Prelude.{◌≡◌, ℕ, pos, ◌+◌, ◌-◌, ◌<◌, List, ◌∷◌, length, get_or, replicate, slice_set, Option, Some, None, IfSome, option_map, Result, Ok, Err}
+use Rattle.std.specs.declared.boxed.Box.{Box}
+use Rattle.bpf_insn.specs.Code.{spelling}
 use Rattle.bpf_insn.specs.Jump.{jump_distance}
 use Rattle.bpf_insn.specs.declared.instruction.Insn.{Insn}
 use Rattle.bpf_flow.specs.Flow.{target_of}
-use Rattle.bpf_meaning.specs.Effect.{◌>>=◌}
-use Rattle.bpf_meaning.specs.declared.cause.Cause.{Cause}
-use Rattle.bpf_verify.specs.Edges as edge
-use Rattle.bpf_verify.specs.State.{entry, join, IsProper}
-use Rattle.bpf_verify.specs.declared.state.Edges.{Edges}
-use Rattle.bpf_verify.specs.declared.state.Note.{Note}
-use Rattle.bpf_verify.specs.declared.state.Note.TheVariants.{Unreached, Reached}
+use Rattle.bpf_verify.specs.Annotation.{Annotation}
+use Rattle.bpf_verify.specs.State.{AbstractState, Unreached, Reached, Edges, entry, join, IsProper, AreProperEdges}
+use Rattle.bpf_verify.specs.Transfer.{transfer}
+use Rattle.bpf_verify.specs.declared.fault.VerifyFault.{VerifyFault}
+use Rattle.bpf_verify.specs.declared.fault.VerifyFault.TheVariants.{Refused, Memory}
+use Rattle.bpf_verify.specs.declared.pass.Way.{Way}
+use Rattle.bpf_verify.specs.declared.state.Known.{Known}
 
--- what is known before the instruction with an index
-abbrev pub note_at : List Note → ℕ → Note
-note_at notes index = get_or notes index Unreached
+-- the state that is kept of a place
+abbrev pub state_of : {A : Type 0} → Option (Box Known A) → AbstractState
+state_of None = Unreached
+state_of (Some known) = Reached known.value
 
--- each note is proper
-abbrev pub AreProper : List Note → Type 0
-AreProper notes = (index : ℕ) → IsProper (note_at notes index)
+-- states by place, as an annotation
+abbrev pub annotation_of : List AbstractState → Annotation
+annotation_of states place = get_or states place Unreached
 
--- the notes at first, of so many instructions: the first one is reached at the start
-abbrev pub first_notes : ℕ → List Note
-first_notes count = Reached entry ∷ replicate (count - 1) Unreached
+-- each of them is proper
+abbrev pub AreProper : List AbstractState → Type 0
+AreProper states = (place : ℕ) → IsProper (annotation_of states place)
 
--- the notes with what is known on an edge joined in where it leads
-abbrev pub lead : List Note → ℕ → Note → List Note
-lead notes index edge = slice_set notes index (join (note_at notes index) edge)
+-- at first nothing but place 0 is reached
+abbrev pub first : ℕ → List AbstractState
+first places = Reached entry ∷ replicate (places - 1) Unreached
 
--- the index of the instruction where a jump leads
-abbrev pub index_of_target : List Insn → ℤ → Option ℕ
-index_of_target code (pos place) = index_at code place
-index_of_target code (negsuc before) = None
+-- the state is taken from a place
+abbrev pub taken : List AbstractState → ℕ → List AbstractState
+taken states place = slice_set states place Unreached
 
-abbrev pub target_index : List Insn → ℕ → Option ℤ → Option ℕ
-target_index code place None = None
-target_index code place (Some distance) = index_of_target code (target_of place distance)
+-- a state is joined into the one at a place, if it's known which
+abbrev pub joined : List AbstractState → ℕ → AbstractState → List AbstractState
+joined states place state = slice_set states place (join (annotation_of states place) state)
 
-abbrev pub lead_if : List Note → Option ℕ → Note → List Note
-lead_if notes None edge = notes
-lead_if notes (Some index) edge = lead notes index edge
+abbrev pub joined_if : List AbstractState → Option ℕ → AbstractState → List AbstractState
+joined_if states None state = states
+joined_if states (Some place) state = joined states place state
 
--- the notes with both edges of an instruction joined in
-abbrev pub lead_on : List Note → ℕ → Option ℕ → Edges → List Note
-lead_on notes index target edges = lead_if (lead notes (index + 1) edges.next) target edges.target
+-- the states on the edges of an instruction are joined into those where they lead: at the target of a jump, and at the next place
+abbrev pub propagated : List AbstractState → ℕ → Option ℕ → Edges → List AbstractState
+propagated states next target edges = joined (joined_if states target edges.target) next edges.next
 
-abbrev pub visit_insn : List Insn → List Note → ℕ → Option Insn → Result (List Note) Cause
-visit_insn code notes index None = Ok notes
-visit_insn code notes index (Some insn) =
-    edge.edges (note_at notes index) insn >>= λ edges. Ok (lead_on notes index (target_index code (place_of code index) (jump_distance insn)) edges)
+-- a way leads to one of the places, if to any
+abbrev pub LeadsWithin : Way → List AbstractState → Type 0
+LeadsWithin way states = IfSome way.to (λ to. to < length states)
 
--- what becomes of the notes at the instruction with an index, or its first check that fails
-abbrev pub visit : List Insn → List Note → ℕ → Result (List Note) Cause
-visit code notes index = visit_insn code notes index (slice_get code index)
+-- a visit of an instruction: no check of it fails, its state is taken, and the states on its edges are propagated
+pub record Visits (place : ℕ) (insn : Insn) (before after : List AbstractState) : Type 0 where
+  pub edges : Edges
+  pub passes : transfer (annotation_of before place) insn ≡ Ok edges
+  pub proper : AreProperEdges edges
+  pub target : Option ℕ
+  pub leads : option_map pos target ≡ option_map (target_of place) (jump_distance insn)
+  pub states : after ≡ propagated (taken before place) (place + length (spelling insn)) target edges
+
+-- why a visit is refused: this check of the instruction is the first that fails, or want of memory
+abbrev pub IsVisitFault : List AbstractState → ℕ → Insn → VerifyFault → Type 0
+IsVisitFault before place insn (Refused at cause) = (at ≡ place) × (transfer (annotation_of before place) insn ≡ Err cause)
+IsVisitFault before place insn Memory = Unit {0}

@@ -1,11 +1,11 @@
 //! Calls of helper functions: their checks in order, and what is known behind them.
-ghost use Rattle.std.specs.Prelude.{◌≡◌, ◌≤◌, IfOk};
+ghost use Rattle.std.specs.Prelude.{◌≡◌, ◌≤◌, IfErr, IfOk, OnOk, Err, Ok};
 ghost use Rattle.bpf_kinds.specs.Kind as kinds;
-ghost use Rattle.bpf_verify.specs.State.{IsProperState};
-ghost use Rattle.bpf_verify.specs.Edges.{AreProper, LieWithinFrame, are_allowed, argument_in, argument_kind, arguments_in, call, lend_bytes, lend_frame, lend_read};
+ghost use Rattle.bpf_verify.specs.State.{IsProperKnown};
+ghost use Rattle.bpf_verify.specs.Transfer.{AreProper, LieWithinFrame, are_allowed, argument_in, argument_kind, arguments_in, call, lend_bytes, lend_frame, lend_read};
 
 use crate::memory::lie_within;
-use crate::state::AbstractState;
+use crate::state::Known;
 use bpf_helpers::{Argument, FrameUse, Helper};
 use bpf_insn::FRAME_LENGTH;
 use bpf_kinds::{Interval, Kind, Offsets};
@@ -20,21 +20,23 @@ pub(crate) struct LentBytes {
     pub count: Interval,
 }
 
-/// What is known behind a call of a helper function, if there is one.
-pub(crate) fn call(known: &AbstractState, helper: Option<Helper>) -> Result<AbstractState, Cause>
-    requires { IsProperState known.now }
-    ensures value { result ≡ call known.now helper }
-    ensures proper { IfOk result IsProperState }
+/// Goes behind a call of a helper function, if there is one.
+pub(crate) fn call(known: &mut Known, helper: Option<Helper>) -> Result<(), Cause>
+    requires { IsProperKnown known.old }
+    ensures ok { OnOk result (call known.old helper ≡ Ok known.new) }
+    ensures err { IfErr result (λ cause. call known.old helper ≡ Err cause) }
+    ensures proper { OnOk result (IsProperKnown known.new) }
 {
     let signature = helper.ok_or(Cause::UnknownHelper)?.signature();
     let arguments = arguments_in(known, signature.arguments)?;
-    let after = lend_frame(known, signature.frame, arguments)?;
-    Ok(after.state_after(signature.answer))
+    lend_frame(known, signature.frame, arguments)?;
+    known.go_behind_call(signature.answer);
+    Ok(())
 }
 
 /// What is known of the arguments that a prototype wants, in their order: each is looked at before the next one.
-fn arguments_in(known: &AbstractState, wanted: [Argument; 3]) -> Result<[Kind; 3], Cause>
-    requires { IsProperState known.now }
+fn arguments_in(known: &Known, wanted: [Argument; 3]) -> Result<[Kind; 3], Cause>
+    requires { IsProperKnown known.now }
     ensures value { result ≡ arguments_in known.now wanted }
     ensures proper { IfOk result AreProper }
 {
@@ -46,9 +48,9 @@ fn arguments_in(known: &AbstractState, wanted: [Argument; 3]) -> Result<[Kind; 3
 }
 
 /// The argument with a number, counted from 1. One that isn't used isn't read.
-fn argument_in(known: &AbstractState, number: u8, wanted: Argument) -> Result<Kind, Cause>
+fn argument_in(known: &Known, number: u8, wanted: Argument) -> Result<Kind, Cause>
     requires number { number ≤ 10 }
-    requires proper { IsProperState known.now }
+    requires proper { IsProperKnown known.now }
     ensures value { result ≡ argument_in known.now number wanted }
     ensures proper { IfOk result kinds.IsProper }
 {
@@ -79,23 +81,21 @@ fn are_allowed(allowed: Interval, x: Interval) -> bool
     allowed.low <= x.low && x.high <= allowed.high
 }
 
-/// What is known behind the call of what it does with the frame.
-fn lend_frame(
-    known: &AbstractState,
-    frame: FrameUse,
-    arguments: [Kind; 3],
-) -> Result<AbstractState, Cause>
-    requires known { IsProperState known.now }
+/// Goes behind what a call does with the frame.
+fn lend_frame(known: &mut Known, frame: FrameUse, arguments: [Kind; 3]) -> Result<(), Cause>
+    requires known { IsProperKnown known.old }
     requires arguments { AreProper arguments }
-    ensures value { result ≡ lend_frame known.now frame arguments }
-    ensures proper { IfOk result IsProperState }
+    ensures ok { OnOk result (lend_frame known.old frame arguments ≡ Ok known.new) }
+    ensures err { IfErr result (λ cause. lend_frame known.old frame arguments ≡ Err cause) }
+    ensures proper { OnOk result (IsProperKnown known.new) }
 {
     let [_, second, third] = arguments;
     match frame {
-        FrameUse::Nothing => Ok(known.duplicate()),
+        FrameUse::Nothing => Ok(()),
         FrameUse::Writes => {
             let bytes = lend_bytes(second, third)?;
-            Ok(known.mark_bytes(bytes.offsets, 0, bytes.count.low as usize))
+            known.mark_bytes(bytes.offsets, 0, bytes.count.low as usize);
+            Ok(())
         }
         FrameUse::Reads => lend_read(known, lend_bytes(second, third)?),
     }
@@ -118,15 +118,15 @@ fn lend_bytes(second: Kind, third: Kind) -> Result<LentBytes, Cause>
     Ok(LentBytes { offsets, count })
 }
 
-/// What is known behind a call that reads bytes of the frame: each that it may read must be written.
-fn lend_read(known: &AbstractState, bytes: LentBytes) -> Result<AbstractState, Cause>
-    requires known { IsProperState known.now }
+/// Whether a call may read bytes of the frame: each that it may read must be written. It changes nothing of what is known.
+fn lend_read(known: &Known, bytes: LentBytes) -> Result<(), Cause>
+    requires known { IsProperKnown known.now }
     requires within { LieWithinFrame bytes }
-    ensures value { result ≡ lend_read known.now bytes }
-    ensures proper { IfOk result IsProperState }
+    ensures ok { OnOk result (lend_read known.now bytes ≡ Ok known.now) }
+    ensures err { IfErr result (λ cause. lend_read known.now bytes ≡ Err cause) }
 {
     if !known.all_marked(bytes.offsets, 0, bytes.count.high as usize) {
         return Err(Cause::UnwrittenFrame);
     }
-    Ok(known.duplicate())
+    Ok(())
 }

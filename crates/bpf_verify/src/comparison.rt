@@ -1,12 +1,13 @@
-//! Conditional jumps: what is known on both edges of one.
-ghost use Rattle.std.specs.Prelude.{◌≡◌, IfOk};
+//! Conditional jumps: what one tells on both of its edges.
+ghost use Rattle.std.specs.Prelude.{◌≡◌, IfErr, IfOk, Err, Ok};
 ghost use Rattle.bpf_kinds.specs.Interval as interval;
 ghost use Rattle.bpf_kinds.specs.Kind as kinds;
-ghost use Rattle.bpf_verify.specs.State.{AreProperEdges, IsProper, IsProperState};
 ghost use Rattle.bpf_meaning.specs.Walk.{compared_operand};
-ghost use Rattle.bpf_verify.specs.Edges.{branch, branches, compare, kind_registers, with_narrowed};
+ghost use Rattle.bpf_verify.specs.State.{AreProperEdges, IsProper, IsProperKnown};
+ghost use Rattle.bpf_verify.specs.Transfer.{branch, branches, compare, edges_to, kind_registers, on_edge, with_narrowed};
 
-use crate::state::{AbstractState, Edges, Note};
+use crate::state::Known;
+use crate::successors::{Edge, Successors};
 use bpf_insn::{Condition, Register, Source, Width, immediate_operand};
 use bpf_kinds::{Interval, Kind, Narrowed, refine};
 use bpf_meaning::Cause;
@@ -21,11 +22,12 @@ pub(crate) struct Comparison {
 }
 
 impl Comparison {
-    /// What is known on both edges of the jump.
-    pub fn branches(self, known: &AbstractState) -> Result<Edges, Cause>
-        requires { IsProperState known.now }
-        ensures value { result ≡ branches known.now self }
-        ensures proper { IfOk result AreProperEdges }
+    /// Where control goes behind the jump.
+    pub fn successors(self, known: &Known) -> Result<Successors, Cause>
+        requires { IsProperKnown known.now }
+        ensures ok { IfOk result (λ successors. branches known.now self ≡ Ok (edges_to known.now successors)) }
+        ensures err { IfErr result (λ cause. branches known.now self ≡ Err cause) }
+        ensures proper { IfOk result (λ successors. AreProperEdges (edges_to known.now successors)) }
     {
         let x = known.read(self.left.number)?;
         let y = self.compared_operand(known)?;
@@ -33,8 +35,8 @@ impl Comparison {
     }
 
     /// What is compared with the left register. An immediate is compared with its low bits, so many as the comparison has.
-    fn compared_operand(self, known: &AbstractState) -> Result<Kind, Cause>
-        requires { IsProperState known.now }
+    fn compared_operand(self, known: &Known) -> Result<Kind, Cause>
+        requires { IsProperKnown known.now }
         ensures value { result ≡ compared_operand (kind_registers known.now) self.width self.right }
         ensures proper { IfOk result kinds.IsProper }
     {
@@ -50,16 +52,18 @@ impl Comparison {
         }
     }
 
-    /// What is known on both edges, where these are the operands' kinds.
-    fn compare(self, known: &AbstractState, x: Kind, y: Kind) -> Result<Edges, Cause>
-        requires known { IsProperState known.now }
+    /// Where control goes, where these are the operands' kinds.
+    fn compare(self, known: &Known, x: Kind, y: Kind) -> Result<Successors, Cause>
+        requires known { IsProperKnown known.now }
         requires left { kinds.IsProper x }
         requires right { kinds.IsProper y }
-        ensures value { result ≡ compare known.now self x y }
-        ensures proper { IfOk result AreProperEdges }
+        ensures ok { IfOk result (λ successors. compare known.now self x y ≡ Ok (edges_to known.now successors)) }
+        ensures err { IfErr result (λ cause. compare known.now self x y ≡ Err cause) }
+        ensures proper { IfOk result (λ successors. AreProperEdges (edges_to known.now successors)) }
     {
         match (x, y) {
-            (Kind::Number(x), Kind::Number(y)) => Ok(Edges {
+            (Kind::Number(x), Kind::Number(y)) => Ok(Successors::Branch {
+                comparison: self,
                 next: self.branch(known, x, y, false),
                 target: self.branch(known, x, y, true),
             }),
@@ -67,35 +71,30 @@ impl Comparison {
         }
     }
 
-    /// What is known on an edge. A register that is compared with itself tells nothing.
-    fn branch(self, known: &AbstractState, x: Interval, y: Interval, taken: bool) -> Note
-        requires known { IsProperState known.now }
+    /// What the jump tells on an edge. A register that is compared with itself tells nothing.
+    fn branch(self, known: &Known, x: Interval, y: Interval, taken: bool) -> Edge
+        requires known { IsProperKnown known.now }
         requires left { interval.IsProper x }
         requires right { interval.IsProper y }
-        ensures value { result ≡ branch known.now self x y taken }
-        ensures proper { IsProper result }
+        ensures value { result ≡ branch self x y taken }
+        ensures proper { IsProper (on_edge known.now self result) }
     {
         if self.right == Source::Register(self.left) {
-            return Note::Reached(known.duplicate());
+            return Edge::Unchanged;
         }
         match refine(self.condition, self.width, x, y, taken) {
-            Some(both) => Note::Reached(self.with_narrowed(known, both)),
-            None => Note::Unreached,
+            Some(both) => Edge::Narrows(both),
+            None => Edge::Unreached,
         }
     }
 
-    /// The same state with what is known of the operands.
-    fn with_narrowed(self, known: &AbstractState, both: Narrowed) -> AbstractState
-        requires known { IsProperState known.now }
-        requires left { interval.IsProper both.left }
-        requires right { interval.IsProper both.right }
-        ensures value { result ≡ with_narrowed known.now self.left.number self.right both }
-        ensures proper { IsProperState result }
+    /// Narrows the operands to what is known of them on an edge.
+    pub fn narrow(self, known: &mut Known, both: Narrowed)
+        ensures { known.new ≡ with_narrowed known.old self.left.number self.right both }
     {
-        let narrowed = known.with_kind(self.left.number, Kind::Number(both.left));
-        match self.right {
-            Source::Immediate(_) => narrowed,
-            Source::Register(right) => narrowed.with_kind(right.number, Kind::Number(both.right)),
+        known.registers[usize::from(self.left.number)] = Kind::Number(both.left);
+        if let Source::Register(right) = self.right {
+            known.registers[usize::from(right.number)] = Kind::Number(both.right);
         }
     }
 }

@@ -1,6 +1,7 @@
 //! The verifier: which programs can be stuck on no segment, found in one pass over what is known before each instruction.
 #![tactic(auto)]
 
+mod ahead;
 mod calls;
 mod comparison;
 mod fault;
@@ -9,6 +10,7 @@ mod memory;
 mod operands;
 mod pass;
 mod state;
+mod successors;
 mod table;
 mod verified;
 

@@ -1,14 +1,14 @@
 //! Loads and stores.
-ghost use Rattle.std.specs.Prelude.{◌≡◌, ◌≤◌, IfOk};
+ghost use Rattle.std.specs.Prelude.{◌≡◌, ◌≤◌, IfErr, IfOk, OnOk, Err, Ok};
 ghost use Rattle.bpf_kinds.specs.Kind as kinds;
 ghost use Rattle.bpf_kinds.specs.Offsets as pointer_offsets;
-ghost use Rattle.bpf_verify.specs.State.{IsProperState};
+ghost use Rattle.bpf_verify.specs.State.{IsProperKnown};
 ghost use Rattle.bpf_meaning.specs.Walk.{load_value, store};
-ghost use Rattle.bpf_verify.specs.Edges.{area_length, lie_within, load_from, pointers_in, store_at};
-ghost use Rattle.bpf_verify.specs.Edges.{kinds as known_kinds};
+ghost use Rattle.bpf_verify.specs.Transfer.{area_length, lie_within, load_from, pointers_in, store_at};
+ghost use Rattle.bpf_verify.specs.Transfer.{kinds as known_kinds};
 
 use crate::operands::{number_or, operand};
-use crate::state::AbstractState;
+use crate::state::Known;
 use bpf_insn::{
     Area, FRAME_LENGTH, LoadFormat, Register, Source, StoreSize, load_length, store_length,
 };
@@ -24,8 +24,8 @@ pub(crate) struct Pointers {
 }
 
 /// The pointers in a register that is the base of a load or a store.
-fn pointers_in(known: &AbstractState, register: Register) -> Result<Pointers, Cause>
-    requires { IsProperState known.now }
+fn pointers_in(known: &Known, register: Register) -> Result<Pointers, Cause>
+    requires { IsProperKnown known.now }
     ensures value { result ≡ pointers_in known.now register.number }
     ensures proper { IfOk result (λ pointers. pointer_offsets.IsProper pointers.offsets) }
 {
@@ -66,12 +66,12 @@ fn area_length(area: Area) -> usize
 
 /// What a load gives.
 pub(crate) fn load_kind(
-    known: &AbstractState,
+    known: &Known,
     format: LoadFormat,
     base: Register,
     offset: i16,
 ) -> Result<Kind, Cause>
-    requires { IsProperState known.now }
+    requires { IsProperKnown known.now }
     ensures value { result ≡ load_value (known_kinds known.now) format base.number offset }
     ensures proper { IfOk result kinds.IsProper }
 {
@@ -81,12 +81,12 @@ pub(crate) fn load_kind(
 
 /// What a load gives whose base holds these pointers.
 fn load_from(
-    known: &AbstractState,
+    known: &Known,
     format: LoadFormat,
     pointers: Pointers,
     offset: i16,
 ) -> Result<Kind, Cause>
-    requires known { IsProperState known.now }
+    requires known { IsProperKnown known.now }
     requires pointers { pointer_offsets.IsProper pointers.offsets }
     ensures value { result ≡ load_from known.now format pointers offset }
     ensures proper { IfOk result kinds.IsProper }
@@ -102,17 +102,18 @@ fn load_from(
     }
 }
 
-/// What is known behind a store.
+/// Goes behind a store.
 pub(crate) fn store(
-    known: &AbstractState,
+    known: &mut Known,
     size: StoreSize,
     base: Register,
     offset: i16,
     source: Source,
-) -> Result<AbstractState, Cause>
-    requires { IsProperState known.now }
-    ensures value { result ≡ store (known_kinds known.now) size base.number offset source }
-    ensures proper { IfOk result IsProperState }
+) -> Result<(), Cause>
+    requires { IsProperKnown known.old }
+    ensures ok { OnOk result (store (known_kinds known.old) size base.number offset source ≡ Ok known.new) }
+    ensures err { IfErr result (λ cause. store (known_kinds known.old) size base.number offset source ≡ Err cause) }
+    ensures proper { OnOk result (IsProperKnown known.new) }
 {
     let pointers = pointers_in(known, base)?;
     let Area::Frame = pointers.area else {
@@ -122,19 +123,16 @@ pub(crate) fn store(
     store_at(known, pointers.offsets, offset, size)
 }
 
-/// What is known behind a store of a number in the frame.
-fn store_at(
-    known: &AbstractState,
-    offsets: Offsets,
-    offset: i16,
-    size: StoreSize,
-) -> Result<AbstractState, Cause>
-    requires { IsProperState known.now }
-    ensures value { result ≡ store_at known.now offsets offset size }
-    ensures proper { IfOk result IsProperState }
+/// Goes behind a store of a number in the frame.
+fn store_at(known: &mut Known, offsets: Offsets, offset: i16, size: StoreSize) -> Result<(), Cause>
+    requires { IsProperKnown known.old }
+    ensures ok { OnOk result (store_at known.old offsets offset size ≡ Ok known.new) }
+    ensures err { IfErr result (λ cause. store_at known.old offsets offset size ≡ Err cause) }
+    ensures proper { OnOk result (IsProperKnown known.new) }
 {
     if !lie_within(offsets, offset, store_length(size), FRAME_LENGTH) {
         return Err(Cause::OutOfBounds);
     }
-    Ok(known.mark_bytes(offsets, offset, store_length(size)))
+    known.mark_bytes(offsets, offset, store_length(size));
+    Ok(())
 }

@@ -3,12 +3,12 @@ ghost use Rattle.std.specs.Prelude.{◌≡◌, ◌≤◌, IfOk};
 ghost use Rattle.bpf_kinds.specs.Interval as interval;
 ghost use Rattle.bpf_kinds.specs.Kind as kinds;
 ghost use Rattle.bpf_kinds.specs.Offsets as offset;
-ghost use Rattle.bpf_verify.specs.State.{IsProperState};
+ghost use Rattle.bpf_verify.specs.State.{IsProperKnown};
 ghost use Rattle.bpf_meaning.specs.Tags.{move, move_pointer, move_pointer_back, operate, operate_on_pointer, operate_with_pointer};
 ghost use Rattle.bpf_meaning.specs.Walk.{number_in, operand, operation_value};
-ghost use Rattle.bpf_verify.specs.Edges.{kind_registers, kind_tags, number_or};
+ghost use Rattle.bpf_verify.specs.Transfer.{kind_registers, kind_tags, number_or};
 
-use crate::state::AbstractState;
+use crate::state::Known;
 use bpf_insn::{Operation, Source, Width, WritableRegister};
 use bpf_kinds::{Interval, Kind, NumberWidth, Offsets, alu, immediate_operand, near_distances};
 use bpf_meaning::Cause;
@@ -24,9 +24,9 @@ pub(crate) fn number_or(cause: Cause, kind: Kind) -> Result<Interval, Cause>
 }
 
 /// The numbers in a register, of which an instruction makes others.
-pub(crate) fn number_in(known: &AbstractState, register: u8) -> Result<Interval, Cause>
+pub(crate) fn number_in(known: &Known, register: u8) -> Result<Interval, Cause>
     requires in_range { register ≤ 10 }
-    requires proper { IsProperState known.now }
+    requires proper { IsProperKnown known.now }
     ensures value { result ≡ number_in (kind_registers known.now) register }
     ensures proper { IfOk result interval.IsProper }
 {
@@ -34,8 +34,8 @@ pub(crate) fn number_in(known: &AbstractState, register: u8) -> Result<Interval,
 }
 
 /// The second operand.
-pub(crate) fn operand(known: &AbstractState, source: Source) -> Result<Kind, Cause>
-    requires { IsProperState known.now }
+pub(crate) fn operand(known: &Known, source: Source) -> Result<Kind, Cause>
+    requires { IsProperKnown known.now }
     ensures value { result ≡ operand (kind_registers known.now) source }
     ensures proper { IfOk result kinds.IsProper }
 {
@@ -47,13 +47,13 @@ pub(crate) fn operand(known: &AbstractState, source: Source) -> Result<Kind, Cau
 
 /// What an arithmetic instruction gives. A move doesn't read its destination.
 pub(crate) fn operation_kind(
-    known: &AbstractState,
+    known: &Known,
     operation: Operation,
     width: Width,
     destination: WritableRegister,
     source: Source,
 ) -> Result<Kind, Cause>
-    requires { IsProperState known.now }
+    requires { IsProperKnown known.now }
     ensures value { result ≡ operation_value (kind_registers known.now) operation width destination.number source }
     ensures proper { IfOk result kinds.IsProper }
 {

@@ -1,116 +1,194 @@
 //! The one pass over a code.
-ghost use Rattle.std.specs.Prelude.{◌≡◌, ◌<◌, length, IfOk, IfErr, IfSome, OnOk, Ok, Err, slice_get};
-ghost use Rattle.bpf_insn.specs.Code.{place_of};
-ghost use Rattle.bpf_insn.specs.Jump.{jump_distance};
+ghost use Rattle.std.specs.Prelude.{◌≡◌, ◌<◌, ◌+◌, length, IfOk, IfErr, IfSome, OnOk, Some};
+ghost use Rattle.bpf_insn.specs.Code.{HasProgramSize, instruction_at, spelling, word_count};
 ghost use Rattle.bpf_meaning.specs.Run.{IsSafe};
-ghost use Rattle.bpf_verify.specs.State.{AreProperEdges, IsProper};
-ghost use Rattle.bpf_verify.specs.Edges.{edges};
 ghost use Rattle.bpf_verify.specs.Annotation.{HasGoodAnnotation, IsVerifyFault};
-ghost use Rattle.bpf_verify.specs.Pass.{AreProper, first_notes, lead, note_at, target_index, visit};
+ghost use Rattle.bpf_verify.specs.Pass.{IsVisitFault, LeadsWithin, Visits, joined_if, propagated};
+ghost use Rattle.bpf_verify.specs.State.{AreProperEdges, IsProper};
+ghost use Rattle.bpf_verify.specs.Transfer.{edges_to, on_edge};
 
+use crate::ahead::StatesAhead;
+use crate::comparison::Comparison;
 use crate::fault::VerifyFault;
-use crate::state::{AbstractState, Edges, Note};
-use crate::table::instruction_edges;
+use crate::state::Known;
+use crate::successors::{Edge, Successors};
+use crate::table::transfer;
 use crate::verified::Verified;
 use bpf_flow::Flow;
 use bpf_insn::Insn;
-use bpf_kinds::Order;
-use bpf_meaning::Cause;
 use std::alloc::{AllocError, Allocator};
 
+/// Where the edges out of an instruction lead.
+#[derive(Clone, Copy)]
+struct Places {
+    /// The place behind it.
+    next: usize,
+    /// That of a jump's target.
+    target: Option<usize>,
+}
+
+/// An edge out of a conditional jump, and the place where it leads.
+#[derive(Clone, Copy)]
+struct Way {
+    edge: Edge,
+    to: Option<usize>,
+}
+
 /// Finds whether a code can be stuck on some segment, in one pass over its instructions in order: it refuses at the first that may be, by
-/// what is known before it. Its time grows with the instructions, and so does the memory that it takes for the pass.
+/// what is known before it. Its time grows with the instructions. It takes a word of memory for each, and more only for the states that are
+/// known at targets ahead.
 pub fn verify<A: Allocator + Copy>(alloc: A, flow: Flow<A>) -> Result<Verified<A>, VerifyFault>
     ensures ok { IfOk result (λ verified. (verified.code ≡ flow.code) × HasGoodAnnotation flow.code) }
     ensures safe { OnOk result (IsSafe flow.code) }
     ensures err { IfErr result (IsVerifyFault flow.code) }
 {
-    let mut notes = first_notes(alloc, flow.code().instructions().len())?;
-    pass(&flow, &mut notes)?;
+    pass(alloc, &flow)?;
     Ok(Verified::of(flow.into_code()))
 }
 
-/// The notes at first, of so many instructions: nothing but the start is reached.
-fn first_notes<A: Allocator>(alloc: A, count: usize) -> Result<Vec<Note, A>, AllocError>
-    requires { 0 < count }
-    ensures { IfOk result (λ notes. notes.items ≡ first_notes count) }
-{
-    let mut notes = Vec::with_capacity(alloc, count)?;
-    notes.push(Note::Reached(AbstractState::entry()))?;
-    for _ in 1..count {
-        notes.push(Note::Unreached)?;
-    }
-    Ok(notes)
-}
-
 /// Visits each instruction in order.
-fn pass<A: Allocator>(flow: &Flow<A>, notes: &mut [Note]) -> Result<(), VerifyFault>
-    requires { notes.old ≡ first_notes (length flow.now.code) }
+fn pass<A: Allocator + Copy>(alloc: A, flow: &Flow<A>) -> Result<(), VerifyFault>
     ensures ok { OnOk result (HasGoodAnnotation flow.now.code) }
     ensures err { IfErr result (IsVerifyFault flow.now.code) }
 {
     let code = flow.code();
-    for index in 0..code.instructions().len() {
-        if let Err(cause) = visit(flow, index, notes) {
-            let place = code.place(index);
-            return Err(VerifyFault::Refused { place, cause });
+    // Behind the last instruction there is a place too, though nothing leads there.
+    let mut ahead = StatesAhead::first(alloc, code.words() + 1)?;
+    let mut place = 0;
+    for insn in code.instructions() {
+        place = visit(alloc, flow, place, *insn, &mut ahead)?;
+    }
+    Ok(())
+}
+
+/// Takes what is known at an instruction's place, and propagates what is known behind it, unless one of its checks fails. The answer is the
+/// place behind it.
+fn visit<A: Allocator + Copy>(
+    alloc: A,
+    flow: &Flow<A>,
+    place: usize,
+    insn: Insn,
+    ahead: &mut StatesAhead<A>,
+) -> Result<usize, VerifyFault>
+    requires sized { HasProgramSize (word_count flow.now.code) }
+    requires stands { instruction_at flow.now.code place ≡ Some insn }
+    requires places { length ahead.old ≡ word_count flow.now.code + 1 }
+    ensures next { IfOk result (λ next. next ≡ place + length (spelling insn)) }
+    ensures ok { OnOk result (Visits place insn ahead.old ahead.new) }
+    ensures err { IfErr result (IsVisitFault ahead.old place insn) }
+{
+    let places = Places {
+        next: place + insn.words(),
+        target: flow.target(place),
+    };
+    let Some(mut known) = ahead.take(place) else {
+        return Ok(places.next);
+    };
+    let successors = match transfer(&mut known, insn) {
+        Ok(successors) => successors,
+        Err(cause) => return Err(VerifyFault::Refused { place, cause }),
+    };
+    propagate(alloc, known, successors, places, ahead)?;
+    Ok(places.next)
+}
+
+/// Joins what is known behind an instruction into what is known where control goes.
+fn propagate<A: Allocator + Copy>(
+    alloc: A,
+    known: Box<Known, A>,
+    successors: Successors,
+    places: Places,
+    ahead: &mut StatesAhead<A>,
+) -> Result<(), AllocError>
+    requires next { places.next < length ahead.old }
+    requires target { IfSome places.target (λ target. target < length ahead.old) }
+    requires proper { AreProperEdges (edges_to known.value successors) }
+    ensures { OnOk result (ahead.new ≡ propagated ahead.old places.next places.target (edges_to known.value successors)) }
+{
+    match successors {
+        Successors::End => Ok(()),
+        Successors::Next => {
+            ahead.join(places.next, known);
+            Ok(())
+        }
+        Successors::Target => {
+            if let Some(target) = places.target {
+                ahead.join(target, known);
+            }
+            Ok(())
+        }
+        Successors::Branch {
+            comparison,
+            next: edge,
+            target: edge_of_target,
+        } => {
+            let next = Way {
+                edge,
+                to: Some(places.next),
+            };
+            let target = Way {
+                edge: edge_of_target,
+                to: places.target,
+            };
+            branch(alloc, known, comparison, next, target, ahead)
         }
     }
-    Ok(())
 }
 
-/// Joins what is known behind the instruction with an index into what is known where its edges lead, unless one of its checks fails.
-fn visit<A: Allocator>(flow: &Flow<A>, index: usize, notes: &mut [Note]) -> Result<(), Cause>
-    requires within { index < length flow.now.code }
-    requires count { length notes.old ≡ length flow.now.code }
-    requires proper { AreProper notes.old }
-    ensures ok { OnOk result (visit flow.now.code notes.old index ≡ Ok notes.new) }
-    ensures proper { IfSome (slice_get flow.now.code index) (λ insn. IfOk (edges (note_at notes.old index) insn) AreProperEdges) }
-    ensures err { IfErr result (λ cause. visit flow.now.code notes.old index ≡ Err cause) }
+/// The same behind a conditional jump. What is known is copied only here, where two edges leave.
+fn branch<A: Allocator + Copy>(
+    alloc: A,
+    known: Box<Known, A>,
+    comparison: Comparison,
+    next: Way,
+    target: Way,
+    ahead: &mut StatesAhead<A>,
+) -> Result<(), AllocError>
+    requires next { LeadsWithin next ahead.old }
+    requires target { LeadsWithin target ahead.old }
+    requires proper_next { IsProper (on_edge known.value comparison next.edge) }
+    requires proper_target { IsProper (on_edge known.value comparison target.edge) }
+    ensures { OnOk result (ahead.new ≡ joined_if (joined_if ahead.old target.to (on_edge known.value comparison target.edge))
+        next.to (on_edge known.value comparison next.edge)) }
 {
-    let insn = flow.code().instructions()[index];
-    let edges = edges(&notes[index], insn)?;
-    let target = target_index(flow, index);
-    lead(notes, index + 1, &edges.next);
-    if let Some(target) = target {
-        lead(notes, target, &edges.target);
+    match (next.edge, target.edge) {
+        (Edge::Unreached, _) => {
+            follow(comparison, known, target, ahead);
+            Ok(())
+        }
+        (_, Edge::Unreached) => {
+            follow(comparison, known, next, ahead);
+            Ok(())
+        }
+        _ => {
+            let taken = Box::new(alloc, known.duplicate())?;
+            follow(comparison, taken, target, ahead);
+            follow(comparison, known, next, ahead);
+            Ok(())
+        }
     }
-    Ok(())
 }
 
-/// What is known behind an instruction, by what is known before it.
-fn edges(note: &Note, insn: Insn) -> Result<Edges, Cause>
-    requires { IsProper note.now }
-    ensures value { result ≡ edges note.now insn }
-    ensures proper { IfOk result AreProperEdges }
+/// The same on one edge.
+fn follow<A: Allocator>(
+    comparison: Comparison,
+    mut known: Box<Known, A>,
+    way: Way,
+    ahead: &mut StatesAhead<A>,
+)
+    requires within { LeadsWithin way ahead.old }
+    requires proper { IsProper (on_edge known.value comparison way.edge) }
+    ensures { ahead.new ≡ joined_if ahead.old way.to (on_edge known.value comparison way.edge) }
 {
-    match note {
-        Note::Unreached => Ok(Edges {
-            next: Note::Unreached,
-            target: Note::Unreached,
-        }),
-        Note::Reached(known) => instruction_edges(known, insn),
-    }
-}
-
-/// The index of the instruction where the one with an index jumps, if it's a jump.
-fn target_index<A: Allocator>(flow: &Flow<A>, index: usize) -> Option<usize>
-    requires { index < length flow.now.code }
-    ensures { IfSome (slice_get flow.now.code index)
-        (λ insn. result ≡ target_index flow.now.code (place_of flow.now.code index) (jump_distance insn)) }
-{
-    let target = flow.target(flow.code().place(index))?;
-    flow.code().index_at(target)
-}
-
-/// Joins what is known on an edge into what is known where it leads. Behind the last instruction there is nothing.
-fn lead(notes: &mut [Note], index: usize, edge: &Note)
-    requires notes { AreProper notes.old }
-    requires edge { IsProper edge.now }
-    ensures value { notes.new ≡ lead notes.old index edge.now }
-    ensures proper { AreProper notes.new }
-{
-    if index < notes.len() {
-        notes[index] = notes[index].join(edge);
+    let Some(to) = way.to else {
+        return;
+    };
+    match way.edge {
+        Edge::Unreached => {}
+        Edge::Unchanged => ahead.join(to, known),
+        Edge::Narrows(both) => {
+            comparison.narrow(&mut known, both);
+            ahead.join(to, known);
+        }
     }
 }

@@ -1,78 +1,28 @@
 //! The instruction table: the checks of each instruction in their order, and what is known behind it.
-ghost use Rattle.std.specs.Prelude.{◌≡◌, IfOk};
-ghost use Rattle.bpf_kinds.specs.Kind as kinds;
-ghost use Rattle.bpf_verify.specs.State.{AreProperEdges, IsProperState};
+ghost use Rattle.std.specs.Prelude.{◌≡◌, IfErr, IfOk, Err, Ok};
 ghost use Rattle.bpf_meaning.specs.Walk.{walk};
-ghost use Rattle.bpf_verify.specs.Edges.{exit, go_on, jump, set_register};
-ghost use Rattle.bpf_verify.specs.Edges.{kinds as known_kinds};
+ghost use Rattle.bpf_verify.specs.State.{AreProperEdges, IsProperKnown};
+ghost use Rattle.bpf_verify.specs.Transfer.{edges_to};
+ghost use Rattle.bpf_verify.specs.Transfer.{kinds as known_kinds};
 
 use crate::calls::call;
 use crate::comparison::Comparison;
 use crate::memory::{load_kind, store};
 use crate::operands::{number_in, number_or, operation_kind};
-use crate::state::{AbstractState, Edges, Note};
+use crate::state::Known;
+use crate::successors::Successors;
 use bpf_helpers::Helper;
-use bpf_insn::{Insn, Source, WritableRegister};
+use bpf_insn::{Insn, Source};
 use bpf_kinds::{Kind, byte_swap, extend, negate, wide_number};
 use bpf_meaning::Cause;
 
-/// On to the next instruction alone.
-fn go_on(known: AbstractState) -> Result<Edges, Cause>
-    requires { IsProperState known }
-    ensures value { result ≡ go_on known }
-    ensures proper { IfOk result AreProperEdges }
-{
-    Ok(Edges {
-        next: Note::Reached(known),
-        target: Note::Unreached,
-    })
-}
-
-/// On to the next instruction with a register written.
-fn set_register(
-    known: &AbstractState,
-    register: WritableRegister,
-    kind: Kind,
-) -> Result<Edges, Cause>
-    requires known { IsProperState known.now }
-    requires kind { kinds.IsProper kind }
-    ensures value { result ≡ set_register known.now register.number kind }
-    ensures proper { IfOk result AreProperEdges }
-{
-    go_on(known.with_kind(register.number, kind))
-}
-
-/// To a jump's target alone.
-fn jump(known: &AbstractState) -> Result<Edges, Cause>
-    requires { IsProperState known.now }
-    ensures value { result ≡ jump known.now }
-    ensures proper { IfOk result AreProperEdges }
-{
-    Ok(Edges {
-        next: Note::Unreached,
-        target: Note::Reached(known.duplicate()),
-    })
-}
-
-/// The end of the program.
-fn exit(known: &AbstractState) -> Result<Edges, Cause>
-    requires { IsProperState known.now }
-    ensures value { result ≡ exit known.now }
-    ensures proper { IfOk result AreProperEdges }
-{
-    number_or(Cause::ExitNotNumber, known.read(0)?)?;
-    Ok(Edges {
-        next: Note::Unreached,
-        target: Note::Unreached,
-    })
-}
-
-/// What is known behind an instruction, on each edge out of it, or the first check that fails for some of the values that are
-/// known before it: one arm a row.
-pub(crate) fn instruction_edges(known: &AbstractState, insn: Insn) -> Result<Edges, Cause>
-    requires { IsProperState known.now }
-    ensures value { result ≡ walk (known_kinds known.now) insn }
-    ensures proper { IfOk result AreProperEdges }
+/// The transfer function: goes behind an instruction, and tells where control goes there, unless one of its checks fails for some of the
+/// values that are possible. Then the first such check is the answer, and what is known is no longer of use.
+pub(crate) fn transfer(known: &mut Known, insn: Insn) -> Result<Successors, Cause>
+    requires { IsProperKnown known.old }
+    ensures ok { IfOk result (λ successors. walk (known_kinds known.old) insn ≡ Ok (edges_to known.new successors)) }
+    ensures err { IfErr result (λ cause. walk (known_kinds known.old) insn ≡ Err cause) }
+    ensures proper { IfOk result (λ successors. AreProperEdges (edges_to known.new successors)) }
 {
     match insn {
         Insn::Alu {
@@ -82,7 +32,8 @@ pub(crate) fn instruction_edges(known: &AbstractState, insn: Insn) -> Result<Edg
             source,
         } => {
             let kind = operation_kind(known, operation, width, destination, source)?;
-            set_register(known, destination, kind)
+            known.set(destination.number, kind);
+            Ok(Successors::Next)
         }
         Insn::MoveSignExtended {
             extension,
@@ -90,11 +41,13 @@ pub(crate) fn instruction_edges(known: &AbstractState, insn: Insn) -> Result<Edg
             source,
         } => {
             let x = number_in(known, source.number)?;
-            set_register(known, destination, Kind::Number(extend(extension, x)))
+            known.set(destination.number, Kind::Number(extend(extension, x)));
+            Ok(Successors::Next)
         }
         Insn::Negate { width, destination } => {
             let x = number_in(known, destination.number)?;
-            set_register(known, destination, Kind::Number(negate(width, x)))
+            known.set(destination.number, Kind::Number(negate(width, x)));
+            Ok(Successors::Next)
         }
         Insn::ByteSwap {
             order,
@@ -102,7 +55,8 @@ pub(crate) fn instruction_edges(known: &AbstractState, insn: Insn) -> Result<Edg
             destination,
         } => {
             let x = number_in(known, destination.number)?;
-            set_register(known, destination, Kind::Number(byte_swap(order, width, x)))
+            known.set(destination.number, Kind::Number(byte_swap(order, width, x)));
+            Ok(Successors::Next)
         }
         Insn::JumpIf {
             condition,
@@ -117,13 +71,17 @@ pub(crate) fn instruction_edges(known: &AbstractState, insn: Insn) -> Result<Edg
                 left,
                 right,
             };
-            comparison.branches(known)
+            comparison.successors(known)
         }
-        Insn::Jump(_) => jump(known),
+        Insn::Jump(_) => Ok(Successors::Target),
         Insn::Call { immediate } => {
-            go_on(call(known, Helper::by_number(immediate.cast_unsigned()))?)
+            call(known, Helper::by_number(immediate.cast_unsigned()))?;
+            Ok(Successors::Next)
         }
-        Insn::Exit => exit(known),
+        Insn::Exit => {
+            number_or(Cause::ExitNotNumber, known.read(0)?)?;
+            Ok(Successors::End)
+        }
         Insn::Load {
             format,
             destination,
@@ -131,27 +89,35 @@ pub(crate) fn instruction_edges(known: &AbstractState, insn: Insn) -> Result<Edg
             offset,
         } => {
             let kind = load_kind(known, format, base, offset)?;
-            set_register(known, destination, kind)
+            known.set(destination.number, kind);
+            Ok(Successors::Next)
         }
         Insn::StoreImmediate {
             size,
             base,
             offset,
             immediate,
-        } => go_on(store(known, size, base, offset, Source::Immediate(immediate))?),
+        } => {
+            store(known, size, base, offset, Source::Immediate(immediate))?;
+            Ok(Successors::Next)
+        }
         Insn::Store {
             size,
             base,
             offset,
             source,
-        } => go_on(store(known, size, base, offset, Source::Register(source))?),
+        } => {
+            store(known, size, base, offset, Source::Register(source))?;
+            Ok(Successors::Next)
+        }
         Insn::WideLoad {
             destination,
             immediate,
             next_immediate,
         } => {
             let x = wide_number(immediate, next_immediate);
-            set_register(known, destination, Kind::Number(x))
+            known.set(destination.number, Kind::Number(x));
+            Ok(Successors::Next)
         }
     }
 }

@@ -1,6 +1,8 @@
-use Rattle.bpf_verify.proofs.AnnotationLemmas.{IsOnItsWay}
+use Rattle.std.proofs.Common.{◌≡◌}
+use Rattle.bpf_insn.specs.Code.{place_of}
+use Rattle.bpf_verify.proofs.PassLemmas.{IsOnItsWay}
 use Rattle.bpf_verify.proofs.pass.pass.Given as goal
 
--- the annotation of the notes so far is good up to the instruction with the index
-abbrev pub invariant-loop-index : goal.invariant-loop-index
-invariant-loop-index g l = IsOnItsWay l.flow.code l.index l.notes
+-- an annotation is good up to the place that the pass has come to, and from there on it is what is kept
+abbrev pub invariant-loop-insn : goal.invariant-loop-insn
+invariant-loop-insn g l = record { place : l.place ≡ place_of l.flow.code l.insn-index; way : IsOnItsWay l.flow.code l.place l.ahead }

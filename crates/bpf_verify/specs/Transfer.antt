@@ -1,5 +1,6 @@
--- The abstract step: the first check of an instruction that fails for some of the values that are known before it, or what is known
--- behind it. It goes as an instruction's effect does, with kinds in the place of values. Which checks there are is this project's own.
+-- The transfer function, or abstract step: what is known behind an instruction, by what is known before it, or its first check that fails
+-- for some of the values that are possible. It walks the instruction table with kinds in the place of values. What is known of results is
+-- this project's own.
 use Rattle.std.specs.Prelude.{ℕ, zero, suc, ◌+◌, ℤ, pos, ◌+ℤ◌, ◌&&◌, ◌==◌, Bool, true, false, IsTrue, int_le, nat_le, unsigned_abs, List, [], ◌∷◌, ◌++◌, drop, replicate, get_or, Option, Some, None, Result, Ok, Err, if◌then◌else◌}
 use Rattle.std.specs.Int.{cast_unsigned, w32}
 use Rattle.std.specs.Ordering.{int_eq}
@@ -45,13 +46,16 @@ use Rattle.bpf_meaning.specs.declared.cause.Cause.{Cause}
 use Rattle.bpf_meaning.specs.declared.cause.Cause.TheVariants.{ReadsNothing, PointerArithmetic, LeavesArea, NotPointer, OutOfBounds, UnwrittenFrame, WritesRecord, StoresPointer, ComparesPointer, UnknownHelper, BadArgument, ExitNotNumber}
 use Rattle.bpf_insn.specs.declared.memory.TheConstants.{FRAME_LENGTH}
 use Rattle.tl_segments.specs.declared.segment.TheConstants.{RECORD_LENGTH}
-use Rattle.bpf_verify.specs.State.{kind_of, with_kind}
-use Rattle.bpf_verify.specs.declared.state.AbstractState.{AbstractState}
-use Rattle.bpf_verify.specs.declared.state.Edges.{Edges}
-use Rattle.bpf_verify.specs.declared.state.Note.{Note}
-use Rattle.bpf_verify.specs.declared.state.Note.TheVariants.{Unreached, Reached}
+use Rattle.bpf_verify.specs.State.{AbstractState, Unreached, Reached, Edges, kind_of, with_kind}
+use Rattle.bpf_verify.specs.declared.state.Known.{Known}
 use Rattle.bpf_verify.specs.declared.calls.LentBytes.{LentBytes}
 use Rattle.bpf_verify.specs.declared.comparison.Comparison.{Comparison}
+use Rattle.bpf_verify.specs.declared.successors.Edge.{Edge}
+use Rattle.bpf_verify.specs.declared.successors.Edge.TheVariants as edge
+use Rattle.bpf_verify.specs.declared.successors.Edge.TheVariants.{Unchanged, Narrows}
+use Rattle.bpf_verify.specs.declared.successors.Successors.{Successors}
+use Rattle.bpf_verify.specs.declared.successors.Successors.TheVariants as successors
+use Rattle.bpf_verify.specs.declared.successors.Successors.TheVariants.{Next, Target, Branch}
 use Rattle.bpf_verify.specs.declared.memory.Pointers.{Pointers}
 
 -- a kind that is read from a register
@@ -62,7 +66,7 @@ read_kind register (Record x) = Ok (Record x)
 read_kind register (Frame x) = Ok (Frame x)
 
 -- what is known of a register that is read
-abbrev pub read : AbstractState → ℕ → Result Kind Cause
+abbrev pub read : Known → ℕ → Result Kind Cause
 read known register = read_kind register (kind_of known register)
 
 -- the numbers that values of a kind are, or the cause where they are none
@@ -110,25 +114,38 @@ is_register left (Immediate value) = false
 is_register left (Register register) = left == register.number
 
 -- what is known of a comparison's operands, on an edge
-abbrev pub with_narrowed : AbstractState → ℕ → Source → Narrowed → AbstractState
+abbrev pub with_narrowed : Known → ℕ → Source → Narrowed → Known
 with_narrowed known left (Immediate value) both = with_kind known left (Number both.left)
 with_narrowed known left (Register right) both = with_kind (with_kind known left (Number both.left)) right.number (Number both.right)
 
-abbrev pub narrowed_note : AbstractState → ℕ → Source → Option Narrowed → Note
-narrowed_note known left right None = Unreached
-narrowed_note known left right (Some both) = Reached (with_narrowed known left right both)
+-- what a conditional jump tells on an edge; a register that is compared with itself tells nothing
+abbrev pub narrowed : Option Narrowed → Edge
+narrowed None = edge.Unreached
+narrowed (Some both) = Narrows both
 
--- an edge of a conditional jump; a register that is compared with itself tells nothing
-abbrev pub branch : AbstractState → Comparison → Interval → Interval → Bool → Note
-branch known comparison x y taken =
+abbrev pub branch : Comparison → Interval → Interval → Bool → Edge
+branch comparison x y taken =
     if is_register comparison.left.number comparison.right
-    then Reached known
-    else narrowed_note known comparison.left.number comparison.right (refine comparison.condition comparison.width x y taken)
+    then Unchanged
+    else narrowed (refine comparison.condition comparison.width x y taken)
+
+-- what is known on an edge, by what is known before the jump and what the jump tells
+abbrev pub on_edge : Known → Comparison → Edge → AbstractState
+on_edge known comparison edge.Unreached = Unreached
+on_edge known comparison Unchanged = Reached known
+on_edge known comparison (Narrows both) = Reached (with_narrowed known comparison.left.number comparison.right both)
+
+-- what is known on the edges out of an instruction, by what is known behind it and where control goes
+abbrev pub edges_to : Known → Successors → Edges
+edges_to known successors.End = record { next = Unreached; target = Unreached }
+edges_to known Next = record { next = Reached known; target = Unreached }
+edges_to known Target = record { next = Unreached; target = Reached known }
+edges_to known (Branch comparison next target) = record { next = on_edge known comparison next; target = on_edge known comparison target }
 
 -- both edges of a conditional jump: what it compares must be numbers, which is looked at when both operands were read
-abbrev pub compare : AbstractState → Comparison → Kind → Kind → Result Edges Cause
+abbrev pub compare : Known → Comparison → Kind → Kind → Result Edges Cause
 compare known comparison (Number x) (Number y) =
-    Ok (record { next = branch known comparison x y false; target = branch known comparison x y true })
+    Ok (edges_to known (Branch comparison (branch comparison x y false) (branch comparison x y true)))
 compare known comparison x y = Err ComparesPointer
 
 -- the pointers in a register that is the base of a load or a store
@@ -137,11 +154,11 @@ only_pointers (Record offsets) = Ok (record { area = area.Record; offsets = offs
 only_pointers (Frame offsets) = Ok (record { area = area.Frame; offsets = offsets })
 only_pointers kind = Err NotPointer
 
-abbrev pub pointers_in : AbstractState → ℕ → Result Pointers Cause
+abbrev pub pointers_in : Known → ℕ → Result Pointers Cause
 pointers_in known register = read known register >>= only_pointers
 
 -- what is known of the registers; an immediate is compared with the low bits of a register, so many as the comparison has
-abbrev pub kind_registers : AbstractState → Registers
+abbrev pub kind_registers : Known → Registers
 kind_registers known = record {
   Value = Kind;
   Number = Interval;
@@ -160,7 +177,7 @@ kind_registers known = record {
   operate = tags.operate kind_tags;
 }
 
-abbrev pub branches : AbstractState → Comparison → Result Edges Cause
+abbrev pub branches : Known → Comparison → Result Edges Cause
 branches known comparison =
     read known comparison.left.number >>= λ x. compared_operand (kind_registers known) comparison.width comparison.right >>= λ y. compare known comparison x y
 
@@ -175,13 +192,13 @@ area_length area.Frame = FRAME_LENGTH
 
 -- each byte of the frame that may be read has its mark, where so many are read at most, from each of the offsets on, with another offset
 -- added
-abbrev pub all_marked : AbstractState → Offsets → ℤ → ℕ → Bool
+abbrev pub all_marked : Known → Offsets → ℤ → ℕ → Bool
 all_marked known offsets offset zero = true
 all_marked known offsets offset (suc more) =
     all_written known.frame.marks (unsigned_abs (offsets.low +ℤ offset)) (unsigned_abs (offsets.high +ℤ offset) + more)
 
 -- bytes that are loaded: those of the record are written, and those of the frame must have their marks
-abbrev pub load_area : AbstractState → LoadFormat → Pointers → ℤ → Result Kind Cause
+abbrev pub load_area : Known → LoadFormat → Pointers → ℤ → Result Kind Cause
 load_area known format pointers offset = of_area pointers.area
   where
     of_area : Area → Result Kind Cause
@@ -189,7 +206,7 @@ load_area known format pointers offset = of_area pointers.area
     of_area area.Frame = if all_marked known pointers.offsets offset (load_length format) then Ok (Number (load format)) else Err UnwrittenFrame
 
 -- a load: its bytes must lie within the area, and be written
-abbrev pub load_from : AbstractState → LoadFormat → Pointers → ℤ → Result Kind Cause
+abbrev pub load_from : Known → LoadFormat → Pointers → ℤ → Result Kind Cause
 load_from known format pointers offset =
     if lie_within pointers.offsets offset (load_length format) (area_length pointers.area) then load_area known format pointers offset else Err OutOfBounds
 
@@ -203,14 +220,14 @@ frame_offsets pointers = frame_only pointers.area pointers.offsets
 
 -- what is known where so many bytes of the frame are written, from one of the offsets on, with another offset added: where that is one known
 -- offset they get their marks, and otherwise none does
-abbrev pub mark_bytes : AbstractState → Offsets → ℤ → ℕ → AbstractState
+abbrev pub mark_bytes : Known → Offsets → ℤ → ℕ → Known
 mark_bytes known offsets offset count =
     if int_eq offsets.low offsets.high
     then record known { frame = record known.frame { marks = mark known.frame.marks (unsigned_abs (offsets.low +ℤ offset)) count } }
     else known
 
 -- what is known behind a store: its bytes must lie within the frame
-abbrev pub store_at : AbstractState → Offsets → ℤ → StoreSize → Result AbstractState Cause
+abbrev pub store_at : Known → Offsets → ℤ → StoreSize → Result Known Cause
 store_at known offsets offset size =
     if lie_within offsets offset (store_length size) FRAME_LENGTH then Ok (mark_bytes known offsets offset (store_length size)) else Err OutOfBounds
 
@@ -230,13 +247,13 @@ abbrev pub AreProper : List Kind → Type 0
 AreProper arguments = (at : ℕ) → kind.IsProper (get_or arguments at Nothing)
 
 -- the argument with a number, counted from 1, which the register of that number holds; one that isn't used isn't read
-abbrev pub argument_in : AbstractState → ℕ → Argument → Result Kind Cause
+abbrev pub argument_in : Known → ℕ → Argument → Result Kind Cause
 argument_in known number argument.Unused = Ok Nothing
 argument_in known number (argument.Number allowed) = read known number >>= argument_kind number (argument.Number allowed)
 argument_in known number argument.Frame = read known number >>= argument_kind number argument.Frame
 
 -- the arguments that a prototype wants, in their order
-abbrev pub arguments_in : AbstractState → List Argument → Result (List Kind) Cause
+abbrev pub arguments_in : Known → List Argument → Result (List Kind) Cause
 arguments_in known wanted =
     argument_in known 1 (get_or wanted 0 argument.Unused) >>= λ one.
     argument_in known 2 (get_or wanted 1 argument.Unused) >>= λ two.
@@ -256,50 +273,50 @@ pub record LieWithinFrame (bytes : LentBytes) : Type 0 where
   pub within : IsTrue (lie_within bytes.offsets (pos 0) bytes.count.high FRAME_LENGTH)
 
 -- bytes that a call reads must have their marks
-abbrev pub lend_read : AbstractState → LentBytes → Result AbstractState Cause
+abbrev pub lend_read : Known → LentBytes → Result Known Cause
 lend_read known bytes = if all_marked known bytes.offsets (pos 0) bytes.count.high then Ok known else Err UnwrittenFrame
 
 -- what is known behind a call of the frame: of the bytes that it writes as many get their marks as are written in any case
-abbrev pub lend_frame : AbstractState → FrameUse → List Kind → Result AbstractState Cause
+abbrev pub lend_frame : Known → FrameUse → List Kind → Result Known Cause
 lend_frame known frame_use.Nothing arguments = Ok known
 lend_frame known Writes arguments =
     lend_bytes (get_or arguments 1 Nothing) (get_or arguments 2 Nothing) >>= λ bytes. Ok (mark_bytes known bytes.offsets (pos 0) bytes.count.low)
 lend_frame known Reads arguments = lend_bytes (get_or arguments 1 Nothing) (get_or arguments 2 Nothing) >>= lend_read known
 
 -- what is known behind a call: register 0 has an answer of the prototype's interval, registers 1 to 5 hold nothing, and the others are kept
-abbrev pub state_after : Interval → AbstractState → AbstractState
+abbrev pub state_after : Interval → Known → Known
 state_after answer known = record known { registers = Number answer ∷ replicate 5 Nothing ++ drop 6 known.registers }
 
 -- a call of a helper function, if there is one
-abbrev pub call : AbstractState → Option Helper → Result AbstractState Cause
+abbrev pub call : Known → Option Helper → Result Known Cause
 call known None = Err UnknownHelper
 call known (Some helper) =
     arguments_in known (signature helper).arguments >>= lend_frame known (signature helper).frame >>= λ after. Ok (state_after (signature helper).answer after)
 
 -- on to the next instruction alone, or to a jump's target alone, or to none
-abbrev pub go_on : AbstractState → Result Edges Cause
-go_on known = Ok (record { next = Reached known; target = Unreached })
+abbrev pub go_on : Known → Result Edges Cause
+go_on known = Ok (edges_to known Next)
 
-abbrev pub jump : AbstractState → Result Edges Cause
-jump known = Ok (record { next = Unreached; target = Reached known })
+abbrev pub jump : Known → Result Edges Cause
+jump known = Ok (edges_to known Target)
 
-abbrev pub end : Interval → Result Edges Cause
-end answer = Ok (record { next = Unreached; target = Unreached })
+abbrev pub end : Known → Interval → Result Edges Cause
+end known answer = Ok (edges_to known successors.End)
 
 -- the end of the program, whose answer must be a number
-abbrev pub exit : AbstractState → Result Edges Cause
-exit known = read known 0 >>= number_or ExitNotNumber >>= end
+abbrev pub exit : Known → Result Edges Cause
+exit known = read known 0 >>= number_or ExitNotNumber >>= end known
 
 -- on to the next instruction with a register written
-abbrev pub set_register : AbstractState → ℕ → Kind → Result Edges Cause
+abbrev pub set_register : Known → ℕ → Kind → Result Edges Cause
 set_register known register kind = go_on (with_kind known register kind)
 
 -- what is known of values
-abbrev pub kinds : AbstractState → Domain
+abbrev pub kinds : Known → Domain
 kinds known = record {
   registers = kind_registers known;
   Offset = Offsets;
-  Change = AbstractState;
+  Change = Known;
   Outcome = Edges;
   load = load_from known;
   frame = λ pointers offset. frame_offsets pointers;
@@ -309,10 +326,11 @@ kinds known = record {
   go_on = go_on;
   jump = λ distance. jump known;
   branch = λ jump. compare known (record { condition = jump.condition; width = jump.width; left = jump.left; right = jump.right });
-  end = end;
+  end = end known;
 }
 
--- the edges by what is known: an instruction that isn't reached fails no check, and leads nowhere
-abbrev pub edges : Note → Insn → Result Edges Cause
-edges Unreached insn = Ok (record { next = Unreached; target = Unreached })
-edges (Reached known) insn = walk (kinds known) insn
+-- The transfer function: what is known on the edges out of an instruction, by what is known before it, or its first check that fails. One
+-- that isn't reached fails no check, and leads nowhere.
+abbrev pub transfer : AbstractState → Insn → Result Edges Cause
+transfer Unreached insn = Ok (record { next = Unreached; target = Unreached })
+transfer (Reached known) insn = walk (kinds known) insn

@@ -2,12 +2,12 @@ use Rattle.std.proofs.Common.{◌≡◌, ℕ, zero, suc, ◌+◌, ◌-◌, ◌�
 use Rattle.std.proofs.lemmas.Int.{ints}
 use Rattle.bpf_frame.specs.FrameMap.{all_written}
 use Rattle.bpf_kinds.specs.declared.offsets.Offsets.{Offsets}
-use Rattle.bpf_verify.specs.Edges.{all_marked}
-use Rattle.bpf_verify.specs.declared.state.AbstractState.{AbstractState}
-use Rattle.bpf_verify.proofs.state.AbstractState.all_marked.Goals as goal
+use Rattle.bpf_verify.specs.Transfer.{all_marked}
+use Rattle.bpf_verify.specs.declared.state.Known.{Known}
+use Rattle.bpf_verify.proofs.state.Known.all_marked.Goals as goal
 
 -- the first and the last of some bytes, at least one
-marked_is : (known : AbstractState) (offsets : Offsets) (offset : ℤ) (count first last : ℕ) → 1 ≤ count → first ≡ unsigned_abs (offsets.low +ℤ offset) → last ≡ unsigned_abs (offsets.high +ℤ offset) + count - 1
+marked_is : (known : Known) (offsets : Offsets) (offset : ℤ) (count first last : ℕ) → 1 ≤ count → first ≡ unsigned_abs (offsets.low +ℤ offset) → last ≡ unsigned_abs (offsets.high +ℤ offset) + count - 1
     → all_written known.frame.marks first last ≡ all_marked known offsets offset count
 marked_is known offsets offset zero first last some is_first is_last = absurd (omega arith)
 marked_is known offsets offset (suc more) first last some is_first is_last =

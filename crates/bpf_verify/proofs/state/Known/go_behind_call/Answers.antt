@@ -1,12 +1,12 @@
 use Rattle.std.proofs.Common.{sym, subst, rules}
-use Rattle.bpf_verify.specs.State.{IsProperState}
+use Rattle.bpf_verify.specs.State.{IsProperKnown}
 use Rattle.bpf_verify.proofs.CallLemmas.{state_after_is_proper}
-use Rattle.bpf_verify.proofs.state.AbstractState.state_after.Goals as goal
+use Rattle.bpf_verify.proofs.state.Known.go_behind_call.Goals as goal
 
 pub returns-clause-value : goal.returns-clause-value
 returns-clause-value c = search rules
 
 pub returns-clause-proper : goal.returns-clause-proper
 returns-clause-proper c =
-    subst IsProperState (sym (returns-clause-value c))
-    (state_after_is_proper c.args.answer c.args.self c.requires.answer c.requires.proper)
+    subst IsProperKnown (sym (returns-clause-value c))
+    (state_after_is_proper c.args.answer c.args.self.now c.requires.answer c.requires.proper)

@@ -1,19 +1,23 @@
--- Abstract states and notes stand in order, and joins are least upper bounds.
+-- Abstract states stand in order, and joins are least upper bounds.
 use Rattle.std.proofs.Common.{◌≡◌, ℕ, suc, zero, ◌<◌, List, [], ◌∷◌, length, get_or, sym, ap, ◌∙◌, subst, refl, rules, arith}
-use Rattle.std.proofs.lemmas.List.{ext_get_or}
+use Rattle.std.specs.Prelude.{slice_set}
+use Rattle.std.proofs.lemmas.List.{ext_get_or, length-set}
 use Rattle.bpf_frame.specs.FrameMap.{Contents}
 use Rattle.bpf_frame.specs.OrderLaws as maps
 use Rattle.bpf_kinds.specs.Kind as kind
 use Rattle.bpf_insn.specs.declared.value.Value.{Value}
 use Rattle.bpf_kinds.specs.declared.kind.Kind.{Kind}
-use Rattle.bpf_kinds.specs.declared.kind.Kind.TheVariants.{Nothing}
+use Rattle.bpf_kinds.specs.declared.kind.Kind.TheVariants.{Number, Nothing}
 use Rattle.bpf_meaning.specs.Memory.{is_written}
 use Rattle.bpf_meaning.specs.State.{register_value}
 use Rattle.bpf_meaning.specs.declared.state.State.{State}
-use Rattle.bpf_verify.specs.State.{kind_of, join_kinds, IsProperState, AdmitsState, IsWithinState, join_states, IsProper, Admits, IsWithin, join}
-use Rattle.bpf_verify.specs.declared.state.AbstractState.{AbstractState}
-use Rattle.bpf_verify.specs.declared.state.Note.{Note}
-use Rattle.bpf_verify.specs.declared.state.Note.TheVariants.{Unreached, Reached}
+use Rattle.bpf_insn.specs.declared.instruction.Source.{Source}
+use Rattle.bpf_insn.specs.declared.instruction.Source.TheVariants.{Immediate, Register}
+use Rattle.bpf_kinds.specs.Interval as interval
+use Rattle.bpf_kinds.specs.declared.narrowing.Narrowed.{Narrowed}
+use Rattle.bpf_verify.specs.State.{AbstractState, Unreached, Reached, kind_of, with_kind, join_kinds, IsProperKnown, AdmitsKnown, IsWithinKnown, join_known, IsProper, Admits, IsWithin, join}
+use Rattle.bpf_verify.specs.Transfer.{with_narrowed}
+use Rattle.bpf_verify.specs.declared.state.Known.{Known}
 
 -- kinds
 
@@ -66,101 +70,122 @@ is_join_kinds xs ys joined count length-xs length-ys length-joined same =
     (λ register below. same register (omega arith) ∙ sym (get_or-join xs ys register same-length))
 
 -- the kinds of a join
-pub kind_of-join : (x y : AbstractState) (register : ℕ) → IsProperState x → IsProperState y → kind_of (join_states x y) register ≡ kind.join (kind_of x register) (kind_of y register)
+pub kind_of-join : (x y : Known) (register : ℕ) → IsProperKnown x → IsProperKnown y → kind_of (join_known x y) register ≡ kind.join (kind_of x register) (kind_of y register)
 kind_of-join x y register proper-x proper-y = get_or-join x.registers y.registers register (proper-x.count ∙ sym proper-y.count)
 
-pub states_reflexive : (x : AbstractState) → IsWithinState x x
-states_reflexive x = record { registers = λ register. kind_reflexive (kind_of x register); frame = maps.reflexive x.frame }
+pub known_reflexive : (x : Known) → IsWithinKnown x x
+known_reflexive x = record { registers = λ register. kind_reflexive (kind_of x register); frame = maps.reflexive x.frame }
 
-pub states_transitive : (x y z : AbstractState) → IsWithinState x y → IsWithinState y z → IsWithinState x z
-states_transitive x y z below above = record {
+pub known_transitive : (x y z : Known) → IsWithinKnown x y → IsWithinKnown y z → IsWithinKnown x z
+known_transitive x y z below above = record {
   registers = λ register. kind_transitive _ _ _ (below.registers register) (above.registers register);
   frame = maps.transitive x.frame y.frame z.frame below.frame above.frame;
 }
 
 same_state : (registers others : List Kind) (frame other : Contents) → registers ≡ others → frame ≡ other
-    → let x : AbstractState = record { registers = registers; frame = frame } in let y : AbstractState = record { registers = others; frame = other } in x ≡ y
+    → let x : Known = record { registers = registers; frame = frame } in let y : Known = record { registers = others; frame = other } in x ≡ y
 same_state registers others frame other same same_frame = cc
 
-pub states_antisymmetric : (x y : AbstractState) → IsProperState x → IsProperState y → IsWithinState x y → IsWithinState y x → x ≡ y
-states_antisymmetric x y proper-x proper-y below above =
+pub known_antisymmetric : (x y : Known) → IsProperKnown x → IsProperKnown y → IsWithinKnown x y → IsWithinKnown y x → x ≡ y
+known_antisymmetric x y proper-x proper-y below above =
     same_state x.registers y.registers x.frame y.frame
     (ext_get_or Nothing x.registers y.registers (proper-x.count ∙ sym proper-y.count)
     (λ register _. kind_antisymmetric _ _ (below.registers register) (above.registers register)))
     (maps.antisymmetric x.frame y.frame proper-x.frame proper-y.frame below.frame above.frame)
 
-pub join_states_is_proper : (x y : AbstractState) → IsProperState x → IsProperState y → IsProperState (join_states x y)
-join_states_is_proper x y proper-x proper-y = record {
+pub join_known_is_proper : (x y : Known) → IsProperKnown x → IsProperKnown y → IsProperKnown (join_known x y)
+join_known_is_proper x y proper-x proper-y = record {
   count = length-join_kinds x.registers y.registers (proper-x.count ∙ sym proper-y.count) ∙ proper-x.count;
   kinds = λ register. subst kind.IsProper (sym (kind_of-join x y register proper-x proper-y)) (kind_join_is_proper _ _ (proper-x.kinds register) (proper-y.kinds register));
   frame = maps.join_is_proper x.frame y.frame proper-x.frame proper-y.frame;
 }
 
-pub left_is_within_join_states : (x y : AbstractState) → IsProperState x → IsProperState y → IsWithinState x (join_states x y)
-left_is_within_join_states x y proper-x proper-y = record {
+pub left_is_within_join_known : (x y : Known) → IsProperKnown x → IsProperKnown y → IsWithinKnown x (join_known x y)
+left_is_within_join_known x y proper-x proper-y = record {
   registers = λ register. subst (kind.IsWithin (kind_of x register)) (sym (kind_of-join x y register proper-x proper-y)) (kind_left_is_within_join _ (kind_of y register));
   frame = maps.left_is_within_join x.frame y.frame proper-x.frame proper-y.frame;
 }
 
-pub right_is_within_join_states : (x y : AbstractState) → IsProperState x → IsProperState y → IsWithinState y (join_states x y)
-right_is_within_join_states x y proper-x proper-y = record {
+pub right_is_within_join_known : (x y : Known) → IsProperKnown x → IsProperKnown y → IsWithinKnown y (join_known x y)
+right_is_within_join_known x y proper-x proper-y = record {
   registers = λ register. subst (kind.IsWithin (kind_of y register)) (sym (kind_of-join x y register proper-x proper-y)) (kind_right_is_within_join (kind_of x register) _);
   frame = maps.right_is_within_join x.frame y.frame proper-x.frame proper-y.frame;
 }
 
-pub join_states_is_least : (x y z : AbstractState) → IsProperState x → IsProperState y → IsWithinState x z → IsWithinState y z → IsWithinState (join_states x y) z
-join_states_is_least x y z proper-x proper-y below-x below-y = record {
+pub join_known_is_least : (x y z : Known) → IsProperKnown x → IsProperKnown y → IsWithinKnown x z → IsWithinKnown y z → IsWithinKnown (join_known x y) z
+join_known_is_least x y z proper-x proper-y below-x below-y = record {
   registers = λ register. subst (λ (joined : Kind). kind.IsWithin joined (kind_of z register)) (sym (kind_of-join x y register proper-x proper-y))
       (kind_join_is_least _ _ _ (below-x.registers register) (below-y.registers register));
   frame = maps.join_is_least x.frame y.frame z.frame proper-x.frame proper-y.frame below-x.frame below-y.frame;
 }
 
-pub states_admit_more : (x y : AbstractState) (state : State) → IsWithinState x y → AdmitsState x state → AdmitsState y state
-states_admit_more x y state below admits = record {
+pub known_admits_more : (x y : Known) (state : State) → IsWithinKnown x y → AdmitsKnown x state → AdmitsKnown y state
+known_admits_more x y state below admits = record {
   registers = λ register. kind_admits_more _ _ (register_value state register) (below.registers register) (admits.registers register);
   frame = maps.admits_more x.frame y.frame (is_written state.frame.bytes) below.frame admits.frame;
 }
 
--- notes
+-- registers that are written
 
-pub reflexive : (x : Note) → IsWithin x x
+set_is_proper : (kinds : List Kind) (register : ℕ) (x : Kind) → kind.IsProper x → ((number : ℕ) → kind.IsProper (get_or kinds number Nothing)) → (number : ℕ) → kind.IsProper (get_or (slice_set kinds register x) number Nothing)
+set_is_proper [] register x proper all number = all number
+set_is_proper (k ∷ kinds) zero x proper all zero = proper
+set_is_proper (k ∷ kinds) zero x proper all (suc number) = all (suc number)
+set_is_proper (k ∷ kinds) (suc register) x proper all zero = all zero
+set_is_proper (k ∷ kinds) (suc register) x proper all (suc number) = set_is_proper kinds register x proper (λ n. all (suc n)) number
+
+with_kind_is_proper : (known : Known) (register : ℕ) (x : Kind) → IsProperKnown known → kind.IsProper x → IsProperKnown (with_kind known register x)
+with_kind_is_proper known register x proper proper-x = record {
+  count = length-set known.registers register x ∙ proper.count;
+  kinds = set_is_proper known.registers register x proper-x proper.kinds;
+  frame = proper.frame;
+}
+
+pub with_narrowed_is_proper : (known : Known) (left : ℕ) (right : Source) (both : Narrowed) → IsProperKnown known → interval.IsProper both.left → interval.IsProper both.right → IsProperKnown (with_narrowed known left right both)
+with_narrowed_is_proper known left (Immediate immediate) both proper first second = with_kind_is_proper known left (Number both.left) proper first
+with_narrowed_is_proper known left (Register right) both proper first second =
+    with_kind_is_proper (with_kind known left (Number both.left)) right.number (Number both.right) (with_kind_is_proper known left (Number both.left) proper first) second
+
+-- with the bottom
+
+pub reflexive : (x : AbstractState) → IsWithin x x
 reflexive Unreached = tt
-reflexive (Reached x) = states_reflexive x
+reflexive (Reached x) = known_reflexive x
 
-pub transitive : (x y z : Note) → IsWithin x y → IsWithin y z → IsWithin x z
+pub transitive : (x y z : AbstractState) → IsWithin x y → IsWithin y z → IsWithin x z
 transitive Unreached y z below above = tt
 transitive (Reached x) Unreached z below above = absurd below
 transitive (Reached x) (Reached y) Unreached below above = absurd above
-transitive (Reached x) (Reached y) (Reached z) below above = states_transitive x y z below above
+transitive (Reached x) (Reached y) (Reached z) below above = known_transitive x y z below above
 
-pub antisymmetric : (x y : Note) → IsProper x → IsProper y → IsWithin x y → IsWithin y x → x ≡ y
+pub antisymmetric : (x y : AbstractState) → IsProper x → IsProper y → IsWithin x y → IsWithin y x → x ≡ y
 antisymmetric Unreached Unreached proper-x proper-y below above = refl
 antisymmetric Unreached (Reached y) proper-x proper-y below above = absurd above
 antisymmetric (Reached x) Unreached proper-x proper-y below above = absurd below
-antisymmetric (Reached x) (Reached y) proper-x proper-y below above = ap Reached (states_antisymmetric x y proper-x proper-y below above)
+antisymmetric (Reached x) (Reached y) proper-x proper-y below above = ap Reached (known_antisymmetric x y proper-x proper-y below above)
 
-pub join_is_proper : (x y : Note) → IsProper x → IsProper y → IsProper (join x y)
+pub join_is_proper : (x y : AbstractState) → IsProper x → IsProper y → IsProper (join x y)
 join_is_proper Unreached y proper-x proper-y = proper-y
 join_is_proper (Reached x) Unreached proper-x proper-y = proper-x
-join_is_proper (Reached x) (Reached y) proper-x proper-y = join_states_is_proper x y proper-x proper-y
+join_is_proper (Reached x) (Reached y) proper-x proper-y = join_known_is_proper x y proper-x proper-y
 
-pub left_is_within_join : (x y : Note) → IsProper x → IsProper y → IsWithin x (join x y)
+pub left_is_within_join : (x y : AbstractState) → IsProper x → IsProper y → IsWithin x (join x y)
 left_is_within_join Unreached y proper-x proper-y = tt
-left_is_within_join (Reached x) Unreached proper-x proper-y = states_reflexive x
-left_is_within_join (Reached x) (Reached y) proper-x proper-y = left_is_within_join_states x y proper-x proper-y
+left_is_within_join (Reached x) Unreached proper-x proper-y = known_reflexive x
+left_is_within_join (Reached x) (Reached y) proper-x proper-y = left_is_within_join_known x y proper-x proper-y
 
-pub right_is_within_join : (x y : Note) → IsProper x → IsProper y → IsWithin y (join x y)
+pub right_is_within_join : (x y : AbstractState) → IsProper x → IsProper y → IsWithin y (join x y)
 right_is_within_join Unreached y proper-x proper-y = reflexive y
 right_is_within_join (Reached x) Unreached proper-x proper-y = tt
-right_is_within_join (Reached x) (Reached y) proper-x proper-y = right_is_within_join_states x y proper-x proper-y
+right_is_within_join (Reached x) (Reached y) proper-x proper-y = right_is_within_join_known x y proper-x proper-y
 
-pub join_is_least : (x y z : Note) → IsProper x → IsProper y → IsWithin x z → IsWithin y z → IsWithin (join x y) z
+pub join_is_least : (x y z : AbstractState) → IsProper x → IsProper y → IsWithin x z → IsWithin y z → IsWithin (join x y) z
 join_is_least Unreached y z proper-x proper-y below-x below-y = below-y
 join_is_least (Reached x) Unreached z proper-x proper-y below-x below-y = below-x
 join_is_least (Reached x) (Reached y) Unreached proper-x proper-y below-x below-y = absurd below-x
-join_is_least (Reached x) (Reached y) (Reached z) proper-x proper-y below-x below-y = join_states_is_least x y z proper-x proper-y below-x below-y
+join_is_least (Reached x) (Reached y) (Reached z) proper-x proper-y below-x below-y = join_known_is_least x y z proper-x proper-y below-x below-y
 
-pub admits_more : (x y : Note) (state : State) → IsWithin x y → Admits x state → Admits y state
+pub admits_more : (x y : AbstractState) (state : State) → IsWithin x y → Admits x state → Admits y state
 admits_more Unreached y state below admits = absurd admits
 admits_more (Reached x) Unreached state below admits = absurd below
-admits_more (Reached x) (Reached y) state below admits = states_admit_more x y state below admits
+admits_more (Reached x) (Reached y) state below admits = known_admits_more x y state below admits

@@ -1,0 +1,346 @@
+-- The pass: what it keeps is an annotation that is good up to where it has come.
+use Rattle.std.proofs.Common.{◌≡◌, ℕ, ℤ, pos, zero, suc, ◌+◌, ◌-◌, ◌+ℤ◌, ◌<◌, ◌≤◌, List, [], ◌∷◌, length, map, replicate, get_or, slice_set, Option, Some, None, option_map, IfSome, IsSome, Result, Ok, Err, nat_le, Bool, true, false, if◌then◌else◌, refl, sym, ap, ◌∙◌, subst, arith, rules, inl, inr}
+use Rattle.std.proofs.lemmas.Bool.{cases_lt}
+use Rattle.std.proofs.lemmas.Bool.Decides.{nat_tests}
+use Rattle.std.proofs.lemmas.Int.{ints}
+use Rattle.std.proofs.lemmas.List.{get_or-map, get_or-set_same, get_or-set_other, get_or_past, get_or_default, length-set, length-replicate, map-set, set-get_or}
+use Rattle.std.proofs.lemmas.Option.{none-some}
+use Rattle.std.specs.Prelude.{FitsSigned}
+use Rattle.std.specs.Int.{w16}
+use Rattle.std.specs.declared.boxed.Box.{Box}
+use Rattle.bpf_insn.proofs.CodeLemmas.{length-spelling_positive}
+use Rattle.bpf_insn.proofs.PlaceLemmas.{instruction_within}
+use Rattle.bpf_insn.proofs.SpanLemmas.{ends_within, nothing_within}
+use Rattle.bpf_insn.specs.Code.{instruction_at, spelling, word_count}
+use Rattle.bpf_insn.specs.Jump.{jump_distance}
+use Rattle.bpf_insn.specs.declared.instruction.Insn.{Insn}
+use Rattle.bpf_insn.specs.declared.memory.TheConstants.{FRAME_LENGTH}
+use Rattle.bpf_flow.specs.Flow.{IsForward, LeadsOn, target_of}
+use Rattle.bpf_frame.proofs.MarkLemmas.{unwritten_is_proper}
+use Rattle.bpf_kinds.specs.Kind as kind
+use Rattle.bpf_kinds.specs.Offsets as offsets
+use Rattle.bpf_kinds.specs.declared.kind.Kind.{Kind}
+use Rattle.bpf_kinds.specs.declared.kind.Kind.TheVariants.{Nothing}
+use Rattle.bpf_meaning.specs.declared.cause.Cause.{Cause}
+use Rattle.bpf_verify.specs.Annotation.{Annotation, PassesAt, IsGoodUpTo, HasGoodAnnotation, IsRefusedAt, IsVerifyFault}
+use Rattle.bpf_verify.specs.Pass.{state_of, annotation_of, AreProper, first, taken, joined, joined_if, propagated, Visits, IsVisitFault}
+use Rattle.bpf_verify.specs.State.{AbstractState, Unreached, Reached, Edges, AreProperEdges, entry, join, IsProper, IsProperKnown, IsWithin}
+use Rattle.bpf_verify.specs.Transfer.{transfer}
+use Rattle.bpf_verify.specs.declared.fault.VerifyFault.{VerifyFault}
+use Rattle.bpf_verify.specs.declared.fault.VerifyFault.TheVariants.{Refused, Memory}
+use Rattle.bpf_verify.specs.declared.state.Known.{Known}
+use Rattle.bpf_verify.proofs.StateLaws as laws
+
+-- what is kept, as states
+
+pub state-found : {A : Type 0} (items : List (Option (Box Known A))) (place : ℕ) (found : Option (Box Known A)) → place < length items → found ≡ get_or items place found → state_of found ≡ annotation_of (map state_of items) place
+state-found items place found within is = ap state_of is ∙ sym (get_or-map state_of items place found Unreached within)
+
+pub is_found_proper : {A : Type 0} (found : Option (Box Known A)) → IsProper (state_of found) → IfSome found (λ known. IsProperKnown known.value)
+is_found_proper None proper = tt
+is_found_proper (Some known) proper = proper
+
+-- the state at a place that is written, and the others
+
+written-same : (states : List AbstractState) (place : ℕ) (state : AbstractState) → place < length states → annotation_of (slice_set states place state) place ≡ state
+written-same states place state within = get_or-set_same states place state Unreached within
+
+written-other : (states : List AbstractState) (place other : ℕ) (state : AbstractState) → (other ≡ place → ⊥) → annotation_of (slice_set states place state) other ≡ annotation_of states other
+written-other states place other state apart = get_or-set_other states place other state Unreached apart
+
+-- a place is the one that is written, or another
+data Lies (states : List AbstractState) (place other : ℕ) : Type 0 where
+  Elsewhere : (apart : other ≡ place → ⊥) → Lies states place other
+  Here : (same : place ≡ other) (within : place < length states) → Lies states place other
+  Past : (past : length states ≤ other) → Lies states place other
+
+lies : (states : List AbstractState) (place other : ℕ) → Lies states place other
+lies states place other = elim (cases_lt other place) as (λ _. Lies states place other) [
+  | inl less ↦ Elsewhere (λ same. absurd (omega arith))
+  | inr most ↦ elim (cases_lt place other) as (λ _. Lies states place other) [
+    | inl more ↦ Elsewhere (λ same. absurd (omega arith))
+    | inr least ↦ elim (cases_lt place (length states)) as (λ _. Lies states place other) [
+      | inl within ↦ Here (omega arith) within
+      | inr past ↦ Past (omega arith)
+    ]
+  ]
+]
+
+past_end : (states : List AbstractState) (place : ℕ) → length states ≤ place → annotation_of states place ≡ Unreached
+past_end states place past = get_or_past states place Unreached past
+
+pub written_proper : (states : List AbstractState) (place : ℕ) (state : AbstractState) → AreProper states → IsProper state → AreProper (slice_set states place state)
+written_proper states place state proper proper-state other = elim (lies states place other) as (λ _. IsProper (annotation_of (slice_set states place state) other)) [
+  | Elsewhere apart ↦ subst IsProper (sym (written-other states place other state apart)) (proper other)
+  | Here same within ↦ subst (λ (p : ℕ). IsProper (annotation_of (slice_set states place state) p)) same (subst IsProper (sym (written-same states place state within)) proper-state)
+  | Past past ↦ subst IsProper (sym (past_end (slice_set states place state) other (let same = length-set states place state in omega arith))) tt
+]
+
+pub joined_proper : (states : List AbstractState) (place : ℕ) (state : AbstractState) → AreProper states → IsProper state → AreProper (joined states place state)
+joined_proper states place state proper proper-state = written_proper states place _ proper (laws.join_is_proper (annotation_of states place) state (proper place) proper-state)
+
+-- states grow where another one is joined in
+joined_grows : (states : List AbstractState) (place : ℕ) (state : AbstractState) → AreProper states → IsProper state → (other : ℕ) → IsWithin (annotation_of states other) (annotation_of (joined states place state) other)
+joined_grows states place state proper proper-state other = elim (lies states place other) as (λ _. IsWithin (annotation_of states other) (annotation_of (joined states place state) other)) [
+  | Elsewhere apart ↦ subst (IsWithin (annotation_of states other)) (sym (written-other states place other _ apart)) (laws.reflexive (annotation_of states other))
+  | Here same within ↦
+      subst (λ (p : ℕ). IsWithin (annotation_of states p) (annotation_of (joined states place state) p)) same
+      (subst (IsWithin (annotation_of states place)) (sym (written-same states place _ within)) (laws.left_is_within_join (annotation_of states place) state (proper place) proper-state))
+  | Past past ↦ subst (λ (s : AbstractState). IsWithin s (annotation_of (joined states place state) other)) (sym (past_end states other past)) tt
+]
+
+joined_holds : (states : List AbstractState) (place : ℕ) (state : AbstractState) → AreProper states → IsProper state → place < length states → IsWithin state (annotation_of (joined states place state) place)
+joined_holds states place state proper proper-state within =
+    subst (IsWithin state) (sym (written-same states place _ within)) (laws.right_is_within_join (annotation_of states place) state (proper place) proper-state)
+
+-- the bottom changes nothing
+join-bottom : (state : AbstractState) → join state Unreached ≡ state
+join-bottom Unreached = refl
+join-bottom (Reached known) = refl
+
+pub joined-bottom : (states : List AbstractState) (place : ℕ) → joined states place Unreached ≡ states
+joined-bottom states place = ap (slice_set states place) (join-bottom (annotation_of states place)) ∙ set-get_or states place Unreached
+
+pub joined_if-bottom : (states : List AbstractState) (place : Option ℕ) → joined_if states place Unreached ≡ states
+joined_if-bottom states None = refl
+joined_if-bottom states (Some place) = joined-bottom states place
+
+pub propagated-bottom : (states : List AbstractState) (next : ℕ) (target : Option ℕ) → propagated states next target (record { next = Unreached; target = Unreached }) ≡ states
+propagated-bottom states next target = joined-bottom (joined_if states target Unreached) next ∙ joined_if-bottom states target
+
+-- both edges of an instruction
+
+-- states that grow behind a place, where these states are joined in
+record Grows (before after : List AbstractState) : Type 0 where
+  count : length after ≡ length before
+  proper : AreProper after
+  more : (other : ℕ) → IsWithin (annotation_of before other) (annotation_of after other)
+
+joined_if_grows : (states : List AbstractState) (place : Option ℕ) (state : AbstractState) → AreProper states → IsProper state → Grows states (joined_if states place state)
+joined_if_grows states None state proper proper-state = record { count = refl; proper = proper; more = λ other. laws.reflexive (annotation_of states other) }
+joined_if_grows states (Some place) state proper proper-state =
+    record { count = length-set states place _; proper = joined_proper states place state proper proper-state; more = joined_grows states place state proper proper-state }
+
+joined_if_holds : (states : List AbstractState) (target : Option ℕ) (to : ℕ) (state : AbstractState) → AreProper states → IsProper state → target ≡ Some to → to < length states → IsWithin state (annotation_of (joined_if states target state) to)
+joined_if_holds states None to state proper proper-state is within = absurd (none-some to is)
+joined_if_holds states (Some place) to state proper proper-state is within =
+    let same : place ≡ to = cc in
+    subst (λ (p : ℕ). IsWithin state (annotation_of (joined states place state) p)) same (joined_holds states place state proper proper-state (omega arith))
+
+propagated_grows : (states : List AbstractState) (next : ℕ) (target : Option ℕ) (edges : Edges) → AreProper states → AreProperEdges edges → Grows states (propagated states next target edges)
+propagated_grows states next target edges proper proper-edges =
+    let middle = joined_if states target edges.target in
+    let first = joined_if_grows states target edges.target proper proper-edges.target in
+    record {
+      count = length-set middle next _ ∙ first.count;
+      proper = joined_proper middle next edges.next first.proper proper-edges.next;
+      more = λ other. laws.transitive (annotation_of states other) (annotation_of middle other) (annotation_of (propagated states next target edges) other) (first.more other)
+          (joined_grows middle next edges.next first.proper proper-edges.next other);
+    }
+
+propagated_holds_next : (states : List AbstractState) (next : ℕ) (target : Option ℕ) (edges : Edges) → AreProper states → AreProperEdges edges → next < length states → IsWithin edges.next (annotation_of (propagated states next target edges) next)
+propagated_holds_next states next target edges proper proper-edges within =
+    let first = joined_if_grows states target edges.target proper proper-edges.target in
+    joined_holds (joined_if states target edges.target) next edges.next first.proper proper-edges.next (let same = first.count in omega arith)
+
+propagated_holds_target : (states : List AbstractState) (next : ℕ) (target : Option ℕ) (to : ℕ) (edges : Edges) → AreProper states → AreProperEdges edges → target ≡ Some to → to < length states → IsWithin edges.target (annotation_of (propagated states next target edges) to)
+propagated_holds_target states next target to edges proper proper-edges is within =
+    let middle = joined_if states target edges.target in
+    let first = joined_if_grows states target edges.target proper proper-edges.target in
+    laws.transitive edges.target (annotation_of middle to) (annotation_of (propagated states next target edges) to)
+    (joined_if_holds states target to edges.target proper proper-edges.target is within) (joined_grows middle next edges.next first.proper proper-edges.next to)
+
+-- as the pass goes on
+
+-- an annotation is good up to a place, and from there on it is what is kept
+pub record IsOnItsWay (code : List Insn) (place : ℕ) (states : List AbstractState) : Type 0 where
+  pub count : length states ≡ word_count code + 1
+  pub proper : AreProper states
+  pub annotation : Annotation
+  pub good : IsGoodUpTo code place annotation
+  pub kept : (other : ℕ) → place ≤ other → annotation other ≡ annotation_of states other
+
+-- what passed passes still where other states grow
+passes_more : (old new : Annotation) (place : ℕ) (insn : Insn) → new place ≡ old place → ((at : ℕ) → IsWithin (old at) (new at)) → PassesAt old place insn → PassesAt new place insn
+passes_more old new place insn same more passes = record {
+  edges = passes.edges;
+  passes = ap (λ (state : AbstractState). transfer state insn) same ∙ passes.passes;
+  next = laws.transitive passes.edges.next (old (place + length (spelling insn))) (new (place + length (spelling insn))) passes.next (more (place + length (spelling insn)));
+  target = λ distance to jumps leads. laws.transitive passes.edges.target (old to) (new to) (passes.target distance to jumps leads) (more to);
+}
+
+-- one annotation up to a place and another behind it
+abbrev behind : Annotation → ℕ → Annotation → Annotation
+behind old place new other = if nat_le other place then old other else new other
+
+behind-old : (old new : Annotation) (place other : ℕ) → other ≤ place → behind old place new other ≡ old other
+behind-old old new place other up = let is : nat_le other place ≡ true = grind (arith, nat_tests) in rw is refl
+
+behind-new : (old new : Annotation) (place other : ℕ) → place < other → behind old place new other ≡ new other
+behind-new old new place other past = let is : nat_le other place ≡ false = grind (arith, nat_tests) in rw is refl
+
+-- where a jump that leads on has its target
+target_is : (place to : ℕ) (target : Option ℕ) (distance : ℤ) (jump : Option ℤ) → option_map pos target ≡ option_map (target_of place) jump → jump ≡ Some distance → pos (place + 1) +ℤ distance ≡ pos to → target ≡ Some to
+target_is place to None distance None same is leads = absurd (none-some distance is)
+target_is place to (Some found) distance None same is leads = absurd (none-some distance is)
+target_is place to None distance (Some by) same is leads = cc
+target_is place to (Some found) distance (Some by) same is leads =
+    let by_distance : by ≡ distance = cc in
+    let there : pos found ≡ target_of place by = cc in
+    let at : pos found ≡ pos to = there ∙ ap (target_of place) by_distance ∙ leads in
+    let equal : found ≡ to = cc in ap Some equal
+
+module _ (code : List Insn) (place : ℕ) (insn : Insn) (before after : List AbstractState) (forward : IsForward code) (stands : instruction_at code place ≡ Some insn) (way : IsOnItsWay code place before) (visits : Visits place insn before after) where
+  abbrev next : ℕ
+  next = place + length (spelling insn)
+
+  abbrev left : List AbstractState
+  left = taken before place
+
+  left_proper : AreProper left
+  left_proper = written_proper before place Unreached way.proper tt
+
+  grows : Grows left (propagated left next visits.target visits.edges)
+  grows = propagated_grows left next visits.target visits.edges left_proper visits.proper
+
+  abbrev annotation : Annotation
+  annotation = behind way.annotation place (annotation_of after)
+
+  -- behind the place what is kept has grown
+  more : (other : ℕ) → IsWithin (way.annotation other) (annotation other)
+  more other = elim (cases_lt place other) as (λ _. IsWithin (way.annotation other) (annotation other)) [
+    | inl past ↦
+        subst (λ (s : AbstractState). IsWithin s (annotation other)) (sym (way.kept other (omega arith) ∙ sym (written-other before place other Unreached (λ same. absurd (omega arith)))))
+        (subst (IsWithin (annotation_of left other)) (sym (behind-new way.annotation (annotation_of after) place other past ∙ ap (λ (states : List AbstractState). annotation_of states other) visits.states)) (grows.more other))
+    | inr up ↦ subst (IsWithin (way.annotation other)) (sym (behind-old way.annotation (annotation_of after) place other up)) (laws.reflexive (way.annotation other))
+  ]
+
+  many : length left ≡ word_count code + 1
+  many = length-set before place Unreached ∙ way.count
+
+  -- a state on an edge to a later place is below the one there
+  arrives : (to : ℕ) (state : AbstractState) → place < to → IsWithin state (annotation_of (propagated left next visits.target visits.edges) to) → IsWithin state (annotation to)
+  arrives to state later below =
+      subst (IsWithin state) (sym (behind-new way.annotation (annotation_of after) place to later ∙ ap (λ (states : List AbstractState). annotation_of states to) visits.states)) below
+
+  passes_here : PassesAt annotation place insn
+  passes_here = record {
+    edges = visits.edges;
+    passes = ap (λ (state : AbstractState). transfer state insn) (behind-old way.annotation (annotation_of after) place place (omega arith) ∙ way.kept place (omega arith)) ∙ visits.passes;
+    next =
+        let long = length-spelling_positive insn in
+        let ends = ends_within code place insn stands in
+        arrives next visits.edges.next (omega arith) (propagated_holds_next left next visits.target visits.edges left_proper visits.proper (let all = many in omega arith));
+    target = λ distance to jumps leads.
+        let on = forward.jumps place insn distance stands jumps in
+        let same : on.target ≡ to = (let both : pos on.target ≡ pos to = sym on.is_target ∙ leads in cc) in
+        let later = on.later in
+        let within = instruction_within code on.target on.begins in
+        arrives to visits.edges.target (omega arith)
+        (propagated_holds_target left next visits.target to visits.edges left_proper visits.proper (target_is place to visits.target distance (jump_distance insn) visits.leads jumps leads) (let all = many in omega arith));
+  }
+
+  passes_up_to : (at : ℕ) (found : Insn) → at < next → instruction_at code at ≡ Some found → PassesAt annotation at found
+  passes_up_to at found below is = elim (cases_lt at place) as (λ _. PassesAt annotation at found) [
+    | inl earlier ↦ passes_more way.annotation annotation at found (behind-old way.annotation (annotation_of after) place at (omega arith)) more (way.good.passes at found earlier is)
+    | inr from ↦ elim (cases_lt place at) as (λ _. PassesAt annotation at found) [
+      | inl inside ↦ absurd (none-some found (sym (nothing_within code place insn at stands inside below) ∙ is))
+      | inr here ↦
+          let same : place ≡ at = omega arith in
+          let both : Some insn ≡ Some found = sym stands ∙ ap (instruction_at code) same ∙ is in
+          let one : insn ≡ found = cc in
+          subst (λ (p : ℕ). PassesAt annotation p found) same (subst (PassesAt annotation place) one passes_here)
+    ]
+  ]
+
+  proper_everywhere : (other : ℕ) → IsProper (annotation other)
+  proper_everywhere other = elim (cases_lt place other) as (λ _. IsProper (annotation other)) [
+    | inl past ↦
+        subst IsProper (sym (behind-new way.annotation (annotation_of after) place other past)) (subst AreProper (sym visits.states) grows.proper other)
+    | inr up ↦ subst IsProper (sym (behind-old way.annotation (annotation_of after) place other up)) (way.good.proper other)
+  ]
+
+  -- one instruction more
+  pub goes_on : IsOnItsWay code (place + length (spelling insn)) after
+  goes_on = record {
+    count = ap length visits.states ∙ grows.count ∙ many;
+    proper = subst AreProper (sym visits.states) grows.proper;
+    annotation = annotation;
+    good = record {
+      proper = proper_everywhere;
+      entry = laws.transitive (Reached entry) (way.annotation 0) (annotation 0) way.good.entry (more 0);
+      passes = passes_up_to;
+    };
+    kept = λ other past. let long = length-spelling_positive insn in behind-new way.annotation (annotation_of after) place other (omega arith);
+  }
+
+-- a visit that is refused
+pub refuses : (code : List Insn) (place : ℕ) (insn : Insn) (states : List AbstractState) (fault : VerifyFault) → instruction_at code place ≡ Some insn → IsOnItsWay code place states → IsVisitFault states place insn fault → IsVerifyFault code fault
+refuses code place insn states Memory stands way fault = tt
+refuses code place insn states (Refused at cause) stands way fault =
+    subst (λ (p : ℕ). IsRefusedAt code p cause) (sym fault.0)
+    (record {
+      annotation = way.annotation;
+      good = way.good;
+      insn = insn;
+      stands = stands;
+      fails = ap (λ (state : AbstractState). transfer state insn) (way.kept place (omega arith)) ∙ fault.1;
+    })
+
+-- where the edges lead there are places
+pub next_is_a_place : (code : List Insn) (place : ℕ) (insn : Insn) (before : List AbstractState) (words : ℕ) → instruction_at code place ≡ Some insn → length before ≡ word_count code + 1 → words ≡ length (spelling insn) → place + words < length (taken before place)
+next_is_a_place code place insn before words stands count long =
+    let ends = ends_within code place insn stands in let same = length-set before place Unreached in omega arith
+
+pub target_is_a_place : (code : List Insn) (place : ℕ) (before : List AbstractState) (target : Option ℕ) → length before ≡ word_count code + 1 → IfSome target (λ to. IsSome (instruction_at code to)) → IfSome target (λ to. to < length (taken before place))
+target_is_a_place code place before None count begins = tt
+target_is_a_place code place before (Some to) count begins = let within = instruction_within code to begins in let same = length-set before place Unreached in omega arith
+
+-- at the start
+
+AllProper : List Kind → Type 0
+AllProper [] = Unit {0}
+AllProper (known ∷ rest) = kind.IsProper known × AllProper rest
+
+each_proper : (kinds : List Kind) → AllProper kinds → (register : ℕ) → kind.IsProper (get_or kinds register Nothing)
+unfolding AllProper
+each_proper [] proper register = tt
+each_proper (known ∷ rest) proper zero = proper.0
+each_proper (known ∷ rest) proper (suc register) = each_proper rest proper.1 register
+
+at_proper : (offset : ℤ) → FitsSigned w16 offset → offsets.IsProper (offsets.between offset offset)
+at_proper offset fits = record { ordered = omega (arith, ints); low = fits; high = fits }
+
+all_proper : AllProper entry.registers
+unfolding AllProper
+all_proper = (tt, (at_proper (pos 0) (search rules), (tt, (tt, (tt, (tt, (tt, (tt, (tt, (tt, (at_proper (pos FRAME_LENGTH) (search rules), tt)))))))))))
+
+entry_is_proper : IsProperKnown entry
+entry_is_proper = record { count = refl; kinds = each_proper entry.registers all_proper; frame = unwritten_is_proper }
+
+unreached_proper : (count place : ℕ) → IsProper (annotation_of (replicate count Unreached) place)
+unreached_proper zero place = tt
+unreached_proper (suc count) zero = tt
+unreached_proper (suc count) (suc place) = unreached_proper count place
+
+pub first_are_proper : (places : ℕ) → AreProper (first places)
+first_are_proper places zero = entry_is_proper
+first_are_proper places (suc place) = unreached_proper (places - 1) place
+
+pub starts : (code : List Insn) (states : List AbstractState) → states ≡ first (word_count code + 1) → IsOnItsWay code 0 states
+starts code states is = subst (IsOnItsWay code 0) (sym is) (record {
+  count = let rest = length-replicate (word_count code + 1 - 1) Unreached in omega arith;
+  proper = first_are_proper (word_count code + 1);
+  annotation = annotation_of (first (word_count code + 1));
+  good = record {
+    proper = first_are_proper (word_count code + 1);
+    entry = laws.reflexive (Reached entry);
+    passes = λ place insn before stands. absurd (omega arith);
+  };
+  kept = λ other past. refl;
+})
+
+-- at the end
+
+pub has_good_annotation : (code : List Insn) (place : ℕ) (states : List AbstractState) → place ≡ word_count code → IsOnItsWay code place states → HasGoodAnnotation code
+has_good_annotation code place states end way = (way.annotation, subst (λ (p : ℕ). IsGoodUpTo code p way.annotation) end way.good)

@@ -1,0 +1,14 @@
+use Rattle.std.proofs.Common.{◌≡◌, ℕ, ◌<◌, ◌≤◌, length}
+use Rattle.bpf_kinds.specs.Kind as kind
+use Rattle.bpf_meaning.specs.declared.state.TheConstants.{REGISTERS}
+use Rattle.bpf_verify.specs.State.{kind_of}
+use Rattle.bpf_verify.proofs.state.Known.join_with.Given as goal
+
+-- the registers so far are joined, and the others are as they were
+abbrev pub invariant-loop-register : goal.invariant-loop-register
+invariant-loop-register l = record {
+  count : length l.self.registers ≡ REGISTERS;
+  joined : (register : ℕ) → register < l.register → kind_of l.self register ≡ kind.join (kind_of l.initial.self register) (kind_of l.other register);
+  rest : (register : ℕ) → l.register ≤ register → kind_of l.self register ≡ kind_of l.initial.self register;
+  frame : l.self.frame ≡ l.initial.self.frame;
+}
