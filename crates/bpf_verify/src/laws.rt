@@ -1,12 +1,28 @@
 //! What holds of the definitions themselves. The functions do nothing: each one's contract is the law.
-ghost use Rattle.std.specs.Prelude.{List};
+ghost use Rattle.std.specs.Prelude.{◌≡◌, List};
 ghost use Rattle.bpf_insn.specs.declared.instruction.Insn.{Insn};
 ghost use Rattle.bpf_flow.specs.Flow.{IsForward};
 ghost use Rattle.bpf_meaning.specs.Run.{IsSafe};
+ghost use Rattle.bpf_meaning.specs.declared.state.State.{State};
 ghost use Rattle.bpf_verify.specs.Annotation.{HasGoodAnnotation};
+ghost use Rattle.bpf_verify.specs.State.{AbstractState, Admits, IsProper, IsWithin, Unreached, join};
 
 /// Soundness: a code whose jumps go forward, that ends in EXIT and that has an annotation which is good to its end, is stuck on no segment,
 /// and exits in at most as many steps as it has instructions.
 pub fn accepted_is_safe()
     ensures { (code : List Insn) → IsForward code → HasGoodAnnotation code → IsSafe code }
+{}
+
+/// Abstract states stand in order with that which isn't reached at the bottom, a join is the least above two, and what is possible stays so
+/// upwards.
+pub fn states_stand_in_order()
+    ensures reflexive { (x : AbstractState) → IsWithin x x }
+    ensures transitive { (x y z : AbstractState) → IsWithin x y → IsWithin y z → IsWithin x z }
+    ensures antisymmetric { (x y : AbstractState) → IsProper x → IsProper y → IsWithin x y → IsWithin y x → x ≡ y }
+    ensures bottom { (x : AbstractState) → IsWithin Unreached x }
+    ensures join_is_proper { (x y : AbstractState) → IsProper x → IsProper y → IsProper (join x y) }
+    ensures left_below_join { (x y : AbstractState) → IsProper x → IsProper y → IsWithin x (join x y) }
+    ensures right_below_join { (x y : AbstractState) → IsProper x → IsProper y → IsWithin y (join x y) }
+    ensures join_is_least { (x y z : AbstractState) → IsProper x → IsProper y → IsWithin x z → IsWithin y z → IsWithin (join x y) z }
+    ensures admits_more { (x y : AbstractState) (state : State) → IsWithin x y → Admits x state → Admits y state }
 {}
