@@ -1,1 +1,3 @@
 mod MachineLemmas
+mod WordArithmetic
+mod WordWalk
