@@ -1,3 +1,4 @@
 mod MachineLemmas
 mod WordArithmetic
+mod WordMemory
 mod WordWalk

@@ -33,7 +33,8 @@ use Rattle.bpf_meaning.specs.declared.effect.Effect.{Effect}
 use Rattle.bpf_meaning.specs.declared.effect.Effect.TheVariants.{GoOn}
 use Rattle.bpf_meaning.specs.declared.state.State.{State}
 use Rattle.bpf_meaning.proofs.WalkForesees.{Foresees, walk_foreseen}
-use Rattle.bpf_machine.specs.Words.{AreAreasOf, Goes, HasImmediates, Holds, HoldsChange, HoldsEffect, IsAreaOf, IsWordOf, MemoryIsHeld, Next, Words, area_bytes, bare_words, load_bytes, next_words, pointer_of, store_at, target, with_word}
+use Rattle.bpf_machine.specs.Words.{AreAreasOf, Goes, HasImmediates, Holds, HoldsChange, HoldsEffect, IsAreaOf, IsWordOf, CallsAreHeld, Next, Words, area_bytes, bare_words, load_bytes, next_words, pointer_of, store_at, target, with_word}
+use Rattle.bpf_machine.proofs.WordMemory.{load_held, store_held}
 use Rattle.bpf_machine.proofs.WordArithmetic.{IsNumber, admitted_fits, move_held, operate_held, single-admits, single-proper}
 
 -- what is read
@@ -140,9 +141,9 @@ frame_held area.Frame pointer other offset same = ap (λ (p : PointerParts). uns
 frame_held area.Record pointer other offset same = tt
 
 -- each step of an instruction
-values_foresee : (code : List Insn) (segment : Contents) (state : State) (areas : ℕ → Area) (words : Words) (insn : Insn) (next : ℕ) → MemoryIsHeld segment state words → IsSegment segment → IsWhole state → HoldsBytes state → AreAreasOf state areas → Holds state words
+values_foresee : (code : List Insn) (segment : Contents) (state : State) (areas : ℕ → Area) (words : Words) (insn : Insn) (next : ℕ) → CallsAreHeld segment state words → IsSegment segment → IsWhole state → HoldsBytes state → AreAreasOf state areas → Holds state words
     → Foresees (effect.values code segment state next) (bare_words segment areas words state.place next) insn
-values_foresee code segment state areas words insn next memory is whole bytes points holds = record {
+values_foresee code segment state areas words insn next calls is whole bytes points holds = record {
   Fits = FitsSigned w32;
   Read = λ register. IsWordOf;
   Values = IsWordOf;
@@ -166,12 +167,12 @@ values_foresee code segment state areas words insn next memory is whole bytes po
   operate = operate_held;
   load = λ format p q offset same.
       subst (λ (x : PointerParts). Sound IsWordOf (effect.load_bytes format (effect.area_bytes segment state p.area) (p.offset +ℤ offset)) (Ok (load_bytes format (area_bytes segment words x.area) (unsigned_abs (x.offset +ℤ offset))))) (sym same)
-      (memory.load format p.area (p.offset +ℤ offset));
+      (load_held segment state words is whole bytes holds format p.area (p.offset +ℤ offset));
   frame = λ p q offset same. frame_held p.area p q offset same;
   store_at = λ at from offset size m n is same.
       subst (λ (k : ℕ). Sound (HoldsChange segment state) (effect.store_at at size m) (Ok (store_at words from size k))) (sym same.0)
-      (subst (λ (k : ℕ). Sound (HoldsChange segment state) (effect.store_at at size m) (Ok (store_at words k size m))) (sym is) (memory.store at size m));
-  call = memory.call;
+      (subst (λ (k : ℕ). Sound (HoldsChange segment state) (effect.store_at at size m) (Ok (store_at words k size m))) (sym is) (store_held segment state words whole holds at size m));
+  call = calls.call;
   set = λ goes_on destination v word held. goes_on_held code segment state next next _ _ refl (register_held segment state words holds destination v word held);
   go_on = λ goes_on change behind holds. goes_on_held code segment state next next change behind refl holds;
   jump = λ distance jumps. jump_held code segment state _ words holds;
@@ -182,8 +183,8 @@ values_foresee code segment state areas words insn next memory is whole bytes po
   end = λ n word same. (same.0, holds.score);
 }
 
-pub walk_held : (code : List Insn) (segment : Contents) (state : State) (areas : ℕ → Area) (words : Words) (insn : Insn) (next : ℕ) → MemoryIsHeld segment state words → IsSegment segment → IsWhole state → HoldsBytes state → HasImmediates insn → AreAreasOf state areas → Holds state words
+pub walk_held : (code : List Insn) (segment : Contents) (state : State) (areas : ℕ → Area) (words : Words) (insn : Insn) (next : ℕ) → CallsAreHeld segment state words → IsSegment segment → IsWhole state → HoldsBytes state → HasImmediates insn → AreAreasOf state areas → Holds state words
     → Sound (HoldsEffect segment state) (effect.instruction_effect code segment state next insn) (next_words segment areas words state.place next insn)
 unfolding values_foresee
-walk_held code segment state areas words insn next memory is whole bytes fits points holds =
-    walk_foreseen (effect.values code segment state next) (bare_words segment areas words state.place next) insn (values_foresee code segment state areas words insn next memory is whole bytes points holds) fits
+walk_held code segment state areas words insn next calls is whole bytes fits points holds =
+    walk_foreseen (effect.values code segment state next) (bare_words segment areas words state.place next) insn (values_foresee code segment state areas words insn next calls is whole bytes points holds) fits

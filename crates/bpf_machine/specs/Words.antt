@@ -203,8 +203,6 @@ HasImmediates (StoreImmediate size base offset immediate) = FitsSigned w32 immed
 HasImmediates (WideLoad destination immediate next_immediate) = FitsSigned w32 immediate × FitsSigned w32 next_immediate
 HasImmediates insn = Unit {0}
 
--- what memory and calls are asked for: what they give on words stands for what they give on values
-pub record MemoryIsHeld (segment : Contents) (state : State) (words : Words) : Type 0 where
-  pub load : (format : LoadFormat) (into : Area) (at : ℤ) → Sound IsWordOf (effect.load_bytes format (effect.area_bytes segment state into) at) (Ok (load_bytes format (area_bytes segment words into) (unsigned_abs at)))
-  pub store : (from : ℤ) (size : StoreSize) (n : ℕ) → Sound (HoldsChange segment state) (effect.store_at from size n) (Ok (store_at words (unsigned_abs from) size n))
+-- what calls give on words stands for what they give on values
+pub record CallsAreHeld (segment : Contents) (state : State) (words : Words) : Type 0 where
   pub call : (helper : Helper) → Sound (HoldsChange segment state) (effect.call_helper state helper) (Ok (call_helper segment words helper))
