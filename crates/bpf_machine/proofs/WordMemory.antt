@@ -1,21 +1,17 @@
 -- Loads and stores on words stand for those on values.
-use Rattle.std.proofs.Common.{◌≡◌, ℕ, zero, suc, ◌+◌, ◌-◌, ◌*◌, ◌^◌, ◌<◌, ◌≤◌, ℤ, pos, negsuc, unsigned_abs, Bool, true, false, IsTrue, List, [], ◌∷◌, length, map, take, drop, get_or, Option, Some, None, Result, Ok, Err, if◌then◌else◌, refl, sym, ap, ◌∙◌, subst, inl, inr, arith}
+use Rattle.std.proofs.Common.{◌≡◌, ℕ, zero, suc, ◌+◌, ◌-◌, ◌*◌, ◌^◌, ◌<◌, ◌≤◌, ℤ, pos, negsuc, unsigned_abs, Bool, true, false, List, [], ◌∷◌, length, map, take, drop, get_or, Option, Some, None, Ok, Err, if◌then◌else◌, refl, sym, ap, ◌∙◌, subst, inl, inr, arith}
 use Rattle.std.specs.Int.{bytes_low_first}
 use Rattle.std.specs.Option.{option_map}
-use Rattle.std.specs.Prelude.{slice_index}
 use Rattle.std.proofs.lemmas.Bool.{false≢true, cases_lt}
 use Rattle.std.proofs.lemmas.Bool.Decides.{nat_tests}
-use Rattle.std.proofs.lemmas.List.{length-map, get_or-map}
+use Rattle.std.proofs.lemmas.List.{length-map}
 use Rattle.bpf_insn.specs.Arithmetic as arithmetic
 use Rattle.bpf_insn.specs.Memory.{load_length, store_length}
 use Rattle.bpf_insn.specs.declared.instruction.LoadFormat.{LoadFormat}
-use Rattle.bpf_insn.specs.declared.instruction.LoadFormat.TheVariants as format
 use Rattle.bpf_insn.specs.declared.instruction.StoreSize.{StoreSize}
 use Rattle.bpf_insn.specs.declared.memory.TheConstants.{FRAME_LENGTH}
 use Rattle.bpf_insn.specs.declared.value.Area.{Area}
 use Rattle.bpf_insn.specs.declared.value.Area.TheVariants as area
-use Rattle.bpf_insn.specs.declared.value.Value.TheVariants.{Number}
-use Rattle.bpf_kinds.specs.Interval as interval
 use Rattle.bpf_kinds.specs.Results.{load}
 use Rattle.bpf_kinds.proofs.ResultLemmas.{load-admits, load-proper}
 use Rattle.bpf_helpers.specs.Call.{write}
@@ -27,13 +23,13 @@ use Rattle.bpf_meaning.specs.Memory as meaning
 use Rattle.bpf_meaning.specs.Memory.{FrameByte, Unwritten, Byte, IsByte}
 use Rattle.bpf_meaning.specs.State.{HoldsBytes, IsWhole}
 use Rattle.bpf_meaning.specs.Step.{carry_out}
-use Rattle.bpf_meaning.specs.declared.cause.Cause.{Cause}
-use Rattle.bpf_meaning.specs.declared.cause.Cause.TheVariants.{OutOfBounds, UnwrittenFrame}
+use Rattle.bpf_meaning.specs.declared.cause.Cause.TheVariants.{OutOfBounds}
+use Rattle.bpf_meaning.specs.declared.effect.Change.{Change}
 use Rattle.bpf_meaning.specs.declared.effect.Change.TheVariants.{StoreBytes}
 use Rattle.bpf_meaning.specs.declared.state.State.{State}
 use Rattle.bpf_meaning.proofs.FrameLemmas.{HoldBytes, bytes-map}
 use Rattle.bpf_meaning.proofs.MemoryLemmas.{fits_more, length-bytes_low_first, store_is_write}
-use Rattle.bpf_machine.specs.Words.{Holds, HoldsChange, IsByteOf, IsWordOf, Words, area_bytes, load_bytes, number_of, store_at}
+use Rattle.bpf_machine.specs.Words.{Holds, IsByteOf, IsWordOf, Words, area_bytes, load_bytes, number_of, store_at}
 use Rattle.bpf_machine.proofs.WordArithmetic.{admitted_fits}
 
 -- bytes stand for memory, one by one
@@ -103,6 +99,10 @@ load_held segment state words is whole small holds load_format area.Frame from =
     bytes_loaded load_format state.frame.bytes words.frame from holds.frame small.frame (holds.whole ∙ sym whole.frame)
 
 -- stores
+
+-- words hold what a change leads to
+abbrev pub HoldsChange : Contents → State → Change → Words → Type 0
+HoldsChange segment state change words = Holds (carry_out segment state change) words
 
 -- bytes that are written over both stand for one another
 pub write-stands : (memory : List FrameByte) (bytes new : List ℕ) (at : ℕ) → length bytes ≡ length memory → at + length new ≤ length memory → StandFor memory bytes → StandFor (write memory at (map Byte new)) (write bytes at new)

@@ -1,5 +1,5 @@
 -- One instruction on words: where it passes its checks, what it leads to on words holds what it leads to.
-use Rattle.std.proofs.Common.{◌≡◌, ℕ, zero, suc, ◌+◌, ◌^◌, ◌<◌, ℤ, pos, negsuc, ◌+ℤ◌, unsigned_abs, Bool, true, false, IsTrue, List, [], ◌∷◌, length, get_or, is_some, nat_lt, Result, Ok, Err, if◌then◌else◌, refl, sym, ap, ◌∙◌, subst, arith}
+use Rattle.std.proofs.Common.{◌≡◌, ℕ, zero, suc, ℤ, pos, negsuc, ◌+ℤ◌, unsigned_abs, Bool, true, false, IsTrue, List, [], ◌∷◌, length, get_or, is_some, nat_lt, Result, Ok, Err, if◌then◌else◌, refl, sym, ap, subst, arith}
 use Rattle.std.specs.Prelude.{slice_set, FitsSigned}
 use Rattle.std.specs.Int.{cast_signed, cast_unsigned, w32, w64}
 use Rattle.std.proofs.Math.ListN.{length-set}
@@ -10,6 +10,10 @@ use Rattle.bpf_insn.specs.Arithmetic.{is_met}
 use Rattle.bpf_insn.specs.Code.{instruction_at, word_count}
 use Rattle.bpf_insn.specs.Pointer.{is_offset}
 use Rattle.bpf_insn.specs.declared.instruction.Insn.{Insn}
+use Rattle.bpf_insn.specs.declared.instruction.ByteOrder.{ByteOrder}
+use Rattle.bpf_insn.specs.declared.instruction.SignExtension.{SignExtension}
+use Rattle.bpf_insn.specs.declared.instruction.SwapWidth.{SwapWidth}
+use Rattle.bpf_insn.specs.declared.instruction.Width.{Width}
 use Rattle.bpf_insn.specs.declared.instruction.Source.TheVariants.{Immediate, Register}
 use Rattle.bpf_insn.specs.declared.register.WritableRegister.{WritableRegister}
 use Rattle.bpf_insn.specs.declared.value.Area.{Area}
@@ -22,7 +26,7 @@ use Rattle.bpf_kinds.proofs.ResultLemmas.{extend-proper, extend-admits, negate-p
 use Rattle.tl_segments.specs.Segment.{Contents, IsSegment}
 use Rattle.bpf_meaning.specs.Checks.{◌>>=◌, Sound}
 use Rattle.bpf_meaning.specs.Effect as effect
-use Rattle.bpf_meaning.specs.State.{HoldsBytes, IsWhole, register_value}
+use Rattle.bpf_meaning.specs.State.{HoldsBytes, IsWhole}
 use Rattle.bpf_meaning.specs.Step.{carry_out}
 use Rattle.bpf_meaning.specs.Walk.{ConditionalJump}
 use Rattle.bpf_meaning.specs.declared.cause.Cause.{Cause}
@@ -33,8 +37,9 @@ use Rattle.bpf_meaning.specs.declared.effect.Effect.{Effect}
 use Rattle.bpf_meaning.specs.declared.effect.Effect.TheVariants.{GoOn}
 use Rattle.bpf_meaning.specs.declared.state.State.{State}
 use Rattle.bpf_meaning.proofs.WalkForesees.{Foresees, walk_foreseen}
-use Rattle.bpf_machine.specs.Words.{AreAreasOf, Goes, HasImmediates, Holds, HoldsChange, HoldsEffect, IsAreaOf, IsWordOf, CallsAreHeld, Next, Words, area_bytes, bare_words, load_bytes, next_words, pointer_of, store_at, target, with_word}
-use Rattle.bpf_machine.proofs.WordMemory.{load_held, store_held}
+use Rattle.bpf_machine.specs.Words.{Goes, HasAreas, HasImmediates, Holds, HoldsEffect, IsWordOf, Next, PointsInto, Words, area_bytes, bare_words, load_bytes, next_words, pointer_of, store_at, target, with_word}
+use Rattle.bpf_machine.proofs.WordCalls.{call_held}
+use Rattle.bpf_machine.proofs.WordMemory.{HoldsChange, load_held, store_held}
 use Rattle.bpf_machine.proofs.WordArithmetic.{IsNumber, admitted_fits, move_held, operate_held, single-admits, single-proper}
 
 -- what is read
@@ -57,24 +62,24 @@ offset_is offset word is near = grind (arith, ints, nat_tests)
 same_pointer : (into area : Area) (at offset : ℤ) → into ≡ area → at ≡ offset → IsPointer (record { area = area; offset = offset }) (record { area = into; offset = at })
 same_pointer into area at offset same is = cc
 
-pointer_held : (register : ℕ) (into : Area) (v : Value) (word : ℕ) → IsWordOf v word → IsAreaOf v into → Sound IsPointer (effect.read_value register v >>= effect.only_pointer) (Ok (pointer_of into word))
+pointer_held : (register : ℕ) (into : Area) (v : Value) (word : ℕ) → IsWordOf v word → PointsInto v into → Sound IsPointer (effect.read_value register v >>= effect.only_pointer) (Ok (pointer_of into word))
 pointer_held register into value.Empty word held is = tt
 pointer_held register into (value.Number n) word held is = tt
 pointer_held register into (value.Pointer pointer) word held is = same_pointer into pointer.area _ pointer.offset is (offset_is pointer.offset word held.0 held.1)
 
 -- arithmetic on one number
 
-extended_held : (extension : _) (n word : ℕ) → IsNumber n word → IsNumber (arithmetic.extension_of extension n) (arithmetic.extension_of extension word)
+extended_held : (extension : SignExtension) (n word : ℕ) → IsNumber n word → IsNumber (arithmetic.extension_of extension n) (arithmetic.extension_of extension word)
 extended_held extension n word is =
     let proper = single-proper n is.1 in
     (ap (arithmetic.extension_of extension) is.0, admitted_fits _ _ (extend-proper extension (single n) proper) (extend-admits extension (single n) n proper (single-admits n)))
 
-negated_held : (width : _) (n word : ℕ) → IsNumber n word → IsNumber (arithmetic.negate width n) (arithmetic.negate width word)
+negated_held : (width : Width) (n word : ℕ) → IsNumber n word → IsNumber (arithmetic.negate width n) (arithmetic.negate width word)
 negated_held width n word is =
     let proper = single-proper n is.1 in
     (ap (arithmetic.negate width) is.0, admitted_fits _ _ (negate-proper width (single n) proper) (negate-admits width (single n) n proper (single-admits n)))
 
-swapped_held : (order : _) (width : _) (n word : ℕ) → IsNumber n word → IsNumber (arithmetic.byte_swap order width n) (arithmetic.byte_swap order width word)
+swapped_held : (order : ByteOrder) (width : SwapWidth) (n word : ℕ) → IsNumber n word → IsNumber (arithmetic.byte_swap order width n) (arithmetic.byte_swap order width word)
 swapped_held order width n word is =
     let proper = single-proper n is.1 in
     (ap (arithmetic.byte_swap order width) is.0, admitted_fits _ _ (byte_swap-proper order width (single n) proper) (byte_swap-admits order width (single n) n proper (single-admits n)))
@@ -141,9 +146,9 @@ frame_held area.Frame pointer other offset same = ap (λ (p : PointerParts). uns
 frame_held area.Record pointer other offset same = tt
 
 -- each step of an instruction
-values_foresee : (code : List Insn) (segment : Contents) (state : State) (areas : ℕ → Area) (words : Words) (insn : Insn) (next : ℕ) → CallsAreHeld segment state words → IsSegment segment → IsWhole state → HoldsBytes state → AreAreasOf state areas → Holds state words
+values_foresee : (code : List Insn) (segment : Contents) (state : State) (areas : ℕ → Area) (words : Words) (insn : Insn) (next : ℕ) → IsSegment segment → IsWhole state → HoldsBytes state → HasAreas state areas → Holds state words
     → Foresees (effect.values code segment state next) (bare_words segment areas words state.place next) insn
-values_foresee code segment state areas words insn next calls is whole bytes points holds = record {
+values_foresee code segment state areas words insn next is whole bytes points holds = record {
   Fits = FitsSigned w32;
   Read = λ register. IsWordOf;
   Values = IsWordOf;
@@ -172,7 +177,7 @@ values_foresee code segment state areas words insn next calls is whole bytes poi
   store_at = λ at from offset size m n is same.
       subst (λ (k : ℕ). Sound (HoldsChange segment state) (effect.store_at at size m) (Ok (store_at words from size k))) (sym same.0)
       (subst (λ (k : ℕ). Sound (HoldsChange segment state) (effect.store_at at size m) (Ok (store_at words k size m))) (sym is) (store_held segment state words whole holds at size m));
-  call = calls.call;
+  call = call_held segment state words is whole holds;
   set = λ goes_on destination v word held. goes_on_held code segment state next next _ _ refl (register_held segment state words holds destination v word held);
   go_on = λ goes_on change behind holds. goes_on_held code segment state next next change behind refl holds;
   jump = λ distance jumps. jump_held code segment state _ words holds;
@@ -183,8 +188,8 @@ values_foresee code segment state areas words insn next calls is whole bytes poi
   end = λ n word same. (same.0, holds.score);
 }
 
-pub walk_held : (code : List Insn) (segment : Contents) (state : State) (areas : ℕ → Area) (words : Words) (insn : Insn) (next : ℕ) → CallsAreHeld segment state words → IsSegment segment → IsWhole state → HoldsBytes state → HasImmediates insn → AreAreasOf state areas → Holds state words
+pub walk_held : (code : List Insn) (segment : Contents) (state : State) (areas : ℕ → Area) (words : Words) (insn : Insn) (next : ℕ) → IsSegment segment → IsWhole state → HoldsBytes state → HasImmediates insn → HasAreas state areas → Holds state words
     → Sound (HoldsEffect segment state) (effect.instruction_effect code segment state next insn) (next_words segment areas words state.place next insn)
 unfolding values_foresee
-walk_held code segment state areas words insn next calls is whole bytes fits points holds =
-    walk_foreseen (effect.values code segment state next) (bare_words segment areas words state.place next) insn (values_foresee code segment state areas words insn next calls is whole bytes points holds) fits
+walk_held code segment state areas words insn next is whole bytes fits points holds =
+    walk_foreseen (effect.values code segment state next) (bare_words segment areas words state.place next) insn (values_foresee code segment state areas words insn next is whole bytes points holds) fits

@@ -24,14 +24,11 @@ use Rattle.bpf_helpers.specs.Helper.{signature}
 use Rattle.bpf_helpers.specs.declared.helper.Helper.{Helper}
 use Rattle.bpf_helpers.specs.declared.signature.Argument.{Argument}
 use Rattle.bpf_helpers.specs.declared.signature.Argument.TheVariants as argument
-use Rattle.bpf_meaning.specs.Checks.{Sound}
-use Rattle.bpf_meaning.specs.Effect as effect
 use Rattle.bpf_meaning.specs.Memory.{FrameByte, Unwritten, Byte}
 use Rattle.bpf_meaning.specs.State.{register_value}
-use Rattle.bpf_meaning.specs.Step.{Configuration, Running, Exited, apply, carry_out}
+use Rattle.bpf_meaning.specs.Step.{Configuration, Running, Exited, apply}
 use Rattle.bpf_meaning.specs.Walk.{Registers, Domain, walk}
 use Rattle.bpf_meaning.specs.declared.cause.Cause.{Cause}
-use Rattle.bpf_meaning.specs.declared.effect.Change.{Change}
 use Rattle.bpf_meaning.specs.declared.effect.Effect.{Effect}
 use Rattle.bpf_meaning.specs.declared.state.State.{State}
 
@@ -145,7 +142,7 @@ bare_words segment areas words place next = record {
   end = λ answer. Ok (Ends answer words.score);
 }
 
--- what an instruction leads to on bare words; no check fails but that there is a helper function of a call's number
+-- what an instruction leads to on bare words; nothing fails but a call of a number that no helper function has
 abbrev pub next_words : Contents → (ℕ → Area) → Words → ℕ → ℕ → Insn → Result Next Cause
 next_words segment areas words place next insn = walk (bare_words segment areas words place next) insn
 
@@ -178,18 +175,14 @@ HoldsNext configuration next = ⊥
 abbrev pub HoldsEffect : Contents → State → Effect → Next → Type 0
 HoldsEffect segment state effect next = HoldsNext (apply segment state effect) next
 
--- words hold what a change leads to
-abbrev pub HoldsChange : Contents → State → Change → Words → Type 0
-HoldsChange segment state change words = Holds (carry_out segment state change) words
+-- a value points into an area, if it's a pointer
+abbrev pub PointsInto : Value → Area → Type 0
+PointsInto (Pointer pointer) area = area ≡ pointer.area
+PointsInto value area = Unit {0}
 
--- an area is that of a value, where it is a pointer
-abbrev pub IsAreaOf : Value → Area → Type 0
-IsAreaOf (Pointer pointer) area = area ≡ pointer.area
-IsAreaOf value area = Unit {0}
-
--- these are the areas of the pointers that the registers of a state hold
-abbrev pub AreAreasOf : State → (ℕ → Area) → Type 0
-AreAreasOf state areas = (register : ℕ) → IsAreaOf (register_value state register) (areas register)
+-- each register of a state that holds a pointer points into the register's area
+abbrev pub HasAreas : State → (ℕ → Area) → Type 0
+HasAreas state areas = (register : ℕ) → PointsInto (register_value state register) (areas register)
 
 -- the immediates that become operands are signed numbers of 32 bits, as those of each instruction of the code are
 abbrev pub HasImmediate : Source → Type 0
@@ -202,7 +195,3 @@ HasImmediates (JumpIf condition width left right distance) = HasImmediate right
 HasImmediates (StoreImmediate size base offset immediate) = FitsSigned w32 immediate
 HasImmediates (WideLoad destination immediate next_immediate) = FitsSigned w32 immediate × FitsSigned w32 next_immediate
 HasImmediates insn = Unit {0}
-
--- what calls give on words stands for what they give on values
-pub record CallsAreHeld (segment : Contents) (state : State) (words : Words) : Type 0 where
-  pub call : (helper : Helper) → Sound (HoldsChange segment state) (effect.call_helper state helper) (Ok (call_helper segment words helper))
