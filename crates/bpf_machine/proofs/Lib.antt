@@ -1,1 +1,5 @@
 mod MachineLemmas
+mod WordArithmetic
+mod WordMemory
+mod WordCalls
+mod WordWalk

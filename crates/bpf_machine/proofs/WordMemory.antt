@@ -1,0 +1,144 @@
+-- Loads and stores on words stand for those on values.
+use Rattle.std.proofs.Common.{◌≡◌, ℕ, zero, suc, ◌+◌, ◌-◌, ◌*◌, ◌^◌, ◌<◌, ◌≤◌, ℤ, pos, negsuc, unsigned_abs, Bool, true, false, List, [], ◌∷◌, length, map, take, drop, get_or, Option, Some, None, Ok, Err, if◌then◌else◌, refl, sym, ap, ◌∙◌, subst, inl, inr, arith}
+use Rattle.std.specs.Int.{bytes_low_first}
+use Rattle.std.specs.Option.{option_map}
+use Rattle.std.proofs.lemmas.Bool.{false≢true, cases_lt}
+use Rattle.std.proofs.lemmas.Bool.Decides.{nat_tests}
+use Rattle.std.proofs.lemmas.List.{length-map}
+use Rattle.bpf_insn.specs.Arithmetic as arithmetic
+use Rattle.bpf_insn.specs.Memory.{load_length, store_length}
+use Rattle.bpf_insn.specs.declared.instruction.LoadFormat.{LoadFormat}
+use Rattle.bpf_insn.specs.declared.instruction.StoreSize.{StoreSize}
+use Rattle.bpf_insn.specs.declared.memory.TheConstants.{FRAME_LENGTH}
+use Rattle.bpf_insn.specs.declared.value.Area.{Area}
+use Rattle.bpf_insn.specs.declared.value.Area.TheVariants as area
+use Rattle.bpf_kinds.specs.Results.{load}
+use Rattle.bpf_kinds.proofs.ResultLemmas.{load-admits, load-proper}
+use Rattle.bpf_helpers.specs.Call.{write}
+use Rattle.bpf_helpers.proofs.WriteLemmas.{get_or-write, get_or-write_before, get_or-write_behind, length-write}
+use Rattle.tl_segments.specs.Segment.{Contents, IsSegment}
+use Rattle.bpf_meaning.specs.Checks.{Sound}
+use Rattle.bpf_meaning.specs.Effect as effect
+use Rattle.bpf_meaning.specs.Memory as meaning
+use Rattle.bpf_meaning.specs.Memory.{FrameByte, Unwritten, Byte, IsByte}
+use Rattle.bpf_meaning.specs.State.{HoldsBytes, IsWhole}
+use Rattle.bpf_meaning.specs.Step.{carry_out}
+use Rattle.bpf_meaning.specs.declared.cause.Cause.TheVariants.{OutOfBounds}
+use Rattle.bpf_meaning.specs.declared.effect.Change.{Change}
+use Rattle.bpf_meaning.specs.declared.effect.Change.TheVariants.{StoreBytes}
+use Rattle.bpf_meaning.specs.declared.state.State.{State}
+use Rattle.bpf_meaning.proofs.FrameLemmas.{HoldBytes, bytes-map}
+use Rattle.bpf_meaning.proofs.MemoryLemmas.{fits_more, length-bytes_low_first, store_is_write}
+use Rattle.bpf_machine.specs.Words.{Holds, IsByteOf, IsWordOf, Words, area_bytes, load_bytes, number_of, store_at}
+use Rattle.bpf_machine.proofs.WordArithmetic.{admitted_fits}
+
+-- bytes stand for memory, one by one
+abbrev pub StandFor : List FrameByte → List ℕ → Type 0
+StandFor memory bytes = (at : ℕ) → IsByteOf (get_or memory at Unwritten) (get_or bytes at 0)
+
+pub map-stands : (bytes : List ℕ) → StandFor (map Byte bytes) bytes
+map-stands [] at = tt
+map-stands (byte ∷ bytes) zero = refl
+map-stands (byte ∷ bytes) (suc at) = map-stands bytes at
+
+-- loads
+
+-- bytes that are written have a number, and it is that of the bytes that stand for them
+abbrev IsNumberOf : ℕ → List ℕ → Option ℕ → Type 0
+IsNumberOf count bytes None = Unit {0}
+IsNumberOf count bytes (Some n) = (number_of bytes ≡ n) × (n < 256 ^ count)
+
+one_more : (count byte : ℕ) (bytes : List ℕ) (found : Option ℕ) → byte < 2 ^ 8 → IsNumberOf count bytes found → IsNumberOf (suc count) (byte ∷ bytes) (option_map (λ rest. byte + 256 * rest) found)
+one_more count byte bytes None small is = tt
+one_more count byte bytes (Some n) small is =
+    (ap (λ rest. byte + 256 * rest) is.0, let below = fits_more byte n count small is.1 in subst (λ (k : ℕ). byte + 256 * n < 256 ^ k) (omega arith) below)
+
+front_number : (memory : List FrameByte) (bytes : List ℕ) (count : ℕ) → StandFor memory bytes → HoldBytes memory → count ≤ length memory → length bytes ≡ length memory → IsNumberOf count (take count bytes) (meaning.number_of (take count memory))
+front_number memory bytes zero stand small within same = (refl, omega arith)
+front_number [] bytes (suc count) stand small within same = absurd (omega arith)
+front_number (Unwritten ∷ memory) bytes (suc count) stand small within same = tt
+front_number (Byte written ∷ memory) [] (suc count) stand small within same = absurd (omega arith)
+front_number (Byte written ∷ memory) (byte ∷ bytes) (suc count) stand small within same =
+    subst (λ (b : ℕ). IsNumberOf (suc count) (b ∷ take count bytes) (option_map (λ rest. written + 256 * rest) (meaning.number_of (take count memory)))) (sym (stand 0))
+    (one_more count written (take count bytes) (meaning.number_of (take count memory)) (small 0) (front_number memory bytes count (λ i. stand (suc i)) (λ i. small (suc i)) (omega arith) (omega arith)))
+
+part_number : (memory : List FrameByte) (bytes : List ℕ) (at count : ℕ) → StandFor memory bytes → HoldBytes memory → at + count ≤ length memory → length bytes ≡ length memory → IsNumberOf count (take count (drop at bytes)) (meaning.number_of (take count (drop at memory)))
+part_number memory bytes zero count stand small within same = front_number memory bytes count stand small (omega arith) same
+part_number [] bytes (suc at) count stand small within same = absurd (omega arith)
+part_number (byte ∷ memory) [] (suc at) count stand small within same = absurd (omega arith)
+part_number (byte ∷ memory) (other ∷ bytes) (suc at) count stand small within same = part_number memory bytes at count (λ i. stand (suc i)) (λ i. small (suc i)) (omega arith) (omega arith)
+
+-- the number that a load gives has 64 bits
+loaded_fits : (load_format : LoadFormat) (n : ℕ) → n < 256 ^ load_length load_format → arithmetic.load_extension load_format n < 2 ^ 64
+loaded_fits load_format n below = admitted_fits (load load_format) _ (load-proper load_format) (load-admits load_format n below)
+
+number_loaded : (load_format : LoadFormat) (bytes : List ℕ) (found : Option ℕ) → IsNumberOf (load_length load_format) bytes found → Sound IsWordOf (effect.load_number load_format found) (Ok (arithmetic.load_extension load_format (number_of bytes)))
+number_loaded load_format bytes None is = tt
+number_loaded load_format bytes (Some n) is = (ap (arithmetic.load_extension load_format) is.0, loaded_fits load_format n is.1)
+
+-- bytes from an offset on that lie within memory end there
+ends_inside : (from : ℤ) (count bytes : ℕ) → effect.lie_within from count bytes ≡ true → unsigned_abs from + count ≤ bytes
+ends_inside (pos at) count bytes within = grind (arith, nat_tests)
+ends_inside (negsuc n) count bytes within = absurd (false≢true within)
+
+bytes_loaded : (load_format : LoadFormat) (memory : List FrameByte) (bytes : List ℕ) (from : ℤ) → StandFor memory bytes → HoldBytes memory → length bytes ≡ length memory → Sound IsWordOf (effect.load_bytes load_format memory from) (Ok (load_bytes load_format bytes (unsigned_abs from)))
+bytes_loaded load_format memory bytes from stand small same = by_test (effect.lie_within from (load_length load_format) (length memory)) refl
+  where
+    by_test : (within : Bool) → effect.lie_within from (load_length load_format) (length memory) ≡ within
+        → Sound IsWordOf (if within then effect.load_number load_format (meaning.number_of (take (load_length load_format) (drop (unsigned_abs from) memory))) else Err OutOfBounds) (Ok (load_bytes load_format bytes (unsigned_abs from)))
+    by_test true within =
+        number_loaded load_format (take (load_length load_format) (drop (unsigned_abs from) bytes)) _
+        (part_number memory bytes (unsigned_abs from) (load_length load_format) stand small (ends_inside from (load_length load_format) (length memory) within) same)
+    by_test false outside = tt
+
+pub load_held : (segment : Contents) (state : State) (words : Words) → IsSegment segment → IsWhole state → HoldsBytes state → Holds state words → (load_format : LoadFormat) (into : Area) (from : ℤ)
+    → Sound IsWordOf (effect.load_bytes load_format (effect.area_bytes segment state into) from) (Ok (load_bytes load_format (area_bytes segment words into) (unsigned_abs from)))
+load_held segment state words is whole small holds load_format area.Record from =
+    bytes_loaded load_format (map Byte segment.bytes) segment.bytes from (map-stands segment.bytes) (bytes-map segment.bytes is.bytes.bytes) (sym (length-map segment.bytes Byte))
+load_held segment state words is whole small holds load_format area.Frame from =
+    bytes_loaded load_format state.frame.bytes words.frame from holds.frame small.frame (holds.whole ∙ sym whole.frame)
+
+-- stores
+
+-- words hold what a change leads to
+abbrev pub HoldsChange : Contents → State → Change → Words → Type 0
+HoldsChange segment state change words = Holds (carry_out segment state change) words
+
+-- bytes that are written over both stand for one another
+pub write-stands : (memory : List FrameByte) (bytes new : List ℕ) (at : ℕ) → length bytes ≡ length memory → at + length new ≤ length memory → StandFor memory bytes → StandFor (write memory at (map Byte new)) (write bytes at new)
+write-stands memory bytes new at same within stand i =
+    let long = length-map new Byte in
+    elim (cases_lt i at) [
+      | inl before ↦ both (get_or-write_before memory (map Byte new) at i Unwritten (omega arith) before) (get_or-write_before bytes new at i 0 (omega arith) before) (stand i)
+      | inr above ↦
+          elim (cases_lt i (at + length new)) [
+            | inl below ↦ subst (λ (k : ℕ). IsByteOf (get_or (write memory at (map Byte new)) k Unwritten) (get_or (write bytes at new) k 0)) (omega arith)
+                (both (get_or-write memory (map Byte new) at (i - at) Unwritten (omega arith) (omega arith)) (get_or-write bytes new at (i - at) 0 (omega arith) (omega arith)) (map-stands new (i - at)))
+            | inr behind ↦ both (get_or-write_behind memory (map Byte new) at i Unwritten (omega arith) (omega arith)) (get_or-write_behind bytes new at i 0 (omega arith) (omega arith)) (stand i)
+          ]
+    ]
+  where
+    both : {written before : FrameByte} {byte old : ℕ} → written ≡ before → byte ≡ old → IsByteOf before old → IsByteOf written byte
+    both {written} {before} {byte} {old} one other is = subst (λ (b : ℕ). IsByteOf written b) (sym other) (subst (λ (m : FrameByte). IsByteOf m old) (sym one) is)
+
+stored_held : (segment : Contents) (state : State) (words : Words) → IsWhole state → Holds state words → (at : ℕ) (size : StoreSize) (number : ℕ) → at + store_length size ≤ FRAME_LENGTH → HoldsChange segment state (StoreBytes at size number) (store_at words at size number)
+stored_held segment state words whole holds at size number within =
+    let low = bytes_low_first 0 (store_length size) number in
+    let long = length-bytes_low_first 0 (store_length size) number in
+    let old = whole.frame in
+    let new = holds.whole in
+    record {
+      count = holds.count;
+      registers = holds.registers;
+      whole = length-write words.frame low at (omega arith) ∙ new;
+      frame = subst (λ (m : List FrameByte). StandFor m (write words.frame at low)) (sym (store_is_write state.frame.bytes at (store_length size) number))
+          (write-stands state.frame.bytes words.frame low at (omega arith) (omega arith) holds.frame);
+      score = holds.score;
+    }
+
+pub store_held : (segment : Contents) (state : State) (words : Words) → IsWhole state → Holds state words → (from : ℤ) (size : StoreSize) (number : ℕ) → Sound (HoldsChange segment state) (effect.store_at from size number) (Ok (store_at words (unsigned_abs from) size number))
+store_held segment state words whole holds from size number = by_test (effect.lie_within from (store_length size) FRAME_LENGTH) refl
+  where
+    by_test : (within : Bool) → effect.lie_within from (store_length size) FRAME_LENGTH ≡ within → Sound (HoldsChange segment state) (if within then Ok (StoreBytes (unsigned_abs from) size number) else Err OutOfBounds) (Ok (store_at words (unsigned_abs from) size number))
+    by_test true within = stored_held segment state words whole holds (unsigned_abs from) size number (ends_inside from (store_length size) FRAME_LENGTH within)
+    by_test false outside = tt

@@ -1,0 +1,195 @@
+-- One instruction on words: where it passes its checks, what it leads to on words holds what it leads to.
+use Rattle.std.proofs.Common.{◌≡◌, ℕ, zero, suc, ℤ, pos, negsuc, ◌+ℤ◌, unsigned_abs, Bool, true, false, IsTrue, List, [], ◌∷◌, length, get_or, is_some, nat_lt, Result, Ok, Err, if◌then◌else◌, refl, sym, ap, subst, arith}
+use Rattle.std.specs.Prelude.{slice_set, FitsSigned}
+use Rattle.std.specs.Int.{cast_signed, cast_unsigned, w32, w64}
+use Rattle.std.proofs.Math.ListN.{length-set}
+use Rattle.std.proofs.lemmas.Bool.Decides.{nat_tests}
+use Rattle.std.proofs.lemmas.Int.{ints}
+use Rattle.bpf_insn.specs.Arithmetic as arithmetic
+use Rattle.bpf_insn.specs.Arithmetic.{is_met}
+use Rattle.bpf_insn.specs.Code.{instruction_at, word_count}
+use Rattle.bpf_insn.specs.Pointer.{is_offset}
+use Rattle.bpf_insn.specs.declared.instruction.Insn.{Insn}
+use Rattle.bpf_insn.specs.declared.instruction.ByteOrder.{ByteOrder}
+use Rattle.bpf_insn.specs.declared.instruction.SignExtension.{SignExtension}
+use Rattle.bpf_insn.specs.declared.instruction.SwapWidth.{SwapWidth}
+use Rattle.bpf_insn.specs.declared.instruction.Width.{Width}
+use Rattle.bpf_insn.specs.declared.instruction.Source.TheVariants.{Immediate, Register}
+use Rattle.bpf_insn.specs.declared.register.WritableRegister.{WritableRegister}
+use Rattle.bpf_insn.specs.declared.value.Area.{Area}
+use Rattle.bpf_insn.specs.declared.value.Area.TheVariants as area
+use Rattle.bpf_insn.specs.declared.value.Pointer.{Pointer as PointerParts}
+use Rattle.bpf_insn.specs.declared.value.Value.{Value}
+use Rattle.bpf_insn.specs.declared.value.Value.TheVariants as value
+use Rattle.bpf_kinds.specs.Interval.{single}
+use Rattle.bpf_kinds.proofs.ResultLemmas.{extend-proper, extend-admits, negate-proper, negate-admits, byte_swap-proper, byte_swap-admits, immediate_operand-proper, wide_number-proper}
+use Rattle.tl_segments.specs.Segment.{Contents, IsSegment}
+use Rattle.bpf_meaning.specs.Checks.{◌>>=◌, Sound}
+use Rattle.bpf_meaning.specs.Effect as effect
+use Rattle.bpf_meaning.specs.State.{HoldsBytes, IsWhole}
+use Rattle.bpf_meaning.specs.Step.{carry_out}
+use Rattle.bpf_meaning.specs.Walk.{ConditionalJump}
+use Rattle.bpf_meaning.specs.declared.cause.Cause.{Cause}
+use Rattle.bpf_meaning.specs.declared.cause.Cause.TheVariants.{OutOfProgram, IntoWide, StoresPointer}
+use Rattle.bpf_meaning.specs.declared.effect.Change.{Change}
+use Rattle.bpf_meaning.specs.declared.effect.Change.TheVariants.{Nothing, SetRegister}
+use Rattle.bpf_meaning.specs.declared.effect.Effect.{Effect}
+use Rattle.bpf_meaning.specs.declared.effect.Effect.TheVariants.{GoOn}
+use Rattle.bpf_meaning.specs.declared.state.State.{State}
+use Rattle.bpf_meaning.proofs.WalkForesees.{Foresees, walk_foreseen}
+use Rattle.bpf_machine.specs.Words.{Goes, HasAreas, HasImmediates, Holds, HoldsEffect, IsWordOf, Next, PointsInto, Words, area_bytes, bare_words, load_bytes, next_words, pointer_of, store_at, target, with_word}
+use Rattle.bpf_machine.proofs.WordCalls.{call_held}
+use Rattle.bpf_machine.proofs.WordMemory.{HoldsChange, load_held, store_held}
+use Rattle.bpf_machine.proofs.WordArithmetic.{IsNumber, admitted_fits, move_held, operate_held, single-admits, single-proper}
+
+-- what is read
+
+read_held : (register : ℕ) (v : Value) (word : ℕ) → IsWordOf v word → Sound IsWordOf (effect.read_value register v) (Ok word)
+read_held register value.Empty word held = tt
+read_held register (value.Number n) word held = held
+read_held register (value.Pointer pointer) word held = held
+
+number_held : (cause : Cause) (v : Value) (word : ℕ) → IsWordOf v word → Sound IsNumber (effect.number_or cause v) (Ok word)
+number_held cause (value.Number n) word held = held
+number_held cause v word held = tt
+
+abbrev IsPointer : PointerParts → PointerParts → Type 0
+IsPointer pointer other = other ≡ pointer
+
+offset_is : (offset : ℤ) (word : ℕ) → word ≡ cast_unsigned w64 offset → IsTrue (is_offset offset) → cast_signed w64 word ≡ offset
+offset_is offset word is near = grind (arith, ints, nat_tests)
+
+same_pointer : (into area : Area) (at offset : ℤ) → into ≡ area → at ≡ offset → IsPointer (record { area = area; offset = offset }) (record { area = into; offset = at })
+same_pointer into area at offset same is = cc
+
+pointer_held : (register : ℕ) (into : Area) (v : Value) (word : ℕ) → IsWordOf v word → PointsInto v into → Sound IsPointer (effect.read_value register v >>= effect.only_pointer) (Ok (pointer_of into word))
+pointer_held register into value.Empty word held is = tt
+pointer_held register into (value.Number n) word held is = tt
+pointer_held register into (value.Pointer pointer) word held is = same_pointer into pointer.area _ pointer.offset is (offset_is pointer.offset word held.0 held.1)
+
+-- arithmetic on one number
+
+extended_held : (extension : SignExtension) (n word : ℕ) → IsNumber n word → IsNumber (arithmetic.extension_of extension n) (arithmetic.extension_of extension word)
+extended_held extension n word is =
+    let proper = single-proper n is.1 in
+    (ap (arithmetic.extension_of extension) is.0, admitted_fits _ _ (extend-proper extension (single n) proper) (extend-admits extension (single n) n proper (single-admits n)))
+
+negated_held : (width : Width) (n word : ℕ) → IsNumber n word → IsNumber (arithmetic.negate width n) (arithmetic.negate width word)
+negated_held width n word is =
+    let proper = single-proper n is.1 in
+    (ap (arithmetic.negate width) is.0, admitted_fits _ _ (negate-proper width (single n) proper) (negate-admits width (single n) n proper (single-admits n)))
+
+swapped_held : (order : ByteOrder) (width : SwapWidth) (n word : ℕ) → IsNumber n word → IsNumber (arithmetic.byte_swap order width n) (arithmetic.byte_swap order width word)
+swapped_held order width n word is =
+    let proper = single-proper n is.1 in
+    (ap (arithmetic.byte_swap order width) is.0, admitted_fits _ _ (byte_swap-proper order width (single n) proper) (byte_swap-admits order width (single n) n proper (single-admits n)))
+
+-- what comes next
+
+placed : (state : State) (place : ℕ) (words : Words) → Holds state words → Holds (record state { place = place }) words
+placed state place words holds = record { count = holds.count; registers = holds.registers; whole = holds.whole; frame = holds.frame; score = holds.score }
+
+goes_on_held : (code : List Insn) (segment : Contents) (state : State) (place there : ℕ) (change : Change) (words : Words) → there ≡ place → HoldsChange segment state change words → Sound (HoldsEffect segment state) (effect.go_on code place change) (Ok (Goes words there))
+goes_on_held code segment state place there change words same holds = by_tests (is_some (instruction_at code place)) (nat_lt place (word_count code))
+  where
+    by_tests : (begins inside : Bool) → Sound (HoldsEffect segment state) (if begins then Ok (GoOn change place) else (if inside then Err IntoWide else Err OutOfProgram)) (Ok (Goes words there))
+    by_tests true inside = (same, placed (carry_out segment state change) place words holds)
+    by_tests false true = tt
+    by_tests false false = tt
+
+jump_held : (code : List Insn) (segment : Contents) (state : State) (to : ℤ) (words : Words) → Holds state words → Sound (HoldsEffect segment state) (effect.go_to code to) (Ok (Goes words (unsigned_abs to)))
+jump_held code segment state (pos place) words holds = goes_on_held code segment state place place Nothing words refl holds
+jump_held code segment state (negsuc before) words holds = tt
+
+branch_held : (code : List Insn) (segment : Contents) (state : State) (words : Words) → Holds state words → (next : ℕ) (jump : ConditionalJump) (v w : Value) (m n : ℕ) → IsWordOf v m → IsWordOf w n → Sound (HoldsEffect segment state) ((effect.values code segment state next).branch jump v w)
+    (Ok (Goes words (if is_met jump.condition jump.width m n then target state.place jump.distance else next)))
+branch_held code segment state words holds next jump (value.Number x) (value.Number y) m n left right =
+    subst (λ (k : ℕ). Sound (HoldsEffect segment state) (taken (is_met jump.condition jump.width x y)) (Ok (goes (is_met jump.condition jump.width k n)))) (sym left.0)
+    (subst (λ (k : ℕ). Sound (HoldsEffect segment state) (taken (is_met jump.condition jump.width x y)) (Ok (goes (is_met jump.condition jump.width x k)))) (sym right.0)
+    (by_answer (is_met jump.condition jump.width x y)))
+  where
+    taken : Bool → Result Effect Cause
+    taken answer = if answer then effect.jump code state.place jump.distance else effect.go_on code next Nothing
+
+    goes : Bool → Next
+    goes answer = Goes words (if answer then target state.place jump.distance else next)
+
+    by_answer : (answer : Bool) → Sound (HoldsEffect segment state) (taken answer) (Ok (goes answer))
+    by_answer true = jump_held code segment state _ words holds
+    by_answer false = goes_on_held code segment state next next Nothing words refl holds
+branch_held code segment state words holds next jump v w m n left right = tt
+
+-- a register is written
+
+registers_held : (values : List Value) (words : List ℕ) (register : ℕ) (v : Value) (word : ℕ) → length words ≡ length values → IsWordOf v word → ((number : ℕ) → IsWordOf (get_or values number value.Empty) (get_or words number 0))
+    → (number : ℕ) → IsWordOf (get_or (slice_set values register v) number value.Empty) (get_or (slice_set words register word) number 0)
+registers_held [] [] register v word same held all number = all number
+registers_held [] (w ∷ words) register v word same held all number = absurd (omega arith)
+registers_held (k ∷ values) [] register v word same held all number = absurd (omega arith)
+registers_held (k ∷ values) (w ∷ words) zero v word same held all zero = held
+registers_held (k ∷ values) (w ∷ words) zero v word same held all (suc number) = all (suc number)
+registers_held (k ∷ values) (w ∷ words) (suc register) v word same held all zero = all zero
+registers_held (k ∷ values) (w ∷ words) (suc register) v word same held all (suc number) = registers_held values words register v word (omega arith) held (λ n. all (suc n)) number
+
+register_held : (segment : Contents) (state : State) (words : Words) → Holds state words → (destination : WritableRegister) (v : Value) (word : ℕ) → IsWordOf v word → HoldsChange segment state (SetRegister destination v) (with_word words destination.number word)
+register_held segment state words holds destination v word held = record {
+  count = let same = holds.count in omega (arith, length-set state.registers destination.number v, length-set words.registers destination.number word);
+  registers = registers_held state.registers words.registers destination.number v word holds.count held holds.registers;
+  whole = holds.whole;
+  frame = holds.frame;
+  score = holds.score;
+}
+
+-- where a store begins
+frame_held : (into : Area) (pointer other : PointerParts) (offset : ℤ) → IsPointer pointer other → Sound (λ (at : ℤ) (from : ℕ). from ≡ unsigned_abs at) (effect.frame_offset into (pointer.offset +ℤ offset)) (Ok (unsigned_abs (other.offset +ℤ offset)))
+frame_held area.Frame pointer other offset same = ap (λ (p : PointerParts). unsigned_abs (p.offset +ℤ offset)) same
+frame_held area.Record pointer other offset same = tt
+
+-- each step of an instruction
+values_foresee : (code : List Insn) (segment : Contents) (state : State) (areas : ℕ → Area) (words : Words) (insn : Insn) (next : ℕ) → IsSegment segment → IsWhole state → HoldsBytes state → HasAreas state areas → Holds state words
+    → Foresees (effect.values code segment state next) (bare_words segment areas words state.place next) insn
+values_foresee code segment state areas words insn next is whole bytes points holds = record {
+  Fits = FitsSigned w32;
+  Read = λ register. IsWordOf;
+  Values = IsWordOf;
+  Numbers = IsNumber;
+  Stored = IsNumber;
+  Pointers = IsPointer;
+  Offsets = λ offset at from. from ≡ unsigned_abs at;
+  Changes = HoldsChange segment state;
+  Outcomes = HoldsEffect segment state;
+  read = λ register. read_held register _ _ (holds.registers register);
+  any = λ register v word held. held;
+  number_or = λ cause register. number_held cause;
+  stored = number_held StoresPointer;
+  pointer_in = λ register. pointer_held register _ _ _ (holds.registers register) (points register);
+  immediate = λ immediate fits. (refl, (immediate_operand-proper immediate fits).fits);
+  wide = λ immediate next_immediate fits. (refl, (wide_number-proper immediate next_immediate fits.0 fits.1).fits);
+  extend = extended_held;
+  negate = negated_held;
+  byte_swap = swapped_held;
+  move = move_held;
+  operate = operate_held;
+  load = λ format p q offset same.
+      subst (λ (x : PointerParts). Sound IsWordOf (effect.load_bytes format (effect.area_bytes segment state p.area) (p.offset +ℤ offset)) (Ok (load_bytes format (area_bytes segment words x.area) (unsigned_abs (x.offset +ℤ offset))))) (sym same)
+      (load_held segment state words is whole bytes holds format p.area (p.offset +ℤ offset));
+  frame = λ p q offset same. frame_held p.area p q offset same;
+  store_at = λ at from offset size m n is same.
+      subst (λ (k : ℕ). Sound (HoldsChange segment state) (effect.store_at at size m) (Ok (store_at words from size k))) (sym same.0)
+      (subst (λ (k : ℕ). Sound (HoldsChange segment state) (effect.store_at at size m) (Ok (store_at words k size m))) (sym is) (store_held segment state words whole holds at size m));
+  call = call_held segment state words is whole holds;
+  set = λ goes_on destination v word held. goes_on_held code segment state next next _ _ refl (register_held segment state words holds destination v word held);
+  go_on = λ goes_on change behind holds. goes_on_held code segment state next next change behind refl holds;
+  jump = λ distance jumps. jump_held code segment state _ words holds;
+  with_immediate = λ goes_on condition width left immediate distance v m fits jumps first.
+      branch_held code segment state words holds next (record { condition = condition; width = width; left = left; right = Immediate immediate; distance = distance }) v _ m _ first (refl, (immediate_operand-proper immediate fits).fits);
+  with_register = λ goes_on condition width left right distance v w m n jumps first second.
+      branch_held code segment state words holds next (record { condition = condition; width = width; left = left; right = Register right; distance = distance }) v w m n first second;
+  end = λ n word same. (same.0, holds.score);
+}
+
+pub walk_held : (code : List Insn) (segment : Contents) (state : State) (areas : ℕ → Area) (words : Words) (insn : Insn) (next : ℕ) → IsSegment segment → IsWhole state → HoldsBytes state → HasImmediates insn → HasAreas state areas → Holds state words
+    → Sound (HoldsEffect segment state) (effect.instruction_effect code segment state next insn) (next_words segment areas words state.place next insn)
+unfolding values_foresee
+walk_held code segment state areas words insn next is whole bytes fits points holds =
+    walk_foreseen (effect.values code segment state next) (bare_words segment areas words state.place next) insn (values_foresee code segment state areas words insn next is whole bytes points holds) fits

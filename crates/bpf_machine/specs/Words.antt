@@ -1,0 +1,197 @@
+-- A machine over bare words: registers of 64 bits each (RFC 9669, section 3.1) and a frame of plain bytes. A word doesn't tell whether it
+-- stands for a number or for a pointer, nor a byte whether it was written. So nothing is checked here: the words are right where the checks of
+-- what an instruction means pass.
+use Rattle.std.specs.Prelude.{◌≡◌, ℕ, ◌+◌, ◌*◌, ◌^◌, ◌<◌, ℤ, pos, ◌+ℤ◌, unsigned_abs, IsTrue, List, [], ◌∷◌, length, take, drop, get_or, slice_set, Result, Ok, if◌then◌else◌, FitsSigned}
+use Rattle.std.specs.Int.{bytes_low_first, cast_signed, cast_unsigned, w32, w64}
+use Rattle.tl_segments.specs.Segment.{Contents}
+use Rattle.bpf_insn.specs.Arithmetic.{result_of, negate, extension_of, byte_swap, low_bits, operand_bits, is_met, immediate_operand, wide_number, load_extension}
+use Rattle.bpf_insn.specs.Memory.{load_length, store_length}
+use Rattle.bpf_insn.specs.Pointer.{is_offset}
+use Rattle.bpf_insn.specs.declared.instruction.Insn.{Insn}
+use Rattle.bpf_insn.specs.declared.instruction.Insn.TheVariants.{Alu, JumpIf, StoreImmediate, WideLoad}
+use Rattle.bpf_insn.specs.declared.instruction.LoadFormat.{LoadFormat}
+use Rattle.bpf_insn.specs.declared.instruction.Source.{Source}
+use Rattle.bpf_insn.specs.declared.instruction.Source.TheVariants.{Immediate, Register}
+use Rattle.bpf_insn.specs.declared.instruction.StoreSize.{StoreSize}
+use Rattle.bpf_insn.specs.declared.memory.TheConstants.{FRAME_LENGTH}
+use Rattle.bpf_insn.specs.declared.value.Area.{Area}
+use Rattle.bpf_insn.specs.declared.value.Area.TheVariants.{Record, Frame}
+use Rattle.bpf_insn.specs.declared.value.Pointer.{Pointer as PointerParts}
+use Rattle.bpf_insn.specs.declared.value.Value.{Value}
+use Rattle.bpf_insn.specs.declared.value.Value.TheVariants.{Empty, Number, Pointer}
+use Rattle.bpf_helpers.specs.Call.{Called, bytes_read, call, second, write}
+use Rattle.bpf_helpers.specs.Helper.{signature}
+use Rattle.bpf_helpers.specs.declared.helper.Helper.{Helper}
+use Rattle.bpf_helpers.specs.declared.signature.Argument.{Argument}
+use Rattle.bpf_helpers.specs.declared.signature.Argument.TheVariants as argument
+use Rattle.bpf_meaning.specs.Memory.{FrameByte, Unwritten, Byte}
+use Rattle.bpf_meaning.specs.State.{register_value}
+use Rattle.bpf_meaning.specs.Step.{Configuration, Running, Exited, apply}
+use Rattle.bpf_meaning.specs.Walk.{Registers, Domain, walk}
+use Rattle.bpf_meaning.specs.declared.cause.Cause.{Cause}
+use Rattle.bpf_meaning.specs.declared.effect.Effect.{Effect}
+use Rattle.bpf_meaning.specs.declared.state.State.{State}
+
+-- the words in the registers, the bytes of the frame, and the score
+pub record Words : Type 0 where
+  pub registers : List ℕ
+  pub frame : List ℕ
+  pub score : ℕ
+
+-- what an instruction leads to: words at a place, or the end with an answer
+pub data Next : Type 0 where
+  Goes : (words : Words) (place : ℕ) → Next
+  Ends : (answer score : ℕ) → Next
+
+-- the word in a register
+abbrev pub word_in : Words → ℕ → ℕ
+word_in words register = get_or words.registers register 0
+
+-- the same with a register written
+abbrev pub with_word : Words → ℕ → ℕ → Words
+with_word words register word = record words { registers = slice_set words.registers register word }
+
+-- the pointer into an area that a word stands for
+abbrev pub pointer_of : Area → ℕ → PointerParts
+pointer_of area word = record { area = area; offset = cast_signed w64 word }
+
+-- what registers hold, where they hold words and point into these areas: each word will do, and is its own number
+abbrev pub word_registers : (ℕ → Area) → Words → Registers
+word_registers areas words = record {
+  Value = ℕ;
+  Number = ℕ;
+  Pointer = PointerParts;
+  read = λ register. Ok (word_in words register);
+  number = λ word. word;
+  number_or = λ cause word. Ok word;
+  pointer_in = λ register. Ok (pointer_of (areas register) (word_in words register));
+  immediate = immediate_operand;
+  compared = λ width immediate. immediate_operand immediate;
+  wide = wide_number;
+  extend = extension_of;
+  negate = negate;
+  byte_swap = byte_swap;
+  move = λ width word. Ok (low_bits (operand_bits width) word);
+  operate = λ operation width x y. Ok (result_of operation width x y);
+}
+
+-- the little-endian number of bytes
+abbrev pub number_of : List ℕ → ℕ
+number_of [] = 0
+number_of (byte ∷ bytes) = byte + 256 * number_of bytes
+
+-- the bytes of an area
+abbrev pub area_bytes : Contents → Words → Area → List ℕ
+area_bytes segment words Record = segment.bytes
+area_bytes segment words Frame = words.frame
+
+-- a load of bytes from a place on
+abbrev pub load_bytes : LoadFormat → List ℕ → ℕ → ℕ
+load_bytes format bytes at = load_extension format (number_of (take (load_length format) (drop at bytes)))
+
+-- the low bytes of a number stored in the frame from a place on, the lowest first
+abbrev pub store_at : Words → ℕ → StoreSize → ℕ → Words
+store_at words at size number = record words { frame = write words.frame at (bytes_low_first 0 (store_length size) number) }
+
+-- an argument, which the register of its number holds; one that isn't used is 0
+abbrev pub argument_word : Words → ℕ → Argument → ℕ
+argument_word words number argument.Unused = 0
+argument_word words number wanted = word_in words number
+
+-- the arguments that a prototype wants, in their order
+abbrev pub argument_words : Words → List Argument → List ℕ
+argument_words words wanted =
+    argument_word words 1 (get_or wanted 0 argument.Unused) ∷ argument_word words 2 (get_or wanted 1 argument.Unused) ∷ argument_word words 3 (get_or wanted 2 argument.Unused) ∷ []
+
+-- what a call with these arguments does on the segment, with what it reads of the frame
+abbrev pub called : Contents → Words → Helper → List ℕ → Called
+called segment words helper arguments = call helper segment arguments (bytes_read (signature helper).frame arguments words.frame) words.score
+
+-- The words after a call whose bytes are written at a place. Only register 0 is written: the others that a call empties may hold anything.
+abbrev pub words_after : Words → ℕ → Called → Words
+words_after words at called = record {
+  registers = slice_set words.registers 0 called.answer;
+  frame = write words.frame at called.written;
+  score = called.score;
+}
+
+-- the call of a helper function
+abbrev pub call_helper : Contents → Words → Helper → Words
+call_helper segment words helper =
+    let arguments = argument_words words (signature helper).arguments in words_after words (second arguments) (called segment words helper arguments)
+
+-- where a jump from a place leads: its distance counts words from the word after it (section 4.3)
+abbrev pub target : ℕ → ℤ → ℕ
+target place distance = unsigned_abs (pos (place + 1) +ℤ distance)
+
+-- what an instruction at a place sees and can do where registers hold words, with the areas that they point into and the next place
+abbrev pub bare_words : Contents → (ℕ → Area) → Words → ℕ → ℕ → Domain
+bare_words segment areas words place next = record {
+  registers = word_registers areas words;
+  Offset = ℕ;
+  Change = Words;
+  Outcome = Next;
+  load = λ format pointer offset. Ok (load_bytes format (area_bytes segment words pointer.area) (unsigned_abs (pointer.offset +ℤ offset)));
+  frame = λ pointer offset. Ok (unsigned_abs (pointer.offset +ℤ offset));
+  store_at = λ from offset size number. Ok (store_at words from size number);
+  call = λ helper. Ok (call_helper segment words helper);
+  set = λ destination word. Ok (Goes (with_word words destination.number word) next);
+  go_on = λ behind. Ok (Goes behind next);
+  jump = λ distance. Ok (Goes words (target place distance));
+  branch = λ jump x y. Ok (Goes words (if is_met jump.condition jump.width x y then target place jump.distance else next));
+  end = λ answer. Ok (Ends answer words.score);
+}
+
+-- what an instruction leads to on bare words; nothing fails but a call of a number that no helper function has
+abbrev pub next_words : Contents → (ℕ → Area) → Words → ℕ → ℕ → Insn → Result Next Cause
+next_words segment areas words place next insn = walk (bare_words segment areas words place next) insn
+
+-- A word stands for a value: for a number of 64 bits, or for a pointer by its offset in two's complement. Where there is no value, any will do.
+abbrev pub IsWordOf : Value → ℕ → Type 0
+IsWordOf Empty word = Unit {0}
+IsWordOf (Number n) word = (word ≡ n) × (n < 2 ^ 64)
+IsWordOf (Pointer pointer) word = (word ≡ cast_unsigned w64 pointer.offset) × IsTrue (is_offset pointer.offset)
+
+-- a byte stands for a byte of a frame: for the one that is written, and where none is, any will do
+abbrev pub IsByteOf : FrameByte → ℕ → Type 0
+IsByteOf Unwritten byte = Unit {0}
+IsByteOf (Byte written) byte = byte ≡ written
+
+-- words hold a state: register by register, byte by byte, and with its score
+pub record Holds (state : State) (words : Words) : Type 0 where
+  pub count : length words.registers ≡ length state.registers
+  pub registers : (register : ℕ) → IsWordOf (register_value state register) (word_in words register)
+  pub whole : length words.frame ≡ FRAME_LENGTH
+  pub frame : (at : ℕ) → IsByteOf (get_or state.frame.bytes at Unwritten) (get_or words.frame at 0)
+  pub score : words.score ≡ state.score
+
+-- what words lead to holds a configuration: words at its place hold its state, or the end has its answer and its score
+abbrev pub HoldsNext : Configuration → Next → Type 0
+HoldsNext (Running state) (Goes words place) = (place ≡ state.place) × Holds state words
+HoldsNext (Exited answer score) (Ends word word_score) = (word ≡ answer) × (word_score ≡ score)
+HoldsNext configuration next = ⊥
+
+-- what words lead to holds what an effect leads to
+abbrev pub HoldsEffect : Contents → State → Effect → Next → Type 0
+HoldsEffect segment state effect next = HoldsNext (apply segment state effect) next
+
+-- a value points into an area, if it's a pointer
+abbrev pub PointsInto : Value → Area → Type 0
+PointsInto (Pointer pointer) area = area ≡ pointer.area
+PointsInto value area = Unit {0}
+
+-- each register of a state that holds a pointer points into the register's area
+abbrev pub HasAreas : State → (ℕ → Area) → Type 0
+HasAreas state areas = (register : ℕ) → PointsInto (register_value state register) (areas register)
+
+-- the immediates that become operands are signed numbers of 32 bits, as those of each instruction of the code are
+abbrev pub HasImmediate : Source → Type 0
+HasImmediate (Immediate immediate) = FitsSigned w32 immediate
+HasImmediate (Register register) = Unit {0}
+
+abbrev pub HasImmediates : Insn → Type 0
+HasImmediates (Alu operation width destination source) = HasImmediate source
+HasImmediates (JumpIf condition width left right distance) = HasImmediate right
+HasImmediates (StoreImmediate size base offset immediate) = FitsSigned w32 immediate
+HasImmediates (WideLoad destination immediate next_immediate) = FitsSigned w32 immediate × FitsSigned w32 next_immediate
+HasImmediates insn = Unit {0}
