@@ -1,21 +1,18 @@
 -- What lanes of 64 bits each say of the marks that they stand for.
-use Rattle.std.proofs.Common.{◌≡◌, ◌↔◌, ℕ, zero, suc, ◌+◌, ◌-◌, ◌*◌, ◌/◌, ◌%◌, ◌^◌, ◌<◌, ◌≤◌, min, max, Bool, false, ◌&&◌, ◌||◌, ◌==◌, ◌⊎◌, inl, inr, List, [], ◌∷◌, length, map, cond, not, w64, get_or, set, replicate, refl, ◌∙◌, sym, ap, subst, arith, bit_and, bit_or, zero-add, not-suc-le-zero, le_of_suc-le-suc}
+use Rattle.std.proofs.Common.{◌≡◌, ◌↔◌, ℕ, zero, suc, ◌+◌, ◌-◌, ◌*◌, ◌/◌, ◌%◌, ◌^◌, ◌<◌, ◌≤◌, min, max, Bool, false, ◌&&◌, ◌||◌, ◌==◌, inl, inr, List, [], ◌∷◌, length, map, cond, not, w64, get_or, refl, ◌∙◌, sym, ap, subst, arith, bit_and, bit_or, zero-add, not-suc-le-zero, le_of_suc-le-suc}
 use Rattle.std.specs.Prelude.{IsTrue}
 use Rattle.std.specs.Int.{bit_at}
 use Rattle.std.specs.Simd.Lanes.{zip2, mask_l, top}
-use Rattle.std.proofs.lemmas.Bool.{eq-eqb, ne_eqb, both_ways, cases_eq, cases_lt, and_parts, and_from, or_cases, or_left, or_right}
-use Rattle.std.proofs.lemmas.Grind.{elements}
-use Rattle.std.proofs.lemmas.List.{ext_get_or, get_or-replicate, get_or-set_same, get_or-set_other, get_or_past, length-set}
+use Rattle.std.proofs.lemmas.Bool.{eq-eqb, ne_eqb, both_ways, cases_eq, cases_lt}
+use Rattle.std.proofs.lemmas.List.{ext_get_or, get_or_past}
 use Rattle.std.proofs.lemmas.List.FromFn.{get_or-map-range_with_len, length-map-range_with_len}
-use Rattle.std.proofs.lemmas.Nat.{or_lt, and_le_l}
-use Rattle.std.proofs.lemmas.Nat.Bits.{bit_at_and, bit_at_or, bit_at-lt, bit_at-zero, bit_at_mask_inside, bit_at_mask_below, bit_at_ones, bit_at_ones_above, ones_shl, ones_shr, same_from_bits_below}
+use Rattle.std.proofs.lemmas.Nat.{and_le_l}
+use Rattle.std.proofs.lemmas.Nat.Bits.{bit_at_and, bit_at_or, bit_at-lt, same_from_bits_below}
 use Rattle.std.proofs.lemmas.Simd.{get_or-zip2, length-zip2, mask_l-mod, tops_compared}
 use borrow.Author.Tests.{eqb-true}
-use Rattle.bpf_frame.specs.FrameMap.{Contents, IsProper, IsMarked, IsWithin, AreLanes, has_bit, marks_of, mark, join}
+use Rattle.bpf_frame.specs.FrameMap.{Contents, IsProper, IsMarked, IsWithin, join}
+use Rattle.bpf_frame.specs.Lanes.{AreLanes, has_bit, marks_of}
 use Rattle.bpf_frame.specs.OrderLaws.{is_join, antisymmetric, join_is_proper, left_is_within_join, right_is_within_join, join_is_least, reflexive}
-use Rattle.bpf_frame.proofs.MarkLemmas.{marked_inside, mark_keeps, marked_before_or_inside, length-mark}
-
--- ---- bits
 
 bit_cases : (P : ℕ → Type 0) → P 0 → P 1 → (x : ℕ) → x < 2 → P x
 bit_cases P unset is_set zero below = unset
@@ -33,7 +30,7 @@ two_bits P neither second first both a b i =
 pub has_bit-and : (a b i : ℕ) → has_bit (bit_and a b) i ≡ (has_bit a i && has_bit b i)
 has_bit-and a b i = ap (λ n. n == 1) (bit_at_and a b i) ∙ two_bits (λ x y. (min x y == 1) ≡ ((x == 1) && (y == 1))) refl refl refl refl a b i
 
-has_bit-or : (a b i : ℕ) → has_bit (bit_or a b) i ≡ (has_bit a i || has_bit b i)
+pub has_bit-or : (a b i : ℕ) → has_bit (bit_or a b) i ≡ (has_bit a i || has_bit b i)
 has_bit-or a b i = ap (λ n. n == 1) (bit_at_or a b i) ∙ two_bits (λ x y. (max x y == 1) ≡ ((x == 1) || (y == 1))) refl refl refl refl a b i
 
 -- numbers of 64 bits that have the same bits are the same
@@ -41,8 +38,6 @@ same_from_bits : (a b : ℕ) → a < 2 ^ 64 → b < 2 ^ 64 → ((i : ℕ) → i 
 same_from_bits a b fits fits_too same =
     same_from_bits_below 64 a b fits fits_too
     (λ i below. two_bits (λ x y. (x == 1) ≡ (y == 1) → x ≡ y) (λ _. refl) (λ no. absurd (both_ways _ refl no)) (λ no. absurd (both_ways _ refl (sym no))) (λ _. refl) a b i (same i below))
-
--- ---- marks
 
 pub length-marks_of : (lanes : List ℕ) → length (marks_of lanes) ≡ 512
 unfolding marks_of
@@ -60,7 +55,7 @@ pub contents_are_proper : (lanes : List ℕ) → IsProper (contents lanes)
 contents_are_proper lanes = record { count = length-marks_of lanes }
 
 -- there are no marks outside of the frame
-marked_within : (lanes : List ℕ) (at : ℕ) → IsMarked (marks_of lanes) at → at < 512
+pub marked_within : (lanes : List ℕ) (at : ℕ) → IsMarked (marks_of lanes) at → at < 512
 marked_within lanes at marked =
     elim (cases_lt at 512) [
       | inl within ↦ within
@@ -85,11 +80,9 @@ marks_of_injective xs ys lanes others same =
     same_from_bits _ _ (lanes.fits lane 0 short) (others.fits lane 0 (omega (arith, others.count)))
     (λ bit below. sym (mark_of_bit xs lane bit within below) ∙ ap (λ (marks : List Bool). get_or marks (64 * lane + bit) false) same ∙ mark_of_bit ys lane bit within below))
 
--- ---- two maps
-
 -- an operation on each lane of both, as one on each mark
 module _ (on_lanes : ℕ → ℕ → ℕ) where
-  both_are_lanes : ((a b : ℕ) → a < 2 ^ 64 → b < 2 ^ 64 → on_lanes a b < 2 ^ 64) → (xs ys : List ℕ) → AreLanes xs → AreLanes ys → AreLanes (zip2 on_lanes xs ys)
+  pub both_are_lanes : ((a b : ℕ) → a < 2 ^ 64 → b < 2 ^ 64 → on_lanes a b < 2 ^ 64) → (xs ys : List ℕ) → AreLanes xs → AreLanes ys → AreLanes (zip2 on_lanes xs ys)
   both_are_lanes fits xs ys lanes others = record {
     count = length-zip2 on_lanes xs ys (lanes.count ∙ sym others.count) ∙ lanes.count;
     fits = λ lane d short.
@@ -100,7 +93,7 @@ module _ (on_lanes : ℕ → ℕ → ℕ) where
         subst below (sym (get_or-zip2 on_lanes xs ys lane 0 0 d left right)) (fits _ _ (lanes.fits lane 0 left) (others.fits lane 0 right));
   }
 
-  mark_of_both : (on_marks : Bool → Bool → Bool) → ((a b i : ℕ) → has_bit (on_lanes a b) i ≡ on_marks (has_bit a i) (has_bit b i))
+  pub mark_of_both : (on_marks : Bool → Bool → Bool) → ((a b i : ℕ) → has_bit (on_lanes a b) i ≡ on_marks (has_bit a i) (has_bit b i))
       → (xs ys : List ℕ) (at : ℕ) → AreLanes xs → AreLanes ys → at < 512
       → get_or (marks_of (zip2 on_lanes xs ys)) at false ≡ on_marks (get_or (marks_of xs) at false) (get_or (marks_of ys) at false)
   mark_of_both on_marks bitwise xs ys at lanes others within =
@@ -109,8 +102,6 @@ module _ (on_lanes : ℕ → ℕ → ℕ) where
       ∙ ap (λ (n : ℕ). has_bit n (at % 64)) (get_or-zip2 on_lanes xs ys (at / 64) 0 0 0 (omega (arith, lanes.count)) (omega (arith, others.count)))
       ∙ bitwise (get_or xs (at / 64) 0) (get_or ys (at / 64) 0) (at % 64)
       ∙ sym (ap (λ (b : Bool). on_marks b (get_or (marks_of ys) at false)) (get_or-marks_of xs at within) ∙ ap (on_marks (has_bit (get_or xs (at / 64) 0) (at % 64))) (get_or-marks_of ys at within))
-
--- ---- joins
 
 -- the lanes of both are lanes again, and stand for the marks that both have
 pub and_are_lanes : (xs ys : List ℕ) → AreLanes xs → AreLanes ys → AreLanes (zip2 bit_and xs ys)
@@ -145,7 +136,7 @@ same_by_mask (x ∷ xs) (y ∷ ys) count none =
       | inr other ↦ let one : 1 + 2 * mask ≡ 0 = ap (λ (is : Bool). cond (not is) 1 0 + 2 * mask) (sym (ne_eqb x y other)) ∙ none in absurd (omega arith)
     ]
 
-pub no_lane_differs-Decides : (xs ys : List ℕ) → length xs ≡ 8 → length ys ≡ 8 → IsTrue (no_lane_differs xs ys) ↔ (xs ≡ ys)
+no_lane_differs-Decides : (xs ys : List ℕ) → length xs ≡ 8 → length ys ≡ 8 → IsTrue (no_lane_differs xs ys) ↔ (xs ≡ ys)
 no_lane_differs-Decides xs ys count others =
     let lanes : length (zip2 (λ a b. not (a == b)) xs ys) ≤ 64 = omega (arith, length-zip2 (λ a b. not (a == b)) xs ys (count ∙ sym others)) in
     let mask : mask_l (map (top 63) (zip2 (λ a b. cond (not (a == b)) (2 ^ 64 - 1) 0) xs ys)) % 2 ^ 64 ≡ mask_l (zip2 (λ a b. not (a == b)) xs ys) =
@@ -155,13 +146,13 @@ no_lane_differs-Decides xs ys count others =
     )
 
 -- what lies within another map is what the join with it doesn't change in the other one
-pub within_from_and : (xs ys : List ℕ) → AreLanes xs → AreLanes ys → zip2 bit_and xs ys ≡ ys → IsWithin (contents xs) (contents ys)
+within_from_and : (xs ys : List ℕ) → AreLanes xs → AreLanes ys → zip2 bit_and xs ys ≡ ys → IsWithin (contents xs) (contents ys)
 within_from_and xs ys lanes others same =
     let least : Contents → Type 0 = λ map. IsWithin (contents xs) map in
     subst least (sym (contents-and xs ys lanes others) ∙ ap contents same)
     (left_is_within_join (contents xs) (contents ys) (contents_are_proper xs) (contents_are_proper ys))
 
-pub and_from_within : (xs ys : List ℕ) → AreLanes xs → AreLanes ys → IsWithin (contents xs) (contents ys) → zip2 bit_and xs ys ≡ ys
+and_from_within : (xs ys : List ℕ) → AreLanes xs → AreLanes ys → IsWithin (contents xs) (contents ys) → zip2 bit_and xs ys ≡ ys
 and_from_within xs ys lanes others within =
     let x : Contents = contents xs in
     let y : Contents = contents ys in
@@ -180,119 +171,3 @@ leq_is xs ys map other lanes others seen other_seen =
       λ is. subst left seen (subst right other_seen (within_from_and xs ys lanes others (decides.0 is))),
       λ within. decides.1 (and_from_within xs ys lanes others (subst right (sym other_seen) (subst left (sym seen) within))),
     )
-
--- ---- ranges
-
--- the bits of a lane that are left of one place and right of another
-shifted_left : (below bit : ℕ) → below < 64 → bit < 64 → IsTrue (has_bit ((2 ^ 64 - 1) * 2 ^ below % 2 ^ 64) bit) ↔ (below ≤ bit)
-shifted_left below bit fits within =
-    let is : (n : ℕ) → bit_at (2 ^ 64 - 2 ^ below) bit ≡ n → has_bit ((2 ^ 64 - 1) * 2 ^ below % 2 ^ 64) bit ≡ (n == 1) = λ n e. ap (λ (m : ℕ). has_bit m bit) (ones_shl 64 below (omega arith)) ∙ ap (λ (m : ℕ). m == 1) e in (
-      λ set. elim (cases_lt bit below) [ inl before ↦ absurd (both_ways _ (is 0 (bit_at_mask_below below 64 bit before)) set) | inr from ↦ from ],
-      λ from. is 1 (bit_at_mask_inside below 64 bit from within),
-    )
-
-shifted_right : (above bit : ℕ) → above < 64 → IsTrue (has_bit ((2 ^ 64 - 1) / 2 ^ above) bit) ↔ (bit < 64 - above)
-shifted_right above bit fits =
-    let is : (n : ℕ) → bit_at (2 ^ (64 - above) - 1) bit ≡ n → has_bit ((2 ^ 64 - 1) / 2 ^ above) bit ≡ (n == 1) = λ n e. ap (λ (m : ℕ). has_bit m bit) (ones_shr 64 above (omega arith)) ∙ ap (λ (m : ℕ). m == 1) e in (
-      λ set. elim (cases_lt bit (64 - above)) [ inl before ↦ before | inr from ↦ absurd (both_ways _ (is 0 (bit_at_ones_above (64 - above) bit from)) set) ],
-      λ before. is 1 (bit_at_ones (64 - above) bit before),
-    )
-
-pub has_bit-range : (below above bit : ℕ) → below < 64 → above < 64 → bit < 64
-    → IsTrue (has_bit (bit_and ((2 ^ 64 - 1) * 2 ^ below % 2 ^ 64) ((2 ^ 64 - 1) / 2 ^ above)) bit) ↔ ((below ≤ bit) × (bit < 64 - above))
-has_bit-range below above bit left right within =
-    let both = has_bit-and ((2 ^ 64 - 1) * 2 ^ below % 2 ^ 64) ((2 ^ 64 - 1) / 2 ^ above) bit in (
-      λ set. let parts = and_parts _ _ (sym both ∙ set) in ((shifted_left below bit left within).0 parts.0, (shifted_right above bit right).0 parts.1),
-      λ inside. both ∙ and_from _ _ ((shifted_left below bit left within).1 inside.0) ((shifted_right above bit right).1 inside.1),
-    )
-
--- what a lane that is written says of the marks: it has those of its bits, and all others stay
-pub set_are_lanes : (lanes : List ℕ) (lane bits : ℕ) → AreLanes lanes → bits < 2 ^ 64 → AreLanes (set lanes lane bits)
-set_are_lanes lanes lane bits are fits = record {
-  count = length-set lanes lane bits ∙ are.count;
-  fits = grind (arith, elements, are.fits);
-}
-
-mark_in_set : (lanes : List ℕ) (lane bits at : ℕ) → AreLanes lanes → at < 512 → at / 64 ≡ lane → get_or (marks_of (set lanes lane bits)) at false ≡ has_bit bits (at % 64)
-mark_in_set lanes lane bits at are within same =
-    get_or-marks_of (set lanes lane bits) at within
-    ∙ ap (λ (n : ℕ). has_bit n (at % 64)) (ap (λ (k : ℕ). get_or (set lanes lane bits) k 0) same ∙ get_or-set_same lanes lane bits 0 (omega (arith, are.count)))
-
-mark_beside_set : (lanes : List ℕ) (lane bits at : ℕ) → at < 512 → ¬ (at / 64 ≡ lane) → get_or (marks_of (set lanes lane bits)) at false ≡ get_or (marks_of lanes) at false
-mark_beside_set lanes lane bits at within other =
-    get_or-marks_of (set lanes lane bits) at within
-    ∙ ap (λ (n : ℕ). has_bit n (at % 64)) (get_or-set_other lanes lane (at / 64) bits 0 other)
-    ∙ sym (get_or-marks_of lanes at within)
-
--- the marks of a range, in all lanes before one
-pub record IsRange (lanes : List ℕ) (from end lane : ℕ) : Type 0 where
-  pub are : AreLanes lanes
-  pub marks : (at : ℕ) → IsMarked (marks_of lanes) at ↔ ((from ≤ at) × (at < end) × (at < 64 * lane))
-
-pub no_range : (from end : ℕ) → IsRange (replicate 8 0) from end (from / 64)
-no_range from end = record {
-  are = record { count = refl; fits = grind (arith, elements) };
-  marks = λ at. (
-    λ marked. absurd (both_ways _ (no_mark at (marked_within _ at marked)) marked),
-    λ inside. absurd (omega arith),
-  );
-}
-  where
-    no_mark : (at : ℕ) → at < 512 → get_or (marks_of (replicate 8 0)) at false ≡ false
-    no_mark at within = get_or-marks_of _ at within ∙ ap (λ (n : ℕ). has_bit n (at % 64)) (get_or-replicate 8 (at / 64) 0 0 (omega arith)) ∙ ap (λ (n : ℕ). n == 1) (bit_at-zero (at % 64))
-
-pub one_lane_more : (lanes : List ℕ) (from end lane bits : ℕ) → IsRange lanes from end lane → end ≤ 512 → lane < 8 → bits < 2 ^ 64
-    → ((bit : ℕ) → bit < 64 → IsTrue (has_bit bits bit) ↔ ((from ≤ 64 * lane + bit) × (64 * lane + bit < end))) → IsRange (set lanes lane bits) from end (lane + 1)
-one_lane_more lanes from end lane bits range short within fits inside = record {
-  are = set_are_lanes lanes lane bits range.are fits;
-  marks = λ at.
-      elim (cases_eq (at / 64) lane) [
-        | inl same ↦
-            let place : 64 * lane + at % 64 ≡ at = omega arith in
-            let here : IsTrue (has_bit bits (at % 64)) ↔ ((from ≤ at) × (at < end)) = subst (λ (n : ℕ). IsTrue (has_bit bits (at % 64)) ↔ ((from ≤ n) × (n < end))) place (inside (at % 64) (omega arith)) in
-            let is = mark_in_set lanes lane bits at range.are (omega arith) same in
-            (λ marked. let both = here.0 (sym is ∙ marked) in (both.0, both.1, omega arith), λ all. is ∙ here.1 (all.0, all.1))
-        | inr other ↦ (
-          λ marked.
-              let old = (range.marks at).0 (sym (mark_beside_set lanes lane bits at (marked_within _ at marked) other) ∙ marked) in
-              (old.0, old.1, omega arith),
-          λ all. mark_beside_set lanes lane bits at (omega arith) other ∙ (range.marks at).1 (all.0, all.1, omega arith),
-        )
-      ];
-}
-
--- the marks of a range beside those of a map are the map's once the range is marked
-pub or_are_lanes : (xs ys : List ℕ) → AreLanes xs → AreLanes ys → AreLanes (zip2 bit_or xs ys)
-or_are_lanes = both_are_lanes bit_or (or_lt 64)
-
-marked_or_cases : (xs ys : List ℕ) (at : ℕ) → AreLanes xs → AreLanes ys → IsMarked (marks_of (zip2 bit_or xs ys)) at → IsMarked (marks_of xs) at ⊎ IsMarked (marks_of ys) at
-marked_or_cases xs ys at lanes others marked =
-    or_cases _ _ (sym (mark_of_both bit_or (λ a b. a || b) has_bit-or xs ys at lanes others (marked_within _ at marked)) ∙ marked)
-
-marked_or_left : (xs ys : List ℕ) (at : ℕ) → AreLanes xs → AreLanes ys → IsMarked (marks_of xs) at → IsMarked (marks_of (zip2 bit_or xs ys)) at
-marked_or_left xs ys at lanes others marked = mark_of_both bit_or (λ a b. a || b) has_bit-or xs ys at lanes others (marked_within _ at marked) ∙ or_left _ _ marked
-
-marked_or_right : (xs ys : List ℕ) (at : ℕ) → AreLanes xs → AreLanes ys → IsMarked (marks_of ys) at → IsMarked (marks_of (zip2 bit_or xs ys)) at
-marked_or_right xs ys at lanes others marked = mark_of_both bit_or (λ a b. a || b) has_bit-or xs ys at lanes others (marked_within _ at marked) ∙ or_right _ _ marked
-
-pub marks_of-or : (lanes range : List ℕ) (from len : ℕ) → AreLanes lanes → AreLanes range → from + len ≤ 512
-    → ((at : ℕ) → IsMarked (marks_of range) at ↔ ((from ≤ at) × (at < from + len))) → marks_of (zip2 bit_or lanes range) ≡ mark (marks_of lanes) from len
-marks_of-or lanes range from len are others short inside =
-    let within : from + len ≤ length (marks_of lanes) = omega (arith, length-marks_of lanes) in
-    let after : List Bool = mark (marks_of lanes) from len in
-    ap (λ (map : Contents). map.marks)
-    (antisymmetric (contents (zip2 bit_or lanes range)) (record { marks = after }) (contents_are_proper _) (record { count = length-mark (marks_of lanes) from len within ∙ length-marks_of lanes })
-    (record {
-      marks = λ at marked.
-          elim (marked_before_or_inside (marks_of lanes) from len at within marked) [
-            | inl old ↦ marked_or_left lanes range at are others old
-            | inr new ↦ marked_or_right lanes range at are others ((inside at).1 new)
-          ];
-    })
-    (record {
-      marks = λ at marked.
-          elim (marked_or_cases lanes range at are others marked) [
-            | inl old ↦ mark_keeps (marks_of lanes) from len at within old
-            | inr new ↦ let place = (inside at).0 new in marked_inside (marks_of lanes) from len at within place.0 place.1
-          ];
-    }))

@@ -1,25 +1,11 @@
 -- Which bytes of a program's frame are known to be written, whatever the segment. Such marks are this project's own: RFC 9669 has none.
-use Rattle.std.specs.Prelude.{◌≡◌, ℕ, ◌+◌, ◌-◌, ◌/◌, ◌%◌, ◌^◌, ◌<◌, ◌≤◌, Bool, true, false, ◌&&◌, ◌==◌, List, [], ◌∷◌, ◌++◌, length, map, take, drop, replicate, IsTrue, slice_index_or}
-use Rattle.std.specs.Int.{bit_at}
-use Rattle.std.specs.List.{All, list_all, range_with_len}
+use Rattle.std.specs.Prelude.{◌≡◌, ℕ, ◌+◌, ◌-◌, ◌≤◌, Bool, true, false, ◌&&◌, List, [], ◌∷◌, ◌++◌, length, take, drop, replicate, IsTrue, slice_index_or}
+use Rattle.std.specs.List.{list_all}
 use Rattle.bpf_insn.specs.declared.memory.TheConstants.{FRAME_LENGTH}
 
 -- what a FrameMap consists of: a mark for each byte of the frame, in order. It's true where the byte is known to be written.
 pub record Contents : Type 0 where
   pub marks : List Bool
-
--- a bit of a lane is set
-abbrev pub has_bit : ℕ → ℕ → Bool
-has_bit lane bit = bit_at lane bit == 1
-
--- as many lanes of 64 bits as a frame's marks fill
-pub record AreLanes (lanes : List ℕ) : Type 0 where
-  pub count : length lanes ≡ 8
-  pub fits : All (λ lane. lane < 2 ^ 64) lanes
-
--- the marks that lanes stand for: the mark of the byte at an offset is the bit offset mod 64 of the lane offset div 64
-unfoldable pub marks_of : List ℕ → List Bool
-marks_of lanes = map (λ at. has_bit (slice_index_or lanes (at / 64) 0) (at % 64)) (range_with_len 0 FRAME_LENGTH)
 
 -- one mark for each byte
 pub record IsProper (map : Contents) : Type 0 where

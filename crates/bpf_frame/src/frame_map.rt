@@ -1,7 +1,8 @@
 //! Which bytes of a program's frame are known to be written.
 ghost use Rattle.std.specs.Prelude.{◌≡◌, ◌≤◌, ◌<◌, ◌+◌, ◌*◌, ◌↔◌, ℕ, Bool, IsTrue};
 ghost use Rattle.bpf_frame.specs.FrameMap as map;
-ghost use Rattle.bpf_frame.specs.FrameMap.{AllWritten, IsMarked, IsProper, all_written, has_bit, mark, unwritten};
+ghost use Rattle.bpf_frame.specs.FrameMap.{AllWritten, IsMarked, IsProper, all_written, mark, unwritten};
+ghost use Rattle.bpf_frame.specs.Lanes.{has_bit};
 ghost use Rattle.bpf_frame.specs.OrderLaws as laws;
 
 use bpf_insn::FRAME_LENGTH;
@@ -14,14 +15,15 @@ const LANE_BITS: usize = 64;
 
 /// Which bytes of a program's frame are known to be written, by their offset from 0. Contracts see it as a record with the field `marks`, a
 /// list of truth values.
-/// It keeps them in lanes of 64 bits: the mark of the byte at an offset is the bit offset mod 64 of the lane offset div 64.
 #[derive(Drop)]
 pub struct FrameMap {
+    // The mark of the byte at an offset is the bit offset mod 64 of the lane offset div 64.
     lanes: u64x8,
 }
 
 impl Model for FrameMap {
-    ghost use Rattle.bpf_frame.specs.FrameMap.{AreLanes, Contents, marks_of};
+    ghost use Rattle.bpf_frame.specs.FrameMap.{Contents};
+    ghost use Rattle.bpf_frame.specs.Lanes.{AreLanes, marks_of};
 
     ghost Value = { Contents };
 
@@ -94,8 +96,8 @@ impl FrameMap {
     }
 }
 
-/// The bits of a lane that stand for the bytes from an offset on and before another. The lane ends behind the first and begins before
-/// the second.
+/// The bits of a lane that stand for bytes from an offset on and before another. The lane ends behind the first offset and begins before the
+/// second, so that neither shift is one by 64.
 fn bits_within(lane: usize, from: usize, end: usize) -> u64
     requires lane { lane < 8 }
     requires from { from < LANE_BITS * (lane + 1) }

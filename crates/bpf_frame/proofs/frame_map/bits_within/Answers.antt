@@ -1,5 +1,5 @@
 use Rattle.std.proofs.Common.{arith}
-use Rattle.bpf_frame.proofs.LaneLemmas.{has_bit-range}
+use Rattle.bpf_frame.proofs.RangeLemmas.{has_bit-range}
 use Rattle.bpf_frame.proofs.frame_map.bits_within.Goals as goal
 
 pub returns : goal.returns

@@ -1,6 +1,7 @@
 use Rattle.std.proofs.Common.{◌↔◌, ◌+◌, ◌<◌, ◌≤◌, ℕ, ◌∙◌, sym, ap, subst}
 use Rattle.bpf_frame.specs.FrameMap.{Contents, IsMarked, mark}
-use Rattle.bpf_frame.proofs.LaneLemmas.{contents_are_proper, or_are_lanes, marks_of-or}
+use Rattle.bpf_frame.proofs.LaneLemmas.{contents_are_proper}
+use Rattle.bpf_frame.proofs.RangeLemmas.{or_are_lanes, marks_of-or}
 use Rattle.bpf_frame.proofs.frame_map.FrameMap.mark.Goals as goal
 
 pub invariant_of-self : goal.invariant_of-self

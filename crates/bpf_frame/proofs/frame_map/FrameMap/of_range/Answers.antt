@@ -1,5 +1,5 @@
 use Rattle.std.proofs.Common.{arith}
-use Rattle.bpf_frame.proofs.LaneLemmas.{no_range, one_lane_more}
+use Rattle.bpf_frame.proofs.RangeLemmas.{no_range, one_lane_more}
 use Rattle.bpf_frame.proofs.frame_map.FrameMap.of_range.Goals as goal
 
 pub loop-lane-init : goal.loop-lane-init

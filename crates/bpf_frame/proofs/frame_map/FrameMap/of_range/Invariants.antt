@@ -1,4 +1,4 @@
-use Rattle.bpf_frame.proofs.LaneLemmas.{IsRange}
+use Rattle.bpf_frame.proofs.RangeLemmas.{IsRange}
 use Rattle.bpf_frame.proofs.frame_map.FrameMap.of_range.Given as goal
 
 abbrev pub invariant-loop-lane : goal.invariant-loop-lane

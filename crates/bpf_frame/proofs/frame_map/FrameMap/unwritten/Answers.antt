@@ -1,5 +1,5 @@
 use Rattle.std.proofs.Common.{refl}
-use Rattle.bpf_frame.specs.FrameMap.{marks_of}
+use Rattle.bpf_frame.specs.Lanes.{marks_of}
 use Rattle.bpf_frame.proofs.LaneLemmas.{contents_are_proper}
 use Rattle.bpf_frame.proofs.frame_map.FrameMap.unwritten.Goals as goal
 
