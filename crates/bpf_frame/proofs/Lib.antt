@@ -1,2 +1,4 @@
+pub mod LaneLemmas
 pub mod MarkLemmas
+pub mod RangeLemmas
 pub mod ReadLemmas

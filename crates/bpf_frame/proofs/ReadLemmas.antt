@@ -1,16 +1,10 @@
--- A search for a byte without a mark tells whether all have it.
-use Rattle.std.proofs.Common.{◌≡◌, ◌↔◌, ℕ, zero, suc, ◌+◌, ◌-◌, ◌<◌, ◌≤◌, Bool, true, false, not, ◌||◌, List, [], ◌∷◌, length, get_or, take, drop, refl, ◌∙◌, sym, ap, arith, rules}
+-- The test of a run of marks tells whether each of its bytes has its mark.
+use Rattle.std.proofs.Common.{◌≡◌, ◌↔◌, ℕ, zero, suc, ◌+◌, ◌-◌, ◌<◌, ◌≤◌, Bool, true, false, List, [], ◌∷◌, length, get_or, take, drop, refl, ◌∙◌, sym, ap, arith, rules}
 use Rattle.std.specs.Prelude.{IsTrue}
-use Rattle.std.specs.List.{list_all, list_any}
+use Rattle.std.specs.List.{list_all}
 use Rattle.std.proofs.lemmas.Bool.{and_parts, and_from}
 use Rattle.std.proofs.lemmas.List.{places, get_or-take, get_or-drop}
 use Rattle.bpf_frame.specs.FrameMap.{AllWritten, all_written}
-
--- no mark is missing exactly where all are there
-pub none_missing : (is_missing : Bool → Bool) (marks : List Bool) → is_missing false ≡ true → is_missing true ≡ false → not (list_any is_missing marks) ≡ list_all (λ mark. mark) marks
-none_missing is_missing [] missing present = refl
-none_missing is_missing (false ∷ marks) missing present = ap (λ is. not (is || list_any is_missing marks)) missing
-none_missing is_missing (true ∷ marks) missing present = ap (λ is. not (is || list_any is_missing marks)) present ∙ none_missing is_missing marks missing present
 
 -- where all marks are there, each is, and the other way round
 each_from_all : (marks : List Bool) → IsTrue (list_all (λ mark. mark) marks) → (at : ℕ) → at < length marks → get_or marks at false ≡ true

@@ -1,2 +1,3 @@
 pub mod FrameMap
+pub mod Lanes
 pub mod OrderLaws

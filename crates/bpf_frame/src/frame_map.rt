@@ -1,30 +1,35 @@
 //! Which bytes of a program's frame are known to be written.
-ghost use Rattle.std.specs.Prelude.{◌≡◌, ◌≤◌, ◌<◌, ◌+◌, ◌↔◌, ℕ, Bool, IsTrue};
+ghost use Rattle.std.specs.Prelude.{◌≡◌, ◌≤◌, ◌<◌, ◌+◌, ◌*◌, ◌↔◌, ℕ, Bool, IsTrue};
 ghost use Rattle.bpf_frame.specs.FrameMap as map;
-ghost use Rattle.bpf_frame.specs.FrameMap.{AllWritten, IsProper, all_written, mark, unwritten};
+ghost use Rattle.bpf_frame.specs.FrameMap.{AllWritten, IsMarked, IsProper, all_written, mark, unwritten};
+ghost use Rattle.bpf_frame.specs.Lanes.{has_bit};
 ghost use Rattle.bpf_frame.specs.OrderLaws as laws;
 
 use bpf_insn::FRAME_LENGTH;
 use bpf_kinds::Order;
 use std::marker::Model;
+use std::simd::u64x8;
+
+/// How many bytes have their marks in one lane.
+const LANE_BITS: usize = 64;
 
 /// Which bytes of a program's frame are known to be written, by their offset from 0. Contracts see it as a record with the field `marks`, a
 /// list of truth values.
 #[derive(Drop)]
 pub struct FrameMap {
-    marks: [bool; FRAME_LENGTH],
+    // The mark of the byte at an offset is the bit offset mod 64 of the lane offset div 64.
+    lanes: u64x8,
 }
 
 impl Model for FrameMap {
-    ghost use Rattle.std.specs.Prelude.{◌≡◌, length};
     ghost use Rattle.bpf_frame.specs.FrameMap.{Contents};
-    ghost use Rattle.bpf_insn.specs.declared.memory.TheConstants.{FRAME_LENGTH};
+    ghost use Rattle.bpf_frame.specs.Lanes.{AreLanes, marks_of};
 
     ghost Value = { Contents };
 
-    ghost view = { λ map. record { marks = map.marks } };
+    ghost view = { λ map. record { marks = marks_of map.lanes } };
 
-    ghost invariant = { λ map. length map.marks ≡ FRAME_LENGTH };
+    ghost invariant = { λ map. AreLanes map.lanes };
 }
 
 impl FrameMap {
@@ -34,7 +39,7 @@ impl FrameMap {
         ensures proper { IsProper result }
     {
         FrameMap {
-            marks: [false; FRAME_LENGTH],
+            lanes: u64x8::splat(0),
         }
     }
 
@@ -43,7 +48,7 @@ impl FrameMap {
         ensures value { result ≡ self.now }
         ensures proper { IsProper result }
     {
-        FrameMap { marks: self.marks }
+        FrameMap { lanes: self.lanes }
     }
 
     /// Marks so many bytes from an offset on as written, and no others.
@@ -52,7 +57,16 @@ impl FrameMap {
         ensures value { self.new.marks ≡ mark self.old.marks from len }
         ensures proper { IsProper self.new }
     {
-        self.marks[from..from + len].fill(true);
+        let range = FrameMap::of_range(from, from + len);
+        self.lanes |= range.lanes;
+    }
+
+    /// Keeps the marks that the other map has too.
+    pub fn join_with(&mut self, other: &FrameMap)
+        ensures value { self.new ≡ map.join self.old other.now }
+        ensures proper { IsProper self.new }
+    {
+        self.lanes &= other.lanes;
     }
 
     /// Whether each byte from an offset to another, both included, is known to be written.
@@ -62,8 +76,39 @@ impl FrameMap {
         ensures value { result ≡ all_written self.now.marks from to }
         ensures written { IsTrue result ↔ AllWritten self.now.marks from to }
     {
-        !self.marks[from..=to].contains(&false)
+        let range = FrameMap::of_range(from, to + 1);
+        self.lanes & range.lanes == range.lanes
     }
+
+    /// The map of a frame of which just the bytes from an offset on and before another are written.
+    fn of_range(from: usize, end: usize) -> Self
+        requires ordered { from ≤ end }
+        requires within { end ≤ FRAME_LENGTH }
+        ensures { (at : ℕ) → IsMarked result.marks at ↔ ((from ≤ at) × (at < end)) }
+    {
+        let mut lanes = [0; 8];
+        for lane in from / LANE_BITS..end.div_ceil(LANE_BITS) {
+            lanes[lane] = bits_within(lane, from, end);
+        }
+        FrameMap {
+            lanes: u64x8::from_array(lanes),
+        }
+    }
+}
+
+/// The bits of a lane that stand for bytes from an offset on and before another. The lane ends behind the first offset and begins before the
+/// second, so that neither shift is one by 64.
+fn bits_within(lane: usize, from: usize, end: usize) -> u64
+    requires lane { lane < 8 }
+    requires from { from < LANE_BITS * (lane + 1) }
+    requires end { LANE_BITS * lane < end }
+    ensures { (bit : ℕ) → bit < LANE_BITS
+        → IsTrue (has_bit result bit) ↔ ((from ≤ LANE_BITS * lane + bit) × (LANE_BITS * lane + bit < end)) }
+{
+    let first = LANE_BITS * lane;
+    let below = from.saturating_sub(first);
+    let above = (first + LANE_BITS).saturating_sub(end);
+    (u64::MAX << below) & (u64::MAX >> above)
 }
 
 impl Order for FrameMap {
@@ -94,19 +139,12 @@ impl Order for FrameMap {
     ghost admits_more = { λ x y is_written _ _. laws.admits_more x y is_written };
 
     fn leq(&self, other: &FrameMap) -> bool {
-        for at in 0..FRAME_LENGTH {
-            if other.marks[at] && !self.marks[at] {
-                return false;
-            }
-        }
-        true
+        self.lanes & other.lanes == other.lanes
     }
 
     fn join(&self, other: &FrameMap) -> FrameMap {
-        let mut marks = [false; FRAME_LENGTH];
-        for at in 0..FRAME_LENGTH {
-            marks[at] = self.marks[at] && other.marks[at];
+        FrameMap {
+            lanes: self.lanes & other.lanes,
         }
-        FrameMap { marks }
     }
 }

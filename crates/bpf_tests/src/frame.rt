@@ -1,10 +1,11 @@
 //! Maps beside those of a plain program over 512 truth values.
-ghost use Rattle.std.specs.Prelude.{◌<◌, ◌^◌, IfSome};
+ghost use Rattle.std.specs.Prelude.{◌<◌, ◌≤◌, ◌+◌, ◌^◌, IfSome};
 
 use crate::fixtures::cut;
 use bpf_frame::FrameMap;
 use bpf_insn::FRAME_LENGTH;
 use bpf_kinds::Order;
+use std::mem::size_of;
 
 // What is marked in a map and in another, each by the first offset and how many; whether the first has the same marks as the other, more,
 // fewer or others; and the bytes that are written in both, by the first of each run and how many.
@@ -30,6 +31,16 @@ const MAPS: &str = "\
 136+13 147+30;185+0 381+0 61+52 508+3;others;
 476+29 370+7 184+1 307+126;459+19 74+1 168+4 500+0;others;476+2
 321+22 358+127;70+1 485+0 317+174 456+22 395+0;fewer;321+22 358+127
+0+65;0+64;more;0+64
+0+192;64+64;more;64+64
+0+64 128+64 256+64 384+64;64+64 192+64 320+64 448+64;others;
+63+1 64+1;63+2;same;63+2
+63+1;64+1;others;
+127+130;128+128;more;128+128
+447+65;448+64;more;448+64
+447+2;448+1 511+1;others;448+1
+448+1 511+1;448+64;fewer;448+1 511+1
+64+0 128+0 448+0;511+0 512+0;same;
 363+1 505+0 294+3 407+63 82+7;284+6 285+45 389+2 84+2 237+0;others;84+2 294+3
 ";
 
@@ -39,10 +50,13 @@ fn is_map(row: &str) -> Option<bool> {
     let (others, rest) = cut(rest, ";");
     let (order, runs) = cut(rest, ";");
     let ((map, _), (other, _), (_, written)) = (marked(marks)?, marked(others)?, marked(runs)?);
+    let mut joined = map.duplicate();
+    joined.join_with(&other);
     Some(
         order_of(&map, &other) == order
             && has_exactly(&map.join(&other), &written)
-            && has_exactly(&other.duplicate().join(&map), &written),
+            && has_exactly(&other.join(&map), &written)
+            && has_exactly(&joined, &written),
     )
 }
 
@@ -51,6 +65,42 @@ fn maps(rt: HostRuntime) {
     for row in MAPS.lines() {
         assert!(rt; is_map(row) == Some(true), "{row}");
     }
+}
+
+#[test]
+fn runs(rt: HostRuntime) {
+    for from in 0..=FRAME_LENGTH {
+        assert!(rt; has_runs(from), "{from}");
+    }
+}
+
+#[test]
+fn size(rt: HostRuntime) {
+    assert!(rt; size_of::<FrameMap>() == 64);
+}
+
+/// Whether runs of bytes from an offset on are marked as their truth values say: of few bytes, of as many as one or two lanes have or one
+/// more or less, and of all up to the end.
+fn has_runs(from: usize) -> bool
+    requires { from ≤ FRAME_LENGTH }
+{
+    for len in [0, 1, 2, 63, 64, 65, 128, FRAME_LENGTH - from] {
+        if from + len <= FRAME_LENGTH && !is_run(from, len) {
+            return false;
+        }
+    }
+    true
+}
+
+/// Whether a map in which so many bytes from an offset on are marked says that these are written and no others.
+fn is_run(from: usize, len: usize) -> bool
+    requires { from + len ≤ FRAME_LENGTH }
+{
+    let mut map = FrameMap::unwritten();
+    map.mark(from, len);
+    let mut written = [false; FRAME_LENGTH];
+    written[from..from + len].fill(true);
+    has_exactly(&map, &written)
 }
 
 /// The map with so many bytes marked from each offset on, and these bytes as truth values.
