@@ -240,7 +240,7 @@ impl Write for Telling<'_> {
 }
 
 #[test]
-fn rows_are_written_before_the_next_line_is_read(rt: HostRuntime) -> Result<(), Fail> {
+fn rows_leave_before_the_next_line(rt: HostRuntime) -> Result<(), Fail> {
     let program = program_of(rt.alloc(), "every")?;
     let file = bytes_of(rt.alloc(), RECORD, "= 0a = 0a = 0a")?;
     let written = Cell::new(0);

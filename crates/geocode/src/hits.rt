@@ -1,15 +1,18 @@
 //! Hits of a house number over counties.
-ghost use Rattle.std.specs.Prelude.{◌≡◌, ◌≤◌, ◌++◌, length, IfOk, OnOk};
+ghost use Rattle.std.specs.Prelude.{◌≡◌, ◌≤◌, ◌++◌, length, Some, IfOk, OnOk};
 ghost use Rattle.geocode.specs.Hits.{find, has_name, has_zip, hit_on, hits_in_county, hits_on_range, hits_on_segment, is_on};
 ghost use Rattle.geocode.specs.Sides.{parts_of};
+ghost use Rattle.tl_fields.specs.Number.{number_of};
+ghost use Rattle.tl_records.specs.Layout.{field_at};
+ghost use Rattle.tl_records.specs.declared.type1.TheConstants.Rt1.{TLID};
+ghost use Rattle.tl_segments.specs.County.{tlid_of};
 ghost use Rattle.tl_segments.specs.Range.{fields_of};
 
 use crate::hit::{Hit, Side};
 use crate::position::place_on;
 use crate::sides::SideFields;
 use std::alloc::{AllocError, Allocator};
-use tl_fields::{field, number as number_of};
-use tl_records::Rt1;
+use tl_fields::number as number_of;
 use tl_segments::{County, NAME_LENGTH, RECORD_LENGTH, Range, Segment, lies_on, name_equals};
 
 /// A house that is looked for: its number, and the number of its ZIP code where only that one will do.
@@ -53,9 +56,9 @@ fn push_in_county<A: Allocator + Copy>(
     requires few { length name.now ≤ NAME_LENGTH }
     ensures { OnOk result (hits.new.items ≡ hits.old.items ++ hits_in_county name.now house county.now) }
 {
-    for segment in county.segments() {
+    for (segment, tlid) in county.segments().iter().zip(county.tlids()) {
         if has_name(name, segment) {
-            push_on_segment(house, segment, hits)?;
+            push_on_segment(house, *tlid, segment, hits)?;
         }
     }
     Ok(())
@@ -79,14 +82,16 @@ fn has_name<A: Allocator>(name: &[u8], segment: &Segment<A>) -> bool
 
 fn push_on_segment<A: Allocator + Copy>(
     house: House,
+    tlid: u64,
     segment: &Segment<A>,
     hits: &mut Vec<Hit, A>,
 ) -> Result<(), AllocError>
+    requires { tlid_of segment.now ≡ Some tlid }
     ensures { OnOk result (hits.new.items ≡ hits.old.items ++ hits_on_segment house segment.now) }
 {
     for n in 0..segment.ranges() {
         if let Some(range) = segment.range(n) {
-            push_on_range(house, segment.bytes(), range, hits)?;
+            push_on_range(house, tlid, segment.bytes(), range, hits)?;
         }
     }
     Ok(())
@@ -94,32 +99,34 @@ fn push_on_segment<A: Allocator + Copy>(
 
 fn push_on_range<A: Allocator + Copy>(
     house: House,
+    tlid: u64,
     bytes: &[u8],
     range: Range<'_>,
     hits: &mut Vec<Hit, A>,
 ) -> Result<(), AllocError>
-    requires { length bytes.now ≡ RECORD_LENGTH }
+    requires bytes { length bytes.now ≡ RECORD_LENGTH }
+    requires tlid { number_of (field_at TLID bytes.now) ≡ Some tlid }
     ensures { OnOk result (hits.new.items ≡ hits.old.items ++ hits_on_range house bytes.now (fields_of range.entry)) }
 {
-    if let Some(hit) = hit_on(house, bytes, range, Side::Left) {
+    if let Some(hit) = hit_on(house, tlid, bytes, range, Side::Left) {
         hits.push(hit)?;
     }
-    if let Some(hit) = hit_on(house, bytes, range, Side::Right) {
+    if let Some(hit) = hit_on(house, tlid, bytes, range, Side::Right) {
         hits.push(hit)?;
     }
     Ok(())
 }
 
-/// The hit on a side of a range, of a segment with this type 1 record, if the house is on it.
-fn hit_on(house: House, bytes: &[u8], range: Range<'_>, side: Side) -> Option<Hit>
-    requires { length bytes.now ≡ RECORD_LENGTH }
+/// The hit on a side of a range, of a segment with this type 1 record and this number for TLID, if the house is on it.
+fn hit_on(house: House, tlid: u64, bytes: &[u8], range: Range<'_>, side: Side) -> Option<Hit>
+    requires bytes { length bytes.now ≡ RECORD_LENGTH }
+    requires tlid { number_of (field_at TLID bytes.now) ≡ Some tlid }
     ensures { result ≡ hit_on house bytes.now (fields_of range.entry) side }
 {
     let fields = SideFields::of(range, side);
     if !lies_on(house.number, fields.from, fields.to) || !has_zip(house.zip, fields.zip) {
         return None;
     }
-    let tlid = number_of(field(bytes, Rt1::TLID.0, Rt1::TLID.1))?;
     let place = place_on(house.number, bytes, fields);
     Some(Hit { tlid, side, place })
 }

@@ -1,20 +1,16 @@
 -- What an index has of a TLID is what its lines have.
-use Rattle.std.proofs.Common.{◌≡◌, ◌≤◌, ℕ, inl, inr, length, List, [], ◌∷◌, ◌++◌, map, All, Option, Some, None, IsSome, refl, sym, ap, ◌∙◌, arith}
+use Rattle.std.proofs.Common.{◌≡◌, ◌≤◌, ℕ, inl, inr, length, List, [], ◌∷◌, ◌++◌, map, Option, Some, None, is_some, IsSome, refl, sym, ap, ◌∙◌, arith}
 use Rattle.std.specs.List.{filter_map, flat_map, cons_option}
 use Rattle.std.specs.Option.{option_and_then, option_map_or}
-use Rattle.std.proofs.lemmas.Bool.Decides.{nat_tests}
-use Rattle.std.proofs.lemmas.List.Elements.{filter_map-append, All-nil, All-cons, All-head, All-tail}
+use Rattle.std.proofs.lemmas.List.{map-append}
+use Rattle.std.proofs.lemmas.List.Elements.{filter_map-append, All-nil, All-cons}
 use Rattle.tl_fields.specs.Number.{number_of}
 use Rattle.tl_records.specs.Layout.{field_at}
-use Rattle.tl_records.specs.Records.{IsGoodLine, line_flaw}
-use Rattle.tl_records.specs.declared.layout.Layout.{Layout}
 use Rattle.tl_records.specs.declared.layout.Places.{Places}
-use Rattle.tl_records.specs.declared.type1.TheConstants.Rt1.{TLID}
 use Rattle.tl_records.specs.declared.type4.TheConstants.Rt4.{FEAT1, FEAT2, FEAT3, FEAT4, FEAT5}
-use Rattle.tl_segments.specs.County.{HasTlids}
-use Rattle.tl_segments.specs.CountyFile.{layout}
+use Rattle.tl_segments.specs.County.{AreTlids, HasTlids, tlid_of}
 use Rattle.tl_segments.specs.Indexing.{IsIndexOf, names_in}
-use Rattle.tl_segments.specs.Joining.{JoinedLines, number_in, lines_with, features_of, feature_name, alternate_names, further_ranges, segment_of, segments_of}
+use Rattle.tl_segments.specs.Joining.{JoinedLines, number_in, lines_with, features_of, feature_name, alternate_names, further_ranges, segment_of}
 use Rattle.tl_segments.specs.Segment.{Contents, HasJoined}
 use Rattle.tl_segments.specs.Tables.{feature_numbers, list_at, name_at, names_among}
 use Rattle.tl_segments.specs.declared.fault.CountyFile.TheVariants.{Rt1, Rt4}
@@ -62,12 +58,17 @@ module _ {A : Type 0} (index : Index A) (lines : JoinedLines) (line : List ℕ) 
   pub ranges_joined : 1 ≤ length (list_at index.ranges tlid) → HasJoined (segment_of lines line)
   ranges_joined some = inr (λ none. let same = ap (λ (segment : Contents). length segment.ranges) from_index in let no = ap length none in omega (arith, some, same, no))
 
--- the field that has a number in each line of this type has one in a good line
-has_number_good : (row : Layout) (line : List ℕ) → line_flaw row line ≡ None → IsSome (number_of (field_at row.number line))
-has_number_good row line none = grind (arith, nat_tests, none)
+-- segments with these numbers for TLIDs have numbers for TLIDs
+pub has_tlids : (tlids : List ℕ) (segments : List Contents) → AreTlids tlids segments → HasTlids segments
+has_tlids tlids [] same = All-nil (λ (segment : Contents). IsSome (tlid_of segment))
+has_tlids [] (segment ∷ segments) same = absurd (omega (arith, ap length same))
+has_tlids (tlid ∷ tlids) (segment ∷ segments) same =
+    All-cons (λ (segment : Contents). IsSome (tlid_of segment)) segment segments (let is : tlid_of segment ≡ Some tlid = cc in ap is_some is) (has_tlids tlids segments (cc))
 
--- the segments of good lines have numbers for TLIDs
-pub tlids_of_good : (joined : JoinedLines) (lines : List (List ℕ)) → All (IsGoodLine (layout Rt1)) lines → HasTlids (segments_of joined lines)
-tlids_of_good joined [] good = All-nil (λ (segment : Contents). IsSome (number_of (field_at TLID segment.bytes)))
-tlids_of_good joined (line ∷ lines) good =
-    All-cons (λ (segment : Contents). IsSome (number_of (field_at TLID segment.bytes))) (segment_of joined line) (segments_of joined lines) (has_number_good (layout Rt1) line (All-head (IsGoodLine (layout Rt1)) line lines good).no_flaw) (tlids_of_good joined lines (All-tail (IsGoodLine (layout Rt1)) line lines good))
+-- one segment more
+pub tlids_push : (tlids : List ℕ) (segments : List Contents) (tlid : ℕ) (segment : Contents) → AreTlids tlids segments → tlid_of segment ≡ Some tlid → AreTlids (tlids ++ tlid ∷ []) (segments ++ segment ∷ [])
+tlids_push tlids segments tlid segment same is =
+    map-append Some tlids (tlid ∷ [])
+    ∙ ap (λ numbers. numbers ++ Some tlid ∷ []) same
+    ∙ ap (λ found. map tlid_of segments ++ found ∷ []) (sym is)
+    ∙ sym (map-append tlid_of segments (segment ∷ []))

@@ -14,14 +14,13 @@ use Rattle.tl_records.specs.declared.fault.LineFlaw.TheVariants.{WrongLength, Wr
 use Rattle.tl_records.specs.declared.layout.Layout.{Layout}
 use Rattle.tl_records.proofs.LineLemmas.{cr_lf, has_first_line}
 use Rattle.tl_segments.specs.CountyFile.{layout}
-use Rattle.tl_segments.specs.Indexing.{ReadsGoodLine, IsNextFault, IsSegmentRead}
+use Rattle.tl_segments.specs.Indexing.{ReadsGoodLine, IsNextFault}
 use Rattle.tl_segments.specs.Joining.{IsWithinLimits}
 use Rattle.tl_segments.specs.Loading.{ReadsFile, ReadsLines, HasMoreAfter, HasFlawAfter, FailsAfter, MayHave, ComesAfter, IsFirstFault, IsOneTooMany, IsFileFault}
 use Rattle.tl_segments.specs.Taking.{IsBeyond, IsNextOf, IsTaken}
 use Rattle.tl_segments.specs.declared.fault.CountyFile.{CountyFile}
 use Rattle.tl_segments.specs.declared.fault.CountyFile.TheVariants.{Rt1, Rt4, Rt5, Rt6}
 use Rattle.tl_segments.specs.declared.fault.LoadFault.{LoadFault}
-use Rattle.tl_segments.specs.declared.index.Index.{Index}
 use Rattle.tl_segments.specs.declared.fault.LoadFault.TheVariants.{Line, TooManyNames, TooManyRanges, Memory}
 
 -- what two calls say of known bytes, one after the other, says this of those before both
@@ -187,7 +186,7 @@ module _ (file : CountyFile) (lines : List (List ℕ)) (line new_line : LinePart
       before = a;
       first = b.0;
       flawed = flawed;
-      stands = inl refl;
+      stands = inl (refl, b.2);
     }) read.reads.known next.3,
     next.0 ∙ read.reads.reads,
   )
@@ -266,10 +265,3 @@ module _ (lines : List (List ℕ)) (line new_line : LineParts) (old now new : Re
   pub at_next_fault : (fault : LineFault) → IsNextFault fault line new_line now new → IsFirstFault Rt1 fault lines old new
   at_next_fault fault (inl next) = at_fault Rt1 lines line new_line old now new read fault next
   at_next_fault fault (inr (next, flawed)) = at_flaw Rt1 lines line new_line old now new read fault tt next flawed
-
-  -- why the segment of the next line can't be made is why the file can't be loaded
-  pub no_segment : {A : Type 0} (index : Index A) (fault : LoadFault) → IsSegmentRead index line new_line now new (Err fault) → IsFileFault Rt1 fault old new
-  no_segment index (Line file fault) next = (next.0, lines, at_next_fault fault next.1)
-  no_segment index (TooManyNames number) next = absurd next
-  no_segment index (TooManyRanges number) next = absurd next
-  no_segment index Memory next = next.0.0.0 ∙ read.reads.reads

@@ -43,8 +43,8 @@ HasNoFault file old new = (lines : List (List ℕ)) × ReadsFile file lines old 
 abbrev pub HasMoreAfter : List (List ℕ) → List ℕ → List ℕ → Type 0
 HasMoreAfter lines bytes rest = (after : List ℕ) × AreFirstLines bytes lines after × HasOneMore after rest
 
--- Behind these first lines of a file's bytes comes a line with this flaw, and this is left: what stands behind the line, or behind its 231st
--- byte, where it's refused as too long.
+-- Behind these first lines of a file's bytes comes a line with this flaw, and this is left: what stands behind the line, where it ends within
+-- 231 bytes, or else behind its 231st byte, where it's refused as too long.
 pub record HasFlawAfter (file : CountyFile) (flaw : LineFlaw) (lines : List (List ℕ)) (bytes left : List ℕ) : Type 0 where
   pub after : List ℕ
   pub line : List ℕ
@@ -52,7 +52,7 @@ pub record HasFlawAfter (file : CountyFile) (flaw : LineFlaw) (lines : List (Lis
   pub before : AreFirstLines bytes lines after
   pub first : IsFirstLine after line rest
   pub flawed : line_flaw (layout file) line ≡ Some flaw
-  pub stands : (left ≡ rest) ⊎ BeginsTooLong after left
+  pub stands : ((left ≡ rest) × (length after ≤ length rest + 231)) ⊎ BeginsTooLong after left
 
 -- behind these first lines of a file's bytes a read failed, in the line that comes next
 abbrev pub FailsAfter : List (List ℕ) → List ℕ → List ℕ → Type 0

@@ -1,36 +1,37 @@
 //! The segments of a county's files.
-ghost use Rattle.std.specs.Prelude.{◌≡◌, IfErr, IfOk};
+ghost use Rattle.std.specs.Prelude.{◌≡◌, ℕ, List, IfErr, IfOk};
 ghost use Rattle.tl_fields.specs.Device.{reader};
-ghost use Rattle.tl_segments.specs.County.{HasTlids, IsCountyFault, LoadsCounty};
+ghost use Rattle.tl_segments.specs.County.{AreTlids, HasTlids, IsCountyFault, KeepsSegments, LoadsCounty};
+ghost use Rattle.tl_segments.specs.Indexing.{IsIndexOf};
 ghost use Rattle.tl_segments.specs.Joining.{JoinedLines, segments_of};
 ghost use Rattle.tl_segments.specs.Loading.{IsFileFault, readers};
-ghost use Rattle.tl_segments.specs.Taking.{KeepsFile};
-ghost use Rattle.tl_segments.specs.Indexing.{IsIndexOf};
+ghost use Rattle.tl_segments.specs.Taking.{IsTaken, KeepsFile};
 ghost use Rattle.tl_segments.specs.declared.fault.CountyFile.TheVariants.{Rt1};
 
 use crate::fault::LoadFault;
-use crate::index::Index;
+use crate::index::{Index, rt1_fault};
 use crate::segment::Segment;
 use std::alloc::Allocator;
 use std::marker::Model;
 use tl_fields::CountedRead;
-use tl_records::Line;
+use tl_records::{Line, read_line, rt1};
 
 /// The segments of a county, one of each line of its type 1 file, in their order. The TLID of each has a number. Contracts see it as a record
 /// with the field `segments`.
 #[derive(Drop)]
 pub struct County<A: Allocator> {
     segments: Vec<Segment<A>, A>,
+    tlids: Vec<u64, A>,
 }
 
 impl<A: Allocator> Model for County<A> {
-    ghost use Rattle.tl_segments.specs.County.{CountyParts, HasTlids};
+    ghost use Rattle.tl_segments.specs.County.{AreTlids, CountyParts};
 
     ghost Value = { CountyParts };
 
     ghost view = { λ county. record { segments = county.segments.items } };
 
-    ghost invariant = { λ county. HasTlids county.segments.items };
+    ghost invariant = { λ county. AreTlids county.tlids.items county.segments.items };
 }
 
 impl<A: Allocator + Copy> County<A> {
@@ -50,8 +51,7 @@ impl<A: Allocator + Copy> County<A> {
             (record { rt1 = reader R.remaining R.failed_reads rt1.new; joined = readers R.remaining R.failed_reads rt4.new rt5.new rt6.new })) }
     {
         let index = Index::load(alloc, rt4, rt5, rt6)?;
-        let segments = read_segments(alloc, &index, rt1)?;
-        Ok(County { segments })
+        read_segments(alloc, &index, rt1)
     }
 }
 
@@ -63,6 +63,13 @@ impl<A: Allocator> County<A> {
     {
         self.segments.as_slice()
     }
+
+    /// The numbers of the segments' TLIDs, in the same order.
+    pub fn tlids(&self) -> &[u64]
+        ensures { AreTlids result.now self.now.segments }
+    {
+        self.tlids.as_slice()
+    }
 }
 
 /// Reads a type 1 file to its end, up to the first fault, with what the index has of each line's TLID.
@@ -70,17 +77,40 @@ fn read_segments<A: Allocator + Copy, R: CountedRead>(
     alloc: A,
     index: &Index<A>,
     input: &mut R,
-) -> Result<Vec<Segment<A>, A>, LoadFault>
-    ensures ok { IfOk result (λ segments. KeepsFile Rt1
-        (λ lines. (joined : JoinedLines) → IsIndexOf index.now joined → segments.items ≡ segments_of joined lines)
+) -> Result<County<A>, LoadFault>
+    ensures ok { IfOk result (λ county. KeepsFile Rt1
+        (λ lines. (joined : JoinedLines) → IsIndexOf index.now joined → county.segments ≡ segments_of joined lines)
         (reader R.remaining R.failed_reads input.old) (reader R.remaining R.failed_reads input.new)) }
     ensures err { IfErr result (λ fault. IsFileFault Rt1 fault
         (reader R.remaining R.failed_reads input.old) (reader R.remaining R.failed_reads input.new)) }
 {
     let mut segments = Vec::new(alloc);
+    let mut tlids = Vec::new(alloc);
     let mut line = Line::new();
-    while let Some(segment) = index.next_segment(input, &mut line)? {
-        segments.push(segment)?;
+    loop {
+        match read_line(input, &mut line) {
+            Ok(Some(())) => push_segment(index, &line, &mut segments, &mut tlids)?,
+            Ok(None) => return Ok(County { segments, tlids }),
+            Err(fault) => return Err(rt1_fault(fault)),
+        }
     }
-    Ok(segments)
+}
+
+/// Adds the segment of a type 1 line and the number of its TLID behind those that there are, or answers the fault that the line is.
+fn push_segment<A: Allocator + Copy>(
+    index: &Index<A>,
+    line: &Line,
+    segments: &mut Vec<Segment<A>, A>,
+    tlids: &mut Vec<u64, A>,
+) -> Result<(), LoadFault>
+    ensures { (lines : List (List ℕ)) → KeepsSegments index.now segments.old.items tlids.old.items lines
+        → IsTaken Rt1 lines line.now result (KeepsSegments index.now segments.new.items tlids.new.items) }
+{
+    let record = match rt1(line) {
+        Ok(record) => record,
+        Err(fault) => return Err(rt1_fault(fault)),
+    };
+    segments.push(index.segment(&record)?)?;
+    tlids.push(record.tlid_number())?;
+    Ok(())
 }

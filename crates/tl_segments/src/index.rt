@@ -77,6 +77,7 @@ impl<A: Allocator + Copy> Index<A> {
     #[inline(always)]
     pub fn segment(&self, rt1: &Rt1<'_>) -> Result<Segment<A>, AllocError>
         ensures ok { IfOk result (λ segment. (lines : JoinedLines) → IsIndexOf self.now lines → segment ≡ segment_of lines rt1.now.bytes) }
+        ensures bytes { IfOk result (λ segment. segment.bytes ≡ rt1.now.bytes) }
         ensures memory { OnErr result ((lines : JoinedLines) → IsIndexOf self.now lines → HasJoined (segment_of lines rt1.now.bytes)) }
     {
         let mut segment = Segment::of(self.alloc, rt1.bytes());
@@ -152,8 +153,9 @@ impl<A: Allocator + Copy> Index<A> {
     }
 }
 
+/// The fault of a type 1 line.
 #[cold]
-fn rt1_fault(fault: LineFault) -> LoadFault
+pub(crate) fn rt1_fault(fault: LineFault) -> LoadFault
     ensures { result ≡ load_fault.Line county_file.Rt1 fault }
 {
     let file = CountyFile::Rt1;

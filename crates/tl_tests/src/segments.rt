@@ -1,4 +1,5 @@
 //! Names, house numbers, segments and counties, worked by hand.
+mod behind_faults;
 mod counties;
 mod plain;
 
