@@ -135,6 +135,6 @@ impl Known {
         for register in 0..REGISTERS {
             self.registers[register] = self.registers[register].join(&other.registers[register]);
         }
-        self.frame = self.frame.join(&other.frame);
+        self.frame.join_with(&other.frame);
     }
 }
