@@ -1,6 +1,6 @@
 -- One domain foresees another: where each step of an instruction over the first is sound for that over the second, so is the whole walk. The
 -- checks of an instruction are gone through here alone.
-use Rattle.std.proofs.Common.{◌≡◌, ℕ, ℤ, Option, Some, None, Result, Ok, Err, refl}
+use Rattle.std.proofs.Common.{◌≡◌, ℕ, ℤ, Option, Some, None, Result, refl}
 use Rattle.std.specs.Int.{cast_unsigned, w32}
 use Rattle.bpf_insn.specs.Jump.{jump_distance, words}
 use Rattle.bpf_insn.specs.declared.instruction.Insn.{Insn}

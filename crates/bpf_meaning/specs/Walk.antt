@@ -8,9 +8,8 @@ use Rattle.bpf_insn.specs.Jump.{words}
 use Rattle.bpf_insn.specs.declared.instruction.Insn.{Insn}
 use Rattle.bpf_insn.specs.declared.instruction.Insn.TheVariants.{Alu, MoveSignExtended, Negate, ByteSwap, JumpIf, Jump, Call, Exit, Load, StoreImmediate, Store, WideLoad}
 use Rattle.bpf_insn.specs.declared.instruction.Operation.{Operation}
-use Rattle.bpf_insn.specs.declared.instruction.Operation.TheVariants.{Add, Subtract, Move}
+use Rattle.bpf_insn.specs.declared.instruction.Operation.TheVariants.{Move}
 use Rattle.bpf_insn.specs.declared.instruction.Width.{Width}
-use Rattle.bpf_insn.specs.declared.instruction.Width.TheVariants.{Bits32, Bits64}
 use Rattle.bpf_insn.specs.declared.instruction.Source.{Source}
 use Rattle.bpf_insn.specs.declared.instruction.Source.TheVariants.{Immediate, Register}
 use Rattle.bpf_insn.specs.declared.instruction.Condition.{Condition}
@@ -21,12 +20,11 @@ use Rattle.bpf_insn.specs.declared.instruction.LoadFormat.{LoadFormat}
 use Rattle.bpf_insn.specs.declared.instruction.StoreSize.{StoreSize}
 use Rattle.bpf_insn.specs.declared.register.Register.{Register as RegisterParts}
 use Rattle.bpf_insn.specs.declared.register.WritableRegister.{WritableRegister}
-use Rattle.bpf_insn.specs.declared.value.Area.{Area}
 use Rattle.bpf_helpers.specs.Helper.{by_number}
 use Rattle.bpf_helpers.specs.declared.helper.Helper.{Helper}
 use Rattle.bpf_meaning.specs.Checks.{◌>>=◌}
 use Rattle.bpf_meaning.specs.declared.cause.Cause.{Cause}
-use Rattle.bpf_meaning.specs.declared.cause.Cause.TheVariants.{PointerArithmetic, NotPointer, StoresPointer, ComparesPointer, UnknownHelper, ExitNotNumber}
+use Rattle.bpf_meaning.specs.declared.cause.Cause.TheVariants.{PointerArithmetic, StoresPointer, UnknownHelper, ExitNotNumber}
 
 -- a conditional jump: what it asks, of what, and by how many words it leads on where that is so
 pub record ConditionalJump : Type 0 where

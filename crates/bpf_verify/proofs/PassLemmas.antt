@@ -1,9 +1,9 @@
 -- The pass: what it keeps is an annotation that is good up to where it has come.
-use Rattle.std.proofs.Common.{◌≡◌, ℕ, ℤ, pos, zero, suc, ◌+◌, ◌-◌, ◌+ℤ◌, ◌<◌, ◌≤◌, List, [], ◌∷◌, length, map, replicate, get_or, slice_set, Option, Some, None, option_map, IfSome, IsSome, Result, Ok, Err, nat_le, Bool, true, false, if◌then◌else◌, refl, sym, ap, ◌∙◌, subst, arith, rules, inl, inr}
+use Rattle.std.proofs.Common.{◌≡◌, ℕ, ℤ, pos, zero, suc, ◌+◌, ◌-◌, ◌+ℤ◌, ◌<◌, ◌≤◌, List, [], ◌∷◌, length, map, replicate, get_or, slice_set, Option, Some, None, option_map, IfSome, IsSome, nat_le, true, false, if◌then◌else◌, refl, sym, ap, ◌∙◌, subst, arith, rules, inl, inr}
 use Rattle.std.proofs.lemmas.Bool.{cases_lt}
 use Rattle.std.proofs.lemmas.Bool.Decides.{nat_tests}
 use Rattle.std.proofs.lemmas.Int.{ints}
-use Rattle.std.proofs.lemmas.List.{get_or-map, get_or-set_same, get_or-set_other, get_or_past, get_or_default, length-set, length-replicate, map-set, set-get_or}
+use Rattle.std.proofs.lemmas.List.{get_or-map, get_or-set_same, get_or-set_other, get_or_past, length-set, length-replicate, set-get_or}
 use Rattle.std.proofs.lemmas.Option.{none-some}
 use Rattle.std.specs.Prelude.{FitsSigned}
 use Rattle.std.specs.Int.{w16}
@@ -15,13 +15,12 @@ use Rattle.bpf_insn.specs.Code.{instruction_at, spelling, word_count}
 use Rattle.bpf_insn.specs.Jump.{jump_distance}
 use Rattle.bpf_insn.specs.declared.instruction.Insn.{Insn}
 use Rattle.bpf_insn.specs.declared.memory.TheConstants.{FRAME_LENGTH}
-use Rattle.bpf_flow.specs.Flow.{IsForward, LeadsOn, target_of}
+use Rattle.bpf_flow.specs.Flow.{IsForward, target_of}
 use Rattle.bpf_frame.proofs.MarkLemmas.{unwritten_is_proper}
 use Rattle.bpf_kinds.specs.Kind as kind
 use Rattle.bpf_kinds.specs.Offsets as offsets
 use Rattle.bpf_kinds.specs.declared.kind.Kind.{Kind}
 use Rattle.bpf_kinds.specs.declared.kind.Kind.TheVariants.{Nothing}
-use Rattle.bpf_meaning.specs.declared.cause.Cause.{Cause}
 use Rattle.bpf_verify.specs.Annotation.{Annotation, PassesAt, IsGoodUpTo, HasGoodAnnotation, IsRefusedAt, IsVerifyFault}
 use Rattle.bpf_verify.specs.Pass.{state_of, annotation_of, AreProper, first, taken, joined, joined_if, propagated, Visits, IsVisitFault}
 use Rattle.bpf_verify.specs.State.{AbstractState, Unreached, Reached, Edges, AreProperEdges, entry, join, IsProper, IsProperKnown, IsWithin}

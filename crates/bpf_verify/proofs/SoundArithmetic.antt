@@ -1,5 +1,5 @@
 -- Arithmetic on kinds is sound.
-use Rattle.std.proofs.Common.{◌≡◌, ℕ, ◌/◌, ◌%◌, ◌^◌, ◌<◌, ◌≤◌, ◌-◌, ◌==◌, ◌||◌, nat_lt, nat_le, ℤ, ◌+ℤ◌, ◌-ℤ◌, ◌≤ℤ◌, Bool, true, false, Option, Some, None, Result, Ok, Err, IsTrue, if◌then◌else◌, refl, sym, subst, arith}
+use Rattle.std.proofs.Common.{◌≡◌, ℕ, ◌/◌, ◌%◌, ◌^◌, ◌<◌, ◌≤◌, ◌-◌, ◌==◌, ◌||◌, nat_lt, nat_le, ℤ, ◌≤ℤ◌, Bool, true, false, Option, Some, None, Ok, IsTrue, if◌then◌else◌, refl, subst, arith}
 use Rattle.std.proofs.lemmas.Bool.Decides.{nat_tests}
 use Rattle.std.proofs.Math.Nat.{mod-lt}
 use Rattle.std.proofs.lemmas.Nat.{pow_pos}
@@ -9,14 +9,10 @@ use Rattle.std.specs.Int.{w64, cast_signed}
 use Rattle.bpf_insn.specs.Arithmetic.{operand_bits, low_bits, result_of}
 use Rattle.bpf_insn.specs.Pointer.{is_offset}
 use Rattle.bpf_insn.specs.declared.instruction.Operation.{Operation}
-use Rattle.bpf_insn.specs.declared.instruction.Operation.TheVariants.{Add, Subtract, Move}
 use Rattle.bpf_insn.specs.declared.instruction.Width.{Width}
 use Rattle.bpf_insn.specs.declared.instruction.Width.TheVariants.{Bits32, Bits64}
-use Rattle.bpf_insn.specs.declared.instruction.Source.{Source}
-use Rattle.bpf_insn.specs.declared.instruction.Source.TheVariants.{Immediate, Register}
 use Rattle.bpf_insn.specs.declared.value.Area.{Area}
 use Rattle.bpf_insn.specs.declared.value.Area.TheVariants as area
-use Rattle.bpf_insn.specs.declared.value.Pointer.{Pointer as PointerParts}
 use Rattle.bpf_insn.specs.declared.value.Value.{Value}
 use Rattle.bpf_insn.specs.declared.value.Value.TheVariants as value
 use Rattle.bpf_kinds.specs.Offsets as offsets
@@ -26,16 +22,13 @@ use Rattle.bpf_kinds.specs.declared.kind.Kind.{Kind}
 use Rattle.bpf_kinds.specs.declared.kind.Kind.TheVariants.{Number, Record, Frame, Nothing}
 use Rattle.bpf_kinds.specs.declared.offsets.Offsets.{Offsets}
 use Rattle.bpf_kinds.proofs.MovingLaws.{move_by-admits, move_back_by-admits}
-use Rattle.bpf_kinds.proofs.ResultLemmas.{alu-admits, immediate_operand-admits}
+use Rattle.bpf_kinds.proofs.ResultLemmas.{alu-admits}
 use Rattle.bpf_meaning.specs.Effect as effect
 use Rattle.bpf_meaning.specs.Effect.{◌>>=◌}
-use Rattle.bpf_meaning.specs.declared.cause.Cause.{Cause}
 use Rattle.bpf_meaning.specs.declared.cause.Cause.TheVariants.{PointerArithmetic, LeavesArea}
 use Rattle.bpf_kinds.specs.Interval.{IsProper, Admits, cut, between, full}
 use Rattle.bpf_kinds.specs.Results.{alu}
 use Rattle.bpf_kinds.specs.declared.interval.Interval.{Interval}
-use Rattle.bpf_meaning.specs.declared.state.State.{State}
-use Rattle.bpf_verify.specs.declared.state.Known.{Known}
 use Rattle.bpf_verify.specs.Transfer.{or_cause, tagged_kind, kind_pointer, kind_tags}
 use Rattle.bpf_meaning.specs.Effect.{offset_or, tagged_value, value_tags}
 use Rattle.bpf_meaning.specs.Tags.{operate, move}

@@ -1,6 +1,5 @@
 -- Checks on kinds are sound: where they pass, the same checks on values pass, and what they give of kinds admits what they give of values.
-use Rattle.std.proofs.Common.{◌≡◌, ℕ, Bool, true, false, IsTrue, if◌then◌else◌, Result, Ok, Err, refl}
-use Rattle.std.proofs.lemmas.Bool.{false≢true}
+use Rattle.std.proofs.Common.{◌≡◌, ℕ, refl}
 use Rattle.bpf_insn.specs.declared.value.Value.{Value}
 use Rattle.bpf_insn.specs.declared.value.Value.TheVariants as value
 use Rattle.bpf_kinds.specs.Interval as interval

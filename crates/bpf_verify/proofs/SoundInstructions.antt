@@ -2,21 +2,15 @@
 -- behind it admits the state behind it.
 use Rattle.std.proofs.Common.{◌≡◌, ℕ, ◌<◌, ◌⊎◌, inl, inr, ℤ, pos, nat_lt, IsSome, Bool, true, false, List, Some, Result, Ok, Err, if◌then◌else◌, refl, sym, subst}
 use Rattle.bpf_insn.specs.Code.{instruction_at, word_count}
-use Rattle.bpf_insn.specs.Jump.{jump_distance, words}
+use Rattle.bpf_insn.specs.Jump.{jump_distance}
 use Rattle.bpf_insn.specs.declared.instruction.Insn.{Insn}
-use Rattle.bpf_insn.specs.declared.instruction.Insn.TheVariants.{Alu, MoveSignExtended, Negate, ByteSwap, JumpIf, Jump, Call, Exit, Load, StoreImmediate, Store, WideLoad}
-use Rattle.bpf_insn.specs.declared.instruction.Source.TheVariants.{Immediate, Register}
+use Rattle.bpf_insn.specs.declared.instruction.Insn.TheVariants.{Exit}
 use Rattle.bpf_insn.specs.declared.register.WritableRegister.{WritableRegister}
 use Rattle.bpf_insn.specs.declared.value.Value.{Value}
-use Rattle.bpf_insn.specs.declared.value.Value.TheVariants as value
-use Rattle.std.specs.Int.{cast_unsigned, w32}
 use Rattle.bpf_flow.specs.Flow.{target_of, LeadsOn}
-use Rattle.bpf_helpers.specs.Helper.{by_number}
 use Rattle.bpf_kinds.specs.Interval as interval
 use Rattle.bpf_kinds.specs.Kind as kind
-use Rattle.bpf_kinds.specs.declared.interval.Interval.{Interval}
 use Rattle.bpf_kinds.specs.declared.kind.Kind.{Kind}
-use Rattle.bpf_kinds.specs.declared.kind.Kind.TheVariants.{Number}
 use Rattle.bpf_kinds.proofs.ResultLemmas.{negate-admits, extend-admits, byte_swap-admits, wide_number-admits, immediate_operand-admits}
 use Rattle.bpf_meaning.specs.Effect as effect
 use Rattle.bpf_meaning.specs.Effect.{◌>>=◌}

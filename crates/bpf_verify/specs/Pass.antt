@@ -1,6 +1,6 @@
 -- The one pass over a code: it goes over places upwards, takes the state at each, and propagates what the transfer function gives to where
 -- the edges lead. What it keeps is an annotation as a list of states, by place.
-use Rattle.std.specs.Prelude.{◌≡◌, ℕ, pos, ◌+◌, ◌-◌, ◌<◌, List, ◌∷◌, length, get_or, replicate, slice_set, Option, Some, None, IfSome, option_map, Result, Ok, Err}
+use Rattle.std.specs.Prelude.{◌≡◌, ℕ, pos, ◌+◌, ◌-◌, ◌<◌, List, ◌∷◌, length, get_or, replicate, slice_set, Option, Some, None, IfSome, option_map, Ok, Err}
 use Rattle.std.specs.declared.boxed.Box.{Box}
 use Rattle.bpf_insn.specs.Code.{spelling}
 use Rattle.bpf_insn.specs.Jump.{jump_distance}

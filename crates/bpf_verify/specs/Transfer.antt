@@ -2,16 +2,11 @@
 -- for some of the values that are possible. It walks the instruction table with kinds in the place of values. What is known of results is
 -- this project's own.
 use Rattle.std.specs.Prelude.{ℕ, zero, suc, ◌+◌, ℤ, pos, ◌+ℤ◌, ◌&&◌, ◌==◌, Bool, true, false, IsTrue, int_le, nat_le, unsigned_abs, List, [], ◌∷◌, ◌++◌, drop, replicate, get_or, Option, Some, None, Result, Ok, Err, if◌then◌else◌}
-use Rattle.std.specs.Int.{cast_unsigned, w32}
+use Rattle.std.specs.Int.{w32}
 use Rattle.std.specs.Ordering.{int_eq}
 use Rattle.bpf_insn.specs.Arithmetic as arithmetic
 use Rattle.bpf_insn.specs.Arithmetic.{operand_bits, low_bits}
 use Rattle.bpf_insn.specs.declared.instruction.Insn.{Insn}
-use Rattle.bpf_insn.specs.declared.instruction.Insn.TheVariants.{Alu, MoveSignExtended, Negate, ByteSwap, JumpIf, Jump, Call, Exit, Load, StoreImmediate, Store, WideLoad}
-use Rattle.bpf_insn.specs.declared.instruction.Operation.{Operation}
-use Rattle.bpf_insn.specs.declared.instruction.Operation.TheVariants.{Add, Subtract, Move}
-use Rattle.bpf_insn.specs.declared.instruction.Width.{Width}
-use Rattle.bpf_insn.specs.declared.instruction.Width.TheVariants.{Bits32, Bits64}
 use Rattle.bpf_insn.specs.declared.instruction.Source.{Source}
 use Rattle.bpf_insn.specs.declared.instruction.Source.TheVariants.{Immediate, Register}
 use Rattle.bpf_insn.specs.declared.instruction.LoadFormat.{LoadFormat}
@@ -31,7 +26,7 @@ use Rattle.bpf_kinds.specs.declared.kind.Kind.TheVariants.{Number, Record, Frame
 use Rattle.bpf_kinds.specs.declared.narrowing.Narrowed.{Narrowed}
 use Rattle.bpf_kinds.specs.declared.offsets.Offsets.{Offsets}
 use Rattle.bpf_frame.specs.FrameMap.{all_written, mark}
-use Rattle.bpf_helpers.specs.Helper.{by_number, signature}
+use Rattle.bpf_helpers.specs.Helper.{signature}
 use Rattle.bpf_helpers.specs.declared.helper.Helper.{Helper}
 use Rattle.bpf_helpers.specs.declared.signature.Argument.{Argument}
 use Rattle.bpf_helpers.specs.declared.signature.Argument.TheVariants as argument
@@ -43,7 +38,7 @@ use Rattle.bpf_meaning.specs.Checks.{◌>>=◌}
 use Rattle.bpf_meaning.specs.Tags as tags
 use Rattle.bpf_meaning.specs.Walk.{Registers, Domain, compared_operand, walk}
 use Rattle.bpf_meaning.specs.declared.cause.Cause.{Cause}
-use Rattle.bpf_meaning.specs.declared.cause.Cause.TheVariants.{ReadsNothing, PointerArithmetic, LeavesArea, NotPointer, OutOfBounds, UnwrittenFrame, WritesRecord, StoresPointer, ComparesPointer, UnknownHelper, BadArgument, ExitNotNumber}
+use Rattle.bpf_meaning.specs.declared.cause.Cause.TheVariants.{ReadsNothing, PointerArithmetic, LeavesArea, NotPointer, OutOfBounds, UnwrittenFrame, WritesRecord, ComparesPointer, UnknownHelper, BadArgument, ExitNotNumber}
 use Rattle.bpf_insn.specs.declared.memory.TheConstants.{FRAME_LENGTH}
 use Rattle.tl_segments.specs.declared.segment.TheConstants.{RECORD_LENGTH}
 use Rattle.bpf_verify.specs.State.{AbstractState, Unreached, Reached, Edges, kind_of, with_kind}

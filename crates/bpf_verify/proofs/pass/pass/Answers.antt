@@ -1,7 +1,6 @@
-use Rattle.std.proofs.Common.{◌≡◌, ◌+◌, ℕ, List, length, sym, ap, subst, ◌∙◌, arith, refl, rules}
+use Rattle.std.proofs.Common.{◌≡◌, ◌+◌, ℕ, length, sym, ap, subst, ◌∙◌, arith, refl, rules}
 use Rattle.std.proofs.lemmas.List.{take_all}
 use Rattle.bpf_insn.specs.Code.{word_count}
-use Rattle.bpf_insn.specs.declared.instruction.Insn.{Insn}
 use Rattle.bpf_flow.proofs.FlowLemmas.{stands_at, next_place}
 use Rattle.bpf_verify.specs.Pass.{first}
 use Rattle.bpf_verify.proofs.PassLemmas.{IsOnItsWay, starts, goes_on, refuses, has_good_annotation}

@@ -1,8 +1,8 @@
-use Rattle.std.proofs.Common.{◌≡◌, ◌<◌, ℕ, List, map, length, slice_set, get_or, Option, Some, sym, ap, ◌∙◌, subst, arith}
+use Rattle.std.proofs.Common.{◌≡◌, ◌<◌, ℕ, List, map, length, slice_set, Option, Some, sym, ap, ◌∙◌, subst, arith}
 use Rattle.std.proofs.lemmas.List.{map-set, length-map, set-set}
 use Rattle.std.specs.declared.boxed.Box.{Box}
-use Rattle.bpf_verify.specs.Pass.{AreProper, annotation_of, joined, state_of}
-use Rattle.bpf_verify.specs.State.{AbstractState, IsProper, Reached, Unreached, join}
+use Rattle.bpf_verify.specs.Pass.{AreProper, joined, state_of}
+use Rattle.bpf_verify.specs.State.{AbstractState, IsProper, Reached, join}
 use Rattle.bpf_verify.specs.declared.state.Known.{Known}
 use Rattle.bpf_verify.proofs.PassLemmas.{state-found, is_found_proper, written_proper}
 use Rattle.bpf_verify.proofs.ahead.StatesAhead.join.Goals as goal
