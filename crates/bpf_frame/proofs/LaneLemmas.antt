@@ -34,7 +34,7 @@ pub has_bit-or : (a b i : ℕ) → has_bit (bit_or a b) i ≡ (has_bit a i || ha
 has_bit-or a b i = ap (λ n. n == 1) (bit_at_or a b i) ∙ two_bits (λ x y. (max x y == 1) ≡ ((x == 1) || (y == 1))) refl refl refl refl a b i
 
 -- numbers of 64 bits that have the same bits are the same
-same_from_bits : (a b : ℕ) → a < 2 ^ 64 → b < 2 ^ 64 → ((i : ℕ) → i < 64 → has_bit a i ≡ has_bit b i) → a ≡ b
+pub same_from_bits : (a b : ℕ) → a < 2 ^ 64 → b < 2 ^ 64 → ((i : ℕ) → i < 64 → has_bit a i ≡ has_bit b i) → a ≡ b
 same_from_bits a b fits fits_too same =
     same_from_bits_below 64 a b fits fits_too
     (λ i below. two_bits (λ x y. (x == 1) ≡ (y == 1) → x ≡ y) (λ _. refl) (λ no. absurd (both_ways _ refl no)) (λ no. absurd (both_ways _ refl (sym no))) (λ _. refl) a b i (same i below))
@@ -63,7 +63,7 @@ marked_within lanes at marked =
     ]
 
 -- a bit of a lane is the mark of one byte
-mark_of_bit : (lanes : List ℕ) (lane bit : ℕ) → lane < 8 → bit < 64 → get_or (marks_of lanes) (64 * lane + bit) false ≡ has_bit (get_or lanes lane 0) bit
+pub mark_of_bit : (lanes : List ℕ) (lane bit : ℕ) → lane < 8 → bit < 64 → get_or (marks_of lanes) (64 * lane + bit) false ≡ has_bit (get_or lanes lane 0) bit
 mark_of_bit lanes lane bit within below =
     let its_lane : (64 * lane + bit) / 64 ≡ lane = omega arith in
     let its_bit : (64 * lane + bit) % 64 ≡ bit = omega arith in

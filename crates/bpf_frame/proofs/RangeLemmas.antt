@@ -1,18 +1,18 @@
 -- Lanes in which the bytes of a range have their marks, and what they make of a map.
-use Rattle.std.proofs.Common.{◌≡◌, ◌↔◌, ℕ, ◌+◌, ◌-◌, ◌*◌, ◌/◌, ◌%◌, ◌^◌, ◌<◌, ◌≤◌, Bool, false, ◌||◌, ◌==◌, ◌⊎◌, inl, inr, List, length, get_or, set, replicate, refl, ◌∙◌, sym, ap, subst, arith, bit_and, bit_or}
+use Rattle.std.proofs.Common.{◌≡◌, ◌↔◌, ℕ, ◌+◌, ◌-◌, ◌*◌, ◌/◌, ◌%◌, ◌^◌, ◌<◌, ◌≤◌, Bool, false, ◌||◌, ◌&&◌, ◌==◌, ◌⊎◌, inl, inr, List, length, get_or, set, replicate, refl, ◌∙◌, sym, ap, subst, arith, bit_and, bit_or}
 use Rattle.std.specs.Prelude.{IsTrue}
 use Rattle.std.specs.Int.{bit_at}
 use Rattle.std.specs.Simd.Lanes.{zip2}
-use Rattle.std.proofs.lemmas.Bool.{both_ways, cases_eq, cases_lt, and_parts, and_from, or_cases, or_left, or_right}
+use Rattle.std.proofs.lemmas.Bool.{both_ways, cases_eq, cases_lt, and_parts, and_from, and_right, cases_Bool, or_cases, or_left, or_right}
 use Rattle.std.proofs.lemmas.Grind.{elements}
-use Rattle.std.proofs.lemmas.List.{get_or-replicate, get_or-set_same, get_or-set_other, length-set}
-use Rattle.std.proofs.lemmas.Nat.{or_lt}
+use Rattle.std.proofs.lemmas.List.{get_or_read, get_or-replicate, get_or-set_same, get_or-set_other, length-set}
+use Rattle.std.proofs.lemmas.Nat.{or_lt, and_le_r}
 use Rattle.std.proofs.lemmas.Nat.Bits.{bit_at-zero, bit_at_mask_inside, bit_at_mask_below, bit_at_ones, bit_at_ones_above, ones_shl, ones_shr}
 use Rattle.bpf_frame.specs.FrameMap.{Contents, IsMarked, mark}
 use Rattle.bpf_frame.specs.Lanes.{AreLanes, has_bit, marks_of}
 use Rattle.bpf_frame.specs.OrderLaws.{antisymmetric}
 use Rattle.bpf_frame.proofs.MarkLemmas.{marked_inside, mark_keeps, marked_before_or_inside, length-mark}
-use Rattle.bpf_frame.proofs.LaneLemmas.{contents, contents_are_proper, length-marks_of, get_or-marks_of, marked_within, has_bit-and, has_bit-or, both_are_lanes, mark_of_both}
+use Rattle.bpf_frame.proofs.LaneLemmas.{contents, contents_are_proper, length-marks_of, get_or-marks_of, marked_within, has_bit-and, has_bit-or, same_from_bits, mark_of_bit, both_are_lanes, mark_of_both}
 
 -- the bits that are left of one place and right of another
 shifted_left : (below bit : ℕ) → below < 64 → bit < 64 → IsTrue (has_bit ((2 ^ 64 - 1) * 2 ^ below % 2 ^ 64) bit) ↔ (below ≤ bit)
@@ -127,3 +127,41 @@ marks_of-or lanes range from len are_lanes others short inside =
             | inr new ↦ let place = (inside at).0 new in marked_inside (marks_of lanes) from len at within place.0 place.1
           ];
     }))
+
+-- all bytes of a range before a lane have their marks
+pub record HasMarks (lanes : List ℕ) (from end lane : ℕ) : Type 0 where
+  pub marks : (at : ℕ) → from ≤ at → at < end → at < 64 * lane → IsMarked (marks_of lanes) at
+
+-- a lane that is read has the bits of a range where these bytes have their marks
+module _ (lanes : List ℕ) (from end lane bits read : ℕ) (are_lanes : AreLanes lanes) (within : lane < 8) (is_read : read ≡ get_or lanes lane read)
+    (inside : (bit : ℕ) → bit < 64 → IsTrue (has_bit bits bit) ↔ ((from ≤ 64 * lane + bit) × (64 * lane + bit < end))) where
+  mark_read : (bit : ℕ) → bit < 64 → get_or (marks_of lanes) (64 * lane + bit) false ≡ has_bit read bit
+  mark_read bit below =
+      mark_of_bit lanes lane bit within below ∙ ap (λ (n : ℕ). has_bit n bit) (sym (get_or_read lanes lane read (omega (arith, are_lanes.count)) is_read 0))
+
+  pub one_lane_has : HasMarks lanes from end lane → bit_and read bits ≡ bits → HasMarks lanes from end (lane + 1)
+  one_lane_has before same = record {
+    marks = λ at above below short.
+        elim (cases_lt at (64 * lane)) [
+          | inl earlier ↦ before.marks at above below earlier
+          | inr here ↦
+              let bit : ℕ = at - 64 * lane in
+              let place : at ≡ 64 * lane + bit = omega arith in
+              let set : IsTrue (has_bit bits bit) = (inside bit (omega arith)).1 (omega arith, omega arith) in
+              let both : IsTrue (has_bit read bit && has_bit bits bit) = sym (has_bit-and read bits bit) ∙ ap (λ (n : ℕ). has_bit n bit) same ∙ set in
+              ap (λ (n : ℕ). get_or (marks_of lanes) n false) place ∙ mark_read bit (omega arith) ∙ (and_parts _ _ both).0
+        ];
+  }
+
+  pub lane_of_marks : bits < 2 ^ 64 → ((at : ℕ) → from ≤ at → at < end → IsMarked (marks_of lanes) at) → bit_and read bits ≡ bits
+  lane_of_marks fits all =
+      let small : bit_and read bits < 2 ^ 64 = omega (arith, and_le_r read bits) in
+      same_from_bits _ bits small fits
+      (λ bit below.
+      has_bit-and read bits bit
+      ∙ elim (cases_Bool (has_bit bits bit)) [
+        | inl set ↦
+            let place = (inside bit below).0 set in
+            and_from _ _ (sym (mark_read bit below) ∙ all (64 * lane + bit) place.0 place.1) set ∙ sym set
+        | inr unset ↦ and_right _ _ unset ∙ sym unset
+      ])

@@ -76,8 +76,13 @@ impl FrameMap {
         ensures value { result ≡ all_written self.now.marks from to }
         ensures written { IsTrue result ↔ AllWritten self.now.marks from to }
     {
-        let range = FrameMap::of_range(from, to + 1);
-        self.lanes & range.lanes == range.lanes
+        for lane in from / LANE_BITS..=to / LANE_BITS {
+            let bits = bits_within(lane, from, to + 1);
+            if self.lanes[lane] & bits != bits {
+                return false;
+            }
+        }
+        true
     }
 
     /// The map of a frame of which just the bytes from an offset on and before another are written.
