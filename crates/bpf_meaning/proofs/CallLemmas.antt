@@ -23,13 +23,13 @@ use Rattle.bpf_helpers.specs.declared.signature.Argument.{Argument}
 use Rattle.bpf_helpers.specs.declared.signature.Argument.TheVariants as argument
 use Rattle.bpf_helpers.specs.declared.signature.FrameUse.{FrameUse}
 use Rattle.bpf_helpers.specs.declared.signature.FrameUse.TheVariants as frame_use
-use Rattle.bpf_meaning.specs.Memory.{FrameByte, Byte, all_written, is_written, written_bytes}
+use Rattle.bpf_meaning.specs.Memory.{FrameByte, Byte, all_written, written_bytes}
 use Rattle.bpf_meaning.specs.Effect.{read, argument_in, argument_word, arguments_in, is_allowed, lend_bytes, lend_frame, lend_written, lie_within, call_change, call_helper, CanBeMade, CanBeCalled, ◌>>=◌}
 use Rattle.bpf_meaning.specs.Step.{called}
 use Rattle.bpf_meaning.specs.declared.cause.Cause.{Cause}
 use Rattle.bpf_meaning.specs.declared.cause.Cause.TheVariants.{BadArgument, OutOfBounds, UnwrittenFrame}
 use Rattle.bpf_meaning.specs.declared.state.State.{State}
-use Rattle.bpf_meaning.proofs.FrameLemmas.{HoldBytes, bytes-map, bytes-write, written_stays}
+use Rattle.bpf_meaning.proofs.FrameLemmas.{HoldBytes, bytes-map, bytes-write}
 
 -- a fact of what the checks give, if they pass
 
@@ -205,12 +205,6 @@ pub length-frame_after : (segment : Contents) (state : State) (helper : Helper) 
 length-frame_after segment state helper arguments can long =
     after_call (λ memory. length memory ≡ FRAME_LENGTH) segment state helper arguments can long long
     (λ at bytes within. let same = length-map bytes Byte in length-write state.frame.bytes (map Byte bytes) at (omega arith) ∙ long)
-
--- no byte is unwritten by a call
-pub written_after_call : (segment : Contents) (state : State) (helper : Helper) (arguments : List ℕ) (i : ℕ) → CanBeCalled state helper arguments → length state.frame.bytes ≡ FRAME_LENGTH → IsTrue (is_written state.frame.bytes i) → IsTrue (is_written (frame_after segment state helper arguments) i)
-written_after_call segment state helper arguments i can long written =
-    after_call (λ memory. IsTrue (is_written memory i)) segment state helper arguments can long written
-    (λ at bytes within. written_stays state.frame.bytes at bytes i within written)
 
 -- where it held bytes, it does after a call
 pub bytes-frame_after : (segment : Contents) (state : State) (helper : Helper) (arguments : List ℕ) → IsSegment segment → CanBeCalled state helper arguments → HoldBytes state.frame.bytes → HoldBytes (frame_after segment state helper arguments)

@@ -49,17 +49,6 @@ is_written-store_inside memory at count number i within above below =
     ap (λ (m : List FrameByte). is_written m i) (store_is_write memory at count number)
     ∙ is_written-write_inside memory at (bytes_low_first 0 count number) i (stores_within memory at count number within) above (omega arith)
 
-pub is_written-store_before : (memory : List FrameByte) (at count number i : ℕ) → at + count ≤ length memory → i < at → is_written (store memory at count number) i ≡ is_written memory i
-is_written-store_before memory at count number i within before =
-    ap (λ (m : List FrameByte). is_written m i) (store_is_write memory at count number)
-    ∙ is_written-write_before memory at (bytes_low_first 0 count number) i (stores_within memory at count number within) before
-
-pub is_written-store_behind : (memory : List FrameByte) (at count number i : ℕ) → at + count ≤ length memory → at + count ≤ i → is_written (store memory at count number) i ≡ is_written memory i
-is_written-store_behind memory at count number i within behind =
-    let long = length-bytes_low_first 0 count number in
-    ap (λ (m : List FrameByte). is_written m i) (store_is_write memory at count number)
-    ∙ is_written-write_behind memory at (bytes_low_first 0 count number) i (stores_within memory at count number within) (omega arith)
-
 pub stored_stays : (memory : List FrameByte) (at count number i : ℕ) → at + count ≤ length memory → IsTrue (is_written memory i) → IsTrue (is_written (store memory at count number) i)
 stored_stays memory at count number i within written =
     ap (λ (m : List FrameByte). is_written m i) (store_is_write memory at count number)

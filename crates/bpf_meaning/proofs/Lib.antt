@@ -10,3 +10,4 @@ pub mod RecordLemmas
 pub mod CheckLemmas
 pub mod TagLemmas
 pub mod WalkForesees
+pub mod EffectLemmas

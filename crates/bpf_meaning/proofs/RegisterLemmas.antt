@@ -1,8 +1,8 @@
 -- Which registers a call empties, and which it keeps.
-use Rattle.std.proofs.Common.{◌≡◌, ℕ, zero, suc, ◌≤◌, ℤ, Bool, true, false, List, get_or, nat_lt, is_some, Option, Some, None, Result, Ok, Err, if◌then◌else◌, refl, sym, ap, ◌∙◌, subst, arith}
+use Rattle.std.proofs.Common.{◌≡◌, ℕ, zero, suc, ◌≤◌, ℤ, List, get_or, Option, Some, None, Result, Ok, Err, refl, sym, ap, ◌∙◌, subst, arith}
 use Rattle.std.specs.Int.{cast_unsigned, w32}
 use Rattle.std.proofs.lemmas.List.{get_or-drop}
-use Rattle.bpf_insn.specs.Code.{instruction_at, word_count}
+use Rattle.bpf_insn.specs.Code.{instruction_at}
 use Rattle.bpf_insn.specs.declared.instruction.Insn.{Insn}
 use Rattle.bpf_insn.specs.declared.instruction.Insn.TheVariants.{Call}
 use Rattle.bpf_insn.specs.declared.value.Value.{Value}
@@ -11,16 +11,17 @@ use Rattle.tl_segments.specs.Segment.{Contents}
 use Rattle.bpf_helpers.specs.Helper.{by_number, signature}
 use Rattle.bpf_helpers.specs.declared.helper.Helper.{Helper}
 use Rattle.bpf_meaning.specs.State.{register_value}
-use Rattle.bpf_meaning.specs.Effect.{arguments_in, call_change, effect, effect_of, go_on, lend_frame, ◌>>=◌}
-use Rattle.bpf_meaning.specs.Step.{Configuration, Running, Exited, Stuck, after, next_of, registers_after}
+use Rattle.bpf_meaning.specs.Effect.{arguments_in, call_change, effect, effect_of, lend_frame, ◌>>=◌}
+use Rattle.bpf_meaning.specs.Step.{Running, after, next_of, registers_after}
 use Rattle.bpf_meaning.specs.Run.{Step}
 use Rattle.bpf_meaning.specs.declared.cause.Cause.{Cause}
-use Rattle.bpf_meaning.specs.declared.cause.Cause.TheVariants.{OutOfProgram, IntoWide}
 use Rattle.bpf_meaning.specs.declared.effect.Change.{Change}
 use Rattle.bpf_meaning.specs.declared.effect.Change.TheVariants.{Nothing, SetRegister, StoreBytes, CallHelper}
 use Rattle.bpf_meaning.specs.declared.effect.Effect.{Effect}
 use Rattle.bpf_meaning.specs.declared.effect.Effect.TheVariants.{GoOn, End}
 use Rattle.bpf_meaning.specs.declared.state.State.{State}
+use Rattle.bpf_meaning.proofs.WholeLemmas.{IfRunning}
+use Rattle.bpf_meaning.proofs.EffectLemmas.{GoesOnWith, goes_on_with}
 use Rattle.bpf_meaning.proofs.CallLemmas.{IfPasses, then_passes, then_keeps}
 
 -- registers before a call and after it
@@ -53,30 +54,13 @@ IsCall (SetRegister register value) = ⊥
 IsCall (StoreBytes at size number) = ⊥
 IsCall (CallHelper helper arguments) = Unit {0}
 
-abbrev GoesOnAfterCall : Effect → Type 0
-GoesOnAfterCall (GoOn change place) = IsCall change
-GoesOnAfterCall (End answer) = ⊥
-
 change_is_call : (state : State) (found : Option Helper) → IfPasses IsCall (call_change state found)
 change_is_call state None = tt
 change_is_call state (Some helper) =
     then_passes IsCall (arguments_in state (signature helper).arguments >>= lend_frame state (signature helper).frame)
     (λ arguments. Ok (CallHelper helper arguments)) (λ arguments. tt)
 
-goes_on_after_call : (code : List Insn) (place : ℕ) (change : Change) → IsCall change → IfPasses GoesOnAfterCall (go_on code place change)
-goes_on_after_call code place change call = by_test (is_some (instruction_at code place)) (nat_lt place (word_count code))
-  where
-    by_test : (begins inside : Bool) → IfPasses GoesOnAfterCall (if begins then Ok (GoOn change place) else (if inside then Err IntoWide else Err OutOfProgram))
-    by_test true inside = call
-    by_test false true = tt
-    by_test false false = tt
-
-abbrev IsAfterCallOnItsWay : State → Configuration → Type 0
-IsAfterCallOnItsWay state (Running there) = IsAfterCall state there
-IsAfterCallOnItsWay state (Exited answer score) = Unit {0}
-IsAfterCallOnItsWay state (Stuck place cause) = Unit {0}
-
-applies_call : (segment : Contents) (state : State) (result : Result Effect Cause) → IfPasses GoesOnAfterCall result → IsAfterCallOnItsWay state (next_of segment state result)
+applies_call : (segment : Contents) (state : State) (result : Result Effect Cause) → IfPasses (GoesOnWith IsCall) result → IfRunning (IsAfterCall state) (next_of segment state result)
 applies_call segment state (Err cause) call = tt
 applies_call segment state (Ok (End answer)) call = tt
 applies_call segment state (Ok (GoOn Nothing place)) call = absurd call
@@ -90,7 +74,7 @@ applies_call segment state (Ok (GoOn (CallHelper helper arguments) place)) call 
 pub step_after_call : (code : List Insn) (segment : Contents) (state there : State) (immediate : ℤ) → instruction_at code state.place ≡ Some (Call immediate) → Step code segment (Running state) (Running there) → IsAfterCall state there
 unfolding after
 step_after_call code segment state there immediate at step =
-    subst (IsAfterCallOnItsWay state) (sym step)
+    subst (IfRunning (IsAfterCall state)) (sym step)
     (applies_call segment state (effect code segment state)
-    (subst (λ (found : Option Insn). IfPasses GoesOnAfterCall (effect_of code segment state found)) (sym at)
-    (then_keeps IsCall GoesOnAfterCall _ _ (change_is_call state (by_number (cast_unsigned w32 immediate))) (goes_on_after_call code _))))
+    (subst (λ (found : Option Insn). IfPasses (GoesOnWith IsCall) (effect_of code segment state found)) (sym at)
+    (then_keeps IsCall (GoesOnWith IsCall) _ _ (change_is_call state (by_number (cast_unsigned w32 immediate))) (goes_on_with IsCall code _))))

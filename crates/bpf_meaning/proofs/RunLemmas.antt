@@ -77,9 +77,6 @@ pub record IsOnItsWay (code : List Insn) (segment : Contents) (steps : ℕ) (sta
   pub ends : end_of run ≡ Running state
   pub long : length run ≡ steps
 
-pub starts_out : (code : List Insn) (segment : Contents) → IsOnItsWay code segment 0 start
-starts_out code segment = record { run = []; is_run = tt; ends = refl; long = refl }
-
 -- a run that is on its way, and the configuration that it comes to next
 pub record ComesTo (code : List Insn) (segment : Contents) (steps : ℕ) (next : Configuration) : Type 0 where
   pub run : List Configuration

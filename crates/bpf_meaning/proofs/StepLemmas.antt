@@ -1,14 +1,10 @@
 -- Loads and stores, from what the code reads to what they mean.
-use Rattle.std.proofs.Common.{◌≡◌, ℕ, ◌+◌, ◌<◌, ℤ, pos, negsuc, ◌+ℤ◌, List, ◌∷◌, length, map, take, drop, get_or, Some, Result, Ok, sym, ap, ◌∙◌, subst, arith, unsigned_abs, Bool, true, false, IsTrue, Option, if◌then◌else◌, Err}
-use Rattle.std.proofs.lemmas.List.{drop_more, get_or-map, length-map, take-map, drop-map}
-use Rattle.std.proofs.lemmas.Bool.Decides.{nat_tests}
-use Rattle.std.specs.Int.{FitsUnsignedBits}
+use Rattle.std.proofs.Common.{◌≡◌, ℕ, ℤ, ◌+ℤ◌, List, length, map, take, drop, Result, Ok, sym, ap, ◌∙◌, unsigned_abs, Bool, true, false, IsTrue, Option, if◌then◌else◌, Err}
+use Rattle.std.proofs.lemmas.List.{take-map, drop-map}
 use Rattle.bpf_insn.specs.declared.instruction.LoadFormat.{LoadFormat}
-use Rattle.bpf_insn.specs.declared.instruction.LoadFormat.TheVariants as format
 use Rattle.bpf_insn.specs.Memory.{load_length}
 use Rattle.bpf_insn.specs.declared.value.Pointer.{Pointer as PointerParts}
 use Rattle.bpf_insn.specs.declared.value.Value.{Value}
-use Rattle.bpf_insn.specs.declared.value.Value.TheVariants.{Number}
 use Rattle.tl_segments.specs.Segment.{Contents}
 use Rattle.bpf_meaning.specs.Memory.{FrameByte, Byte, number_of}
 use Rattle.bpf_meaning.specs.Effect.{load_bytes, load_value, lie_within, load_number, pointer_in, area_bytes, ◌>>=◌}
@@ -43,21 +39,3 @@ load_outside format memory offset count bytes is long outside =
 pub part_of_record : (bytes : List ℕ) (at count k : ℕ) → k ≡ count → map Byte (take k (drop at bytes)) ≡ take count (drop at (map Byte bytes))
 part_of_record bytes at count k is =
     ap (λ (n : ℕ). map Byte (take n (drop at bytes))) is ∙ sym (take-map Byte count (drop at bytes)) ∙ ap (take count) (sym (drop-map Byte at bytes))
-
--- one byte of memory that is written
-one_byte : (memory : List FrameByte) (n b : ℕ) → n < length memory → get_or memory n (Byte 0) ≡ Byte b → load_bytes format.Byte memory (pos n) ≡ Ok (Number b)
-one_byte memory n b within here =
-    let cell : drop n memory ≡ Byte b ∷ drop (n + 1) memory = drop_more memory n (Byte 0) within ∙ ap (λ (x : FrameByte). x ∷ drop (n + 1) memory) here in
-    let number : number_of (take 1 (drop n memory)) ≡ Some b = ap (λ (bytes : List FrameByte). number_of (take 1 bytes)) cell ∙ ap (λ (k : ℕ). Some k) (omega arith) in
-    rw number (grind (arith, nat_tests))
-
--- one byte of the record
-pub record_byte : (load : LoadFormat) (bytes : List ℕ) (start : ℤ) (at : ℕ) → load ≡ format.Byte → FitsUnsignedBits 64 start → at ≡ unsigned_abs start → at < length bytes → load_bytes load (map Byte bytes) start ≡ Ok (Number (get_or bytes at 0))
-record_byte load bytes start at is fits same within =
-    subst (λ (f : LoadFormat). load_bytes f (map Byte bytes) start ≡ Ok (Number (get_or bytes at 0))) (sym is) (byte_at bytes start at fits same within)
-  where
-    byte_at : (bytes : List ℕ) (start : ℤ) (at : ℕ) → FitsUnsignedBits 64 start → at ≡ unsigned_abs start → at < length bytes → load_bytes format.Byte (map Byte bytes) start ≡ Ok (Number (get_or bytes at 0))
-    byte_at bytes (pos n) at fits same within =
-        let inside : n < length (map Byte bytes) = rw length-map (omega arith) in
-        rw same (one_byte (map Byte bytes) n (get_or bytes n 0) inside (get_or-map Byte bytes n 0 (Byte 0) (omega arith)))
-    byte_at bytes (negsuc n) at fits same within = absurd fits

@@ -3,7 +3,7 @@ use Rattle.std.proofs.Common.{◌≡◌, ℕ, ℤ, pos, zero, suc, ◌+◌, ◌-
 use Rattle.std.proofs.lemmas.Bool.{cases_lt}
 use Rattle.std.proofs.lemmas.Bool.Decides.{nat_tests}
 use Rattle.std.proofs.lemmas.Int.{ints}
-use Rattle.std.proofs.lemmas.List.{get_or-map, get_or-set_same, get_or-set_other, get_or_past, length-set, length-replicate, set-get_or}
+use Rattle.std.proofs.lemmas.List.{get_or-map, get_or-set_same, get_or-set_other, length-set, length-replicate, set-get_or}
 use Rattle.std.proofs.lemmas.Option.{none-some}
 use Rattle.std.specs.Prelude.{FitsSigned}
 use Rattle.std.specs.Int.{w16}
@@ -23,12 +23,13 @@ use Rattle.bpf_kinds.specs.declared.kind.Kind.{Kind}
 use Rattle.bpf_kinds.specs.declared.kind.Kind.TheVariants.{Nothing}
 use Rattle.bpf_verify.specs.Annotation.{Annotation, PassesAt, IsGoodUpTo, HasGoodAnnotation, IsRefusedAt, IsVerifyFault}
 use Rattle.bpf_verify.specs.Pass.{state_of, annotation_of, AreProper, first, taken, joined, joined_if, propagated, Visits, IsVisitFault}
-use Rattle.bpf_verify.specs.State.{AbstractState, Unreached, Reached, Edges, AreProperEdges, entry, join, IsProper, IsProperKnown, IsWithin}
+use Rattle.bpf_verify.specs.State.{AbstractState, Unreached, Reached, entry, join, IsProper, IsProperKnown, IsWithin}
 use Rattle.bpf_verify.specs.Transfer.{transfer}
 use Rattle.bpf_verify.specs.declared.fault.VerifyFault.{VerifyFault}
 use Rattle.bpf_verify.specs.declared.fault.VerifyFault.TheVariants.{Refused, Memory}
 use Rattle.bpf_verify.specs.declared.state.Known.{Known}
 use Rattle.bpf_verify.proofs.StateLaws as laws
+use Rattle.bpf_verify.proofs.StateLaws.{set_each}
 
 -- what is kept, as states
 
@@ -39,58 +40,10 @@ pub is_found_proper : {A : Type 0} (found : Option (Box Known A)) → IsProper (
 is_found_proper None proper = tt
 is_found_proper (Some known) proper = proper
 
--- the state at a place that is written, and the others
-
-written-same : (states : List AbstractState) (place : ℕ) (state : AbstractState) → place < length states → annotation_of (slice_set states place state) place ≡ state
-written-same states place state within = get_or-set_same states place state Unreached within
-
-written-other : (states : List AbstractState) (place other : ℕ) (state : AbstractState) → (other ≡ place → ⊥) → annotation_of (slice_set states place state) other ≡ annotation_of states other
-written-other states place other state apart = get_or-set_other states place other state Unreached apart
-
--- a place is the one that is written, or another
-data Lies (states : List AbstractState) (place other : ℕ) : Type 0 where
-  Elsewhere : (apart : other ≡ place → ⊥) → Lies states place other
-  Here : (same : place ≡ other) (within : place < length states) → Lies states place other
-  Past : (past : length states ≤ other) → Lies states place other
-
-lies : (states : List AbstractState) (place other : ℕ) → Lies states place other
-lies states place other = elim (cases_lt other place) as (λ _. Lies states place other) [
-  | inl less ↦ Elsewhere (λ same. absurd (omega arith))
-  | inr most ↦ elim (cases_lt place other) as (λ _. Lies states place other) [
-    | inl more ↦ Elsewhere (λ same. absurd (omega arith))
-    | inr least ↦ elim (cases_lt place (length states)) as (λ _. Lies states place other) [
-      | inl within ↦ Here (omega arith) within
-      | inr past ↦ Past (omega arith)
-    ]
-  ]
-]
-
-past_end : (states : List AbstractState) (place : ℕ) → length states ≤ place → annotation_of states place ≡ Unreached
-past_end states place past = get_or_past states place Unreached past
+-- states, of which one is written
 
 pub written_proper : (states : List AbstractState) (place : ℕ) (state : AbstractState) → AreProper states → IsProper state → AreProper (slice_set states place state)
-written_proper states place state proper proper-state other = elim (lies states place other) as (λ _. IsProper (annotation_of (slice_set states place state) other)) [
-  | Elsewhere apart ↦ subst IsProper (sym (written-other states place other state apart)) (proper other)
-  | Here same within ↦ subst (λ (p : ℕ). IsProper (annotation_of (slice_set states place state) p)) same (subst IsProper (sym (written-same states place state within)) proper-state)
-  | Past past ↦ subst IsProper (sym (past_end (slice_set states place state) other (let same = length-set states place state in omega arith))) tt
-]
-
-pub joined_proper : (states : List AbstractState) (place : ℕ) (state : AbstractState) → AreProper states → IsProper state → AreProper (joined states place state)
-joined_proper states place state proper proper-state = written_proper states place _ proper (laws.join_is_proper (annotation_of states place) state (proper place) proper-state)
-
--- states grow where another one is joined in
-joined_grows : (states : List AbstractState) (place : ℕ) (state : AbstractState) → AreProper states → IsProper state → (other : ℕ) → IsWithin (annotation_of states other) (annotation_of (joined states place state) other)
-joined_grows states place state proper proper-state other = elim (lies states place other) as (λ _. IsWithin (annotation_of states other) (annotation_of (joined states place state) other)) [
-  | Elsewhere apart ↦ subst (IsWithin (annotation_of states other)) (sym (written-other states place other _ apart)) (laws.reflexive (annotation_of states other))
-  | Here same within ↦
-      subst (λ (p : ℕ). IsWithin (annotation_of states p) (annotation_of (joined states place state) p)) same
-      (subst (IsWithin (annotation_of states place)) (sym (written-same states place _ within)) (laws.left_is_within_join (annotation_of states place) state (proper place) proper-state))
-  | Past past ↦ subst (λ (s : AbstractState). IsWithin s (annotation_of (joined states place state) other)) (sym (past_end states other past)) tt
-]
-
-joined_holds : (states : List AbstractState) (place : ℕ) (state : AbstractState) → AreProper states → IsProper state → place < length states → IsWithin state (annotation_of (joined states place state) place)
-joined_holds states place state proper proper-state within =
-    subst (IsWithin state) (sym (written-same states place _ within)) (laws.right_is_within_join (annotation_of states place) state (proper place) proper-state)
+written_proper states place state proper proper-state = set_each (λ at. IsProper) Unreached states place state proper-state proper
 
 -- the bottom changes nothing
 join-bottom : (state : AbstractState) → join state Unreached ≡ state
@@ -107,47 +60,26 @@ joined_if-bottom states (Some place) = joined-bottom states place
 pub propagated-bottom : (states : List AbstractState) (next : ℕ) (target : Option ℕ) → propagated states next target (record { next = Unreached; target = Unreached }) ≡ states
 propagated-bottom states next target = joined-bottom (joined_if states target Unreached) next ∙ joined_if-bottom states target
 
--- both edges of an instruction
-
--- states that grow behind a place, where these states are joined in
-record Grows (before after : List AbstractState) : Type 0 where
+-- states into which another one is joined: they grow, and it is below the one where it leads
+record Takes (before after : List AbstractState) (place : Option ℕ) (state : AbstractState) : Type 0 where
   count : length after ≡ length before
   proper : AreProper after
   more : (other : ℕ) → IsWithin (annotation_of before other) (annotation_of after other)
+  holds : (to : ℕ) → place ≡ Some to → to < length before → IsWithin state (annotation_of after to)
 
-joined_if_grows : (states : List AbstractState) (place : Option ℕ) (state : AbstractState) → AreProper states → IsProper state → Grows states (joined_if states place state)
-joined_if_grows states None state proper proper-state = record { count = refl; proper = proper; more = λ other. laws.reflexive (annotation_of states other) }
-joined_if_grows states (Some place) state proper proper-state =
-    record { count = length-set states place _; proper = joined_proper states place state proper proper-state; more = joined_grows states place state proper proper-state }
-
-joined_if_holds : (states : List AbstractState) (target : Option ℕ) (to : ℕ) (state : AbstractState) → AreProper states → IsProper state → target ≡ Some to → to < length states → IsWithin state (annotation_of (joined_if states target state) to)
-joined_if_holds states None to state proper proper-state is within = absurd (none-some to is)
-joined_if_holds states (Some place) to state proper proper-state is within =
-    let same : place ≡ to = cc in
-    subst (λ (p : ℕ). IsWithin state (annotation_of (joined states place state) p)) same (joined_holds states place state proper proper-state (omega arith))
-
-propagated_grows : (states : List AbstractState) (next : ℕ) (target : Option ℕ) (edges : Edges) → AreProper states → AreProperEdges edges → Grows states (propagated states next target edges)
-propagated_grows states next target edges proper proper-edges =
-    let middle = joined_if states target edges.target in
-    let first = joined_if_grows states target edges.target proper proper-edges.target in
-    record {
-      count = length-set middle next _ ∙ first.count;
-      proper = joined_proper middle next edges.next first.proper proper-edges.next;
-      more = λ other. laws.transitive (annotation_of states other) (annotation_of middle other) (annotation_of (propagated states next target edges) other) (first.more other)
-          (joined_grows middle next edges.next first.proper proper-edges.next other);
-    }
-
-propagated_holds_next : (states : List AbstractState) (next : ℕ) (target : Option ℕ) (edges : Edges) → AreProper states → AreProperEdges edges → next < length states → IsWithin edges.next (annotation_of (propagated states next target edges) next)
-propagated_holds_next states next target edges proper proper-edges within =
-    let first = joined_if_grows states target edges.target proper proper-edges.target in
-    joined_holds (joined_if states target edges.target) next edges.next first.proper proper-edges.next (let same = first.count in omega arith)
-
-propagated_holds_target : (states : List AbstractState) (next : ℕ) (target : Option ℕ) (to : ℕ) (edges : Edges) → AreProper states → AreProperEdges edges → target ≡ Some to → to < length states → IsWithin edges.target (annotation_of (propagated states next target edges) to)
-propagated_holds_target states next target to edges proper proper-edges is within =
-    let middle = joined_if states target edges.target in
-    let first = joined_if_grows states target edges.target proper proper-edges.target in
-    laws.transitive edges.target (annotation_of middle to) (annotation_of (propagated states next target edges) to)
-    (joined_if_holds states target to edges.target proper proper-edges.target is within) (joined_grows middle next edges.next first.proper proper-edges.next to)
+joined_takes : (states : List AbstractState) (place : Option ℕ) (state : AbstractState) → AreProper states → IsProper state → Takes states (joined_if states place state) place state
+joined_takes states None state proper proper-state =
+    record { count = refl; proper = proper; more = λ other. laws.reflexive (annotation_of states other); holds = λ to is. absurd (none-some to is) }
+joined_takes states (Some place) state proper proper-state = let both : AbstractState = join (annotation_of states place) state in record {
+  count = length-set states place both;
+  proper = written_proper states place both proper (laws.join_is_proper (annotation_of states place) state (proper place) proper-state);
+  more = set_each (λ other. IsWithin (annotation_of states other)) Unreached states place both
+      (laws.left_is_within_join (annotation_of states place) state (proper place) proper-state) (λ other. laws.reflexive (annotation_of states other));
+  holds = λ to is within.
+      let same : place ≡ to = cc in
+      subst (λ (p : ℕ). IsWithin state (annotation_of (slice_set states place both) p)) same
+      (subst (IsWithin state) (sym (get_or-set_same states place both Unreached (omega arith))) (laws.right_is_within_join (annotation_of states place) state (proper place) proper-state));
+}
 
 -- as the pass goes on
 
@@ -199,8 +131,17 @@ module _ (code : List Insn) (place : ℕ) (insn : Insn) (before after : List Abs
   left_proper : AreProper left
   left_proper = written_proper before place Unreached way.proper tt
 
-  grows : Grows left (propagated left next visits.target visits.edges)
-  grows = propagated_grows left next visits.target visits.edges left_proper visits.proper
+  abbrev middle : List AbstractState
+  middle = joined_if left visits.target visits.edges.target
+
+  first_edge : Takes left middle visits.target visits.edges.target
+  first_edge = joined_takes left visits.target visits.edges.target left_proper visits.proper.target
+
+  second_edge : Takes middle (propagated left next visits.target visits.edges) (Some next) visits.edges.next
+  second_edge = joined_takes middle (Some next) visits.edges.next first_edge.proper visits.proper.next
+
+  at_left : (other : ℕ) → IsWithin (annotation_of left other) (annotation_of (propagated left next visits.target visits.edges) other)
+  at_left other = laws.transitive (annotation_of left other) (annotation_of middle other) _ (first_edge.more other) (second_edge.more other)
 
   abbrev annotation : Annotation
   annotation = behind way.annotation place (annotation_of after)
@@ -209,8 +150,8 @@ module _ (code : List Insn) (place : ℕ) (insn : Insn) (before after : List Abs
   more : (other : ℕ) → IsWithin (way.annotation other) (annotation other)
   more other = elim (cases_lt place other) as (λ _. IsWithin (way.annotation other) (annotation other)) [
     | inl past ↦
-        subst (λ (s : AbstractState). IsWithin s (annotation other)) (sym (way.kept other (omega arith) ∙ sym (written-other before place other Unreached (λ same. absurd (omega arith)))))
-        (subst (IsWithin (annotation_of left other)) (sym (behind-new way.annotation (annotation_of after) place other past ∙ ap (λ (states : List AbstractState). annotation_of states other) visits.states)) (grows.more other))
+        subst (λ (s : AbstractState). IsWithin s (annotation other)) (sym (way.kept other (omega arith) ∙ sym (get_or-set_other before place other Unreached Unreached (λ same. absurd (omega arith)))))
+        (subst (IsWithin (annotation_of left other)) (sym (behind-new way.annotation (annotation_of after) place other past ∙ ap (λ (states : List AbstractState). annotation_of states other) visits.states)) (at_left other))
     | inr up ↦ subst (IsWithin (way.annotation other)) (sym (behind-old way.annotation (annotation_of after) place other up)) (laws.reflexive (way.annotation other))
   ]
 
@@ -229,14 +170,15 @@ module _ (code : List Insn) (place : ℕ) (insn : Insn) (before after : List Abs
     next =
         let long = length-spelling_positive insn in
         let ends = ends_within code place insn stands in
-        arrives next visits.edges.next (omega arith) (propagated_holds_next left next visits.target visits.edges left_proper visits.proper (let all = many in omega arith));
+        arrives next visits.edges.next (omega arith) (second_edge.holds next refl (let all = first_edge.count ∙ many in omega arith));
     target = λ distance to jumps leads.
         let on = forward.jumps place insn distance stands jumps in
         let same : on.target ≡ to = (let both : pos on.target ≡ pos to = sym on.is_target ∙ leads in cc) in
         let later = on.later in
         let within = instruction_within code on.target on.begins in
         arrives to visits.edges.target (omega arith)
-        (propagated_holds_target left next visits.target to visits.edges left_proper visits.proper (target_is place to visits.target distance (jump_distance insn) visits.leads jumps leads) (let all = many in omega arith));
+        (laws.transitive visits.edges.target (annotation_of middle to) _
+        (first_edge.holds to (target_is place to visits.target distance (jump_distance insn) visits.leads jumps leads) (let all = many in omega arith)) (second_edge.more to));
   }
 
   passes_up_to : (at : ℕ) (found : Insn) → at < next → instruction_at code at ≡ Some found → PassesAt annotation at found
@@ -255,15 +197,15 @@ module _ (code : List Insn) (place : ℕ) (insn : Insn) (before after : List Abs
   proper_everywhere : (other : ℕ) → IsProper (annotation other)
   proper_everywhere other = elim (cases_lt place other) as (λ _. IsProper (annotation other)) [
     | inl past ↦
-        subst IsProper (sym (behind-new way.annotation (annotation_of after) place other past)) (subst AreProper (sym visits.states) grows.proper other)
+        subst IsProper (sym (behind-new way.annotation (annotation_of after) place other past)) (subst AreProper (sym visits.states) second_edge.proper other)
     | inr up ↦ subst IsProper (sym (behind-old way.annotation (annotation_of after) place other up)) (way.good.proper other)
   ]
 
   -- one instruction more
   pub goes_on : IsOnItsWay code (place + length (spelling insn)) after
   goes_on = record {
-    count = ap length visits.states ∙ grows.count ∙ many;
-    proper = subst AreProper (sym visits.states) grows.proper;
+    count = ap length visits.states ∙ second_edge.count ∙ first_edge.count ∙ many;
+    proper = subst AreProper (sym visits.states) second_edge.proper;
     annotation = annotation;
     good = record {
       proper = proper_everywhere;

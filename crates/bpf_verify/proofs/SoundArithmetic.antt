@@ -24,13 +24,12 @@ use Rattle.bpf_kinds.specs.declared.offsets.Offsets.{Offsets}
 use Rattle.bpf_kinds.proofs.MovingLaws.{move_by-admits, move_back_by-admits}
 use Rattle.bpf_kinds.proofs.ResultLemmas.{alu-admits}
 use Rattle.bpf_meaning.specs.Effect as effect
-use Rattle.bpf_meaning.specs.Effect.{◌>>=◌}
+use Rattle.bpf_meaning.specs.Effect.{◌>>=◌, offset_or, tagged_value, value_tags}
 use Rattle.bpf_meaning.specs.declared.cause.Cause.TheVariants.{PointerArithmetic, LeavesArea}
 use Rattle.bpf_kinds.specs.Interval.{IsProper, Admits, cut, between, full}
 use Rattle.bpf_kinds.specs.Results.{alu}
 use Rattle.bpf_kinds.specs.declared.interval.Interval.{Interval}
 use Rattle.bpf_verify.specs.Transfer.{or_cause, tagged_kind, kind_pointer, kind_tags}
-use Rattle.bpf_meaning.specs.Effect.{offset_or, tagged_value, value_tags}
 use Rattle.bpf_meaning.specs.Tags.{operate, move}
 use Rattle.bpf_meaning.specs.Checks.{Sound}
 use Rattle.bpf_meaning.proofs.CheckLemmas.{passes_if}

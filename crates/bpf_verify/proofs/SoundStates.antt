@@ -15,6 +15,7 @@ use Rattle.bpf_meaning.specs.declared.state.State.{State}
 use Rattle.bpf_verify.specs.State.{with_kind, AdmitsKnown}
 use Rattle.bpf_verify.specs.declared.state.Known.{Known}
 use Rattle.bpf_verify.proofs.SoundChecks.{HasState}
+use Rattle.bpf_verify.proofs.StateLaws.{set_each}
 
 -- a register is written, on both sides
 set_admits : (kinds : List Kind) (values : List Value) (register : ℕ) (x : Kind) (v : Value) → length values ≡ length kinds → kind.Admits x v → ((number : ℕ) → kind.Admits (get_or kinds number Nothing) (get_or values number value.Empty)) → (number : ℕ) → kind.Admits (get_or (slice_set kinds register x) number Nothing) (get_or (slice_set values register v) number value.Empty)
@@ -34,13 +35,6 @@ writes_admit segment known state has register x v admits = record {
 }
 
 -- more is known of a register
-set_keeps : (kinds : List Kind) (values : ℕ → Value) (register : ℕ) (x : Kind) → kind.Admits x (values register) → ((number : ℕ) → kind.Admits (get_or kinds number Nothing) (values number)) → (number : ℕ) → kind.Admits (get_or (slice_set kinds register x) number Nothing) (values number)
-set_keeps [] values register x a all number = all number
-set_keeps (k ∷ kinds) values zero x a all zero = a
-set_keeps (k ∷ kinds) values zero x a all (suc number) = all (suc number)
-set_keeps (k ∷ kinds) values (suc register) x a all zero = all zero
-set_keeps (k ∷ kinds) values (suc register) x a all (suc number) = set_keeps kinds (λ n. values (suc n)) register x a (λ n. all (suc n)) number
-
 pub narrows_keep : (known : Known) (state : State) → AdmitsKnown known state → (register : ℕ) (x : Kind) → kind.Admits x (register_value state register) → AdmitsKnown (with_kind known register x) state
 narrows_keep known state admits register x a =
-    record { registers = set_keeps known.registers (register_value state) register x a admits.registers; frame = admits.frame }
+    record { registers = set_each (λ number held. kind.Admits held (register_value state number)) Nothing known.registers register x a admits.registers; frame = admits.frame }

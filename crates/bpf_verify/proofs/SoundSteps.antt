@@ -28,11 +28,8 @@ use Rattle.bpf_meaning.specs.declared.state.State.{State}
 use Rattle.bpf_meaning.proofs.WholeLemmas.{step_whole, step_bytes, start_bytes}
 use Rattle.bpf_verify.specs.Annotation.{Annotation, PassesAt, IsGood}
 use Rattle.bpf_verify.specs.Transfer.{transfer}
-use Rattle.bpf_verify.specs.State.{entry, IsProper, Admits, AdmitsKnown}
+use Rattle.bpf_verify.specs.State.{entry, IsProper, Admits, AdmitsKnown, Edges, AbstractState, Unreached, Reached}
 use Rattle.bpf_verify.proofs.StateLaws.{admits_more}
-use Rattle.bpf_verify.specs.State.{Edges}
-use Rattle.bpf_verify.specs.State.{AbstractState}
-use Rattle.bpf_verify.specs.State.{Unreached, Reached}
 use Rattle.bpf_meaning.specs.Checks.{Sound}
 use Rattle.bpf_verify.proofs.SoundInstructions.{Follows, instruction_sound}
 use Rattle.bpf_verify.proofs.SoundPlaces.{is_followed}

@@ -5,6 +5,7 @@ use Rattle.std.proofs.lemmas.List.{ext_get_or, length-set}
 use Rattle.bpf_frame.specs.FrameMap.{Contents}
 use Rattle.bpf_frame.specs.OrderLaws as maps
 use Rattle.bpf_kinds.specs.Kind as kind
+use Rattle.bpf_kinds.proofs.KindLemmas as kinds
 use Rattle.bpf_insn.specs.declared.value.Value.{Value}
 use Rattle.bpf_kinds.specs.declared.kind.Kind.{Kind}
 use Rattle.bpf_kinds.specs.declared.kind.Kind.TheVariants.{Number, Nothing}
@@ -26,18 +27,6 @@ kind_reflexive = search rules
 
 pub kind_transitive : (x y z : Kind) → kind.IsWithin x y → kind.IsWithin y z → kind.IsWithin x z
 kind_transitive = search rules
-
-kind_antisymmetric : (x y : Kind) → kind.IsWithin x y → kind.IsWithin y x → x ≡ y
-kind_antisymmetric = search rules
-
-kind_join_is_proper : (x y : Kind) → kind.IsProper x → kind.IsProper y → kind.IsProper (kind.join x y)
-kind_join_is_proper = search rules
-
-kind_left_is_within_join : (x y : Kind) → kind.IsWithin x (kind.join x y)
-kind_left_is_within_join = search rules
-
-kind_right_is_within_join : (x y : Kind) → kind.IsWithin y (kind.join x y)
-kind_right_is_within_join = search rules
 
 kind_join_is_least : (x y z : Kind) → kind.IsWithin x z → kind.IsWithin y z → kind.IsWithin (kind.join x y) z
 kind_join_is_least = search rules
@@ -90,25 +79,25 @@ pub known_antisymmetric : (x y : Known) → IsProperKnown x → IsProperKnown y 
 known_antisymmetric x y proper-x proper-y below above =
     same_state x.registers y.registers x.frame y.frame
     (ext_get_or Nothing x.registers y.registers (proper-x.count ∙ sym proper-y.count)
-    (λ register _. kind_antisymmetric _ _ (below.registers register) (above.registers register)))
+    (λ register _. kinds.antisymmetric _ _ (proper-x.kinds register) (proper-y.kinds register) (below.registers register) (above.registers register)))
     (maps.antisymmetric x.frame y.frame proper-x.frame proper-y.frame below.frame above.frame)
 
 pub join_known_is_proper : (x y : Known) → IsProperKnown x → IsProperKnown y → IsProperKnown (join_known x y)
 join_known_is_proper x y proper-x proper-y = record {
   count = length-join_kinds x.registers y.registers (proper-x.count ∙ sym proper-y.count) ∙ proper-x.count;
-  kinds = λ register. subst kind.IsProper (sym (kind_of-join x y register proper-x proper-y)) (kind_join_is_proper _ _ (proper-x.kinds register) (proper-y.kinds register));
+  kinds = λ register. subst kind.IsProper (sym (kind_of-join x y register proper-x proper-y)) (kinds.join-proper _ _ (proper-x.kinds register) (proper-y.kinds register));
   frame = maps.join_is_proper x.frame y.frame proper-x.frame proper-y.frame;
 }
 
 pub left_is_within_join_known : (x y : Known) → IsProperKnown x → IsProperKnown y → IsWithinKnown x (join_known x y)
 left_is_within_join_known x y proper-x proper-y = record {
-  registers = λ register. subst (kind.IsWithin (kind_of x register)) (sym (kind_of-join x y register proper-x proper-y)) (kind_left_is_within_join _ (kind_of y register));
+  registers = λ register. subst (kind.IsWithin (kind_of x register)) (sym (kind_of-join x y register proper-x proper-y)) (kinds.left-within_join _ _ (proper-x.kinds register) (proper-y.kinds register));
   frame = maps.left_is_within_join x.frame y.frame proper-x.frame proper-y.frame;
 }
 
 pub right_is_within_join_known : (x y : Known) → IsProperKnown x → IsProperKnown y → IsWithinKnown y (join_known x y)
 right_is_within_join_known x y proper-x proper-y = record {
-  registers = λ register. subst (kind.IsWithin (kind_of y register)) (sym (kind_of-join x y register proper-x proper-y)) (kind_right_is_within_join (kind_of x register) _);
+  registers = λ register. subst (kind.IsWithin (kind_of y register)) (sym (kind_of-join x y register proper-x proper-y)) (kinds.right-within_join _ _ (proper-x.kinds register) (proper-y.kinds register));
   frame = maps.right_is_within_join x.frame y.frame proper-x.frame proper-y.frame;
 }
 
@@ -127,17 +116,18 @@ known_admits_more x y state below admits = record {
 
 -- registers that are written
 
-set_is_proper : (kinds : List Kind) (register : ℕ) (x : Kind) → kind.IsProper x → ((number : ℕ) → kind.IsProper (get_or kinds number Nothing)) → (number : ℕ) → kind.IsProper (get_or (slice_set kinds register x) number Nothing)
-set_is_proper [] register x proper all number = all number
-set_is_proper (k ∷ kinds) zero x proper all zero = proper
-set_is_proper (k ∷ kinds) zero x proper all (suc number) = all (suc number)
-set_is_proper (k ∷ kinds) (suc register) x proper all zero = all zero
-set_is_proper (k ∷ kinds) (suc register) x proper all (suc number) = set_is_proper kinds register x proper (λ n. all (suc n)) number
+-- what is so of a list's elements is so of them once one is written, if it's so of that one
+pub set_each : {X : Type 0} (Such : ℕ → X → Type 0) (none : X) (xs : List X) (at : ℕ) (x : X) → Such at x → ((n : ℕ) → Such n (get_or xs n none)) → (n : ℕ) → Such n (get_or (slice_set xs at x) n none)
+set_each Such none [] at x here all n = all n
+set_each Such none (y ∷ xs) zero x here all zero = here
+set_each Such none (y ∷ xs) zero x here all (suc n) = all (suc n)
+set_each Such none (y ∷ xs) (suc at) x here all zero = all zero
+set_each Such none (y ∷ xs) (suc at) x here all (suc n) = set_each (λ k. Such (suc k)) none xs at x here (λ k. all (suc k)) n
 
 with_kind_is_proper : (known : Known) (register : ℕ) (x : Kind) → IsProperKnown known → kind.IsProper x → IsProperKnown (with_kind known register x)
 with_kind_is_proper known register x proper proper-x = record {
   count = length-set known.registers register x ∙ proper.count;
-  kinds = set_is_proper known.registers register x proper-x proper.kinds;
+  kinds = set_each (λ number. kind.IsProper) Nothing known.registers register x proper-x proper.kinds;
   frame = proper.frame;
 }
 

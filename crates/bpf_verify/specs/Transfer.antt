@@ -38,7 +38,7 @@ use Rattle.bpf_meaning.specs.Checks.{◌>>=◌}
 use Rattle.bpf_meaning.specs.Tags as tags
 use Rattle.bpf_meaning.specs.Walk.{Registers, Domain, compared_operand, walk}
 use Rattle.bpf_meaning.specs.declared.cause.Cause.{Cause}
-use Rattle.bpf_meaning.specs.declared.cause.Cause.TheVariants.{ReadsNothing, PointerArithmetic, LeavesArea, NotPointer, OutOfBounds, UnwrittenFrame, WritesRecord, ComparesPointer, UnknownHelper, BadArgument, ExitNotNumber}
+use Rattle.bpf_meaning.specs.declared.cause.Cause.TheVariants.{ReadsNothing, PointerArithmetic, LeavesArea, NotPointer, OutOfBounds, UnwrittenFrame, WritesRecord, ComparesPointer, UnknownHelper, BadArgument}
 use Rattle.bpf_insn.specs.declared.memory.TheConstants.{FRAME_LENGTH}
 use Rattle.tl_segments.specs.declared.segment.TheConstants.{RECORD_LENGTH}
 use Rattle.bpf_verify.specs.State.{AbstractState, Unreached, Reached, Edges, kind_of, with_kind}
@@ -288,23 +288,9 @@ call known None = Err UnknownHelper
 call known (Some helper) =
     arguments_in known (signature helper).arguments >>= lend_frame known (signature helper).frame >>= λ after. Ok (state_after (signature helper).answer after)
 
--- on to the next instruction alone, or to a jump's target alone, or to none
-abbrev pub go_on : Known → Result Edges Cause
-go_on known = Ok (edges_to known Next)
-
-abbrev pub jump : Known → Result Edges Cause
-jump known = Ok (edges_to known Target)
-
-abbrev pub end : Known → Interval → Result Edges Cause
-end known answer = Ok (edges_to known successors.End)
-
--- the end of the program, whose answer must be a number
-abbrev pub exit : Known → Result Edges Cause
-exit known = read known 0 >>= number_or ExitNotNumber >>= end known
-
 -- on to the next instruction with a register written
 abbrev pub set_register : Known → ℕ → Kind → Result Edges Cause
-set_register known register kind = go_on (with_kind known register kind)
+set_register known register kind = Ok (edges_to (with_kind known register kind) Next)
 
 -- what is known of values
 abbrev pub kinds : Known → Domain
@@ -318,10 +304,10 @@ kinds known = record {
   store_at = λ offsets offset size number. store_at known offsets offset size;
   call = λ helper. call known (Some helper);
   set = λ destination. set_register known destination.number;
-  go_on = go_on;
-  jump = λ distance. jump known;
+  go_on = λ behind. Ok (edges_to behind Next);
+  jump = λ distance. Ok (edges_to known Target);
   branch = λ jump. compare known (record { condition = jump.condition; width = jump.width; left = jump.left; right = jump.right });
-  end = end known;
+  end = λ answer. Ok (edges_to known successors.End);
 }
 
 -- The transfer function: what is known on the edges out of an instruction, by what is known before it, or its first check that fails. One

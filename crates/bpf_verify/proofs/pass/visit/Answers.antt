@@ -1,10 +1,9 @@
-use Rattle.std.proofs.Common.{◌≡◌, ◌<◌, ◌+◌, pos, List, length, Option, IfSome, option_map, sym, ap, subst, ◌∙◌, arith}
+use Rattle.std.proofs.Common.{◌≡◌, ◌<◌, ◌+◌, pos, List, length, Option, IfSome, option_map, sym, ap, subst, ◌∙◌, arith, is_some}
 use Rattle.bpf_insn.proofs.PlaceLemmas.{instruction_within}
 use Rattle.bpf_insn.proofs.SpanLemmas.{ends_within}
 use Rattle.bpf_insn.specs.Code.{spelling}
 use Rattle.bpf_insn.specs.Jump.{jump_distance}
 use Rattle.bpf_insn.specs.declared.instruction.Insn.{Insn}
-use Rattle.std.proofs.Common.{is_some}
 use Rattle.bpf_flow.specs.Flow.{target_of}
 use Rattle.bpf_verify.specs.Pass.{taken}
 use Rattle.bpf_verify.specs.State.{AbstractState, Unreached}
