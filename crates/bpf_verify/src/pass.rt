@@ -35,8 +35,8 @@ struct Way {
 }
 
 /// Finds whether a code can be stuck on some segment, in one pass over its instructions in order: it refuses at the first that may be, by
-/// what is known before it. Its time grows with the instructions. It takes a word of memory for each, and more only for the states that are
-/// known at targets ahead.
+/// what is known before it. Its time grows with the instructions. It takes memory for a pointer a word of the code, and for what is known at
+/// those places ahead that are reached.
 pub fn verify<A: Allocator + Copy>(alloc: A, flow: Flow<A>) -> Result<Verified<A>, VerifyFault>
     ensures ok { IfOk result (λ verified. (verified.code ≡ flow.code) × HasGoodAnnotation flow.code) }
     ensures safe { OnOk result (IsSafe flow.code) }
