@@ -1,6 +1,6 @@
--- A machine over bare words: registers of 64 bits each (RFC 9669, section 3.1) and a frame of plain bytes. A word doesn't tell whether it
--- stands for a number or for a pointer, nor a byte whether it was written. So nothing is checked here: the words are right where the checks of
--- what an instruction means pass.
+-- A machine over bare words: registers 0 to 10 (RFC 9669, section 3.1), of 64 bits each, and a frame of plain bytes. A word
+-- doesn't tell whether it stands for a number or for a pointer, nor a byte whether it was written. So nothing is checked here:
+-- the words are right where the checks of what an instruction means pass.
 use Rattle.std.specs.Prelude.{◌≡◌, ℕ, ◌+◌, ◌*◌, ◌^◌, ◌<◌, ℤ, pos, ◌+ℤ◌, unsigned_abs, IsTrue, List, [], ◌∷◌, length, take, drop, get_or, slice_set, Result, Ok, if◌then◌else◌, FitsSigned}
 use Rattle.std.specs.Int.{bytes_low_first, cast_signed, cast_unsigned, w32, w64}
 use Rattle.tl_segments.specs.Segment.{Contents}

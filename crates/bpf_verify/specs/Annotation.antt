@@ -1,5 +1,5 @@
--- Annotations of a code: an abstract state for each place. Forward codes with one that is good to its end are those that
--- are accepted, which is this project's own rule.
+-- Annotations of a code: an abstract state for each place. Forward codes with one that is good to its end are those that are accepted, which
+-- is this project's own rule.
 use Rattle.std.specs.Prelude.{◌≡◌, ℕ, ℤ, pos, ◌+◌, ◌+ℤ◌, ◌<◌, List, length, Some, Ok, Err}
 use Rattle.bpf_insn.specs.Code.{instruction_at, spelling, word_count}
 use Rattle.bpf_insn.specs.Jump.{jump_distance}

@@ -7,8 +7,8 @@ use crate::state::Known;
 use std::alloc::{AllocError, Allocator};
 use std::marker::Model;
 
-/// The states at places that the pass hasn't come to. Contracts see them as an annotation: a list of abstract states, by place. Only for a
-/// place that is reached memory is taken, until its state is.
+/// The states at places that the pass hasn't come to. Contracts see them as an annotation: a list of abstract states, by place. What is known
+/// takes memory only at places that are reached, and until it is taken.
 #[derive(Drop)]
 pub(crate) struct StatesAhead<A: Allocator> {
     states: Vec<Option<Box<Known, A>>, A>,
