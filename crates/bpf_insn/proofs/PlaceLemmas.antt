@@ -14,7 +14,6 @@ use Rattle.bpf_insn.specs.Table.{places_from, indexes_in, indexes_from}
 use Rattle.bpf_insn.specs.declared.word.Word.{Word}
 use Rattle.bpf_insn.specs.declared.code.TheConstants.{WORD_LIMIT}
 use Rattle.bpf_insn.specs.declared.instruction.Insn.{Insn}
-use Rattle.bpf_insn.specs.declared.instruction.Insn.TheVariants.{WideLoad}
 
 -- how many words instructions take
 pub word_count-cons : (insn : Insn) (code : List Insn) → word_count (insn ∷ code) ≡ length (spelling insn) + word_count code
@@ -183,15 +182,6 @@ instruction_at-middle (first ∷ before) insn after =
     let there : word_count (first ∷ before) - length (spelling first) ≡ word_count before = omega arith in
     instruction_at-behind first (before ++ insn ∷ after) (word_count (first ∷ before)) past
     ∙ ap (instruction_at (before ++ insn ∷ after)) there ∙ instruction_at-middle before insn after
-
--- the indexes at an instruction's words, which are one or two
-as_many : (insn : Insn) (index : ℕ) → take (length (spelling insn)) (Some index ∷ None ∷ []) ≡ indexes_in index (spelling insn)
-as_many (WideLoad destination immediate next_immediate) index = refl
-as_many insn index = refl
-
-pub noted_behind : (old new : List (Option ℕ)) (insn : Insn) (index words : ℕ) → words ≡ length (spelling insn) → new ≡ old ++ take words (Some index ∷ None ∷ []) → new ≡ old ++ indexes_in index (spelling insn)
-noted_behind old new insn index words is grown =
-    grown ∙ ap (λ (n : ℕ). old ++ take n (Some index ∷ None ∷ [])) is ∙ ap (λ (more : List (Option ℕ)). old ++ more) (as_many insn index)
 
 -- a code has a word for each instruction at least
 pub not_empty : (code : List Insn) → 1 ≤ length code → 1 ≤ word_count code

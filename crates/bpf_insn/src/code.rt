@@ -1,7 +1,8 @@
 //! Codes: instructions with their places, built one by one.
-ghost use Rattle.std.specs.Prelude.{◌≡◌, ◌≤◌, ◌<◌, ◌+◌, ◌++◌, ◌∷◌, [], length, IfOk, IfErr, OnErr, IfSome, IsSome, MatchResult, Err};
+ghost use Rattle.std.specs.Prelude.{◌≡◌, ◌≤◌, ◌<◌, ◌+◌, ◌++◌, ◌∷◌, [], length, IfOk, IfErr, OnOk, OnErr, IfSome, IsSome, MatchResult, Err};
 ghost use Rattle.bpf_insn.specs.Form.{spelling};
 ghost use Rattle.bpf_insn.specs.Code.{HasProgramSize, word_count, instruction_at, index_at, place_of, IsPushFault};
+ghost use Rattle.bpf_insn.specs.Table.{indexes_in};
 ghost use Rattle.bpf_insn.specs.declared.fault.CodeFault.{CodeFault};
 
 use crate::fault::{CodeFault, WordFault};
@@ -98,8 +99,7 @@ impl<A: Allocator> CodeBuilder<A> {
         }
         self.instructions.reserve(1)?;
         self.places.reserve(1)?;
-        let indexes = [Some(self.instructions.len()), None];
-        self.indexes.extend_from_slice(&indexes[..insn.words()])?;
+        push_indexes(&mut self.indexes, self.instructions.len(), insn)?;
         self.places.push_reserved(place);
         self.instructions.push_reserved(insn);
         Ok(())
@@ -116,6 +116,24 @@ impl<A: Allocator> CodeBuilder<A> {
         }
         Ok(Code { built: self })
     }
+}
+
+/// Adds an instruction's index at the first of its words, and nothing at a further one.
+fn push_indexes<A: Allocator>(
+    indexes: &mut Vec<Option<usize>, A>,
+    index: usize,
+    insn: Insn,
+) -> Result<(), AllocError>
+    ensures ok { OnOk result (indexes.new.items ≡ indexes.old.items ++ indexes_in index (spelling insn)) }
+    ensures err { OnErr result (indexes.new.items ≡ indexes.old.items) }
+{
+    let words = insn.words();
+    indexes.reserve(words)?;
+    indexes.push_reserved(Some(index));
+    if words == 2 {
+        indexes.push_reserved(None);
+    }
+    Ok(())
 }
 
 /// The instructions of a program, in order: 1 to `WORD_LIMIT` words of them. Contracts see them as

@@ -2,7 +2,7 @@ use Rattle.std.proofs.Common.{◌≡◌, ◌≤◌, ◌+◌, arith, ◌∙◌, r
 use Rattle.bpf_insn.specs.Code.{word_count}
 use Rattle.bpf_insn.specs.Form.{spelling}
 use Rattle.bpf_insn.specs.declared.code.TheConstants.{WORD_LIMIT}
-use Rattle.bpf_insn.proofs.PlaceLemmas.{all_grow, noted_behind}
+use Rattle.bpf_insn.proofs.PlaceLemmas.{all_grow}
 use Rattle.bpf_insn.proofs.code.CodeBuilder.push.Goals as goal
 
 pub invariant_of-self-2 : goal.invariant_of-self-2
@@ -11,5 +11,4 @@ invariant_of-self-2 g c =
     let seen = ap length c.reserve.ensures.items in
     let counted : c.len.result ≡ length c.self.inside.instructions.items = omega (arith, c.len.ensures) in
     let fits : word_count c.self.inside.instructions.items + length (spelling c.args.insn) ≤ WORD_LIMIT = omega (arith, at, c.words.ensures, c.if-place-words.false, c.self.invariant.2) in
-    let noted = noted_behind c.self.inside.indexes.items c.extend_from_slice.new.self.items c.args.insn c.len.result c.words-2.result c.words-2.ensures c.in_ok-extend_from_slice.ensures.items in
-    all_grow c.self.inside.instructions.items c.push_reserved-2.new.self.items c.reserve.new.self.items c.self.inside.places.items c.push_reserved.new.self.items c.reserve-2.new.self.items c.self.inside.indexes.items c.extend_from_slice.new.self.items c.self.inside.indexes.items c.args.insn c.words-place.result c.len.result c.self.invariant.0 c.self.invariant.1 at counted c.reserve-2.ensures.items c.push_reserved.ensures.items refl noted c.reserve.ensures.items c.push_reserved-2.ensures.items fits
+    all_grow c.self.inside.instructions.items c.push_reserved-2.new.self.items c.reserve.new.self.items c.self.inside.places.items c.push_reserved.new.self.items c.reserve-2.new.self.items c.self.inside.indexes.items c.push_indexes.new.indexes.items c.self.inside.indexes.items c.args.insn c.words-place.result c.len.result c.self.invariant.0 c.self.invariant.1 at counted c.reserve-2.ensures.items c.push_reserved.ensures.items refl c.in_ok-push_indexes.ensures.ok c.reserve.ensures.items c.push_reserved-2.ensures.items fits
