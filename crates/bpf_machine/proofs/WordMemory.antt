@@ -29,7 +29,7 @@ use Rattle.bpf_meaning.specs.declared.effect.Change.TheVariants.{StoreBytes}
 use Rattle.bpf_meaning.specs.declared.state.State.{State}
 use Rattle.bpf_meaning.proofs.FrameLemmas.{HoldBytes, bytes-map}
 use Rattle.bpf_meaning.proofs.MemoryLemmas.{fits_more, length-bytes_low_first, store_is_write}
-use Rattle.bpf_machine.specs.Words.{Holds, IsByteOf, IsWordOf, Words, area_bytes, load_bytes, number_of, store_at}
+use Rattle.bpf_machine.specs.Words.{Holds, IsByteOf, IsWordOf, Words, area_bytes, load_bytes, loaded, number_of, store_at, stored}
 use Rattle.bpf_machine.proofs.WordArithmetic.{admitted_fits}
 
 -- bytes stand for memory, one by one
@@ -81,18 +81,21 @@ ends_inside : (from : ℤ) (count bytes : ℕ) → effect.lie_within from count 
 ends_inside (pos at) count bytes within = grind (arith, nat_tests)
 ends_inside (negsuc n) count bytes within = absurd (false≢true within)
 
-bytes_loaded : (load_format : LoadFormat) (memory : List FrameByte) (bytes : List ℕ) (from : ℤ) → StandFor memory bytes → HoldBytes memory → length bytes ≡ length memory → Sound IsWordOf (effect.load_bytes load_format memory from) (Ok (load_bytes load_format bytes (unsigned_abs from)))
-bytes_loaded load_format memory bytes from stand small same = by_test (effect.lie_within from (load_length load_format) (length memory)) refl
+bytes_loaded : (load_format : LoadFormat) (memory : List FrameByte) (bytes : List ℕ) (from : ℤ) → StandFor memory bytes → HoldBytes memory → length bytes ≡ length memory → Sound IsWordOf (effect.load_bytes load_format memory from) (load_bytes load_format bytes from)
+bytes_loaded load_format memory bytes from stand small same =
+    subst (λ (n : ℕ). Sound IsWordOf (effect.load_bytes load_format memory from) (if effect.lie_within from (load_length load_format) n then Ok (loaded load_format bytes (unsigned_abs from)) else Err OutOfBounds)) (sym same)
+    (by_test (effect.lie_within from (load_length load_format) (length memory)) refl)
   where
     by_test : (within : Bool) → effect.lie_within from (load_length load_format) (length memory) ≡ within
-        → Sound IsWordOf (if within then effect.load_number load_format (meaning.number_of (take (load_length load_format) (drop (unsigned_abs from) memory))) else Err OutOfBounds) (Ok (load_bytes load_format bytes (unsigned_abs from)))
+        → Sound IsWordOf (if within then effect.load_number load_format (meaning.number_of (take (load_length load_format) (drop (unsigned_abs from) memory))) else Err OutOfBounds)
+        (if within then Ok (loaded load_format bytes (unsigned_abs from)) else Err OutOfBounds)
     by_test true within =
         number_loaded load_format (take (load_length load_format) (drop (unsigned_abs from) bytes)) _
         (part_number memory bytes (unsigned_abs from) (load_length load_format) stand small (ends_inside from (load_length load_format) (length memory) within) same)
     by_test false outside = tt
 
 pub load_held : (segment : Contents) (state : State) (words : Words) → IsSegment segment → IsWhole state → HoldsBytes state → Holds state words → (load_format : LoadFormat) (into : Area) (from : ℤ)
-    → Sound IsWordOf (effect.load_bytes load_format (effect.area_bytes segment state into) from) (Ok (load_bytes load_format (area_bytes segment words into) (unsigned_abs from)))
+    → Sound IsWordOf (effect.load_bytes load_format (effect.area_bytes segment state into) from) (load_bytes load_format (area_bytes segment words into) from)
 load_held segment state words is whole small holds load_format area.Record from =
     bytes_loaded load_format (map Byte segment.bytes) segment.bytes from (map-stands segment.bytes) (bytes-map segment.bytes is.bytes.bytes) (sym (length-map segment.bytes Byte))
 load_held segment state words is whole small holds load_format area.Frame from =
@@ -121,7 +124,7 @@ write-stands memory bytes new at same within stand i =
     both : {written before : FrameByte} {byte old : ℕ} → written ≡ before → byte ≡ old → IsByteOf before old → IsByteOf written byte
     both {written} {before} {byte} {old} one other is = subst (λ (b : ℕ). IsByteOf written b) (sym other) (subst (λ (m : FrameByte). IsByteOf m old) (sym one) is)
 
-stored_held : (segment : Contents) (state : State) (words : Words) → IsWhole state → Holds state words → (at : ℕ) (size : StoreSize) (number : ℕ) → at + store_length size ≤ FRAME_LENGTH → HoldsChange segment state (StoreBytes at size number) (store_at words at size number)
+stored_held : (segment : Contents) (state : State) (words : Words) → IsWhole state → Holds state words → (at : ℕ) (size : StoreSize) (number : ℕ) → at + store_length size ≤ FRAME_LENGTH → HoldsChange segment state (StoreBytes at size number) (stored words at size number)
 stored_held segment state words whole holds at size number within =
     let low = bytes_low_first 0 (store_length size) number in
     let long = length-bytes_low_first 0 (store_length size) number in
@@ -136,9 +139,10 @@ stored_held segment state words whole holds at size number within =
       score = holds.score;
     }
 
-pub store_held : (segment : Contents) (state : State) (words : Words) → IsWhole state → Holds state words → (from : ℤ) (size : StoreSize) (number : ℕ) → Sound (HoldsChange segment state) (effect.store_at from size number) (Ok (store_at words (unsigned_abs from) size number))
+pub store_held : (segment : Contents) (state : State) (words : Words) → IsWhole state → Holds state words → (from : ℤ) (size : StoreSize) (number : ℕ) → Sound (HoldsChange segment state) (effect.store_at from size number) (store_at words from size number)
 store_held segment state words whole holds from size number = by_test (effect.lie_within from (store_length size) FRAME_LENGTH) refl
   where
-    by_test : (within : Bool) → effect.lie_within from (store_length size) FRAME_LENGTH ≡ within → Sound (HoldsChange segment state) (if within then Ok (StoreBytes (unsigned_abs from) size number) else Err OutOfBounds) (Ok (store_at words (unsigned_abs from) size number))
+    by_test : (within : Bool) → effect.lie_within from (store_length size) FRAME_LENGTH ≡ within → Sound (HoldsChange segment state) (if within then Ok (StoreBytes (unsigned_abs from) size number) else Err OutOfBounds)
+        (if within then Ok (stored words (unsigned_abs from) size number) else Err OutOfBounds)
     by_test true within = stored_held segment state words whole holds (unsigned_abs from) size number (ends_inside from (store_length size) FRAME_LENGTH within)
     by_test false outside = tt

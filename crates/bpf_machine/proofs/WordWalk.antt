@@ -7,7 +7,7 @@ use Rattle.std.proofs.lemmas.Bool.Decides.{nat_tests}
 use Rattle.std.proofs.lemmas.Int.{ints}
 use Rattle.bpf_insn.specs.Arithmetic as arithmetic
 use Rattle.bpf_insn.specs.Arithmetic.{is_met}
-use Rattle.bpf_insn.specs.Code.{instruction_at, word_count}
+use Rattle.bpf_insn.specs.Code.{instruction_at, place_of, word_count}
 use Rattle.bpf_insn.specs.Pointer.{is_offset}
 use Rattle.bpf_insn.specs.declared.instruction.Insn.{Insn}
 use Rattle.bpf_insn.specs.declared.instruction.ByteOrder.{ByteOrder}
@@ -37,7 +37,7 @@ use Rattle.bpf_meaning.specs.declared.effect.Effect.{Effect}
 use Rattle.bpf_meaning.specs.declared.effect.Effect.TheVariants.{GoOn}
 use Rattle.bpf_meaning.specs.declared.state.State.{State}
 use Rattle.bpf_meaning.proofs.WalkForesees.{Foresees, walk_foreseen}
-use Rattle.bpf_machine.specs.Words.{Goes, HasAreas, HasImmediates, Holds, HoldsEffect, IsWordOf, Next, PointsInto, Words, area_bytes, bare_words, load_bytes, next_words, pointer_of, store_at, target, with_word}
+use Rattle.bpf_machine.specs.Words.{Goes, HasAreas, HasImmediates, Holds, HoldsEffect, IsWordOf, JumpsTo, Next, PointsInto, Words, area_bytes, bare_words, load_bytes, next_words, pointer_of, store_at, with_word}
 use Rattle.bpf_machine.proofs.WordCalls.{call_held}
 use Rattle.bpf_machine.proofs.WordMemory.{HoldsChange, load_held, store_held}
 use Rattle.bpf_machine.proofs.WordArithmetic.{IsNumber, admitted_fits, move_held, operate_held, single-admits, single-proper}
@@ -89,35 +89,35 @@ swapped_held order width n word is =
 placed : (state : State) (place : ℕ) (words : Words) → Holds state words → Holds (record state { place = place }) words
 placed state place words holds = record { count = holds.count; registers = holds.registers; whole = holds.whole; frame = holds.frame; score = holds.score }
 
-goes_on_held : (code : List Insn) (segment : Contents) (state : State) (place there : ℕ) (change : Change) (words : Words) → there ≡ place → HoldsChange segment state change words → Sound (HoldsEffect segment state) (effect.go_on code place change) (Ok (Goes words there))
-goes_on_held code segment state place there change words same holds = by_tests (is_some (instruction_at code place)) (nat_lt place (word_count code))
+goes_on_held : (code : List Insn) (segment : Contents) (state : State) (place at : ℕ) (change : Change) (words : Words) → place ≡ place_of code at → HoldsChange segment state change words → Sound (HoldsEffect code segment state) (effect.go_on code place change) (Ok (Goes words at))
+goes_on_held code segment state place at change words same holds = by_tests (is_some (instruction_at code place)) (nat_lt place (word_count code))
   where
-    by_tests : (begins inside : Bool) → Sound (HoldsEffect segment state) (if begins then Ok (GoOn change place) else (if inside then Err IntoWide else Err OutOfProgram)) (Ok (Goes words there))
+    by_tests : (begins inside : Bool) → Sound (HoldsEffect code segment state) (if begins then Ok (GoOn change place) else (if inside then Err IntoWide else Err OutOfProgram)) (Ok (Goes words at))
     by_tests true inside = (same, placed (carry_out segment state change) place words holds)
     by_tests false true = tt
     by_tests false false = tt
 
-jump_held : (code : List Insn) (segment : Contents) (state : State) (to : ℤ) (words : Words) → Holds state words → Sound (HoldsEffect segment state) (effect.go_to code to) (Ok (Goes words (unsigned_abs to)))
-jump_held code segment state (pos place) words holds = goes_on_held code segment state place place Nothing words refl holds
-jump_held code segment state (negsuc before) words holds = tt
+jump_held : (code : List Insn) (segment : Contents) (state : State) (to : ℤ) (at : ℕ) (words : Words) → to ≡ pos (place_of code at) → Holds state words → Sound (HoldsEffect code segment state) (effect.go_to code to) (Ok (Goes words at))
+jump_held code segment state to at words leads holds =
+    subst (λ (z : ℤ). Sound (HoldsEffect code segment state) (effect.go_to code z) (Ok (Goes words at))) (sym leads) (goes_on_held code segment state (place_of code at) at Nothing words refl holds)
 
-branch_held : (code : List Insn) (segment : Contents) (state : State) (words : Words) → Holds state words → (next : ℕ) (jump : ConditionalJump) (v w : Value) (m n : ℕ) → IsWordOf v m → IsWordOf w n → Sound (HoldsEffect segment state) ((effect.values code segment state next).branch jump v w)
-    (Ok (Goes words (if is_met jump.condition jump.width m n then target state.place jump.distance else next)))
-branch_held code segment state words holds next jump (value.Number x) (value.Number y) m n left right =
-    subst (λ (k : ℕ). Sound (HoldsEffect segment state) (taken (is_met jump.condition jump.width x y)) (Ok (goes (is_met jump.condition jump.width k n)))) (sym left.0)
-    (subst (λ (k : ℕ). Sound (HoldsEffect segment state) (taken (is_met jump.condition jump.width x y)) (Ok (goes (is_met jump.condition jump.width x k)))) (sym right.0)
+branch_held : (code : List Insn) (segment : Contents) (state : State) (words : Words) → Holds state words → (next next_at target : ℕ) (jump : ConditionalJump) → next ≡ place_of code next_at → pos (state.place + 1) +ℤ jump.distance ≡ pos (place_of code target) → (v w : Value) (m n : ℕ) → IsWordOf v m → IsWordOf w n
+    → Sound (HoldsEffect code segment state) ((effect.values code segment state next).branch jump v w) (Ok (Goes words (if is_met jump.condition jump.width m n then target else next_at)))
+branch_held code segment state words holds next next_at target jump same leads (value.Number x) (value.Number y) m n left right =
+    subst (λ (k : ℕ). Sound (HoldsEffect code segment state) (taken (is_met jump.condition jump.width x y)) (Ok (goes (is_met jump.condition jump.width k n)))) (sym left.0)
+    (subst (λ (k : ℕ). Sound (HoldsEffect code segment state) (taken (is_met jump.condition jump.width x y)) (Ok (goes (is_met jump.condition jump.width x k)))) (sym right.0)
     (by_answer (is_met jump.condition jump.width x y)))
   where
     taken : Bool → Result Effect Cause
     taken answer = if answer then effect.jump code state.place jump.distance else effect.go_on code next Nothing
 
     goes : Bool → Next
-    goes answer = Goes words (if answer then target state.place jump.distance else next)
+    goes answer = Goes words (if answer then target else next_at)
 
-    by_answer : (answer : Bool) → Sound (HoldsEffect segment state) (taken answer) (Ok (goes answer))
-    by_answer true = jump_held code segment state _ words holds
-    by_answer false = goes_on_held code segment state next next Nothing words refl holds
-branch_held code segment state words holds next jump v w m n left right = tt
+    by_answer : (answer : Bool) → Sound (HoldsEffect code segment state) (taken answer) (Ok (goes answer))
+    by_answer true = jump_held code segment state _ target words leads holds
+    by_answer false = goes_on_held code segment state next next_at Nothing words same holds
+branch_held code segment state words holds next next_at target jump same leads v w m n left right = tt
 
 -- a register is written
 
@@ -141,23 +141,28 @@ register_held segment state words holds destination v word held = record {
 }
 
 -- where a store begins
-frame_held : (into : Area) (pointer other : PointerParts) (offset : ℤ) → IsPointer pointer other → Sound (λ (at : ℤ) (from : ℕ). from ≡ unsigned_abs at) (effect.frame_offset into (pointer.offset +ℤ offset)) (Ok (unsigned_abs (other.offset +ℤ offset)))
-frame_held area.Frame pointer other offset same = ap (λ (p : PointerParts). unsigned_abs (p.offset +ℤ offset)) same
+frame_held : (into : Area) (pointer other : PointerParts) (offset : ℤ) → IsPointer pointer other → Sound (λ (at from : ℤ). from ≡ at) (effect.frame_offset into (pointer.offset +ℤ offset)) (Ok (other.offset +ℤ offset))
+frame_held area.Frame pointer other offset same = ap (λ (p : PointerParts). p.offset +ℤ offset) same
 frame_held area.Record pointer other offset same = tt
 
+-- where an instruction goes on, and where it jumps
+pub record Leads (code : List Insn) (place : ℕ) (insn : Insn) (next next_at target : ℕ) : Type 0 where
+  pub next : next ≡ place_of code next_at
+  pub jumps : JumpsTo code place insn target
+
 -- each step of an instruction
-values_foresee : (code : List Insn) (segment : Contents) (state : State) (areas : ℕ → Area) (words : Words) (insn : Insn) (next : ℕ) → IsSegment segment → IsWhole state → HoldsBytes state → HasAreas state areas → Holds state words
-    → Foresees (effect.values code segment state next) (bare_words segment areas words state.place next) insn
-values_foresee code segment state areas words insn next is whole bytes points holds = record {
+values_foresee : (code : List Insn) (segment : Contents) (state : State) (areas : ℕ → Area) (words : Words) (insn : Insn) (next next_at target : ℕ) → IsSegment segment → IsWhole state → HoldsBytes state → HasAreas state areas → Holds state words → Leads code state.place insn next next_at target
+    → Foresees (effect.values code segment state next) (bare_words segment areas words next_at target) insn
+values_foresee code segment state areas words insn next next_at target is whole bytes points holds leads = record {
   Fits = FitsSigned w32;
   Read = λ register. IsWordOf;
   Values = IsWordOf;
   Numbers = IsNumber;
   Stored = IsNumber;
   Pointers = IsPointer;
-  Offsets = λ offset at from. from ≡ unsigned_abs at;
+  Offsets = λ offset at from. from ≡ at;
   Changes = HoldsChange segment state;
-  Outcomes = HoldsEffect segment state;
+  Outcomes = HoldsEffect code segment state;
   read = λ register. read_held register _ _ (holds.registers register);
   any = λ register v word held. held;
   number_or = λ cause register. number_held cause;
@@ -171,25 +176,25 @@ values_foresee code segment state areas words insn next is whole bytes points ho
   move = move_held;
   operate = operate_held;
   load = λ format p q offset same.
-      subst (λ (x : PointerParts). Sound IsWordOf (effect.load_bytes format (effect.area_bytes segment state p.area) (p.offset +ℤ offset)) (Ok (load_bytes format (area_bytes segment words x.area) (unsigned_abs (x.offset +ℤ offset))))) (sym same)
+      subst (λ (x : PointerParts). Sound IsWordOf (effect.load_bytes format (effect.area_bytes segment state p.area) (p.offset +ℤ offset)) (load_bytes format (area_bytes segment words x.area) (x.offset +ℤ offset))) (sym same)
       (load_held segment state words is whole bytes holds format p.area (p.offset +ℤ offset));
   frame = λ p q offset same. frame_held p.area p q offset same;
   store_at = λ at from offset size m n is same.
-      subst (λ (k : ℕ). Sound (HoldsChange segment state) (effect.store_at at size m) (Ok (store_at words from size k))) (sym same.0)
-      (subst (λ (k : ℕ). Sound (HoldsChange segment state) (effect.store_at at size m) (Ok (store_at words k size m))) (sym is) (store_held segment state words whole holds at size m));
+      subst (λ (k : ℕ). Sound (HoldsChange segment state) (effect.store_at at size m) (store_at words from size k)) (sym same.0)
+      (subst (λ (k : ℤ). Sound (HoldsChange segment state) (effect.store_at at size m) (store_at words k size m)) (sym is) (store_held segment state words whole holds at size m));
   call = call_held segment state words is whole holds;
-  set = λ goes_on destination v word held. goes_on_held code segment state next next _ _ refl (register_held segment state words holds destination v word held);
-  go_on = λ goes_on change behind holds. goes_on_held code segment state next next change behind refl holds;
-  jump = λ distance jumps. jump_held code segment state _ words holds;
+  set = λ goes_on destination v word held. goes_on_held code segment state next next_at _ _ leads.next (register_held segment state words holds destination v word held);
+  go_on = λ goes_on change behind holds. goes_on_held code segment state next next_at change behind leads.next holds;
+  jump = λ distance jumps. jump_held code segment state _ target words (leads.jumps distance jumps) holds;
   with_immediate = λ goes_on condition width left immediate distance v m fits jumps first.
-      branch_held code segment state words holds next (record { condition = condition; width = width; left = left; right = Immediate immediate; distance = distance }) v _ m _ first (refl, (immediate_operand-proper immediate fits).fits);
+      branch_held code segment state words holds next next_at target (record { condition = condition; width = width; left = left; right = Immediate immediate; distance = distance }) leads.next (leads.jumps distance jumps) v _ m _ first (refl, (immediate_operand-proper immediate fits).fits);
   with_register = λ goes_on condition width left right distance v w m n jumps first second.
-      branch_held code segment state words holds next (record { condition = condition; width = width; left = left; right = Register right; distance = distance }) v w m n first second;
+      branch_held code segment state words holds next next_at target (record { condition = condition; width = width; left = left; right = Register right; distance = distance }) leads.next (leads.jumps distance jumps) v w m n first second;
   end = λ n word same. (same.0, holds.score);
 }
 
-pub walk_held : (code : List Insn) (segment : Contents) (state : State) (areas : ℕ → Area) (words : Words) (insn : Insn) (next : ℕ) → IsSegment segment → IsWhole state → HoldsBytes state → HasImmediates insn → HasAreas state areas → Holds state words
-    → Sound (HoldsEffect segment state) (effect.instruction_effect code segment state next insn) (next_words segment areas words state.place next insn)
+pub walk_held : (code : List Insn) (segment : Contents) (state : State) (areas : ℕ → Area) (words : Words) (insn : Insn) (next next_at target : ℕ) → IsSegment segment → IsWhole state → HoldsBytes state → HasImmediates insn → HasAreas state areas → Holds state words → next ≡ place_of code next_at → JumpsTo code state.place insn target
+    → Sound (HoldsEffect code segment state) (effect.instruction_effect code segment state next insn) (next_words segment areas words next_at target insn)
 unfolding values_foresee
-walk_held code segment state areas words insn next is whole bytes fits points holds =
-    walk_foreseen (effect.values code segment state next) (bare_words segment areas words state.place next) insn (values_foresee code segment state areas words insn next is whole bytes points holds) fits
+walk_held code segment state areas words insn next next_at target is whole bytes fits points holds same jumps =
+    walk_foreseen (effect.values code segment state next) (bare_words segment areas words next_at target) insn (values_foresee code segment state areas words insn next next_at target is whole bytes points holds (record { next = same; jumps = jumps })) fits

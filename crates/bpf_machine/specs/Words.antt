@@ -1,10 +1,12 @@
 -- A machine over bare words: registers 0 to 10 (RFC 9669, section 3.1), of 64 bits each, and a frame of plain bytes. A word
--- doesn't tell whether it stands for a number or for a pointer, nor a byte whether it was written. So nothing is checked here:
--- the words are right where the checks of what an instruction means pass.
-use Rattle.std.specs.Prelude.{◌≡◌, ℕ, ◌+◌, ◌*◌, ◌^◌, ◌<◌, ℤ, pos, ◌+ℤ◌, unsigned_abs, IsTrue, List, [], ◌∷◌, length, take, drop, get_or, slice_set, Result, Ok, if◌then◌else◌, FitsSigned}
+-- doesn't tell whether it stands for a number or for a pointer, nor a byte whether it was written. So nothing is checked here but that
+-- bytes lie within their area: the words are right where the checks of what an instruction means pass.
+use Rattle.std.specs.Prelude.{◌≡◌, ℕ, ◌+◌, ◌*◌, ◌^◌, ◌<◌, ℤ, pos, ◌+ℤ◌, unsigned_abs, IsTrue, List, [], ◌∷◌, length, take, drop, get_or, slice_set, Some, Result, Ok, Err, if◌then◌else◌, FitsSigned}
 use Rattle.std.specs.Int.{bytes_low_first, cast_signed, cast_unsigned, w32, w64}
 use Rattle.tl_segments.specs.Segment.{Contents}
 use Rattle.bpf_insn.specs.Arithmetic.{result_of, negate, extension_of, byte_swap, low_bits, operand_bits, is_met, immediate_operand, wide_number, load_extension}
+use Rattle.bpf_insn.specs.Code.{place_of}
+use Rattle.bpf_insn.specs.Jump.{jump_distance}
 use Rattle.bpf_insn.specs.Memory.{load_length, store_length}
 use Rattle.bpf_insn.specs.Pointer.{is_offset}
 use Rattle.bpf_insn.specs.declared.instruction.Insn.{Insn}
@@ -24,11 +26,13 @@ use Rattle.bpf_helpers.specs.Helper.{signature}
 use Rattle.bpf_helpers.specs.declared.helper.Helper.{Helper}
 use Rattle.bpf_helpers.specs.declared.signature.Argument.{Argument}
 use Rattle.bpf_helpers.specs.declared.signature.Argument.TheVariants as argument
+use Rattle.bpf_meaning.specs.Effect.{lie_within}
 use Rattle.bpf_meaning.specs.Memory.{FrameByte, Unwritten, Byte}
 use Rattle.bpf_meaning.specs.State.{register_value}
 use Rattle.bpf_meaning.specs.Step.{Configuration, Running, Exited, apply}
 use Rattle.bpf_meaning.specs.Walk.{Registers, Domain, walk}
 use Rattle.bpf_meaning.specs.declared.cause.Cause.{Cause}
+use Rattle.bpf_meaning.specs.declared.cause.Cause.TheVariants.{OutOfBounds}
 use Rattle.bpf_meaning.specs.declared.effect.Effect.{Effect}
 use Rattle.bpf_meaning.specs.declared.state.State.{State}
 
@@ -38,9 +42,9 @@ pub record Words : Type 0 where
   pub frame : List ℕ
   pub score : ℕ
 
--- what an instruction leads to: words at a place, or the end with an answer
+-- what an instruction leads to: words at an entry, or the end with an answer
 pub data Next : Type 0 where
-  Goes : (words : Words) (place : ℕ) → Next
+  Goes : (words : Words) (at : ℕ) → Next
   Ends : (answer score : ℕ) → Next
 
 -- the word in a register
@@ -85,13 +89,21 @@ abbrev pub area_bytes : Contents → Words → Area → List ℕ
 area_bytes segment words Record = segment.bytes
 area_bytes segment words Frame = words.frame
 
--- a load of bytes from a place on
-abbrev pub load_bytes : LoadFormat → List ℕ → ℕ → ℕ
-load_bytes format bytes at = load_extension format (number_of (take (load_length format) (drop at bytes)))
+-- a load of bytes from an offset on
+abbrev pub loaded : LoadFormat → List ℕ → ℕ → ℕ
+loaded format bytes at = load_extension format (number_of (take (load_length format) (drop at bytes)))
 
--- the low bytes of a number stored in the frame from a place on, the lowest first
-abbrev pub store_at : Words → ℕ → StoreSize → ℕ → Words
-store_at words at size number = record words { frame = write words.frame at (bytes_low_first 0 (store_length size) number) }
+abbrev pub load_bytes : LoadFormat → List ℕ → ℤ → Result ℕ Cause
+load_bytes format bytes from =
+    if lie_within from (load_length format) (length bytes) then Ok (loaded format bytes (unsigned_abs from)) else Err OutOfBounds
+
+-- the low bytes of a number stored in the frame from an offset on, the lowest first
+abbrev pub stored : Words → ℕ → StoreSize → ℕ → Words
+stored words at size number = record words { frame = write words.frame at (bytes_low_first 0 (store_length size) number) }
+
+abbrev pub store_at : Words → ℤ → StoreSize → ℕ → Result Words Cause
+store_at words from size number =
+    if lie_within from (store_length size) FRAME_LENGTH then Ok (stored words (unsigned_abs from) size number) else Err OutOfBounds
 
 -- an argument, which the register of its number holds; one that isn't used is 0
 abbrev pub argument_word : Words → ℕ → Argument → ℕ
@@ -120,31 +132,28 @@ abbrev pub call_helper : Contents → Words → Helper → Words
 call_helper segment words helper =
     let arguments = argument_words words (signature helper).arguments in words_after words (second arguments) (called segment words helper arguments)
 
--- where a jump from a place leads: its distance counts words from the word after it (section 4.3)
-abbrev pub target : ℕ → ℤ → ℕ
-target place distance = unsigned_abs (pos (place + 1) +ℤ distance)
-
--- what an instruction at a place sees and can do where registers hold words, with the areas that they point into and the next place
+-- What an instruction sees and can do where registers hold words, with the areas that they point into, the entry of the next instruction, and
+-- the entry where it jumps, if it jumps: an entry is an instruction's index.
 abbrev pub bare_words : Contents → (ℕ → Area) → Words → ℕ → ℕ → Domain
-bare_words segment areas words place next = record {
+bare_words segment areas words next target = record {
   registers = word_registers areas words;
-  Offset = ℕ;
+  Offset = ℤ;
   Change = Words;
   Outcome = Next;
-  load = λ format pointer offset. Ok (load_bytes format (area_bytes segment words pointer.area) (unsigned_abs (pointer.offset +ℤ offset)));
-  frame = λ pointer offset. Ok (unsigned_abs (pointer.offset +ℤ offset));
-  store_at = λ from offset size number. Ok (store_at words from size number);
+  load = λ format pointer offset. load_bytes format (area_bytes segment words pointer.area) (pointer.offset +ℤ offset);
+  frame = λ pointer offset. Ok (pointer.offset +ℤ offset);
+  store_at = λ from offset size number. store_at words from size number;
   call = λ helper. Ok (call_helper segment words helper);
   set = λ destination word. Ok (Goes (with_word words destination.number word) next);
   go_on = λ behind. Ok (Goes behind next);
-  jump = λ distance. Ok (Goes words (target place distance));
-  branch = λ jump x y. Ok (Goes words (if is_met jump.condition jump.width x y then target place jump.distance else next));
+  jump = λ distance. Ok (Goes words target);
+  branch = λ jump x y. Ok (Goes words (if is_met jump.condition jump.width x y then target else next));
   end = λ answer. Ok (Ends answer words.score);
 }
 
--- what an instruction leads to on bare words; nothing fails but a call of a number that no helper function has
+-- what an instruction leads to on bare words; nothing fails but an access outside of an area, and a call of a number that no helper has
 abbrev pub next_words : Contents → (ℕ → Area) → Words → ℕ → ℕ → Insn → Result Next Cause
-next_words segment areas words place next insn = walk (bare_words segment areas words place next) insn
+next_words segment areas words next target insn = walk (bare_words segment areas words next target) insn
 
 -- A word stands for a value: for a number of 64 bits, or for a pointer by its offset in two's complement. Where there is no value, any will do.
 abbrev pub IsWordOf : Value → ℕ → Type 0
@@ -165,15 +174,19 @@ pub record Holds (state : State) (words : Words) : Type 0 where
   pub frame : (at : ℕ) → IsByteOf (get_or state.frame.bytes at Unwritten) (get_or words.frame at 0)
   pub score : words.score ≡ state.score
 
--- what words lead to holds a configuration: words at its place hold its state, or the end has its answer and its score
-abbrev pub HoldsNext : Configuration → Next → Type 0
-HoldsNext (Running state) (Goes words place) = (place ≡ state.place) × Holds state words
-HoldsNext (Exited answer score) (Ends word word_score) = (word ≡ answer) × (word_score ≡ score)
-HoldsNext configuration next = ⊥
+-- what words lead to holds a configuration: words at the entry of its place hold its state, or the end has its answer and its score
+abbrev pub HoldsNext : List Insn → Configuration → Next → Type 0
+HoldsNext code (Running state) (Goes words at) = (state.place ≡ place_of code at) × Holds state words
+HoldsNext code (Exited answer score) (Ends word word_score) = (word ≡ answer) × (word_score ≡ score)
+HoldsNext code configuration next = ⊥
 
 -- what words lead to holds what an effect leads to
-abbrev pub HoldsEffect : Contents → State → Effect → Next → Type 0
-HoldsEffect segment state effect next = HoldsNext (apply segment state effect) next
+abbrev pub HoldsEffect : List Insn → Contents → State → Effect → Next → Type 0
+HoldsEffect code segment state effect next = HoldsNext code (apply segment state effect) next
+
+-- an instruction at a place jumps to an entry, if it jumps: its distance counts words from the word after it (section 4.3)
+abbrev pub JumpsTo : List Insn → ℕ → Insn → ℕ → Type 0
+JumpsTo code place insn target = (distance : ℤ) → jump_distance insn ≡ Some distance → pos (place + 1) +ℤ distance ≡ pos (place_of code target)
 
 -- a value points into an area, if it's a pointer
 abbrev pub PointsInto : Value → Area → Type 0

@@ -1,5 +1,6 @@
 //! What holds of the definitions themselves. The functions do nothing: each one's contract is the law.
-ghost use Rattle.std.specs.Prelude.{ℕ, List};
+ghost use Rattle.std.specs.Prelude.{◌≡◌, ℕ, List};
+ghost use Rattle.bpf_insn.specs.Code.{place_of};
 ghost use Rattle.bpf_insn.specs.declared.instruction.Insn.{Insn};
 ghost use Rattle.bpf_insn.specs.declared.value.Area.{Area};
 ghost use Rattle.tl_segments.specs.Segment.{Contents, IsSegment};
@@ -7,12 +8,13 @@ ghost use Rattle.bpf_meaning.specs.Checks.{Sound};
 ghost use Rattle.bpf_meaning.specs.Effect.{instruction_effect};
 ghost use Rattle.bpf_meaning.specs.State.{HoldsBytes, IsWhole};
 ghost use Rattle.bpf_meaning.specs.declared.state.State.{State};
-ghost use Rattle.bpf_machine.specs.Words.{HasAreas, HasImmediates, Holds, HoldsEffect, Words, next_words};
+ghost use Rattle.bpf_machine.specs.Words.{HasAreas, HasImmediates, Holds, HoldsEffect, JumpsTo, Words, next_words};
 
 /// The words are held: where words hold a state, and an instruction passes all its checks there, what it leads to on bare words holds what it
-/// leads to.
+/// leads to, at the entry of the place where it goes on.
 pub fn words_are_held()
-    ensures { (code : List Insn) (segment : Contents) (state : State) (areas : ℕ → Area) (words : Words) (insn : Insn) (next : ℕ)
+    ensures { (code : List Insn) (segment : Contents) (state : State) (areas : ℕ → Area) (words : Words) (insn : Insn) (next at target : ℕ)
         → IsSegment segment → IsWhole state → HoldsBytes state → HasImmediates insn → HasAreas state areas → Holds state words
-        → Sound (HoldsEffect segment state) (instruction_effect code segment state next insn) (next_words segment areas words state.place next insn) }
+        → next ≡ place_of code at → JumpsTo code state.place insn target
+        → Sound (HoldsEffect code segment state) (instruction_effect code segment state next insn) (next_words segment areas words at target insn) }
 {}

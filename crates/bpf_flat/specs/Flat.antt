@@ -1,0 +1,277 @@
+-- Instructions in flat form: which instruction each stands for. It keeps where a jump leads and not how far, so it stands for one with a
+-- distance of 0; and it keeps the area that the base of a load points into.
+use Rattle.std.specs.Prelude.{◌≡◌, ℕ, pos, Option, Some, None}
+use Rattle.bpf_insn.specs.declared.instruction.ByteOrder.TheVariants.{LittleEndian, BigEndian, Swapped}
+use Rattle.bpf_insn.specs.declared.instruction.Condition.{Condition}
+use Rattle.bpf_insn.specs.declared.instruction.Condition.TheVariants.{Equal, Greater, GreaterOrEqual, SharesBit, NotEqual, SignedGreater, SignedGreaterOrEqual, Less, LessOrEqual, SignedLess, SignedLessOrEqual}
+use Rattle.bpf_insn.specs.declared.instruction.Insn.{Insn}
+use Rattle.bpf_insn.specs.declared.instruction.Insn.TheVariants as insn
+use Rattle.bpf_insn.specs.declared.instruction.Insn.TheVariants.{Alu, MoveSignExtended, Negate, ByteSwap, JumpIf, Load, Store}
+use Rattle.bpf_insn.specs.declared.instruction.JumpDistance.TheVariants.{Short}
+use Rattle.bpf_insn.specs.declared.instruction.LoadFormat.{LoadFormat}
+use Rattle.bpf_insn.specs.declared.instruction.LoadFormat.TheVariants as format
+use Rattle.bpf_insn.specs.declared.instruction.Operation.{Operation}
+use Rattle.bpf_insn.specs.declared.instruction.Operation.TheVariants.{Add, Subtract, Multiply, Divide, SignedDivide, Or, And, ShiftLeft, ShiftRight, Modulo, SignedModulo, ExclusiveOr, Move, ArithmeticShiftRight}
+use Rattle.bpf_insn.specs.declared.instruction.SignExtension.{SignExtension}
+use Rattle.bpf_insn.specs.declared.instruction.SignExtension.TheVariants.{Bits8To32, Bits16To32, Bits8To64, Bits16To64, Bits32To64}
+use Rattle.bpf_insn.specs.declared.instruction.Source.TheVariants.{Immediate, Register}
+use Rattle.bpf_insn.specs.declared.instruction.StoreSize.{StoreSize}
+use Rattle.bpf_insn.specs.declared.instruction.StoreSize.TheVariants as size
+use Rattle.bpf_insn.specs.declared.instruction.SwapWidth.TheVariants as swap
+use Rattle.bpf_insn.specs.declared.instruction.Width.{Width}
+use Rattle.bpf_insn.specs.declared.instruction.Width.TheVariants.{Bits32, Bits64}
+use Rattle.bpf_insn.specs.declared.value.Area.{Area}
+use Rattle.bpf_insn.specs.declared.value.Area.TheVariants.{Record, Frame}
+use Rattle.bpf_flat.specs.declared.flat.FlatInsn.{FlatInsn}
+use Rattle.bpf_flat.specs.declared.flat.FlatInsn.TheVariants as flat
+use Rattle.bpf_flat.specs.declared.operands.WithImmediate.{WithImmediate}
+use Rattle.bpf_flat.specs.declared.operands.WithRegister.{WithRegister}
+use Rattle.bpf_flat.specs.declared.operands.JumpWithImmediate.{JumpWithImmediate}
+use Rattle.bpf_flat.specs.declared.operands.JumpWithRegister.{JumpWithRegister}
+use Rattle.bpf_flat.specs.declared.operands.LoadOperands.{LoadOperands}
+use Rattle.bpf_flat.specs.declared.operands.StoreImmediateOperands.{StoreImmediateOperands}
+use Rattle.bpf_flat.specs.declared.operands.StoreRegisterOperands.{StoreRegisterOperands}
+
+-- an operation, and a conditional jump, with either source
+abbrev pub alu_immediate : Operation → Width → WithImmediate → Insn
+alu_immediate operation width operands = Alu operation width operands.destination (Immediate operands.immediate)
+
+abbrev pub alu_register : Operation → Width → WithRegister → Insn
+alu_register operation width operands = Alu operation width operands.destination (Register operands.source)
+
+abbrev pub jump_immediate : Condition → Width → JumpWithImmediate → Insn
+jump_immediate condition width jump = JumpIf condition width jump.left (Immediate jump.immediate) (pos 0)
+
+abbrev pub jump_register : Condition → Width → JumpWithRegister → Insn
+jump_register condition width jump = JumpIf condition width jump.left (Register jump.right) (pos 0)
+
+abbrev pub move_extended : SignExtension → WithRegister → Insn
+move_extended extension operands = MoveSignExtended extension operands.destination operands.source
+
+-- loads and stores
+abbrev pub load : LoadFormat → LoadOperands → Insn
+load format operands = Load format operands.destination operands.base operands.offset
+
+abbrev pub store_immediate : StoreSize → StoreImmediateOperands → Insn
+store_immediate size operands = insn.StoreImmediate size operands.base operands.offset operands.immediate
+
+abbrev pub store_register : StoreSize → StoreRegisterOperands → Insn
+store_register size operands = Store size operands.base operands.offset operands.source
+
+-- the instruction that a flat form stands for
+unfoldable pub insn_of : FlatInsn → Insn
+insn_of (flat.Add32Immediate operands) = alu_immediate Add Bits32 operands
+insn_of (flat.Add32Register operands) = alu_register Add Bits32 operands
+insn_of (flat.Add64Immediate operands) = alu_immediate Add Bits64 operands
+insn_of (flat.Add64Register operands) = alu_register Add Bits64 operands
+insn_of (flat.Subtract32Immediate operands) = alu_immediate Subtract Bits32 operands
+insn_of (flat.Subtract32Register operands) = alu_register Subtract Bits32 operands
+insn_of (flat.Subtract64Immediate operands) = alu_immediate Subtract Bits64 operands
+insn_of (flat.Subtract64Register operands) = alu_register Subtract Bits64 operands
+insn_of (flat.Multiply32Immediate operands) = alu_immediate Multiply Bits32 operands
+insn_of (flat.Multiply32Register operands) = alu_register Multiply Bits32 operands
+insn_of (flat.Multiply64Immediate operands) = alu_immediate Multiply Bits64 operands
+insn_of (flat.Multiply64Register operands) = alu_register Multiply Bits64 operands
+insn_of (flat.Divide32Immediate operands) = alu_immediate Divide Bits32 operands
+insn_of (flat.Divide32Register operands) = alu_register Divide Bits32 operands
+insn_of (flat.Divide64Immediate operands) = alu_immediate Divide Bits64 operands
+insn_of (flat.Divide64Register operands) = alu_register Divide Bits64 operands
+insn_of (flat.SignedDivide32Immediate operands) = alu_immediate SignedDivide Bits32 operands
+insn_of (flat.SignedDivide32Register operands) = alu_register SignedDivide Bits32 operands
+insn_of (flat.SignedDivide64Immediate operands) = alu_immediate SignedDivide Bits64 operands
+insn_of (flat.SignedDivide64Register operands) = alu_register SignedDivide Bits64 operands
+insn_of (flat.Or32Immediate operands) = alu_immediate Or Bits32 operands
+insn_of (flat.Or32Register operands) = alu_register Or Bits32 operands
+insn_of (flat.Or64Immediate operands) = alu_immediate Or Bits64 operands
+insn_of (flat.Or64Register operands) = alu_register Or Bits64 operands
+insn_of (flat.And32Immediate operands) = alu_immediate And Bits32 operands
+insn_of (flat.And32Register operands) = alu_register And Bits32 operands
+insn_of (flat.And64Immediate operands) = alu_immediate And Bits64 operands
+insn_of (flat.And64Register operands) = alu_register And Bits64 operands
+insn_of (flat.ShiftLeft32Immediate operands) = alu_immediate ShiftLeft Bits32 operands
+insn_of (flat.ShiftLeft32Register operands) = alu_register ShiftLeft Bits32 operands
+insn_of (flat.ShiftLeft64Immediate operands) = alu_immediate ShiftLeft Bits64 operands
+insn_of (flat.ShiftLeft64Register operands) = alu_register ShiftLeft Bits64 operands
+insn_of (flat.ShiftRight32Immediate operands) = alu_immediate ShiftRight Bits32 operands
+insn_of (flat.ShiftRight32Register operands) = alu_register ShiftRight Bits32 operands
+insn_of (flat.ShiftRight64Immediate operands) = alu_immediate ShiftRight Bits64 operands
+insn_of (flat.ShiftRight64Register operands) = alu_register ShiftRight Bits64 operands
+insn_of (flat.Modulo32Immediate operands) = alu_immediate Modulo Bits32 operands
+insn_of (flat.Modulo32Register operands) = alu_register Modulo Bits32 operands
+insn_of (flat.Modulo64Immediate operands) = alu_immediate Modulo Bits64 operands
+insn_of (flat.Modulo64Register operands) = alu_register Modulo Bits64 operands
+insn_of (flat.SignedModulo32Immediate operands) = alu_immediate SignedModulo Bits32 operands
+insn_of (flat.SignedModulo32Register operands) = alu_register SignedModulo Bits32 operands
+insn_of (flat.SignedModulo64Immediate operands) = alu_immediate SignedModulo Bits64 operands
+insn_of (flat.SignedModulo64Register operands) = alu_register SignedModulo Bits64 operands
+insn_of (flat.ExclusiveOr32Immediate operands) = alu_immediate ExclusiveOr Bits32 operands
+insn_of (flat.ExclusiveOr32Register operands) = alu_register ExclusiveOr Bits32 operands
+insn_of (flat.ExclusiveOr64Immediate operands) = alu_immediate ExclusiveOr Bits64 operands
+insn_of (flat.ExclusiveOr64Register operands) = alu_register ExclusiveOr Bits64 operands
+insn_of (flat.Move32Immediate operands) = alu_immediate Move Bits32 operands
+insn_of (flat.Move32Register operands) = alu_register Move Bits32 operands
+insn_of (flat.Move64Immediate operands) = alu_immediate Move Bits64 operands
+insn_of (flat.Move64Register operands) = alu_register Move Bits64 operands
+insn_of (flat.ArithmeticShiftRight32Immediate operands) = alu_immediate ArithmeticShiftRight Bits32 operands
+insn_of (flat.ArithmeticShiftRight32Register operands) = alu_register ArithmeticShiftRight Bits32 operands
+insn_of (flat.ArithmeticShiftRight64Immediate operands) = alu_immediate ArithmeticShiftRight Bits64 operands
+insn_of (flat.ArithmeticShiftRight64Register operands) = alu_register ArithmeticShiftRight Bits64 operands
+insn_of (flat.Extend8To32 operands) = move_extended Bits8To32 operands
+insn_of (flat.Extend16To32 operands) = move_extended Bits16To32 operands
+insn_of (flat.Extend8To64 operands) = move_extended Bits8To64 operands
+insn_of (flat.Extend16To64 operands) = move_extended Bits16To64 operands
+insn_of (flat.Extend32To64 operands) = move_extended Bits32To64 operands
+insn_of (flat.Negate32 destination) = Negate Bits32 destination
+insn_of (flat.Negate64 destination) = Negate Bits64 destination
+insn_of (flat.LittleEndian16 destination) = ByteSwap LittleEndian swap.Bits16 destination
+insn_of (flat.LittleEndian32 destination) = ByteSwap LittleEndian swap.Bits32 destination
+insn_of (flat.LittleEndian64 destination) = ByteSwap LittleEndian swap.Bits64 destination
+insn_of (flat.BigEndian16 destination) = ByteSwap BigEndian swap.Bits16 destination
+insn_of (flat.BigEndian32 destination) = ByteSwap BigEndian swap.Bits32 destination
+insn_of (flat.BigEndian64 destination) = ByteSwap BigEndian swap.Bits64 destination
+insn_of (flat.Swapped16 destination) = ByteSwap Swapped swap.Bits16 destination
+insn_of (flat.Swapped32 destination) = ByteSwap Swapped swap.Bits32 destination
+insn_of (flat.Swapped64 destination) = ByteSwap Swapped swap.Bits64 destination
+insn_of (flat.JumpIfEqual32Immediate jump) = jump_immediate Equal Bits32 jump
+insn_of (flat.JumpIfEqual32Register jump) = jump_register Equal Bits32 jump
+insn_of (flat.JumpIfEqual64Immediate jump) = jump_immediate Equal Bits64 jump
+insn_of (flat.JumpIfEqual64Register jump) = jump_register Equal Bits64 jump
+insn_of (flat.JumpIfGreater32Immediate jump) = jump_immediate Greater Bits32 jump
+insn_of (flat.JumpIfGreater32Register jump) = jump_register Greater Bits32 jump
+insn_of (flat.JumpIfGreater64Immediate jump) = jump_immediate Greater Bits64 jump
+insn_of (flat.JumpIfGreater64Register jump) = jump_register Greater Bits64 jump
+insn_of (flat.JumpIfGreaterOrEqual32Immediate jump) = jump_immediate GreaterOrEqual Bits32 jump
+insn_of (flat.JumpIfGreaterOrEqual32Register jump) = jump_register GreaterOrEqual Bits32 jump
+insn_of (flat.JumpIfGreaterOrEqual64Immediate jump) = jump_immediate GreaterOrEqual Bits64 jump
+insn_of (flat.JumpIfGreaterOrEqual64Register jump) = jump_register GreaterOrEqual Bits64 jump
+insn_of (flat.JumpIfSharesBit32Immediate jump) = jump_immediate SharesBit Bits32 jump
+insn_of (flat.JumpIfSharesBit32Register jump) = jump_register SharesBit Bits32 jump
+insn_of (flat.JumpIfSharesBit64Immediate jump) = jump_immediate SharesBit Bits64 jump
+insn_of (flat.JumpIfSharesBit64Register jump) = jump_register SharesBit Bits64 jump
+insn_of (flat.JumpIfNotEqual32Immediate jump) = jump_immediate NotEqual Bits32 jump
+insn_of (flat.JumpIfNotEqual32Register jump) = jump_register NotEqual Bits32 jump
+insn_of (flat.JumpIfNotEqual64Immediate jump) = jump_immediate NotEqual Bits64 jump
+insn_of (flat.JumpIfNotEqual64Register jump) = jump_register NotEqual Bits64 jump
+insn_of (flat.JumpIfSignedGreater32Immediate jump) = jump_immediate SignedGreater Bits32 jump
+insn_of (flat.JumpIfSignedGreater32Register jump) = jump_register SignedGreater Bits32 jump
+insn_of (flat.JumpIfSignedGreater64Immediate jump) = jump_immediate SignedGreater Bits64 jump
+insn_of (flat.JumpIfSignedGreater64Register jump) = jump_register SignedGreater Bits64 jump
+insn_of (flat.JumpIfSignedGreaterOrEqual32Immediate jump) = jump_immediate SignedGreaterOrEqual Bits32 jump
+insn_of (flat.JumpIfSignedGreaterOrEqual32Register jump) = jump_register SignedGreaterOrEqual Bits32 jump
+insn_of (flat.JumpIfSignedGreaterOrEqual64Immediate jump) = jump_immediate SignedGreaterOrEqual Bits64 jump
+insn_of (flat.JumpIfSignedGreaterOrEqual64Register jump) = jump_register SignedGreaterOrEqual Bits64 jump
+insn_of (flat.JumpIfLess32Immediate jump) = jump_immediate Less Bits32 jump
+insn_of (flat.JumpIfLess32Register jump) = jump_register Less Bits32 jump
+insn_of (flat.JumpIfLess64Immediate jump) = jump_immediate Less Bits64 jump
+insn_of (flat.JumpIfLess64Register jump) = jump_register Less Bits64 jump
+insn_of (flat.JumpIfLessOrEqual32Immediate jump) = jump_immediate LessOrEqual Bits32 jump
+insn_of (flat.JumpIfLessOrEqual32Register jump) = jump_register LessOrEqual Bits32 jump
+insn_of (flat.JumpIfLessOrEqual64Immediate jump) = jump_immediate LessOrEqual Bits64 jump
+insn_of (flat.JumpIfLessOrEqual64Register jump) = jump_register LessOrEqual Bits64 jump
+insn_of (flat.JumpIfSignedLess32Immediate jump) = jump_immediate SignedLess Bits32 jump
+insn_of (flat.JumpIfSignedLess32Register jump) = jump_register SignedLess Bits32 jump
+insn_of (flat.JumpIfSignedLess64Immediate jump) = jump_immediate SignedLess Bits64 jump
+insn_of (flat.JumpIfSignedLess64Register jump) = jump_register SignedLess Bits64 jump
+insn_of (flat.JumpIfSignedLessOrEqual32Immediate jump) = jump_immediate SignedLessOrEqual Bits32 jump
+insn_of (flat.JumpIfSignedLessOrEqual32Register jump) = jump_register SignedLessOrEqual Bits32 jump
+insn_of (flat.JumpIfSignedLessOrEqual64Immediate jump) = jump_immediate SignedLessOrEqual Bits64 jump
+insn_of (flat.JumpIfSignedLessOrEqual64Register jump) = jump_register SignedLessOrEqual Bits64 jump
+insn_of (flat.LoadFromRecordByte operands) = load format.Byte operands
+insn_of (flat.LoadFromFrameByte operands) = load format.Byte operands
+insn_of (flat.LoadFromRecordHalfWord operands) = load format.HalfWord operands
+insn_of (flat.LoadFromFrameHalfWord operands) = load format.HalfWord operands
+insn_of (flat.LoadFromRecordWord operands) = load format.Word operands
+insn_of (flat.LoadFromFrameWord operands) = load format.Word operands
+insn_of (flat.LoadFromRecordDoubleWord operands) = load format.DoubleWord operands
+insn_of (flat.LoadFromFrameDoubleWord operands) = load format.DoubleWord operands
+insn_of (flat.LoadFromRecordSignedByte operands) = load format.SignedByte operands
+insn_of (flat.LoadFromFrameSignedByte operands) = load format.SignedByte operands
+insn_of (flat.LoadFromRecordSignedHalfWord operands) = load format.SignedHalfWord operands
+insn_of (flat.LoadFromFrameSignedHalfWord operands) = load format.SignedHalfWord operands
+insn_of (flat.LoadFromRecordSignedWord operands) = load format.SignedWord operands
+insn_of (flat.LoadFromFrameSignedWord operands) = load format.SignedWord operands
+insn_of (flat.StoreByteImmediate operands) = store_immediate size.Byte operands
+insn_of (flat.StoreHalfWordImmediate operands) = store_immediate size.HalfWord operands
+insn_of (flat.StoreWordImmediate operands) = store_immediate size.Word operands
+insn_of (flat.StoreDoubleWordImmediate operands) = store_immediate size.DoubleWord operands
+insn_of (flat.StoreByteRegister operands) = store_register size.Byte operands
+insn_of (flat.StoreHalfWordRegister operands) = store_register size.HalfWord operands
+insn_of (flat.StoreWordRegister operands) = store_register size.Word operands
+insn_of (flat.StoreDoubleWordRegister operands) = store_register size.DoubleWord operands
+insn_of (flat.Jump target) = insn.Jump (Short (pos 0))
+insn_of (flat.Call immediate) = insn.Call immediate
+insn_of flat.Exit = insn.Exit
+insn_of (flat.WideLoad destination immediate next_immediate) = insn.WideLoad destination immediate next_immediate
+
+-- the index of the instruction where a jump leads; of any other instruction it's 0
+unfoldable pub target_of : FlatInsn → ℕ
+target_of (flat.JumpIfEqual32Immediate jump) = jump.target
+target_of (flat.JumpIfEqual32Register jump) = jump.target
+target_of (flat.JumpIfEqual64Immediate jump) = jump.target
+target_of (flat.JumpIfEqual64Register jump) = jump.target
+target_of (flat.JumpIfGreater32Immediate jump) = jump.target
+target_of (flat.JumpIfGreater32Register jump) = jump.target
+target_of (flat.JumpIfGreater64Immediate jump) = jump.target
+target_of (flat.JumpIfGreater64Register jump) = jump.target
+target_of (flat.JumpIfGreaterOrEqual32Immediate jump) = jump.target
+target_of (flat.JumpIfGreaterOrEqual32Register jump) = jump.target
+target_of (flat.JumpIfGreaterOrEqual64Immediate jump) = jump.target
+target_of (flat.JumpIfGreaterOrEqual64Register jump) = jump.target
+target_of (flat.JumpIfSharesBit32Immediate jump) = jump.target
+target_of (flat.JumpIfSharesBit32Register jump) = jump.target
+target_of (flat.JumpIfSharesBit64Immediate jump) = jump.target
+target_of (flat.JumpIfSharesBit64Register jump) = jump.target
+target_of (flat.JumpIfNotEqual32Immediate jump) = jump.target
+target_of (flat.JumpIfNotEqual32Register jump) = jump.target
+target_of (flat.JumpIfNotEqual64Immediate jump) = jump.target
+target_of (flat.JumpIfNotEqual64Register jump) = jump.target
+target_of (flat.JumpIfSignedGreater32Immediate jump) = jump.target
+target_of (flat.JumpIfSignedGreater32Register jump) = jump.target
+target_of (flat.JumpIfSignedGreater64Immediate jump) = jump.target
+target_of (flat.JumpIfSignedGreater64Register jump) = jump.target
+target_of (flat.JumpIfSignedGreaterOrEqual32Immediate jump) = jump.target
+target_of (flat.JumpIfSignedGreaterOrEqual32Register jump) = jump.target
+target_of (flat.JumpIfSignedGreaterOrEqual64Immediate jump) = jump.target
+target_of (flat.JumpIfSignedGreaterOrEqual64Register jump) = jump.target
+target_of (flat.JumpIfLess32Immediate jump) = jump.target
+target_of (flat.JumpIfLess32Register jump) = jump.target
+target_of (flat.JumpIfLess64Immediate jump) = jump.target
+target_of (flat.JumpIfLess64Register jump) = jump.target
+target_of (flat.JumpIfLessOrEqual32Immediate jump) = jump.target
+target_of (flat.JumpIfLessOrEqual32Register jump) = jump.target
+target_of (flat.JumpIfLessOrEqual64Immediate jump) = jump.target
+target_of (flat.JumpIfLessOrEqual64Register jump) = jump.target
+target_of (flat.JumpIfSignedLess32Immediate jump) = jump.target
+target_of (flat.JumpIfSignedLess32Register jump) = jump.target
+target_of (flat.JumpIfSignedLess64Immediate jump) = jump.target
+target_of (flat.JumpIfSignedLess64Register jump) = jump.target
+target_of (flat.JumpIfSignedLessOrEqual32Immediate jump) = jump.target
+target_of (flat.JumpIfSignedLessOrEqual32Register jump) = jump.target
+target_of (flat.JumpIfSignedLessOrEqual64Immediate jump) = jump.target
+target_of (flat.JumpIfSignedLessOrEqual64Register jump) = jump.target
+target_of (flat.Jump target) = target
+target_of flat = 0
+
+-- the area that the base of a load points into; stores write the frame
+unfoldable pub area_of : FlatInsn → Area
+area_of (flat.LoadFromRecordByte operands) = Record
+area_of (flat.LoadFromRecordHalfWord operands) = Record
+area_of (flat.LoadFromRecordWord operands) = Record
+area_of (flat.LoadFromRecordDoubleWord operands) = Record
+area_of (flat.LoadFromRecordSignedByte operands) = Record
+area_of (flat.LoadFromRecordSignedHalfWord operands) = Record
+area_of (flat.LoadFromRecordSignedWord operands) = Record
+area_of flat = Frame
+
+-- an instruction, but for how far it jumps
+abbrev pub without_distance : Insn → Insn
+without_distance (JumpIf condition width left right distance) = JumpIf condition width left right (pos 0)
+without_distance (insn.Jump distance) = insn.Jump (Short (pos 0))
+without_distance other = other
+
+-- what a flat form keeps of an instruction whose base points into an area, if it's known which, and that jumps to the instruction with an index
+abbrev pub Keeps : Insn → Option Area → ℕ → FlatInsn → Type 0
+Keeps (Load format destination base offset) (Some area) target flat = area_of flat ≡ area
+Keeps (JumpIf condition width left right distance) area target flat = target_of flat ≡ target
+Keeps (insn.Jump distance) area target flat = target_of flat ≡ target
+Keeps insn area target flat = Unit {0}

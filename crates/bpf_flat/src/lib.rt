@@ -1,0 +1,14 @@
+//! BPF instructions (RFC 9669) in one flat form: a variant for each operation with its width and its source, so that a machine finds what to
+//! do by one jump.
+#![tactic(auto)]
+
+mod flat;
+mod operands;
+mod table;
+
+pub use flat::FlatInsn;
+pub use operands::{
+    JumpWithImmediate, JumpWithRegister, LoadOperands, StoreImmediateOperands,
+    StoreRegisterOperands, WithImmediate, WithRegister,
+};
+pub use table::flatten;
