@@ -1,3 +1,4 @@
+mod LoadLemmas
 mod MachineLemmas
 mod WordArithmetic
 mod WordMemory

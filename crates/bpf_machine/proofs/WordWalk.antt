@@ -1,5 +1,5 @@
 -- One instruction on words: where it passes its checks, what it leads to on words holds what it leads to.
-use Rattle.std.proofs.Common.{◌≡◌, ℕ, zero, suc, ℤ, pos, negsuc, ◌+ℤ◌, unsigned_abs, Bool, true, false, IsTrue, List, [], ◌∷◌, length, get_or, is_some, nat_lt, Result, Ok, Err, if◌then◌else◌, refl, sym, ap, subst, arith}
+use Rattle.std.proofs.Common.{◌≡◌, ℕ, zero, suc, ◌+◌, ℤ, pos, ◌+ℤ◌, Bool, true, false, IsTrue, List, [], ◌∷◌, length, get_or, is_some, nat_lt, Result, Ok, Err, if◌then◌else◌, refl, sym, ap, subst, arith}
 use Rattle.std.specs.Prelude.{slice_set, FitsSigned}
 use Rattle.std.specs.Int.{cast_signed, cast_unsigned, w32, w64}
 use Rattle.std.proofs.Math.ListN.{length-set}
@@ -146,8 +146,8 @@ frame_held area.Frame pointer other offset same = ap (λ (p : PointerParts). p.o
 frame_held area.Record pointer other offset same = tt
 
 -- where an instruction goes on, and where it jumps
-pub record Leads (code : List Insn) (place : ℕ) (insn : Insn) (next next_at target : ℕ) : Type 0 where
-  pub next : next ≡ place_of code next_at
+pub record Leads (code : List Insn) (place : ℕ) (insn : Insn) (behind at target : ℕ) : Type 0 where
+  pub next : behind ≡ place_of code at
   pub jumps : JumpsTo code place insn target
 
 -- each step of an instruction
@@ -195,6 +195,6 @@ values_foresee code segment state areas words insn next next_at target is whole 
 
 pub walk_held : (code : List Insn) (segment : Contents) (state : State) (areas : ℕ → Area) (words : Words) (insn : Insn) (next next_at target : ℕ) → IsSegment segment → IsWhole state → HoldsBytes state → HasImmediates insn → HasAreas state areas → Holds state words → next ≡ place_of code next_at → JumpsTo code state.place insn target
     → Sound (HoldsEffect code segment state) (effect.instruction_effect code segment state next insn) (next_words segment areas words next_at target insn)
-unfolding values_foresee
+unfolding values_foresee next_words
 walk_held code segment state areas words insn next next_at target is whole bytes fits points holds same jumps =
     walk_foreseen (effect.values code segment state next) (bare_words segment areas words next_at target) insn (values_foresee code segment state areas words insn next next_at target is whole bytes points holds (record { next = same; jumps = jumps })) fits

@@ -1,7 +1,7 @@
 -- A machine over bare words: registers 0 to 10 (RFC 9669, section 3.1), of 64 bits each, and a frame of plain bytes. A word
 -- doesn't tell whether it stands for a number or for a pointer, nor a byte whether it was written. So nothing is checked here but that
 -- bytes lie within their area: the words are right where the checks of what an instruction means pass.
-use Rattle.std.specs.Prelude.{◌≡◌, ℕ, ◌+◌, ◌*◌, ◌^◌, ◌<◌, ℤ, pos, ◌+ℤ◌, unsigned_abs, IsTrue, List, [], ◌∷◌, length, take, drop, get_or, slice_set, Some, Result, Ok, Err, if◌then◌else◌, FitsSigned}
+use Rattle.std.specs.Prelude.{◌≡◌, ℕ, ◌+◌, ◌*◌, ◌^◌, ◌<◌, ℤ, pos, ◌+ℤ◌, unsigned_abs, IsTrue, List, [], ◌∷◌, length, take, drop, get_or, slice_set, Option, Some, None, IfSome, Result, Ok, Err, if◌then◌else◌, FitsSigned}
 use Rattle.std.specs.Int.{bytes_low_first, cast_signed, cast_unsigned, w32, w64}
 use Rattle.tl_segments.specs.Segment.{Contents}
 use Rattle.bpf_insn.specs.Arithmetic.{result_of, negate, extension_of, byte_swap, low_bits, operand_bits, is_met, immediate_operand, wide_number, load_extension}
@@ -10,7 +10,7 @@ use Rattle.bpf_insn.specs.Jump.{jump_distance}
 use Rattle.bpf_insn.specs.Memory.{load_length, store_length}
 use Rattle.bpf_insn.specs.Pointer.{is_offset}
 use Rattle.bpf_insn.specs.declared.instruction.Insn.{Insn}
-use Rattle.bpf_insn.specs.declared.instruction.Insn.TheVariants.{Alu, JumpIf, StoreImmediate, WideLoad}
+use Rattle.bpf_insn.specs.declared.instruction.Insn.TheVariants.{Alu, Call, JumpIf, StoreImmediate, WideLoad}
 use Rattle.bpf_insn.specs.declared.instruction.LoadFormat.{LoadFormat}
 use Rattle.bpf_insn.specs.declared.instruction.Source.{Source}
 use Rattle.bpf_insn.specs.declared.instruction.Source.TheVariants.{Immediate, Register}
@@ -21,8 +21,8 @@ use Rattle.bpf_insn.specs.declared.value.Area.TheVariants.{Record, Frame}
 use Rattle.bpf_insn.specs.declared.value.Pointer.{Pointer as PointerParts}
 use Rattle.bpf_insn.specs.declared.value.Value.{Value}
 use Rattle.bpf_insn.specs.declared.value.Value.TheVariants.{Empty, Number, Pointer}
-use Rattle.bpf_helpers.specs.Call.{Called, bytes_read, call, second, write}
-use Rattle.bpf_helpers.specs.Helper.{signature}
+use Rattle.bpf_helpers.specs.Call.{Called, MeetsSignature, bytes_read, call, second, write}
+use Rattle.bpf_helpers.specs.Helper.{by_number, signature}
 use Rattle.bpf_helpers.specs.declared.helper.Helper.{Helper}
 use Rattle.bpf_helpers.specs.declared.signature.Argument.{Argument}
 use Rattle.bpf_helpers.specs.declared.signature.Argument.TheVariants as argument
@@ -35,6 +35,7 @@ use Rattle.bpf_meaning.specs.declared.cause.Cause.{Cause}
 use Rattle.bpf_meaning.specs.declared.cause.Cause.TheVariants.{OutOfBounds}
 use Rattle.bpf_meaning.specs.declared.effect.Effect.{Effect}
 use Rattle.bpf_meaning.specs.declared.state.State.{State}
+use Rattle.bpf_machine.specs.declared.bare.Bare.{Bare}
 
 -- the words in the registers, the bytes of the frame, and the score
 pub record Words : Type 0 where
@@ -47,6 +48,10 @@ pub data Next : Type 0 where
   Goes : (words : Words) (at : ℕ) → Next
   Ends : (answer score : ℕ) → Next
 
+-- the words of a machine
+abbrev pub words_of : Bare → Words
+words_of bare = record { registers = bare.registers.words; frame = bare.frame; score = bare.score }
+
 -- the word in a register
 abbrev pub word_in : Words → ℕ → ℕ
 word_in words register = get_or words.registers register 0
@@ -58,6 +63,15 @@ with_word words register word = record words { registers = slice_set words.regis
 -- the pointer into an area that a word stands for
 abbrev pub pointer_of : Area → ℕ → PointerParts
 pointer_of area word = record { area = area; offset = cast_signed w64 word }
+
+-- the end with the words
+abbrev pub end_of : Words → Next
+end_of words = Ends (word_in words 0) words.score
+
+-- where an instruction has led to, with the words behind it: to an entry, or to the end
+abbrev pub next_of : Option ℕ → Words → Next
+next_of (Some at) words = Goes words at
+next_of None words = end_of words
 
 -- what registers hold, where they hold words and point into these areas: each word will do, and is its own number
 abbrev pub word_registers : (ℕ → Area) → Words → Registers
@@ -88,6 +102,10 @@ number_of (byte ∷ bytes) = byte + 256 * number_of bytes
 abbrev pub area_bytes : Contents → Words → Area → List ℕ
 area_bytes segment words Record = segment.bytes
 area_bytes segment words Frame = words.frame
+
+-- where a base register plus an offset points
+abbrev pub address : Words → ℕ → ℤ → ℤ
+address words base offset = cast_signed w64 (word_in words base) +ℤ offset
 
 -- a load of bytes from an offset on
 abbrev pub loaded : LoadFormat → List ℕ → ℕ → ℕ
@@ -132,6 +150,12 @@ abbrev pub call_helper : Contents → Words → Helper → Words
 call_helper segment words helper =
     let arguments = argument_words words (signature helper).arguments in words_after words (second arguments) (called segment words helper arguments)
 
+-- the arguments of a call are what the prototype of its helper function wants, if there is one
+abbrev pub MeetsCall : Words → Insn → Type 0
+MeetsCall words (Call immediate) =
+    IfSome (by_number (cast_unsigned w32 immediate)) (λ helper. MeetsSignature helper (argument_words words (signature helper).arguments))
+MeetsCall words insn = Unit {0}
+
 -- What an instruction sees and can do where registers hold words, with the areas that they point into, the entry of the next instruction, and
 -- the entry where it jumps, if it jumps: an entry is an instruction's index.
 abbrev pub bare_words : Contents → (ℕ → Area) → Words → ℕ → ℕ → Domain
@@ -152,7 +176,7 @@ bare_words segment areas words next target = record {
 }
 
 -- what an instruction leads to on bare words; nothing fails but an access outside of an area, and a call of a number that no helper has
-abbrev pub next_words : Contents → (ℕ → Area) → Words → ℕ → ℕ → Insn → Result Next Cause
+unfoldable pub next_words : Contents → (ℕ → Area) → Words → ℕ → ℕ → Insn → Result Next Cause
 next_words segment areas words next target insn = walk (bare_words segment areas words next target) insn
 
 -- A word stands for a value: for a number of 64 bits, or for a pointer by its offset in two's complement. Where there is no value, any will do.

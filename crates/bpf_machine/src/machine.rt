@@ -1,19 +1,11 @@
 //! Runs of verified programs.
 ghost use Rattle.bpf_meaning.specs.Run.{Answers};
 
+use crate::bare::Answer;
 use bpf_meaning::{Outcome, State, step};
 use bpf_verify::Verified;
 use std::alloc::Allocator;
 use tl_segments::Segment;
-
-/// What a program ends with on a segment.
-#[derive(Clone, Copy, PartialEq, Eq)]
-pub struct Answer {
-    /// Register 0 at the end: 0 where the segment isn't chosen.
-    pub r0: u64,
-    /// The score that the program gave the segment, 0 where it gave none.
-    pub score: u64,
-}
 
 /// The answer of a verified program on a segment, whatever the segment. It takes no memory, and at most as many steps as the program has
 /// instructions.
