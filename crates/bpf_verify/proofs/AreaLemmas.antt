@@ -1,5 +1,5 @@
 -- The areas of bases: in every run of a code that is accepted they hold.
-use Rattle.std.proofs.Common.{◌≡◌, ℕ, zero, suc, ◌+◌, ◌-◌, ◌≤◌, nat_lt, false, List, [], ◌∷◌, ◌++◌, length, map, get_or, Option, Some, None, option_map, option_and_then, Result, Ok, Err, is_some, refl, sym, ap, ◌∙◌, subst, arith, inl, inr}
+use Rattle.std.proofs.Common.{◌≡◌, ℕ, zero, suc, ◌+◌, ◌-◌, ◌≤◌, nat_lt, false, List, [], ◌∷◌, ◌++◌, ◌⊎◌, ◌==◌, length, map, get_or, Option, Some, None, option_map, option_and_then, Result, Ok, Err, is_some, refl, sym, ap, ◌∙◌, subst, arith, inl, inr}
 use Rattle.std.proofs.lemmas.Bool.{cases_lt}
 use Rattle.std.proofs.lemmas.Bool.Decides.{nat_tests}
 use Rattle.std.proofs.lemmas.Option.{none-some}
@@ -36,7 +36,7 @@ use Rattle.bpf_verify.proofs.SoundSteps.{IsVerified}
 
 -- The areas of instructions that follow each other.
 
-length-areas_from : (annotation : Annotation) (place : ℕ) (code : List Insn) → length (areas_from annotation place code) ≡ length code
+pub length-areas_from : (annotation : Annotation) (place : ℕ) (code : List Insn) → length (areas_from annotation place code) ≡ length code
 length-areas_from annotation place [] = refl
 length-areas_from annotation place (insn ∷ code) = ap suc (length-areas_from annotation (place + length (spelling insn)) code)
 
@@ -60,7 +60,10 @@ areas_from-same old new end place (insn ∷ code) same ends =
 -- the area of the instruction at a place, by its index
 
 index_behind : (first : Insn) (code : List Insn) (place : ℕ) → length (spelling first) ≤ suc place → index_at (first ∷ code) (suc place) ≡ option_map (λ (i : ℕ). suc i) (index_at code (suc place - length (spelling first)))
-index_behind first code place past = let is : nat_lt (suc place) (length (spelling first)) ≡ false = grind (arith, nat_tests) in rw is refl
+index_behind first code place past =
+    let not_first : (suc place == 0) ≡ false = grind (arith, nat_tests) in
+    let behind : nat_lt (suc place) (length (spelling first)) ≡ false = grind (arith, nat_tests) in
+    rw (not_first, behind) refl
 
 get_or-next : {A : Type 0} (x : A) (xs : List A) (d y : A) (found : Option ℕ) (index : ℕ) → option_map (λ (i : ℕ). suc i) found ≡ Some index → ((i : ℕ) → found ≡ Some i → get_or xs i d ≡ y) → get_or (x ∷ xs) index d ≡ y
 get_or-next x xs d y None index is each = absurd (none-some index is)
@@ -142,24 +145,32 @@ areas_hold code areas forward accepted = record {
 
 -- Entries.
 
-pub length-entries_of : (code : List Insn) (areas : List (Option Area)) → length areas ≡ length code → length (entries_of code areas) ≡ length code
-length-entries_of [] areas same = refl
-length-entries_of (insn ∷ code) [] same = absurd (omega arith)
-length-entries_of (insn ∷ code) (area ∷ areas) same = ap suc (length-entries_of code areas (omega arith))
+-- what they are made of
 
--- what entries are made of
-pub instructions_of_entries : (code : List Insn) (areas : List (Option Area)) → length areas ≡ length code → map (λ (entry : Entry). entry.insn) (entries_of code areas) ≡ code
-instructions_of_entries [] areas same = refl
-instructions_of_entries (insn ∷ code) [] same = absurd (omega arith)
-instructions_of_entries (insn ∷ code) (area ∷ areas) same = ap (λ (rest : List Insn). insn ∷ rest) (instructions_of_entries code areas (omega arith))
+abbrev pub instructions_in : List Entry → List Insn
+instructions_in entries = map (λ entry. entry.insn) entries
 
-pub areas_of_entries : (code : List Insn) (areas : List (Option Area)) → length areas ≡ length code → map (λ (entry : Entry). entry.area) (entries_of code areas) ≡ areas
-areas_of_entries [] [] same = refl
-areas_of_entries [] (area ∷ areas) same = absurd (omega arith)
-areas_of_entries (insn ∷ code) [] same = absurd (omega arith)
-areas_of_entries (insn ∷ code) (area ∷ areas) same = ap (λ (rest : List (Option Area)). area ∷ rest) (areas_of_entries code areas (omega arith))
+abbrev pub areas_in : List Entry → List (Option Area)
+areas_in entries = map (λ entry. entry.area) entries
 
--- entries are those of their parts
-pub entries_of-parts : (entries : List Entry) → entries ≡ entries_of (map (λ (entry : Entry). entry.insn) entries) (map (λ (entry : Entry). entry.area) entries)
+pub instructions_in-entries_of : (code : List Insn) (areas : List (Option Area)) → length areas ≡ length code → instructions_in (entries_of code areas) ≡ code
+instructions_in-entries_of [] areas same = refl
+instructions_in-entries_of (insn ∷ code) [] same = absurd (omega arith)
+instructions_in-entries_of (insn ∷ code) (area ∷ areas) same = ap (λ (rest : List Insn). insn ∷ rest) (instructions_in-entries_of code areas (omega arith))
+
+pub areas_in-entries_of : (code : List Insn) (areas : List (Option Area)) → length areas ≡ length code → areas_in (entries_of code areas) ≡ areas
+areas_in-entries_of [] [] same = refl
+areas_in-entries_of [] (area ∷ areas) same = absurd (omega arith)
+areas_in-entries_of (insn ∷ code) [] same = absurd (omega arith)
+areas_in-entries_of (insn ∷ code) (area ∷ areas) same = ap (λ (rest : List (Option Area)). area ∷ rest) (areas_in-entries_of code areas (omega arith))
+
+pub entries_of-parts : (entries : List Entry) → entries ≡ entries_of (instructions_in entries) (areas_in entries)
 entries_of-parts [] = refl
 entries_of-parts (entry ∷ rest) = ap (λ (others : List Entry). entry ∷ others) (entries_of-parts rest)
+
+-- where instructions or areas end
+pub entries_of-end : (code : List Insn) (areas : List (Option Area)) → (code ≡ []) ⊎ (areas ≡ []) → entries_of code areas ≡ []
+entries_of-end [] areas ends = refl
+entries_of-end (insn ∷ code) [] ends = refl
+entries_of-end (insn ∷ code) (area ∷ areas) (inl none) = absurd (let no : ⊥ = cc in no)
+entries_of-end (insn ∷ code) (area ∷ areas) (inr none) = absurd (let no : ⊥ = cc in no)
