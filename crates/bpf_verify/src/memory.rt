@@ -48,7 +48,7 @@ fn area_of_kind(kind: Kind) -> Option<Area>
     }
 }
 
-/// The area into which the base of a load or a store points.
+/// The area into which the base of an instruction points, if it's a load or a store.
 pub(crate) fn area_of(known: &Known, insn: Insn) -> Option<Area>
     requires { IsProperKnown known.now }
     ensures { result ≡ area_of (Reached known.now) insn }

@@ -40,7 +40,7 @@ struct Way {
 struct Visited {
     /// The place behind it.
     next: usize,
-    /// That of its base, where it's a load or a store that is reached.
+    /// What its base points into, where it's a load or a store that is reached.
     area: Option<Area>,
 }
 
@@ -54,10 +54,10 @@ pub fn verify<A: Allocator + Copy>(alloc: A, flow: Flow<A>) -> Result<Verified<A
     ensures err { IfErr result (IsVerifyFault flow.code) }
 {
     let areas = pass(alloc, &flow)?;
-    Ok(Verified::of(alloc, flow.into_code(), areas)?)
+    Ok(Verified::of(alloc, flow.into_code(), &areas)?)
 }
 
-/// Visits each instruction in order. The answer is the area of each one's base.
+/// Visits each instruction in order. The answer is what each one's base points into.
 fn pass<A: Allocator + Copy>(alloc: A, flow: &Flow<A>) -> Result<Vec<Option<Area>, A>, VerifyFault>
     ensures ok { IfOk result (λ areas. IsAccepted flow.now.code areas.items) }
     ensures err { IfErr result (IsVerifyFault flow.now.code) }

@@ -11,13 +11,13 @@ use std::marker::Model;
 #[derive(Clone, Copy)]
 pub struct Entry {
     pub insn: Insn,
-    /// The area into which the base of a load or a store points, in each run that comes to it. None for a load or a store to which none comes,
-    /// as far as was found out, and for every other instruction.
+    /// What the base of a load or a store points into, in whichever run comes to it. None for a load or a store that the verifier didn't reach,
+    /// and for every other instruction.
     pub area: Option<Area>,
 }
 
 /// A code that is safe to run: on no segment is it stuck, and it exits in at most as many steps as it has instructions. Contracts see it as
-/// a record with the fields `code`, the list of its instructions, and `areas`, those of their bases.
+/// a record with the fields `code`, the list of its instructions, and `areas`, the list of what their bases point into.
 #[derive(Drop)]
 pub struct Verified<A: Allocator> {
     code: Code<A>,
@@ -39,18 +39,14 @@ impl<A: Allocator> Model for Verified<A> {
 }
 
 impl<A: Allocator + Copy> Verified<A> {
-    /// A code that is known to be safe, and the areas that are known of its bases.
-    pub(crate) fn of(
-        alloc: A,
-        code: Code<A>,
-        areas: Vec<Option<Area>, A>,
-    ) -> Result<Self, AllocError>
+    /// A code that is known to be safe, with the areas of its bases.
+    pub(crate) fn of(alloc: A, code: Code<A>, areas: &[Option<Area>]) -> Result<Self, AllocError>
         requires safe { IsSafe code }
-        requires areas { HasBaseAreas code areas.items }
+        requires areas { HasBaseAreas code areas.now }
         ensures code { IfOk result (λ verified. verified.code ≡ code) }
-        ensures areas { IfOk result (λ verified. verified.areas ≡ areas.items) }
+        ensures areas { IfOk result (λ verified. verified.areas ≡ areas.now) }
     {
-        let entries = entries_of(alloc, code.instructions(), areas.as_slice())?;
+        let entries = entries_of(alloc, code.instructions(), areas)?;
         Ok(Verified { code, entries })
     }
 }

@@ -13,5 +13,6 @@ of-requires-clause-safe g c =
 
 pub of-requires-clause-areas : goal.of-requires-clause-areas
 of-requires-clause-areas g c =
-    subst (λ (code : List Insn). HasBaseAreas code c.in_ok-areas.areas.items) (sym c.into_code.ensures.value)
-    (areas_hold c.args.flow.code c.in_ok-areas.areas.items c.into_code.ensures.forward c.in_ok-areas.ensures.ok)
+    subst (HasBaseAreas c.into_code.result) (sym c.deref.ensures.value)
+    (subst (λ (code : List Insn). HasBaseAreas code c.in_ok-areas.areas.items) (sym c.into_code.ensures.value)
+    (areas_hold c.args.flow.code c.in_ok-areas.areas.items c.into_code.ensures.forward c.in_ok-areas.ensures.ok))

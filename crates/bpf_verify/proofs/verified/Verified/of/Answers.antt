@@ -11,16 +11,16 @@ record AreMadeOf (entries : List Entry) (code : List Insn) (areas : List (Option
   instructions : instructions_in entries ≡ code
   bases : areas_in entries ≡ areas
 
-are_made_of : (entries : List Entry) (items code : List Insn) (slice areas : List (Option Area)) → entries ≡ entries_of items slice → items ≡ code → slice ≡ areas → length areas ≡ length code → AreMadeOf entries code areas
-are_made_of entries items code slice areas is same all count =
-    let those = is ∙ ap (λ (items : List Insn). entries_of items slice) same ∙ ap (entries_of code) all in
+are_made_of : (entries : List Entry) (items code : List Insn) (areas : List (Option Area)) → entries ≡ entries_of items areas → items ≡ code → length areas ≡ length code → AreMadeOf entries code areas
+are_made_of entries items code areas is same count =
+    let those = is ∙ ap (λ (items : List Insn). entries_of items areas) same in
     record { instructions = ap instructions_in those ∙ instructions_in-entries_of code areas count; bases = ap areas_in those ∙ areas_in-entries_of code areas count }
 
 pub invariant_of-result : goal.invariant_of-result
 invariant_of-result g c =
-    let made = are_made_of _ _ _ _ _ c.in_ok-entries.ensures c.instructions.ensures.value c.as_slice.ensures.value c.requires.areas.count in
+    let made = are_made_of _ _ _ _ c.in_ok-entries.ensures c.instructions.ensures.value c.requires.areas.count in
     (c.requires.safe, subst (HasBaseAreas c.args.code) (sym made.bases) c.requires.areas, made.instructions)
 
 pub returns-clause-areas : goal.returns-clause-areas
 returns-clause-areas g c =
-    let made = are_made_of _ _ _ _ _ c.in_ok-entries.ensures c.instructions.ensures.value c.as_slice.ensures.value c.requires.areas.count in made.bases
+    let made = are_made_of _ _ _ _ c.in_ok-entries.ensures c.instructions.ensures.value c.requires.areas.count in made.bases
