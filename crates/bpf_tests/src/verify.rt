@@ -1,13 +1,13 @@
-//! Verdicts on programs, worked out from the rules by hand. Each table has a row a line: the verdict, which is `accepted` or the refusal's
-//! line, the program's text, and its words in hexadecimal.
+//! Verdicts on programs, and what is found out of those that are accepted, worked out from the rules by hand.
 
 use crate::fixtures::{EXIT, code_of, cut, repeated};
 use bpf_flow::Flow;
-use bpf_insn::{Code, decode};
+use bpf_insn::{Area, Code, decode};
+use bpf_text::assemble;
 use bpf_verify::{VerifyFault, verify};
 use std::alloc::Global;
 
-// Programs, with what is said of them.
+// A row has the verdict, which is `accepted` or the refusal's line, the program's text, and its words in hexadecimal.
 const VERDICTS: &str = concat!(
     // Operations and jumps.
     "\
@@ -193,6 +193,45 @@ fn verdicts(rt: HostRuntime) {
     for row in VERDICTS.lines() {
         let code = code_of(rt.alloc(), row).expect(&rt, row);
         assert!(rt; has_verdict(rt.alloc(), code, cut(row, "; ").0), "{row}");
+    }
+}
+
+// A row has the area of each instruction's base, R for the record, F for the frame and - for none, and the program's text.
+const AREAS: &str = "\
+-----R-; mov r6, r1 | mov r1, 0 | call 1 | and r0, 15 | add r6, r0 | ldxb r0, [r6+0] | exit
+-FFF-; mov r2, 1 | stxdw [r10-8], r2 | ldxw r3, [r10-8] | ldxw r0, [r10-4] | exit
+----; mov r0, 1 | ja +1 | ldxb r0, [r9+0] | exit
+F-R--; stb [r10-1], 1 | lddw r2, 7 | ldxb r1, [r1+55] | mov r0, r1 | exit
+-R---R-; mov r0, 0 | ldxb r2, [r1+55] | mov r3, r1 | jeq r2, 65, +1 | mov r3, r1 | ldxb r0, [r3+1] | exit
+";
+
+/// The letter of an area.
+fn letter(area: Option<Area>) -> char {
+    match area {
+        Some(Area::Record) => 'R',
+        Some(Area::Frame) => 'F',
+        None => '-',
+    }
+}
+
+/// The areas of a program that is accepted.
+fn areas_of(alloc: Global, text: &str) -> Option<String> {
+    let lines = text.replace(alloc, " | ", "\n").ok()?;
+    let flow = Flow::of(assemble(alloc, &lines).ok()?).ok()?;
+    let verified = verify(alloc, flow).ok()?;
+    let mut areas = String::new(alloc);
+    for entry in verified.entries() {
+        areas.push(letter(entry.area)).ok()?;
+    }
+    Some(areas)
+}
+
+#[test]
+fn areas(rt: HostRuntime) {
+    for row in AREAS.lines() {
+        let (wanted, text) = cut(row, "; ");
+        let areas = areas_of(rt.alloc(), text).expect(&rt, row);
+        assert!(rt; areas.as_str() == wanted, "{row}");
     }
 }
 

@@ -11,5 +11,6 @@ pub mod SoundInstructions
 pub mod SoundPlaces
 pub mod SoundSteps
 pub mod SoundRuns
+pub mod AreaLemmas
 pub mod StateLaws
 pub mod PassLemmas

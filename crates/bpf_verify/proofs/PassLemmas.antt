@@ -1,5 +1,5 @@
 -- The pass: what it keeps is an annotation that is good up to where it has come.
-use Rattle.std.proofs.Common.{◌≡◌, ℕ, ℤ, pos, zero, suc, ◌+◌, ◌-◌, ◌+ℤ◌, ◌<◌, ◌≤◌, List, [], ◌∷◌, length, map, replicate, get_or, slice_set, Option, Some, None, option_map, IfSome, IsSome, nat_le, true, false, if◌then◌else◌, refl, sym, ap, ◌∙◌, subst, arith, rules, inl, inr}
+use Rattle.std.proofs.Common.{◌≡◌, ℕ, ℤ, pos, zero, suc, ◌+◌, ◌-◌, ◌+ℤ◌, ◌<◌, ◌≤◌, List, [], ◌∷◌, ◌++◌, length, map, replicate, get_or, slice_set, Option, Some, None, option_map, IfSome, IsSome, nat_le, true, false, if◌then◌else◌, refl, sym, ap, ◌∙◌, subst, arith, rules, inl, inr}
 use Rattle.std.proofs.lemmas.Bool.{cases_lt}
 use Rattle.std.proofs.lemmas.Bool.Decides.{nat_tests}
 use Rattle.std.proofs.lemmas.Int.{ints}
@@ -9,7 +9,7 @@ use Rattle.std.specs.Prelude.{FitsSigned}
 use Rattle.std.specs.Int.{w16}
 use Rattle.std.specs.declared.boxed.Box.{Box}
 use Rattle.bpf_insn.proofs.CodeLemmas.{length-spelling_positive}
-use Rattle.bpf_insn.proofs.PlaceLemmas.{instruction_within}
+use Rattle.bpf_insn.proofs.PlaceLemmas.{instruction_within, word_count-append, word_count-one}
 use Rattle.bpf_insn.proofs.SpanLemmas.{ends_within, nothing_within}
 use Rattle.bpf_insn.specs.Code.{instruction_at, spelling, word_count}
 use Rattle.bpf_insn.specs.Jump.{jump_distance}
@@ -21,13 +21,15 @@ use Rattle.bpf_kinds.specs.Kind as kind
 use Rattle.bpf_kinds.specs.Offsets as offsets
 use Rattle.bpf_kinds.specs.declared.kind.Kind.{Kind}
 use Rattle.bpf_kinds.specs.declared.kind.Kind.TheVariants.{Nothing}
-use Rattle.bpf_verify.specs.Annotation.{Annotation, PassesAt, IsGoodUpTo, HasGoodAnnotation, IsRefusedAt, IsVerifyFault}
+use Rattle.bpf_insn.specs.declared.value.Area.{Area}
+use Rattle.bpf_verify.specs.Annotation.{Annotation, PassesAt, IsGoodUpTo, IsAccepted, IsRefusedAt, IsVerifyFault, area_of, areas_from}
 use Rattle.bpf_verify.specs.Pass.{state_of, annotation_of, AreProper, first, taken, joined, joined_if, propagated, Visits, IsVisitFault}
 use Rattle.bpf_verify.specs.State.{AbstractState, Unreached, Reached, entry, join, IsProper, IsProperKnown, IsWithin}
 use Rattle.bpf_verify.specs.Transfer.{transfer}
 use Rattle.bpf_verify.specs.declared.fault.VerifyFault.{VerifyFault}
 use Rattle.bpf_verify.specs.declared.fault.VerifyFault.TheVariants.{Refused, Memory}
 use Rattle.bpf_verify.specs.declared.state.Known.{Known}
+use Rattle.bpf_verify.proofs.AreaLemmas.{areas_from-more, areas_from-same, length-areas_from}
 use Rattle.bpf_verify.proofs.StateLaws as laws
 use Rattle.bpf_verify.proofs.StateLaws.{set_each}
 
@@ -83,13 +85,19 @@ joined_takes states (Some place) state proper proper-state = let both : Abstract
 
 -- as the pass goes on
 
--- an annotation is good up to a place, and from there on it is what is kept
-pub record IsOnItsWay (code : List Insn) (place : ℕ) (states : List AbstractState) : Type 0 where
+-- an annotation is good up to the place behind the instructions that were passed, from there on it is what is kept, and the areas that were
+-- found are those of these instructions
+pub record IsOnItsWay (code passed : List Insn) (place : ℕ) (states : List AbstractState) (areas : List (Option Area)) : Type 0 where
+  pub at : place ≡ word_count passed
   pub count : length states ≡ word_count code + 1
   pub proper : AreProper states
   pub annotation : Annotation
   pub good : IsGoodUpTo code place annotation
   pub kept : (other : ℕ) → place ≤ other → annotation other ≡ annotation_of states other
+  pub found : areas ≡ areas_from annotation 0 passed
+
+pub length-found : {code passed : List Insn} {place : ℕ} {states : List AbstractState} {areas : List (Option Area)} → IsOnItsWay code passed place states areas → length areas ≡ length passed
+length-found {passed = passed} way = ap length way.found ∙ length-areas_from way.annotation 0 passed
 
 -- what passed passes still where other states grow
 passes_more : (old new : Annotation) (place : ℕ) (insn : Insn) → new place ≡ old place → ((at : ℕ) → IsWithin (old at) (new at)) → PassesAt old place insn → PassesAt new place insn
@@ -121,7 +129,7 @@ target_is place to (Some found) distance (Some by) same is leads =
     let at : pos found ≡ pos to = there ∙ ap (target_of place) by_distance ∙ leads in
     let equal : found ≡ to = cc in ap Some equal
 
-module _ (code : List Insn) (place : ℕ) (insn : Insn) (before after : List AbstractState) (forward : IsForward code) (stands : instruction_at code place ≡ Some insn) (way : IsOnItsWay code place before) (visits : Visits place insn before after) where
+module _ (code passed : List Insn) (place : ℕ) (insn : Insn) (before after : List AbstractState) (areas : List (Option Area)) (forward : IsForward code) (stands : instruction_at code place ≡ Some insn) (way : IsOnItsWay code passed place before areas) (visits : Visits place insn before after) where
   abbrev next : ℕ
   next = place + length (spelling insn)
 
@@ -201,9 +209,23 @@ module _ (code : List Insn) (place : ℕ) (insn : Insn) (before after : List Abs
     | inr up ↦ subst IsProper (sym (behind-old way.annotation (annotation_of after) place other up)) (way.good.proper other)
   ]
 
+  area_here : area_of (annotation (0 + word_count passed)) insn ≡ area_of (annotation_of before place) insn
+  area_here =
+      let here : 0 + word_count passed ≡ place = omega (arith, way.at) in
+      ap (λ (p : ℕ). area_of (annotation p) insn) here
+      ∙ ap (λ (state : AbstractState). area_of state insn) (behind-old way.annotation (annotation_of after) place place (omega arith) ∙ way.kept place (omega arith))
+
+  found_more : areas ++ area_of (annotation_of before place) insn ∷ [] ≡ areas_from annotation 0 (passed ++ insn ∷ [])
+  found_more =
+      let earlier = areas_from-same way.annotation annotation place 0 passed (behind-old way.annotation (annotation_of after) place) (let at = way.at in omega arith) in
+      ap (λ (found : List (Option Area)). found ++ area_of (annotation_of before place) insn ∷ []) (way.found ∙ sym earlier)
+      ∙ ap (λ (area : Option Area). areas_from annotation 0 passed ++ area ∷ []) (sym area_here)
+      ∙ sym (areas_from-more annotation 0 passed insn)
+
   -- one instruction more
-  pub goes_on : IsOnItsWay code (place + length (spelling insn)) after
+  pub goes_on : IsOnItsWay code (passed ++ insn ∷ []) (place + length (spelling insn)) after (areas ++ area_of (annotation_of before place) insn ∷ [])
   goes_on = record {
+    at = let more = word_count-append passed (insn ∷ []) in let one = word_count-one insn in let at = way.at in omega arith;
     count = ap length visits.states ∙ second_edge.count ∙ first_edge.count ∙ many;
     proper = subst AreProper (sym visits.states) second_edge.proper;
     annotation = annotation;
@@ -213,12 +235,13 @@ module _ (code : List Insn) (place : ℕ) (insn : Insn) (before after : List Abs
       passes = passes_up_to;
     };
     kept = λ other past. let long = length-spelling_positive insn in behind-new way.annotation (annotation_of after) place other (omega arith);
+    found = found_more;
   }
 
 -- a visit that is refused
-pub refuses : (code : List Insn) (place : ℕ) (insn : Insn) (states : List AbstractState) (fault : VerifyFault) → instruction_at code place ≡ Some insn → IsOnItsWay code place states → IsVisitFault states place insn fault → IsVerifyFault code fault
-refuses code place insn states Memory stands way fault = tt
-refuses code place insn states (Refused at cause) stands way fault =
+pub refuses : (code passed : List Insn) (place : ℕ) (insn : Insn) (states : List AbstractState) (areas : List (Option Area)) (fault : VerifyFault) → instruction_at code place ≡ Some insn → IsOnItsWay code passed place states areas → IsVisitFault states place insn fault → IsVerifyFault code fault
+refuses code passed place insn states areas Memory stands way fault = tt
+refuses code passed place insn states areas (Refused at cause) stands way fault =
     subst (λ (p : ℕ). IsRefusedAt code p cause) (sym fault.0)
     (record {
       annotation = way.annotation;
@@ -268,8 +291,9 @@ pub first_are_proper : (places : ℕ) → AreProper (first places)
 first_are_proper places zero = entry_is_proper
 first_are_proper places (suc place) = unreached_proper (places - 1) place
 
-pub starts : (code : List Insn) (states : List AbstractState) → states ≡ first (word_count code + 1) → IsOnItsWay code 0 states
-starts code states is = subst (IsOnItsWay code 0) (sym is) (record {
+pub starts : (code : List Insn) (states : List AbstractState) → states ≡ first (word_count code + 1) → IsOnItsWay code [] 0 states []
+starts code states is = subst (λ (states : List AbstractState). IsOnItsWay code [] 0 states []) (sym is) (record {
+  at = refl;
   count = let rest = length-replicate (word_count code + 1 - 1) Unreached in omega arith;
   proper = first_are_proper (word_count code + 1);
   annotation = annotation_of (first (word_count code + 1));
@@ -279,9 +303,14 @@ starts code states is = subst (IsOnItsWay code 0) (sym is) (record {
     passes = λ place insn before stands. absurd (omega arith);
   };
   kept = λ other past. refl;
+  found = refl;
 })
 
 -- at the end
 
-pub has_good_annotation : (code : List Insn) (place : ℕ) (states : List AbstractState) → place ≡ word_count code → IsOnItsWay code place states → HasGoodAnnotation code
-has_good_annotation code place states end way = (way.annotation, subst (λ (p : ℕ). IsGoodUpTo code p way.annotation) end way.good)
+pub accepts : (code passed : List Insn) (place : ℕ) (states : List AbstractState) (areas : List (Option Area)) → passed ≡ code → IsOnItsWay code passed place states areas → IsAccepted code areas
+accepts code passed place states areas all way = record {
+  annotation = way.annotation;
+  good = subst (λ (p : ℕ). IsGoodUpTo code p way.annotation) (way.at ∙ ap word_count all) way.good;
+  are = way.found ∙ ap (areas_from way.annotation 0) all;
+}

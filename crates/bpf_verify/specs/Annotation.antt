@@ -1,12 +1,17 @@
 -- Annotations of a code: an abstract state for each place. Forward codes with one that is good to its end are those that are accepted, which
 -- is this project's own rule.
-use Rattle.std.specs.Prelude.{◌≡◌, ℕ, ℤ, pos, ◌+◌, ◌+ℤ◌, ◌<◌, List, length, Some, Ok, Err}
+use Rattle.std.specs.Prelude.{◌≡◌, ℕ, ℤ, pos, ◌+◌, ◌+ℤ◌, ◌<◌, List, [], ◌∷◌, length, Option, Some, None, option_and_then, Ok, Err}
 use Rattle.bpf_insn.specs.Code.{instruction_at, spelling, word_count}
 use Rattle.bpf_insn.specs.Jump.{jump_distance}
 use Rattle.bpf_insn.specs.declared.instruction.Insn.{Insn}
+use Rattle.bpf_insn.specs.declared.value.Area.{Area}
+use Rattle.bpf_insn.specs.declared.value.Area.TheVariants as area
+use Rattle.bpf_kinds.specs.declared.kind.Kind.{Kind}
+use Rattle.bpf_kinds.specs.declared.kind.Kind.TheVariants.{Record, Frame}
 use Rattle.bpf_meaning.specs.declared.cause.Cause.{Cause}
 use Rattle.bpf_verify.specs.Transfer.{transfer}
-use Rattle.bpf_verify.specs.State.{AbstractState, Reached, Edges, entry, IsProper, IsWithin}
+use Rattle.bpf_verify.specs.State.{AbstractState, Unreached, Reached, Edges, entry, kind_of, IsProper, IsWithin}
+use Rattle.bpf_verify.specs.Verified.{base_of}
 use Rattle.bpf_verify.specs.declared.fault.VerifyFault.{VerifyFault}
 use Rattle.bpf_verify.specs.declared.fault.VerifyFault.TheVariants.{Refused, Memory}
 
@@ -35,6 +40,29 @@ IsGood code annotation = IsGoodUpTo code (word_count code) annotation
 -- a code has an annotation that is good to its end
 abbrev pub HasGoodAnnotation : List Insn → Type 0
 HasGoodAnnotation code = (annotation : Annotation) × IsGood code annotation
+
+-- the area that pointers of a kind point into
+abbrev pub area_of_kind : Kind → Option Area
+area_of_kind (Record offsets) = Some area.Record
+area_of_kind (Frame offsets) = Some area.Frame
+area_of_kind kind = None
+
+-- the area of the base of a load or a store that is reached
+abbrev pub area_of : AbstractState → Insn → Option Area
+area_of Unreached insn = None
+area_of (Reached known) insn = option_and_then (λ base. area_of_kind (kind_of known base)) (base_of insn)
+
+-- the areas of instructions that follow each other from a place on, by an annotation
+abbrev pub areas_from : Annotation → ℕ → List Insn → List (Option Area)
+areas_from annotation place [] = []
+areas_from annotation place (insn ∷ code) =
+    area_of (annotation place) insn ∷ areas_from annotation (place + length (spelling insn)) code
+
+-- a code is accepted with these areas: it has an annotation that is good to its end, and they are those of the bases by this annotation
+pub record IsAccepted (code : List Insn) (areas : List (Option Area)) : Type 0 where
+  pub annotation : Annotation
+  pub good : IsGood code annotation
+  pub are : areas ≡ areas_from annotation 0 code
 
 -- an annotation is good up to the instruction at a place, and there this check is the first that fails
 pub record IsRefusedAt (code : List Insn) (place : ℕ) (cause : Cause) : Type 0 where

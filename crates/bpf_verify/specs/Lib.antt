@@ -1,6 +1,6 @@
 pub mod State
 pub mod Transfer
+pub mod Verified
 pub mod Annotation
 pub mod Pass
-pub mod Verified
 pub mod VerifyFault

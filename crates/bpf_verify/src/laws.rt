@@ -1,16 +1,24 @@
 //! What holds of the definitions themselves. The functions do nothing: each one's contract is the law.
-ghost use Rattle.std.specs.Prelude.{◌≡◌, List};
+ghost use Rattle.std.specs.Prelude.{◌≡◌, List, Option};
 ghost use Rattle.bpf_insn.specs.declared.instruction.Insn.{Insn};
+ghost use Rattle.bpf_insn.specs.declared.value.Area.{Area};
 ghost use Rattle.bpf_flow.specs.Flow.{IsForward};
 ghost use Rattle.bpf_meaning.specs.Run.{IsSafe};
 ghost use Rattle.bpf_meaning.specs.declared.state.State.{State};
-ghost use Rattle.bpf_verify.specs.Annotation.{HasGoodAnnotation};
+ghost use Rattle.bpf_verify.specs.Annotation.{HasGoodAnnotation, IsAccepted};
 ghost use Rattle.bpf_verify.specs.State.{AbstractState, Admits, IsProper, IsWithin, Unreached, join};
+ghost use Rattle.bpf_verify.specs.Verified.{HasBaseAreas};
 
 /// Soundness: a code whose jumps go forward, that ends in EXIT and that has an annotation which is good to its end, is stuck on no segment,
 /// and exits in at most as many steps as it has instructions.
 pub fn accepted_is_safe()
     ensures { (code : List Insn) → IsForward code → HasGoodAnnotation code → IsSafe code }
+{}
+
+/// Areas are sound: a code that is accepted with them has in every run, on any segment, pointers into them in the bases of the loads and the
+/// stores to which the run comes.
+pub fn accepted_areas_hold()
+    ensures { (code : List Insn) (areas : List (Option Area)) → IsForward code → IsAccepted code areas → HasBaseAreas code areas }
 {}
 
 /// Abstract states stand in order with that which isn't reached at the bottom, a join is the least above two, and what is possible stays so

@@ -16,4 +16,4 @@ mod verified;
 
 pub use fault::VerifyFault;
 pub use pass::verify;
-pub use verified::Verified;
+pub use verified::{Entry, Verified};

@@ -1,16 +1,18 @@
 //! Loads and stores.
-ghost use Rattle.std.specs.Prelude.{◌≡◌, ◌≤◌, IfErr, IfOk, OnOk, Err, Ok};
+ghost use Rattle.std.specs.Prelude.{◌≡◌, ◌≤◌, IfErr, IfOk, IfSome, OnOk, Err, Ok, option_map};
 ghost use Rattle.bpf_kinds.specs.Kind as kinds;
 ghost use Rattle.bpf_kinds.specs.Offsets as pointer_offsets;
-ghost use Rattle.bpf_verify.specs.State.{IsProperKnown};
+ghost use Rattle.bpf_verify.specs.Annotation.{area_of, area_of_kind};
+ghost use Rattle.bpf_verify.specs.State.{IsProperKnown, Reached};
 ghost use Rattle.bpf_meaning.specs.Walk.{load_value, store};
 ghost use Rattle.bpf_verify.specs.Transfer.{area_length, lie_within, load_from, pointers_in, store_at};
 ghost use Rattle.bpf_verify.specs.Transfer.{kinds as known_kinds};
+ghost use Rattle.bpf_verify.specs.Verified.{base_of};
 
 use crate::operands::{number_or, operand};
 use crate::state::Known;
 use bpf_insn::{
-    Area, FRAME_LENGTH, LoadFormat, Register, Source, StoreSize, load_length, store_length,
+    Area, FRAME_LENGTH, Insn, LoadFormat, Register, Source, StoreSize, load_length, store_length,
 };
 use bpf_kinds::{Kind, Offsets, load};
 use bpf_meaning::Cause;
@@ -21,6 +23,38 @@ use tl_segments::RECORD_LENGTH;
 pub(crate) struct Pointers {
     pub area: Area,
     pub offsets: Offsets,
+}
+
+/// The register from which a load or a store counts its offset.
+fn base_of(insn: Insn) -> Option<Register>
+    ensures { option_map (λ base. base.number) result ≡ base_of insn }
+{
+    match insn {
+        Insn::Load { base, .. } | Insn::StoreImmediate { base, .. } | Insn::Store { base, .. } => {
+            Some(base)
+        }
+        _ => None,
+    }
+}
+
+/// The area into which pointers of a kind point.
+fn area_of_kind(kind: Kind) -> Option<Area>
+    ensures { result ≡ area_of_kind kind }
+{
+    match kind {
+        Kind::Record(_) => Some(Area::Record),
+        Kind::Frame(_) => Some(Area::Frame),
+        _ => None,
+    }
+}
+
+/// The area into which the base of an instruction points, if it's a load or a store.
+pub(crate) fn area_of(known: &Known, insn: Insn) -> Option<Area>
+    requires { IsProperKnown known.now }
+    ensures { result ≡ area_of (Reached known.now) insn }
+{
+    let base = base_of(insn)?;
+    area_of_kind(known.registers[usize::from(base.number)])
 }
 
 /// The pointers in a register that is the base of a load or a store.

@@ -2,20 +2,21 @@
 ghost use Rattle.std.specs.Prelude.{◌≡◌, ◌<◌, ◌+◌, length, IfOk, IfErr, IfSome, OnOk, Some};
 ghost use Rattle.bpf_insn.specs.Code.{HasProgramSize, instruction_at, spelling, word_count};
 ghost use Rattle.bpf_meaning.specs.Run.{IsSafe};
-ghost use Rattle.bpf_verify.specs.Annotation.{HasGoodAnnotation, IsVerifyFault};
-ghost use Rattle.bpf_verify.specs.Pass.{IsVisitFault, LeadsWithin, Visits, joined_if, propagated};
+ghost use Rattle.bpf_verify.specs.Annotation.{HasGoodAnnotation, IsAccepted, IsVerifyFault, area_of};
+ghost use Rattle.bpf_verify.specs.Pass.{IsVisitFault, LeadsWithin, Visits, annotation_of, joined_if, propagated};
 ghost use Rattle.bpf_verify.specs.State.{AreProperEdges, IsProper};
 ghost use Rattle.bpf_verify.specs.Transfer.{edges_to, on_edge};
 
 use crate::ahead::StatesAhead;
 use crate::comparison::Comparison;
 use crate::fault::VerifyFault;
+use crate::memory::area_of;
 use crate::state::Known;
 use crate::successors::{Edge, Successors};
 use crate::table::transfer;
 use crate::verified::Verified;
 use bpf_flow::Flow;
-use bpf_insn::Insn;
+use bpf_insn::{Area, Insn};
 use std::alloc::{AllocError, Allocator};
 
 /// Where the edges out of an instruction lead.
@@ -34,46 +35,59 @@ struct Way {
     to: Option<usize>,
 }
 
+/// What a visit of an instruction tells.
+#[derive(Clone, Copy)]
+struct Visited {
+    /// The place behind it.
+    next: usize,
+    /// What its base points into, where it's a load or a store that is reached.
+    area: Option<Area>,
+}
+
 /// Finds whether a code can be stuck on some segment, in one pass over its instructions in order: it refuses at the first that may be, by
-/// what is known before it. Its time grows with the instructions. It takes memory for a pointer a word of the code, and for what is known at
-/// those places ahead that are reached.
+/// what is known before it. Its time grows with the instructions. It takes memory for a pointer a word of the code, for what is known at
+/// those places ahead that are reached, and for what is kept of each instruction.
 pub fn verify<A: Allocator + Copy>(alloc: A, flow: Flow<A>) -> Result<Verified<A>, VerifyFault>
     ensures ok { IfOk result (λ verified. (verified.code ≡ flow.code) × HasGoodAnnotation flow.code) }
+    ensures areas { IfOk result (λ verified. IsAccepted flow.code verified.areas) }
     ensures safe { OnOk result (IsSafe flow.code) }
     ensures err { IfErr result (IsVerifyFault flow.code) }
 {
-    pass(alloc, &flow)?;
-    Ok(Verified::of(flow.into_code()))
+    let areas = pass(alloc, &flow)?;
+    Ok(Verified::of(alloc, flow.into_code(), &areas)?)
 }
 
-/// Visits each instruction in order.
-fn pass<A: Allocator + Copy>(alloc: A, flow: &Flow<A>) -> Result<(), VerifyFault>
-    ensures ok { OnOk result (HasGoodAnnotation flow.now.code) }
+/// Visits each instruction in order. The answer is what each one's base points into.
+fn pass<A: Allocator + Copy>(alloc: A, flow: &Flow<A>) -> Result<Vec<Option<Area>, A>, VerifyFault>
+    ensures ok { IfOk result (λ areas. IsAccepted flow.now.code areas.items) }
     ensures err { IfErr result (IsVerifyFault flow.now.code) }
 {
     let code = flow.code();
     // Behind the last instruction there is a place too, though nothing leads there.
     let mut ahead = StatesAhead::first(alloc, code.words() + 1)?;
+    let mut areas = Vec::with_capacity(alloc, code.instructions().len())?;
     let mut place = 0;
     for insn in code.instructions() {
-        place = visit(alloc, flow, place, *insn, &mut ahead)?;
+        let visited = visit(alloc, flow, place, *insn, &mut ahead)?;
+        areas.push_reserved(visited.area);
+        place = visited.next;
     }
-    Ok(())
+    Ok(areas)
 }
 
-/// Takes what is known at an instruction's place, and propagates what is known behind it, unless one of its checks fails. The answer is the
-/// place behind it.
+/// Takes what is known at an instruction's place, and propagates what is known behind it, unless one of its checks fails.
 fn visit<A: Allocator + Copy>(
     alloc: A,
     flow: &Flow<A>,
     place: usize,
     insn: Insn,
     ahead: &mut StatesAhead<A>,
-) -> Result<usize, VerifyFault>
+) -> Result<Visited, VerifyFault>
     requires sized { HasProgramSize (word_count flow.now.code) }
     requires stands { instruction_at flow.now.code place ≡ Some insn }
     requires places { length ahead.old ≡ word_count flow.now.code + 1 }
-    ensures next { IfOk result (λ next. next ≡ place + length (spelling insn)) }
+    ensures next { IfOk result (λ visited. visited.next ≡ place + length (spelling insn)) }
+    ensures area { IfOk result (λ visited. visited.area ≡ area_of (annotation_of ahead.old place) insn) }
     ensures ok { OnOk result (Visits place insn ahead.old ahead.new) }
     ensures err { IfErr result (IsVisitFault ahead.old place insn) }
 {
@@ -82,14 +96,21 @@ fn visit<A: Allocator + Copy>(
         target: flow.target(place),
     };
     let Some(mut known) = ahead.take(place) else {
-        return Ok(places.next);
+        return Ok(Visited {
+            next: places.next,
+            area: None,
+        });
     };
+    let area = area_of(&known, insn);
     let successors = match transfer(&mut known, insn) {
         Ok(successors) => successors,
         Err(cause) => return Err(VerifyFault::Refused { place, cause }),
     };
     propagate(alloc, known, successors, places, ahead)?;
-    Ok(places.next)
+    Ok(Visited {
+        next: places.next,
+        area,
+    })
 }
 
 /// Joins what is known behind an instruction into what is known where control goes.

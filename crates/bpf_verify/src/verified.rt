@@ -1,43 +1,89 @@
 //! Codes that are safe to run.
-ghost use Rattle.std.specs.Prelude.{◌≡◌};
+ghost use Rattle.std.specs.Prelude.{◌≡◌, IfOk};
 ghost use Rattle.bpf_meaning.specs.Run.{IsSafe};
+ghost use Rattle.bpf_verify.specs.Verified.{HasBaseAreas, entries_of};
 
-use bpf_insn::Code;
-use std::alloc::Allocator;
+use bpf_insn::{Area, Code, Insn};
+use std::alloc::{AllocError, Allocator};
 use std::marker::Model;
 
+/// An instruction of a code that is safe to run, and what is known of it.
+#[derive(Clone, Copy)]
+pub struct Entry {
+    pub insn: Insn,
+    /// What the base of a load or a store points into, in whichever run comes to it. None for a load or a store that the verifier didn't reach,
+    /// and for every other instruction.
+    pub area: Option<Area>,
+}
+
 /// A code that is safe to run: on no segment is it stuck, and it exits in at most as many steps as it has instructions. Contracts see it as
-/// a record with the field `code`, the list of its instructions.
+/// a record with the fields `code`, the list of its instructions, and `areas`, the list of what their bases point into.
 #[derive(Drop)]
 pub struct Verified<A: Allocator> {
     code: Code<A>,
+    entries: Vec<Entry, A>,
 }
 
 impl<A: Allocator> Model for Verified<A> {
+    ghost use Rattle.std.specs.Prelude.{◌≡◌, map};
     ghost use Rattle.bpf_meaning.specs.Run.{IsSafe};
-    ghost use Rattle.bpf_verify.specs.Verified.{Contents};
+    ghost use Rattle.bpf_verify.specs.Verified.{Contents, HasBaseAreas};
 
     ghost Value = { Contents };
 
-    ghost view = { λ verified. record { code = verified.code } };
+    ghost view = { λ verified. record { code = verified.code; areas = map (λ entry. entry.area) verified.entries.items } };
 
-    ghost invariant = { λ verified. IsSafe verified.code };
+    ghost invariant = { λ verified. IsSafe verified.code
+        × HasBaseAreas verified.code (map (λ entry. entry.area) verified.entries.items)
+        × (map (λ entry. entry.insn) verified.entries.items ≡ verified.code) };
+}
+
+impl<A: Allocator + Copy> Verified<A> {
+    /// A code that is known to be safe, with the areas of its bases.
+    pub(crate) fn of(alloc: A, code: Code<A>, areas: &[Option<Area>]) -> Result<Self, AllocError>
+        requires safe { IsSafe code }
+        requires areas { HasBaseAreas code areas.now }
+        ensures code { IfOk result (λ verified. verified.code ≡ code) }
+        ensures areas { IfOk result (λ verified. verified.areas ≡ areas.now) }
+    {
+        let entries = entries_of(alloc, code.instructions(), areas)?;
+        Ok(Verified { code, entries })
+    }
+}
+
+/// The instructions, each with its area.
+fn entries_of<A: Allocator>(
+    alloc: A,
+    code: &[Insn],
+    areas: &[Option<Area>],
+) -> Result<Vec<Entry, A>, AllocError>
+    ensures { IfOk result (λ entries. entries.items ≡ entries_of code.now areas.now) }
+{
+    let mut entries = Vec::with_capacity(alloc, code.len())?;
+    for (insn, area) in code.iter().zip(areas) {
+        entries.push(Entry {
+            insn: *insn,
+            area: *area,
+        })?;
+    }
+    Ok(entries)
 }
 
 impl<A: Allocator> Verified<A> {
-    /// A code that is known to be safe.
-    pub(crate) fn of(code: Code<A>) -> Self
-        requires { IsSafe code }
-        ensures { result.code ≡ code }
-    {
-        Verified { code }
-    }
-
     /// The code, lent.
     pub fn code(&self) -> &Code<A>
         ensures value { result.now ≡ self.now.code }
         ensures safe { IsSafe self.now.code }
     {
         &self.code
+    }
+
+    /// The instructions in order, an entry each, lent.
+    pub fn entries(&self) -> &[Entry]
+        ensures value { result.now ≡ entries_of self.now.code self.now.areas }
+        ensures safe { IsSafe self.now.code }
+        ensures areas { HasBaseAreas self.now.code self.now.areas }
+    {
+        self.entries.as_slice()
     }
 }

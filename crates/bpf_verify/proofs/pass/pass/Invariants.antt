@@ -1,8 +1,12 @@
-use Rattle.std.proofs.Common.{◌≡◌}
-use Rattle.bpf_insn.specs.Code.{place_of}
+use Rattle.std.proofs.Common.{◌≤◌, length, take}
+use Rattle.std.specs.Prelude.{vec_capacity}
 use Rattle.bpf_verify.proofs.PassLemmas.{IsOnItsWay}
 use Rattle.bpf_verify.proofs.pass.pass.Given as goal
 
--- an annotation is good up to the place that the pass has come to, and from there on it is what is kept
+-- an annotation is good up to the place that the pass has come to, from there on it is what is kept, and so many areas were found; there is
+-- room for all of them
 abbrev pub invariant-loop-insn : goal.invariant-loop-insn
-invariant-loop-insn g l = record { place : l.place ≡ place_of l.flow.code l.insn-index; way : IsOnItsWay l.flow.code l.place l.ahead }
+invariant-loop-insn g l = record {
+  way : IsOnItsWay l.flow.code (take l.insn-index l.flow.code) l.place l.ahead l.areas.items;
+  room : length l.flow.code ≤ vec_capacity l.areas;
+}
