@@ -1,6 +1,8 @@
 -- Instructions in flat form: which instruction each stands for. It keeps where a jump leads and not how far, so it stands for one with a
 -- distance of 0; and it keeps the area that the base of a load points into.
-use Rattle.std.specs.Prelude.{◌≡◌, ℕ, pos, Option, Some, None}
+use Rattle.std.specs.Prelude.{◌≡◌, ℕ, ◌+◌, ◌<◌, ℤ, pos, ◌+ℤ◌, List, length, get_or, Option, Some, None}
+use Rattle.bpf_insn.specs.Code.{place_of}
+use Rattle.bpf_insn.specs.Jump.{jump_distance}
 use Rattle.bpf_insn.specs.declared.instruction.ByteOrder.TheVariants.{LittleEndian, BigEndian, Swapped}
 use Rattle.bpf_insn.specs.declared.instruction.Condition.{Condition}
 use Rattle.bpf_insn.specs.declared.instruction.Condition.TheVariants.{Equal, Greater, GreaterOrEqual, SharesBit, NotEqual, SignedGreater, SignedGreaterOrEqual, Less, LessOrEqual, SignedLess, SignedLessOrEqual}
@@ -275,3 +277,20 @@ Keeps (Load format destination base offset) (Some area) target flat = area_of fl
 Keeps (JumpIf condition width left right distance) area target flat = target_of flat ≡ target
 Keeps (insn.Jump distance) area target flat = target_of flat ≡ target
 Keeps insn area target flat = Unit {0}
+
+-- an instruction at a place jumps to the one with an index, if it jumps: its distance counts words from the word after it (section 4.3)
+abbrev pub JumpsTo : List Insn → ℕ → Insn → ℕ → Type 0
+JumpsTo code place insn target = (distance : ℤ) → jump_distance insn ≡ Some distance → pos (place + 1) +ℤ distance ≡ pos (place_of code target)
+
+-- the flat form of an instruction at a place of a code, whose base points into an area, if it's known which
+pub record IsFlatForm (code : List Insn) (place : ℕ) (insn : Insn) (area : Option Area) (flat : FlatInsn) : Type 0 where
+  pub stands_for : insn_of flat ≡ without_distance insn
+  pub target : ℕ
+  pub jumps : JumpsTo code place insn target
+  pub keeps : Keeps insn area target flat
+
+-- the flat forms of a code's first instructions, so many, one by one
+pub record AreFlatForms (code : List Insn) (areas : List (Option Area)) (count : ℕ) (flats : List FlatInsn) : Type 0 where
+  pub count_is : length flats ≡ count
+  pub each : (index : ℕ) (insn : Insn) (flat : FlatInsn) → index < count → insn ≡ get_or code index insn → flat ≡ get_or flats index flat
+      → IsFlatForm code (place_of code index) insn (get_or areas index None) flat

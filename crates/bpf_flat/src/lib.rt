@@ -3,10 +3,12 @@
 #![tactic(auto)]
 
 mod flat;
+mod forms;
 mod operands;
 mod table;
 
 pub use flat::FlatInsn;
+pub use forms::flat_forms;
 pub use operands::{
     JumpWithImmediate, JumpWithRegister, LoadOperands, StoreImmediateOperands,
     StoreRegisterOperands, WithImmediate, WithRegister,

@@ -1,0 +1,110 @@
+-- Where jumps lead, by the index of an instruction; and flat forms that grow by one.
+use Rattle.std.proofs.Common.{◌≡◌, ℕ, zero, suc, ◌+◌, ◌-◌, ◌<◌, ◌≤◌, ◌==◌, ◌⊎◌, inl, inr, nat_lt, Bool, true, false, if◌then◌else◌, pos, IfSome, IsSome, List, [], ◌∷◌, ◌++◌, length, take, get_or, Option, Some, None, option_map, refl, sym, ap, ◌∙◌, subst, arith, length-append}
+use Rattle.std.proofs.lemmas.Bool.{cases_lt}
+use Rattle.std.proofs.lemmas.Bool.Decides.{nat_tests}
+use Rattle.std.proofs.lemmas.Grind.{common_steps}
+use Rattle.std.proofs.lemmas.List.{get_or_default}
+use Rattle.bpf_insn.specs.Code.{index_at, instruction_at, place_of, spelling, word_count}
+use Rattle.bpf_insn.specs.Jump.{jump_distance}
+use Rattle.bpf_insn.specs.declared.instruction.Insn.{Insn}
+use Rattle.bpf_insn.specs.declared.value.Area.{Area}
+use Rattle.bpf_insn.proofs.CodeLemmas.{length-spelling_positive}
+use Rattle.bpf_insn.proofs.PlaceLemmas.{instruction_at-index, word_count-cons}
+use Rattle.bpf_flow.specs.Flow.{target_of}
+use Rattle.bpf_flat.specs.Flat.{AreFlatForms, IsFlatForm, JumpsTo, Keeps, insn_of, without_distance}
+use Rattle.bpf_flat.specs.declared.flat.FlatInsn.{FlatInsn}
+
+-- a code has a word for each instruction at least
+pub short : (code : List Insn) → length code ≤ word_count code
+short [] = omega arith
+short (insn ∷ code) = let rest = short code in let some = length-spelling_positive insn in let sum = word_count-cons insn code in omega arith
+
+-- an index that is found at a place is that of the instruction there
+
+mapped : (o : Option ℕ) (index : ℕ) → option_map (λ (i : ℕ). suc i) o ≡ Some index → (before : ℕ) × (o ≡ Some before) × (index ≡ suc before)
+mapped None index is = absurd (let no : ⊥ = cc in no)
+mapped (Some before) index is = (before, refl, cc)
+
+starts_not : (place : ℕ) → 0 < place → (place == 0) ≡ false
+starts_not place above = grind (arith, nat_tests)
+
+past_words : (place words : ℕ) → nat_lt place words ≡ false → words ≤ place
+past_words place words test = grind (arith, nat_tests)
+
+further : (insn : Insn) (code : List Insn) (place : ℕ) → 0 < place
+    → index_at (insn ∷ code) place ≡ (if nat_lt place (length (spelling insn)) then None else option_map (λ (i : ℕ). suc i) (index_at code (place - length (spelling insn))))
+further insn code place above = rw (starts_not place above) refl
+
+pub found_place : (code : List Insn) (place index : ℕ) → index_at code place ≡ Some index → place_of code index ≡ place
+found_place [] place index is = absurd (let no : ⊥ = cc in no)
+found_place (insn ∷ code) zero index is = let first : index ≡ 0 = cc in ap (place_of (insn ∷ code)) first
+found_place (insn ∷ code) (suc place) index is =
+    by_test (nat_lt (suc place) (length (spelling insn))) refl (sym (further insn code (suc place) (omega arith)) ∙ is) (found_place code (suc place - length (spelling insn)))
+  where
+    by_test : (inside : Bool) → nat_lt (suc place) (length (spelling insn)) ≡ inside
+        → (if inside then None else option_map (λ (i : ℕ). suc i) (index_at code (suc place - length (spelling insn)))) ≡ Some index
+        → ((before : ℕ) → index_at code (suc place - length (spelling insn)) ≡ Some before → place_of code before ≡ suc place - length (spelling insn)) → place_of (insn ∷ code) index ≡ suc place
+    by_test true test nothing found = absurd (let no : ⊥ = cc in no)
+    by_test false test some found =
+        let past = past_words (suc place) (length (spelling insn)) test in
+        let behind = mapped (index_at code (suc place - length (spelling insn))) index some in
+        let rest = found behind.0 behind.1 in
+        let sum = word_count-cons insn (take behind.0 code) in
+        let whole : place_of (insn ∷ code) (suc behind.0) ≡ suc place = omega arith in
+        ap (place_of (insn ∷ code)) behind.2 ∙ whole
+
+-- where the instruction at a place jumps
+
+pub jumps_to : (code : List Insn) (place target index : ℕ) (found : Option Insn) → IfSome found (λ insn. option_map pos (Some target) ≡ option_map (target_of place) (jump_distance insn)) → Some index ≡ index_at code target → IfSome found (λ insn. JumpsTo code place insn index)
+jumps_to code place target index None leads at = tt
+jumps_to code place target index (Some insn) leads at = λ distance jumps.
+    let there = leads ∙ ap (option_map (target_of place)) jumps in
+    let is : target_of place distance ≡ pos target = cc in
+    is ∙ ap pos (sym (found_place code target index (sym at)))
+
+pub jumps_nowhere : (code : List Insn) (place : ℕ) (found : Option Insn) → IfSome found (λ insn. option_map pos None ≡ option_map (target_of place) (jump_distance insn)) → IfSome found (λ insn. JumpsTo code place insn 0)
+jumps_nowhere code place None leads = tt
+jumps_nowhere code place (Some insn) leads = λ distance jumps. let there = leads ∙ ap (option_map (target_of place)) jumps in absurd (let no : ⊥ = cc in no)
+
+pub nothing_found : (code : List Insn) (place : ℕ) → index_at code place ≡ None → IsSome (instruction_at code place) → ⊥
+nothing_found code place none some =
+    let is = instruction_at-index code place in let nothing : instruction_at code place ≡ None = cc in absurd (let no : ⊥ = cc in no)
+
+-- one flat form more
+
+pub forms_start : (code : List Insn) (areas : List (Option Area)) (flats : List FlatInsn) → flats ≡ [] → AreFlatForms code areas 0 flats
+forms_start code areas flats none = record { count_is = ap length none; each = λ index insn flat below stands is. absurd (omega arith) }
+
+pub forms_grow : (code : List Insn) (areas : List (Option Area)) (count : ℕ) (flats more : List FlatInsn) (insn : Insn) (flat : FlatInsn) → AreFlatForms code areas count flats → more ≡ flats ++ flat ∷ [] → insn ≡ get_or code count insn → count < length code → IsFlatForm code (place_of code count) insn (get_or areas count None) flat
+    → AreFlatForms code areas (count + 1) more
+forms_grow code areas count flats more insn flat are grown stands within form = record {
+  count_is = let long = are.count_is in ap length grown ∙ length-append flats (flat ∷ []) ∙ omega arith;
+  each = λ index other last below there is. by_place index other last below there is (cases_lt index count);
+}
+  where
+    before : (index : ℕ) (last : FlatInsn) → index < count → get_or more index last ≡ get_or flats index last
+    before index last below = let long = are.count_is in ap (λ (l : List FlatInsn). get_or l index last) grown ∙ grind (arith, common_steps)
+
+    at_end : (last : FlatInsn) → get_or more count last ≡ flat
+    at_end last = let long = are.count_is in ap (λ (l : List FlatInsn). get_or l count last) grown ∙ grind (arith, common_steps)
+
+    same_insn : (other : Insn) → other ≡ get_or code count other → other ≡ insn
+    same_insn other there = there ∙ get_or_default code count other insn within ∙ sym stands
+
+    by_place : (index : ℕ) (other : Insn) (last : FlatInsn) → index < count + 1 → other ≡ get_or code index other → last ≡ get_or more index last → (index < count) ⊎ (count ≤ index)
+        → IsFlatForm code (place_of code index) other (get_or areas index None) last
+    by_place index other last below there is (inl less) = are.each index other last less there (is ∙ before index last less)
+    by_place index other last below there is (inr past) =
+        let same : index ≡ count = omega arith in
+        subst (λ (i : ℕ). IsFlatForm code (place_of code i) other (get_or areas i None) last) (sym same)
+        (subst (λ (x : Insn). IsFlatForm code (place_of code count) x (get_or areas count None) last) (sym (same_insn other (subst (λ (i : ℕ). other ≡ get_or code i other) same there)))
+        (subst (λ (f : FlatInsn). IsFlatForm code (place_of code count) insn (get_or areas count None) f) (sym (subst (λ (i : ℕ). last ≡ get_or more i last) same is ∙ at_end last)) form))
+
+pub form_at : (code : List Insn) (index place target : ℕ) (insn : Insn) (area : Option Area) (flat : FlatInsn) → place ≡ place_of code index → instruction_at code place ≡ Some insn → IfSome (instruction_at code place) (λ insn. JumpsTo code place insn target) → insn_of flat ≡ without_distance insn → Keeps insn area target flat
+    → IsFlatForm code (place_of code index) insn area flat
+form_at code index place target insn area flat at stands jumps is keeps = record {
+  stands_for = is;
+  target = target;
+  jumps = subst (λ (p : ℕ). JumpsTo code p insn target) at (subst (λ (o : Option Insn). IfSome o (λ insn. JumpsTo code place insn target)) stands jumps);
+  keeps = keeps;
+}
