@@ -54,7 +54,7 @@ pub fn verify<A: Allocator + Copy>(alloc: A, flow: Flow<A>) -> Result<Verified<A
     ensures err { IfErr result (IsVerifyFault flow.code) }
 {
     let areas = pass(alloc, &flow)?;
-    Ok(Verified::of(alloc, flow.into_code(), &areas)?)
+    Ok(Verified::of(alloc, flow, &areas)?)
 }
 
 /// Visits each instruction in order. The answer is what each one's base points into.

@@ -1,8 +1,12 @@
 //! Codes that are safe to run.
-ghost use Rattle.std.specs.Prelude.{◌≡◌, IfOk};
+ghost use Rattle.std.specs.Prelude.{◌≡◌, length, IfOk};
+ghost use Rattle.bpf_flat.specs.Flat.{AreFlatForms};
 ghost use Rattle.bpf_meaning.specs.Run.{IsSafe};
+ghost use Rattle.bpf_verify.specs.Annotation.{IsAccepted};
 ghost use Rattle.bpf_verify.specs.Verified.{HasBaseAreas, entries_of};
 
+use bpf_flat::{FlatInsn, flat_forms};
+use bpf_flow::Flow;
 use bpf_insn::{Area, Code, Insn};
 use std::alloc::{AllocError, Allocator};
 use std::marker::Model;
@@ -22,10 +26,12 @@ pub struct Entry {
 pub struct Verified<A: Allocator> {
     code: Code<A>,
     entries: Vec<Entry, A>,
+    flat_forms: Vec<FlatInsn, A>,
 }
 
 impl<A: Allocator> Model for Verified<A> {
-    ghost use Rattle.std.specs.Prelude.{◌≡◌, map};
+    ghost use Rattle.std.specs.Prelude.{◌≡◌, length, map};
+    ghost use Rattle.bpf_flat.specs.Flat.{AreFlatForms};
     ghost use Rattle.bpf_meaning.specs.Run.{IsSafe};
     ghost use Rattle.bpf_verify.specs.Verified.{Contents, HasBaseAreas};
 
@@ -35,19 +41,25 @@ impl<A: Allocator> Model for Verified<A> {
 
     ghost invariant = { λ verified. IsSafe verified.code
         × HasBaseAreas verified.code (map (λ entry. entry.area) verified.entries.items)
-        × (map (λ entry. entry.insn) verified.entries.items ≡ verified.code) };
+        × (map (λ entry. entry.insn) verified.entries.items ≡ verified.code)
+        × AreFlatForms verified.code (map (λ entry. entry.area) verified.entries.items) (length verified.code) verified.flat_forms.items };
 }
 
 impl<A: Allocator + Copy> Verified<A> {
-    /// A code that is known to be safe, with the areas of its bases.
-    pub(crate) fn of(alloc: A, code: Code<A>, areas: &[Option<Area>]) -> Result<Self, AllocError>
-        requires safe { IsSafe code }
-        requires areas { HasBaseAreas code areas.now }
-        ensures code { IfOk result (λ verified. verified.code ≡ code) }
+    /// A code that is accepted, with the areas of its bases.
+    pub(crate) fn of(alloc: A, flow: Flow<A>, areas: &[Option<Area>]) -> Result<Self, AllocError>
+        requires { IsAccepted flow.code areas.now }
+        ensures code { IfOk result (λ verified. verified.code ≡ flow.code) }
         ensures areas { IfOk result (λ verified. verified.areas ≡ areas.now) }
     {
+        let flat_forms = flat_forms(alloc, &flow, areas)?;
+        let code = flow.into_code();
         let entries = entries_of(alloc, code.instructions(), areas)?;
-        Ok(Verified { code, entries })
+        Ok(Verified {
+            code,
+            entries,
+            flat_forms,
+        })
     }
 }
 
@@ -85,5 +97,14 @@ impl<A: Allocator> Verified<A> {
         ensures areas { HasBaseAreas self.now.code self.now.areas }
     {
         self.entries.as_slice()
+    }
+
+    /// The instructions in flat form, in order, lent: a machine dispatches on these.
+    pub fn flat_forms(&self) -> &[FlatInsn]
+        ensures value { AreFlatForms self.now.code self.now.areas (length self.now.code) result.now }
+        ensures safe { IsSafe self.now.code }
+        ensures areas { HasBaseAreas self.now.code self.now.areas }
+    {
+        self.flat_forms.as_slice()
     }
 }
