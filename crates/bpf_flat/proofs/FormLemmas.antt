@@ -1,17 +1,18 @@
 -- Where jumps lead, by the index of an instruction; and flat forms that grow by one.
-use Rattle.std.proofs.Common.{◌≡◌, ℕ, zero, suc, ◌+◌, ◌-◌, ◌<◌, ◌≤◌, ◌==◌, ◌⊎◌, inl, inr, nat_lt, Bool, true, false, if◌then◌else◌, pos, IfSome, IsSome, List, [], ◌∷◌, ◌++◌, length, take, get_or, Option, Some, None, option_map, refl, sym, ap, ◌∙◌, subst, arith, length-append}
+use Rattle.std.proofs.Common.{◌≡◌, ℕ, zero, suc, ◌+◌, ◌-◌, ◌<◌, ◌≤◌, ◌==◌, ◌⊎◌, inl, inr, nat_lt, Bool, true, false, if◌then◌else◌, pos, IfSome, IsSome, List, [], ◌∷◌, ◌++◌, length, take, get_or, Option, Some, None, option_map, refl, sym, ap, ◌∙◌, subst, arith, length-append, is_some}
 use Rattle.std.proofs.lemmas.Bool.{cases_lt}
 use Rattle.std.proofs.lemmas.Bool.Decides.{nat_tests}
 use Rattle.std.proofs.lemmas.Grind.{common_steps}
-use Rattle.std.proofs.lemmas.List.{get_or_default}
+use Rattle.std.proofs.lemmas.List.{get_or_default, take_all}
 use Rattle.bpf_insn.specs.Code.{index_at, instruction_at, place_of, spelling, word_count}
 use Rattle.bpf_insn.specs.Jump.{jump_distance}
 use Rattle.bpf_insn.specs.declared.instruction.Insn.{Insn}
 use Rattle.bpf_insn.specs.declared.value.Area.{Area}
 use Rattle.bpf_insn.proofs.CodeLemmas.{length-spelling_positive}
-use Rattle.bpf_insn.proofs.PlaceLemmas.{instruction_at-index, word_count-cons}
+use Rattle.bpf_insn.proofs.PlaceLemmas.{instruction_at-index, instruction_within, word_count-cons}
+use Rattle.bpf_insn.proofs.SpanLemmas.{begins_at_its_place}
 use Rattle.bpf_flow.specs.Flow.{target_of}
-use Rattle.bpf_flat.specs.Flat.{AreFlatForms, IsFlatForm, JumpsTo, Keeps, insn_of, without_distance}
+use Rattle.bpf_flat.specs.Flat.{AreFlatForms, HasImmediates, IsFlatForm, JumpsTo, Keeps, insn_of, without_distance}
 use Rattle.bpf_flat.specs.declared.flat.FlatInsn.{FlatInsn}
 
 -- a code has a word for each instruction at least
@@ -100,11 +101,44 @@ forms_grow code areas count flats more insn flat are grown stands within form = 
         (subst (λ (x : Insn). IsFlatForm code (place_of code count) x (get_or areas count None) last) (sym (same_insn other (subst (λ (i : ℕ). other ≡ get_or code i other) same there)))
         (subst (λ (f : FlatInsn). IsFlatForm code (place_of code count) insn (get_or areas count None) f) (sym (subst (λ (i : ℕ). last ≡ get_or more i last) same is ∙ at_end last)) form))
 
-pub form_at : (code : List Insn) (index place target : ℕ) (insn : Insn) (area : Option Area) (flat : FlatInsn) → place ≡ place_of code index → instruction_at code place ≡ Some insn → IfSome (instruction_at code place) (λ insn. JumpsTo code place insn target) → insn_of flat ≡ without_distance insn → Keeps insn area target flat
+pub form_at : (code : List Insn) (index place target : ℕ) (insn : Insn) (area : Option Area) (flat : FlatInsn) → place ≡ place_of code index → instruction_at code place ≡ Some insn → IfSome (instruction_at code place) (λ insn. JumpsTo code place insn target) → insn_of flat ≡ without_distance insn → HasImmediates insn → Keeps insn area target flat
     → IsFlatForm code (place_of code index) insn area flat
-form_at code index place target insn area flat at stands jumps is keeps = record {
+form_at code index place target insn area flat at stands jumps is immediates keeps = record {
   stands_for = is;
+  immediates = immediates;
   target = target;
   jumps = subst (λ (p : ℕ). JumpsTo code p insn target) at (subst (λ (o : Option Insn). IfSome o (λ insn. JumpsTo code place insn target)) stands jumps);
   keeps = keeps;
 }
+
+-- the index of the instruction with a place
+
+index_more : (first : Insn) (code : List Insn) (place : ℕ) (index : ℕ) → index_at code place ≡ Some index → index_at (first ∷ code) (length (spelling first) + place) ≡ Some (suc index)
+index_more first code place index is =
+    let some = length-spelling_positive first in
+    further first code (length (spelling first) + place) (omega arith)
+    ∙ ap (λ (inside : Bool). if inside then None else option_map (λ (i : ℕ). suc i) (index_at code (length (spelling first) + place - length (spelling first)))) (not_less (length (spelling first)) place)
+    ∙ ap (λ (at : ℕ). option_map (λ (i : ℕ). suc i) (index_at code at)) (omega arith) ∙ ap (option_map (λ (i : ℕ). suc i)) is
+  where
+    not_less : (words more : ℕ) → nat_lt (words + more) words ≡ false
+    not_less words more = grind (arith, nat_tests)
+
+pub place_found : (code : List Insn) (index : ℕ) → index < length code → index_at code (place_of code index) ≡ Some index
+place_found [] index within = absurd (omega arith)
+place_found (first ∷ code) zero within = refl
+place_found (first ∷ code) (suc index) within =
+    ap (index_at (first ∷ code)) (word_count-cons first (take index code)) ∙ index_more first code (place_of code index) index (place_found code index (omega arith))
+
+-- an instruction that begins at the place of an index has this index
+
+pub within_code : (code : List Insn) (index : ℕ) (insn : Insn) → instruction_at code (place_of code index) ≡ Some insn → index < length code
+within_code code index insn stands = elim (cases_lt index (length code)) as (λ _. index < length code) [
+  | inl below ↦ below
+  | inr past ↦
+      let all : place_of code index ≡ word_count code = ap word_count (take_all index code past) in
+      let inside = instruction_within code (place_of code index) (ap is_some stands) in absurd (omega arith)
+]
+
+pub stands_there : (code : List Insn) (index : ℕ) (insn : Insn) → instruction_at code (place_of code index) ≡ Some insn → insn ≡ get_or code index insn
+stands_there code index insn stands =
+    let begins = begins_at_its_place code index (get_or code index insn) (within_code code index insn stands) (get_or_default code index insn (get_or code index insn) (within_code code index insn stands)) in cc

@@ -1,1 +1,1 @@
-mod FormLemmas
+pub mod FormLemmas

@@ -1,6 +1,7 @@
 -- Instructions in flat form: which instruction each stands for. It keeps where a jump leads and not how far, so it stands for one with a
 -- distance of 0; and it keeps the area that the base of a load points into.
-use Rattle.std.specs.Prelude.{◌≡◌, ℕ, ◌+◌, ◌<◌, ℤ, pos, ◌+ℤ◌, List, length, get_or, Option, Some, None}
+use Rattle.std.specs.Prelude.{◌≡◌, ℕ, ◌+◌, ◌<◌, ℤ, pos, ◌+ℤ◌, List, length, get_or, Option, Some, None, FitsSigned}
+use Rattle.std.specs.Int.{w32}
 use Rattle.bpf_insn.specs.Code.{place_of}
 use Rattle.bpf_insn.specs.Jump.{jump_distance}
 use Rattle.bpf_insn.specs.declared.instruction.ByteOrder.TheVariants.{LittleEndian, BigEndian, Swapped}
@@ -16,6 +17,7 @@ use Rattle.bpf_insn.specs.declared.instruction.Operation.{Operation}
 use Rattle.bpf_insn.specs.declared.instruction.Operation.TheVariants.{Add, Subtract, Multiply, Divide, SignedDivide, Or, And, ShiftLeft, ShiftRight, Modulo, SignedModulo, ExclusiveOr, Move, ArithmeticShiftRight}
 use Rattle.bpf_insn.specs.declared.instruction.SignExtension.{SignExtension}
 use Rattle.bpf_insn.specs.declared.instruction.SignExtension.TheVariants.{Bits8To32, Bits16To32, Bits8To64, Bits16To64, Bits32To64}
+use Rattle.bpf_insn.specs.declared.instruction.Source.{Source}
 use Rattle.bpf_insn.specs.declared.instruction.Source.TheVariants.{Immediate, Register}
 use Rattle.bpf_insn.specs.declared.instruction.StoreSize.{StoreSize}
 use Rattle.bpf_insn.specs.declared.instruction.StoreSize.TheVariants as size
@@ -282,9 +284,22 @@ Keeps insn area target flat = Unit {0}
 abbrev pub JumpsTo : List Insn → ℕ → Insn → ℕ → Type 0
 JumpsTo code place insn target = (distance : ℤ) → jump_distance insn ≡ Some distance → pos (place + 1) +ℤ distance ≡ pos (place_of code target)
 
+-- the immediates that become operands are signed numbers of 32 bits, as those of each instruction of the code are
+abbrev pub HasImmediate : Source → Type 0
+HasImmediate (Immediate immediate) = FitsSigned w32 immediate
+HasImmediate (Register register) = Unit {0}
+
+abbrev pub HasImmediates : Insn → Type 0
+HasImmediates (Alu operation width destination source) = HasImmediate source
+HasImmediates (JumpIf condition width left right distance) = HasImmediate right
+HasImmediates (insn.StoreImmediate size base offset immediate) = FitsSigned w32 immediate
+HasImmediates (insn.WideLoad destination immediate next_immediate) = FitsSigned w32 immediate × FitsSigned w32 next_immediate
+HasImmediates insn = Unit {0}
+
 -- the flat form of an instruction at a place of a code, whose base points into an area, if it's known which
 pub record IsFlatForm (code : List Insn) (place : ℕ) (insn : Insn) (area : Option Area) (flat : FlatInsn) : Type 0 where
   pub stands_for : insn_of flat ≡ without_distance insn
+  pub immediates : HasImmediates insn
   pub target : ℕ
   pub jumps : JumpsTo code place insn target
   pub keeps : Keeps insn area target flat

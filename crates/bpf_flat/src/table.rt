@@ -1,6 +1,6 @@
 //! From instructions to their flat form: a row each.
 ghost use Rattle.std.specs.Prelude.{◌≡◌, pos, IfSome};
-ghost use Rattle.bpf_flat.specs.Flat.{Keeps, alu_immediate, alu_register, area_of, insn_of, jump_immediate, jump_register, load, move_extended, store_immediate, store_register, target_of, without_distance};
+ghost use Rattle.bpf_flat.specs.Flat.{HasImmediate, HasImmediates, Keeps, alu_immediate, alu_register, area_of, insn_of, jump_immediate, jump_register, load, move_extended, store_immediate, store_register, target_of, without_distance};
 
 use crate::flat::FlatInsn;
 use crate::operands::{
@@ -18,6 +18,7 @@ use bpf_insn::{
 pub fn flatten(insn: Insn, area: Option<Area>, target: u32) -> FlatInsn
     ensures insn { insn_of result ≡ without_distance insn }
     ensures kept { Keeps insn area target result }
+    ensures immediates { HasImmediates insn }
 {
     match insn {
         Insn::Alu {
@@ -110,7 +111,8 @@ fn flat_alu(
     destination: WritableRegister,
     source: Source,
 ) -> FlatInsn
-    ensures { insn_of result ≡ Insn.Alu operation width destination source }
+    ensures insn { insn_of result ≡ Insn.Alu operation width destination source }
+    ensures immediate { HasImmediate source }
 {
     match source {
         Source::Immediate(immediate) => {
@@ -139,6 +141,7 @@ fn flat_jump(
 ) -> FlatInsn
     ensures insn { insn_of result ≡ Insn.JumpIf condition width left right (pos 0) }
     ensures target { target_of result ≡ target }
+    ensures immediate { HasImmediate right }
 {
     match right {
         Source::Immediate(immediate) => {

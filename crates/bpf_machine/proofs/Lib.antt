@@ -4,3 +4,4 @@ mod WordArithmetic
 mod WordMemory
 mod WordCalls
 mod WordWalk
+mod StepHeld

@@ -1,5 +1,5 @@
 -- What a run that is on its way comes to, and what a run that exits excludes.
-use Rattle.std.proofs.Common.{◌≡◌, ℕ, ◌≤◌, List, [], ◌∷◌, length, subst, arith}
+use Rattle.std.proofs.Common.{◌≡◌, ℕ, ◌≤◌, List, [], ◌∷◌, length, Some, None, refl, subst, arith}
 use Rattle.bpf_insn.specs.declared.instruction.Insn.{Insn}
 use Rattle.tl_segments.specs.Segment.{Contents}
 use Rattle.bpf_meaning.specs.State.{start}
@@ -7,6 +7,9 @@ use Rattle.bpf_meaning.specs.Step.{Configuration, Running, Exited, Stuck, after}
 use Rattle.bpf_meaning.specs.Run.{FollowSteps, last_of, Answers, IsNeverStuck, Exits}
 use Rattle.bpf_meaning.specs.declared.cause.Cause.{Cause}
 use Rattle.bpf_meaning.specs.declared.state.State.{State}
+use Rattle.bpf_machine.specs.Machine.{Does, HoldsState, IsReached}
+use Rattle.bpf_machine.specs.declared.bare.Answer.{Answer}
+use Rattle.bpf_machine.specs.declared.bare.Bare.{Bare}
 use Rattle.bpf_meaning.proofs.RunLemmas.{one_next, ends_there, IsOnItsWay, comes_to}
 
 -- no way that exits is as short as one that is still running
@@ -35,3 +38,18 @@ pub has_exited : (code : List Insn) (segment : Contents) (steps : ℕ) (state : 
 has_exited code segment steps state exits way late =
     let short = exits.short in let long = way.long in
     exits_first code segment (Running start) exits.run way.run exits.answer exits.score state exits.is_run way.is_run exits.exits way.ends (omega arith)
+
+-- what a step that has gone on, or has ended, says of the next configuration
+
+pub went_on : (code : List Insn) (configuration : Configuration) (old new : Bare) → Does code configuration None old new → (state : State) × (configuration ≡ Running state) × HoldsState code state new
+went_on code (Running state) old new does = (state, refl, does)
+went_on code (Exited r0 score) old new does = absurd does
+went_on code (Stuck place cause) old new does = absurd does
+
+pub has_ended : (code : List Insn) (configuration : Configuration) (answer : Answer) (old new : Bare) → Does code configuration (Some answer) old new → configuration ≡ Exited answer.r0 answer.score
+has_ended code (Exited r0 score) answer old new does = let first = does.0 in let second = does.1 in cc
+has_ended code (Running state) answer old new does = absurd does
+has_ended code (Stuck place cause) answer old new does = absurd does
+
+pub reached_by : (code : List Insn) (segment : Contents) (steps : ℕ) (state : State) → IsOnItsWay code segment steps state → IsReached code segment state
+reached_by code segment steps state way = record { run = way.run; is_run = way.is_run; ends = way.ends }

@@ -11,7 +11,7 @@ use Rattle.bpf_insn.specs.declared.value.Area.TheVariants as area
 use Rattle.bpf_insn.specs.declared.value.Value.{Value}
 use Rattle.bpf_insn.specs.declared.value.Value.TheVariants as value
 use Rattle.bpf_kinds.specs.declared.interval.Interval.{Interval}
-use Rattle.bpf_helpers.specs.Call.{LieWithin, bytes_read, call, second, third, write, written_length}
+use Rattle.bpf_helpers.specs.Call.{LieWithin, MeetsSignature, bytes_read, call, second, third, write, written_length}
 use Rattle.bpf_helpers.specs.Helper.{signature}
 use Rattle.bpf_helpers.specs.declared.helper.Helper.{Helper}
 use Rattle.bpf_helpers.specs.declared.signature.Argument.{Argument}
@@ -183,5 +183,16 @@ module _ (segment : Contents) (state : State) (words : Words) (is : IsSegment se
   pub call_held : Sound (HoldsChange segment state) (effect.call_helper state helper) (Ok (call_helper segment words helper))
   call_held =
       made_held (effect.arguments_in state (signature helper).arguments >>= effect.lend_frame state (signature helper).frame)
+      (then_keeps _ _ (effect.arguments_in state (signature helper).arguments) _ (arguments_held state words holds (signature helper).arguments) (lend_frame_held state (signature helper).frame _))
+      (called_can_be_made state (Some helper))
+
+  made_meets : (result : Result (List ℕ) Cause) → IfPasses (λ arguments. arguments ≡ argument_words words (signature helper).arguments) result → IfPasses (effect.CanBeMade state) (result >>= λ arguments. Ok (CallHelper helper arguments))
+      → IfPasses (λ change. MeetsSignature helper (argument_words words (signature helper).arguments)) (result >>= λ arguments. Ok (CallHelper helper arguments))
+  made_meets (Err cause) same can = tt
+  made_meets (Ok arguments) same can = subst (MeetsSignature helper) same can.meets
+
+  pub call_meets : IfPasses (λ change. MeetsSignature helper (argument_words words (signature helper).arguments)) (effect.call_helper state helper)
+  call_meets =
+      made_meets (effect.arguments_in state (signature helper).arguments >>= effect.lend_frame state (signature helper).frame)
       (then_keeps _ _ (effect.arguments_in state (signature helper).arguments) _ (arguments_held state words holds (signature helper).arguments) (lend_frame_held state (signature helper).frame _))
       (called_can_be_made state (Some helper))

@@ -23,6 +23,7 @@ use Rattle.bpf_insn.specs.declared.value.Value.{Value}
 use Rattle.bpf_insn.specs.declared.value.Value.TheVariants as value
 use Rattle.bpf_kinds.specs.Interval.{single}
 use Rattle.bpf_kinds.proofs.ResultLemmas.{extend-proper, extend-admits, negate-proper, negate-admits, byte_swap-proper, byte_swap-admits, immediate_operand-proper, wide_number-proper}
+use Rattle.bpf_flat.specs.Flat.{HasImmediates, JumpsTo}
 use Rattle.tl_segments.specs.Segment.{Contents, IsSegment}
 use Rattle.bpf_meaning.specs.Checks.{◌>>=◌, Sound}
 use Rattle.bpf_meaning.specs.Effect as effect
@@ -37,7 +38,7 @@ use Rattle.bpf_meaning.specs.declared.effect.Effect.{Effect}
 use Rattle.bpf_meaning.specs.declared.effect.Effect.TheVariants.{GoOn}
 use Rattle.bpf_meaning.specs.declared.state.State.{State}
 use Rattle.bpf_meaning.proofs.WalkForesees.{Foresees, walk_foreseen}
-use Rattle.bpf_machine.specs.Words.{Goes, HasAreas, HasImmediates, Holds, HoldsEffect, IsWordOf, JumpsTo, Next, PointsInto, Words, area_bytes, bare_words, load_bytes, next_words, pointer_of, store_at, with_word}
+use Rattle.bpf_machine.specs.Words.{Goes, HasAreas, Holds, HoldsEffect, IsWordOf, Next, PointsInto, Words, area_bytes, bare_words, load_bytes, next_words, pointer_of, store_at, with_word}
 use Rattle.bpf_machine.proofs.WordCalls.{call_held}
 use Rattle.bpf_machine.proofs.WordMemory.{HoldsChange, load_held, store_held}
 use Rattle.bpf_machine.proofs.WordArithmetic.{IsNumber, admitted_fits, move_held, operate_held, single-admits, single-proper}

@@ -208,10 +208,6 @@ HoldsNext code configuration next = ⊥
 abbrev pub HoldsEffect : List Insn → Contents → State → Effect → Next → Type 0
 HoldsEffect code segment state effect next = HoldsNext code (apply segment state effect) next
 
--- an instruction at a place jumps to an entry, if it jumps: its distance counts words from the word after it (section 4.3)
-abbrev pub JumpsTo : List Insn → ℕ → Insn → ℕ → Type 0
-JumpsTo code place insn target = (distance : ℤ) → jump_distance insn ≡ Some distance → pos (place + 1) +ℤ distance ≡ pos (place_of code target)
-
 -- a value points into an area, if it's a pointer
 abbrev pub PointsInto : Value → Area → Type 0
 PointsInto (Pointer pointer) area = area ≡ pointer.area
@@ -220,15 +216,3 @@ PointsInto value area = Unit {0}
 -- each register of a state that holds a pointer points into the register's area
 abbrev pub HasAreas : State → (ℕ → Area) → Type 0
 HasAreas state areas = (register : ℕ) → PointsInto (register_value state register) (areas register)
-
--- the immediates that become operands are signed numbers of 32 bits, as those of each instruction of the code are
-abbrev pub HasImmediate : Source → Type 0
-HasImmediate (Immediate immediate) = FitsSigned w32 immediate
-HasImmediate (Register register) = Unit {0}
-
-abbrev pub HasImmediates : Insn → Type 0
-HasImmediates (Alu operation width destination source) = HasImmediate source
-HasImmediates (JumpIf condition width left right distance) = HasImmediate right
-HasImmediates (StoreImmediate size base offset immediate) = FitsSigned w32 immediate
-HasImmediates (WideLoad destination immediate next_immediate) = FitsSigned w32 immediate × FitsSigned w32 next_immediate
-HasImmediates insn = Unit {0}

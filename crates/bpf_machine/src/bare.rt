@@ -8,7 +8,8 @@ ghost use Rattle.bpf_insn.specs.declared.value.Area.{Area};
 ghost use Rattle.bpf_flat.specs.Flat.{alu_immediate, alu_register, jump_immediate, jump_register, load, move_extended, store_immediate, store_register};
 ghost use Rattle.bpf_helpers.specs.Call.{MeetsSignature, write};
 ghost use Rattle.bpf_helpers.specs.Helper.{signature};
-ghost use Rattle.bpf_machine.specs.Words.{Ends, Goes, MeetsCall, address, argument_word, argument_words, call_helper, end_of, loaded, next_words, with_word, word_in, words_of};
+ghost use Rattle.bpf_meaning.specs.State.{start};
+ghost use Rattle.bpf_machine.specs.Words.{Ends, Goes, Holds, MeetsCall, address, argument_word, argument_words, call_helper, end_of, loaded, next_words, with_word, word_in, words_of};
 
 use bpf_flat::{
     JumpWithImmediate, JumpWithRegister, LoadOperands, StoreImmediateOperands,
@@ -52,6 +53,35 @@ pub struct Bare {
 }
 
 impl Bare {
+    /// The machine with which a program starts: register 1 points to the record's first byte, register 10 behind the frame's last, and what
+    /// else it holds is never read before it is written.
+    pub fn start() -> Self
+        ensures entry { result.at ≡ 0 }
+        ensures words { Holds start (words_of result) }
+    {
+        let mut bare = Bare {
+            at: 0,
+            registers: Registers {
+                words: [0; REGISTERS],
+            },
+            frame: [0; FRAME_LENGTH],
+            score: 0,
+        };
+        bare.restart();
+        bare
+    }
+
+    /// Makes of it a machine with which a program starts, whatever it held.
+    pub(crate) fn restart(&mut self)
+        ensures entry { self.new.at ≡ 0 }
+        ensures words { Holds start (words_of self.new) }
+    {
+        self.at = 0;
+        self.registers.words[1] = 0;
+        self.registers.words[10] = FRAME_LENGTH as u64;
+        self.score = 0;
+    }
+
     /// The word in a register.
     #[inline(always)]
     fn word(&self, register: u8) -> u64

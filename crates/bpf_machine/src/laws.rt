@@ -3,12 +3,13 @@ ghost use Rattle.std.specs.Prelude.{◌≡◌, ℕ, List};
 ghost use Rattle.bpf_insn.specs.Code.{place_of};
 ghost use Rattle.bpf_insn.specs.declared.instruction.Insn.{Insn};
 ghost use Rattle.bpf_insn.specs.declared.value.Area.{Area};
+ghost use Rattle.bpf_flat.specs.Flat.{HasImmediates, JumpsTo};
 ghost use Rattle.tl_segments.specs.Segment.{Contents, IsSegment};
 ghost use Rattle.bpf_meaning.specs.Checks.{Sound};
 ghost use Rattle.bpf_meaning.specs.Effect.{instruction_effect};
 ghost use Rattle.bpf_meaning.specs.State.{HoldsBytes, IsWhole};
 ghost use Rattle.bpf_meaning.specs.declared.state.State.{State};
-ghost use Rattle.bpf_machine.specs.Words.{HasAreas, HasImmediates, Holds, HoldsEffect, JumpsTo, Words, next_words};
+ghost use Rattle.bpf_machine.specs.Words.{HasAreas, Holds, HoldsEffect, Words, next_words};
 
 /// The words are held: where words hold a state, and an instruction passes all its checks there, what it leads to on bare words holds what it
 /// leads to, at the entry of the place where it goes on.

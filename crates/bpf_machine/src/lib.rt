@@ -7,4 +7,4 @@ mod machine;
 mod table;
 
 pub use bare::{Answer, Bare, Registers};
-pub use machine::{run, run_in};
+pub use machine::{run, run_in, step};

@@ -1,37 +1,61 @@
-//! Runs of verified programs.
+//! Steps and runs of verified programs on bare words.
+ghost use Rattle.std.specs.Prelude.{◌≡◌};
 ghost use Rattle.bpf_meaning.specs.Run.{Answers};
+ghost use Rattle.bpf_meaning.specs.Step.{after};
+ghost use Rattle.bpf_meaning.specs.declared.state.State.{State};
+ghost use Rattle.bpf_machine.specs.Machine.{Does, HoldsState, IsOnItsWay, IsReached};
 
-use crate::bare::Answer;
-use bpf_meaning::{Outcome, State, step};
+use crate::bare::{Answer, Bare};
+use crate::table::execute;
 use bpf_verify::Verified;
 use std::alloc::Allocator;
 use tl_segments::Segment;
+
+/// Carries out the instruction at the machine's entry. Nothing is tested that the verifier established.
+#[inline(always)]
+pub fn step<A: Allocator, B: Allocator>(
+    verified: &Verified<A>,
+    bare: &mut Bare,
+    segment: &Segment<B>,
+) -> Option<Answer>
+    requires { IsOnItsWay verified.now.code segment.now bare.old }
+    ensures { (state : State) → IsReached verified.now.code segment.now state → HoldsState verified.now.code state bare.old
+        → Does verified.now.code (after verified.now.code segment.now state) result bare.old bare.new }
+{
+    let flat_forms = verified.flat_forms();
+    // Not read: that the segment is whole is what a safe code needs.
+    let _bytes = segment.bytes();
+    let at = bare.at;
+    match execute(bare, segment, flat_forms[at], at + 1) {
+        Some(next) => {
+            bare.at = next;
+            None
+        }
+        None => Some(bare.answer()),
+    }
+}
 
 /// The answer of a verified program on a segment, whatever the segment. It takes no memory, and at most as many steps as the program has
 /// instructions.
 pub fn run<A: Allocator, B: Allocator>(verified: &Verified<A>, segment: &Segment<B>) -> Answer
     ensures { Answers verified.now.code segment.now result.r0 result.score }
 {
-    run_in(&mut State::start(), verified, segment)
+    run_in(&mut Bare::start(), verified, segment)
 }
 
-/// The same in a state that is used again, whatever it is: so the frame isn't cleared for a program that writes none of it.
+/// The same in a machine that is used again, whatever it holds: nothing is cleared but what a program may read before it writes it.
 pub fn run_in<A: Allocator, B: Allocator>(
-    state: &mut State,
+    bare: &mut Bare,
     verified: &Verified<A>,
     segment: &Segment<B>,
 ) -> Answer
     ensures { Answers verified.now.code segment.now result.r0 result.score }
 {
-    let code = verified.code();
-    // Not read: that the segment is whole is what a safe code needs.
     let _bytes = segment.bytes();
-    state.restart();
-    for _steps in 0..code.instructions().len() {
-        match step(code, segment, state) {
-            Outcome::Running => {}
-            Outcome::Exit { answer, score } => return Answer { r0: answer, score },
-            Outcome::Stuck { .. } => unreachable!(),
+    bare.restart();
+    for _steps in 0..verified.flat_forms().len() {
+        if let Some(answer) = step(verified, bare, segment) {
+            return answer;
         }
     }
     unreachable!()

@@ -23,7 +23,7 @@ loop-index-preserved g c =
     let is = c.index-instructions-index.is ∙ ap (λ (code : List Insn). get_or code c.loop-index.index c.index-instructions-index.result) items in
     forms_grow c.args.flow.now.code c.args.areas.now c.loop-index.index c.loop-index.flats.items c.push.new.self.items c.index-instructions-index.result c.flatten.result
     c.loop-index.invariant (search rules) is within
-    (form_at c.args.flow.now.code c.loop-index.index c.place.result c.target_index-target.result c.index-instructions-index.result _ c.flatten.result place stands c.target_index-target.ensures c.flatten.ensures.insn c.flatten.ensures.kept)
+    (form_at c.args.flow.now.code c.loop-index.index c.place.result c.target_index-target.result c.index-instructions-index.result _ c.flatten.result place stands c.target_index-target.ensures c.flatten.ensures.insn c.flatten.ensures.immediates c.flatten.ensures.kept)
 
 pub returns : goal.returns
 returns g c =

@@ -1,0 +1,34 @@
+-- Steps of the bare machine, against those of what a code means: it holds the words of a state to which some run comes.
+use Rattle.std.specs.Prelude.{◌≡◌, List, Option, Some, None}
+use Rattle.bpf_insn.specs.Code.{place_of}
+use Rattle.bpf_insn.specs.declared.instruction.Insn.{Insn}
+use Rattle.tl_segments.specs.Segment.{Contents}
+use Rattle.bpf_meaning.specs.Run.{IsRun, end_of}
+use Rattle.bpf_meaning.specs.Step.{Configuration, Running, Exited}
+use Rattle.bpf_meaning.specs.declared.state.State.{State}
+use Rattle.bpf_machine.specs.Words.{Holds, words_of}
+use Rattle.bpf_machine.specs.declared.bare.Answer.{Answer}
+use Rattle.bpf_machine.specs.declared.bare.Bare.{Bare}
+
+-- the machine is at the entry of a state's place, and its words hold the state
+pub record HoldsState (code : List Insn) (state : State) (bare : Bare) : Type 0 where
+  pub at : state.place ≡ place_of code bare.at
+  pub words : Holds state (words_of bare)
+
+-- some run of a code on a segment comes to a state
+pub record IsReached (code : List Insn) (segment : Contents) (state : State) : Type 0 where
+  pub run : List Configuration
+  pub is_run : IsRun code segment run
+  pub ends : end_of run ≡ Running state
+
+-- the machine holds a state to which some run of the code on the segment comes
+pub record IsOnItsWay (code : List Insn) (segment : Contents) (bare : Bare) : Type 0 where
+  pub state : State
+  pub reached : IsReached code segment state
+  pub holds : HoldsState code state bare
+
+-- a step does what the next configuration says: it holds the next state, or answers at the end, and then leaves the machine as it was
+abbrev pub Does : List Insn → Configuration → Option Answer → Bare → Bare → Type 0
+Does code (Running state) None old new = HoldsState code state new
+Does code (Exited r0 score) (Some answer) old new = (answer.r0 ≡ r0) × (answer.score ≡ score) × (new ≡ old)
+Does code configuration answer old new = ⊥
