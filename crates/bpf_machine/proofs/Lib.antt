@@ -5,3 +5,4 @@ mod WordMemory
 mod WordCalls
 mod WordWalk
 mod StepHeld
+mod StartHeld

@@ -1,19 +1,19 @@
 -- A step of the bare machine on the words of a state to which a run comes: what it needs, and what it then does.
-use Rattle.std.proofs.Common.{◌≡◌, ℕ, ◌+◌, ◌<◌, ℤ, pos, List, length, get_or, Option, Some, None, IfSome, IsOk, Result, Ok, Err, refl, sym, ap, ◌∙◌, subst, arith}
+use Rattle.std.proofs.Common.{◌≡◌, ℕ, ◌+◌, ◌<◌, pos, List, length, get_or, Option, Some, None, IfSome, Result, Ok, Err, refl, sym, ap, ◌∙◌, subst}
 use Rattle.std.specs.Int.{cast_unsigned, w32}
 use Rattle.bpf_insn.specs.Code.{index_at, instruction_at, place_of, spelling}
 use Rattle.bpf_insn.specs.declared.instruction.Insn.{Insn}
 use Rattle.bpf_insn.specs.declared.instruction.Insn.TheVariants.{Alu, MoveSignExtended, Negate, ByteSwap, JumpIf, Jump, Call, Exit, Load, StoreImmediate, Store, WideLoad}
 use Rattle.bpf_insn.specs.declared.instruction.JumpDistance.TheVariants.{Short}
 use Rattle.bpf_insn.specs.declared.value.Area.{Area}
-use Rattle.bpf_insn.specs.declared.value.Area.TheVariants.{Record, Frame}
+use Rattle.bpf_insn.specs.declared.value.Area.TheVariants.{Frame}
 use Rattle.bpf_insn.specs.declared.value.Value.{Value}
 use Rattle.bpf_insn.specs.declared.value.Value.TheVariants as value
 use Rattle.bpf_insn.proofs.SpanLemmas.{place_of-more}
 use Rattle.bpf_helpers.specs.Call.{MeetsSignature}
 use Rattle.bpf_helpers.specs.Helper.{by_number, signature}
 use Rattle.bpf_helpers.specs.declared.helper.Helper.{Helper}
-use Rattle.bpf_flat.specs.Flat.{AreFlatForms, IsFlatForm, JumpsTo, Keeps, area_of, insn_of, target_of, without_distance}
+use Rattle.bpf_flat.specs.Flat.{AreFlatForms, JumpsTo, Keeps, area_of, insn_of, target_of, without_distance}
 use Rattle.bpf_flat.specs.declared.flat.FlatInsn.{FlatInsn}
 use Rattle.bpf_flat.proofs.FormLemmas.{place_found, stands_there, within_code}
 use Rattle.tl_segments.specs.Segment.{Contents, IsSegment}
@@ -30,7 +30,7 @@ use Rattle.bpf_meaning.proofs.WholeLemmas.{run_bytes, run_whole}
 use Rattle.bpf_verify.specs.Verified.{HasBaseAreas, base_of}
 use Rattle.bpf_verify.specs.Verified as verified
 use Rattle.bpf_machine.specs.Machine.{Does, HoldsState, IsReached}
-use Rattle.bpf_machine.specs.Words.{Goes, Ends, HasAreas, Holds, HoldsEffect, HoldsNext, MeetsCall, Next, PointsInto, Words, argument_words, next_of, next_words, words_of}
+use Rattle.bpf_machine.specs.Words.{Goes, Ends, Holds, HoldsEffect, HoldsNext, MeetsCall, Next, PointsInto, Words, argument_words, next_words, words_of}
 use Rattle.bpf_machine.specs.declared.bare.Answer.{Answer}
 use Rattle.bpf_machine.specs.declared.bare.Bare.{Bare}
 use Rattle.bpf_machine.proofs.MachineLemmas.{is_never_stuck}
@@ -180,20 +180,20 @@ module _ (code : List Insn) (segment : Contents) (is : IsSegment segment) (safe 
     within_on state bare reached holds =
         let stands = stands_at state reached in within_code code bare.at stands.insn (subst (λ (place : ℕ). instruction_at code place ≡ Some stands.insn) holds.at stands.stands)
 
-    -- where the machine has gone on, and where it has ended
+-- where the machine has gone on, and where it has ended
 
-    pub goes_on : (configuration : Configuration) (bare : Bare) (next : Next) (words : Words) → HoldsNext code configuration next → next ≡ Goes words bare.at → words ≡ words_of bare → (old : Bare) → Does code configuration None old bare
-    goes_on (Running state) bare (Goes words at) others held same kept old =
-        record { at = held.0 ∙ ap (place_of code) (let there : at ≡ bare.at = cc in there); words = subst (Holds state) (let there : words ≡ words_of bare = cc in there) held.1 }
-    goes_on (Exited r0 score) bare (Goes words at) others held same kept old = absurd held
-    goes_on (Stuck place cause) bare (Goes words at) others held same kept old = absurd held
-    goes_on configuration bare (Ends r0 score) others held same kept old = absurd (let no : ⊥ = cc in no)
+pub goes_on : (code : List Insn) (configuration : Configuration) (bare : Bare) (next : Next) (words : Words) → HoldsNext code configuration next → next ≡ Goes words bare.at → words ≡ words_of bare → (old : Bare) → Does code configuration None old bare
+goes_on code (Running state) bare (Goes words at) others held same kept old =
+    record { at = held.0 ∙ ap (place_of code) (let there : at ≡ bare.at = cc in there); words = subst (Holds state) (let there : words ≡ words_of bare = cc in there) held.1 }
+goes_on code (Exited r0 score) bare (Goes words at) others held same kept old = absurd held
+goes_on code (Stuck place cause) bare (Goes words at) others held same kept old = absurd held
+goes_on code configuration bare (Ends r0 score) others held same kept old = absurd (let no : ⊥ = cc in no)
 
-    pub ends : (configuration : Configuration) (answer : Answer) (next : Next) → HoldsNext code configuration next → next ≡ Ends answer.r0 answer.score → (old new : Bare) → new ≡ old → Does code configuration (Some answer) old new
-    ends (Exited r0 score) answer (Ends word word_score) held same old new kept = (let there : answer.r0 ≡ word = cc in there ∙ held.0, let there : answer.score ≡ word_score = cc in there ∙ held.1, kept)
-    ends (Running state) answer (Ends word word_score) held same old new kept = absurd held
-    ends (Stuck place cause) answer (Ends word word_score) held same old new kept = absurd held
-    ends configuration answer (Goes words at) held same old new kept = absurd (let no : ⊥ = cc in no)
+pub ends : (code : List Insn) (configuration : Configuration) (answer : Answer) (next : Next) → HoldsNext code configuration next → next ≡ Ends answer.r0 answer.score → (old new : Bare) → new ≡ old → Does code configuration (Some answer) old new
+ends code (Exited r0 score) answer (Ends word word_score) held same old new kept = (let there : answer.r0 ≡ word = cc in there ∙ held.0, let there : answer.score ≡ word_score = cc in there ∙ held.1, kept)
+ends code (Running state) answer (Ends word word_score) held same old new kept = absurd held
+ends code (Stuck place cause) answer (Ends word word_score) held same old new kept = absurd held
+ends code configuration answer (Goes words at) held same old new kept = absurd (let no : ⊥ = cc in no)
 
-    pub same_next : (first second : Result Next Cause) (one other : Next) → first ≡ Ok one → second ≡ Ok other → first ≡ second → one ≡ other
-    same_next first second one other is there same = let both : Ok one ≡ second = sym is ∙ same in cc
+pub same_next : (first second : Result Next Cause) (one other : Next) → first ≡ Ok one → second ≡ Ok other → first ≡ second → one ≡ other
+same_next first second one other is there same = let both : Ok one ≡ second = sym is ∙ same in cc

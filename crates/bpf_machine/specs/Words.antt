@@ -1,19 +1,16 @@
 -- A machine over bare words: registers 0 to 10 (RFC 9669, section 3.1), of 64 bits each, and a frame of plain bytes. A word
 -- doesn't tell whether it stands for a number or for a pointer, nor a byte whether it was written. So nothing is checked here but that
 -- bytes lie within their area: the words are right where the checks of what an instruction means pass.
-use Rattle.std.specs.Prelude.{◌≡◌, ℕ, ◌+◌, ◌*◌, ◌^◌, ◌<◌, ℤ, pos, ◌+ℤ◌, unsigned_abs, IsTrue, List, [], ◌∷◌, length, take, drop, get_or, slice_set, Option, Some, None, IfSome, Result, Ok, Err, if◌then◌else◌, FitsSigned}
+use Rattle.std.specs.Prelude.{◌≡◌, ℕ, ◌+◌, ◌*◌, ◌^◌, ◌<◌, ℤ, ◌+ℤ◌, unsigned_abs, IsTrue, List, [], ◌∷◌, length, take, drop, get_or, slice_set, Option, Some, None, IfSome, Result, Ok, Err, if◌then◌else◌}
 use Rattle.std.specs.Int.{bytes_low_first, cast_signed, cast_unsigned, w32, w64}
 use Rattle.tl_segments.specs.Segment.{Contents}
 use Rattle.bpf_insn.specs.Arithmetic.{result_of, negate, extension_of, byte_swap, low_bits, operand_bits, is_met, immediate_operand, wide_number, load_extension}
 use Rattle.bpf_insn.specs.Code.{place_of}
-use Rattle.bpf_insn.specs.Jump.{jump_distance}
 use Rattle.bpf_insn.specs.Memory.{load_length, store_length}
 use Rattle.bpf_insn.specs.Pointer.{is_offset}
 use Rattle.bpf_insn.specs.declared.instruction.Insn.{Insn}
-use Rattle.bpf_insn.specs.declared.instruction.Insn.TheVariants.{Alu, Call, JumpIf, StoreImmediate, WideLoad}
+use Rattle.bpf_insn.specs.declared.instruction.Insn.TheVariants.{Call}
 use Rattle.bpf_insn.specs.declared.instruction.LoadFormat.{LoadFormat}
-use Rattle.bpf_insn.specs.declared.instruction.Source.{Source}
-use Rattle.bpf_insn.specs.declared.instruction.Source.TheVariants.{Immediate, Register}
 use Rattle.bpf_insn.specs.declared.instruction.StoreSize.{StoreSize}
 use Rattle.bpf_insn.specs.declared.memory.TheConstants.{FRAME_LENGTH}
 use Rattle.bpf_insn.specs.declared.value.Area.{Area}

@@ -1,6 +1,7 @@
-use Rattle.std.proofs.Common.{length, sym, arith}
+use Rattle.std.proofs.Common.{sym, subst, arith}
 use Rattle.bpf_meaning.specs.Step.{after}
 use Rattle.bpf_meaning.proofs.RunLemmas.{goes_on}
+use Rattle.bpf_machine.specs.Machine.{Does}
 use Rattle.bpf_machine.proofs.MachineLemmas.{comes_to_answer, has_ended, has_exited, reached_by, went_on}
 use Rattle.bpf_machine.proofs.machine.run_in.Goals as goal
 
@@ -17,7 +18,11 @@ returns-in-Some g c =
     (sym (has_ended c.args.verified.now.code _ c.in-Some.answer c.loop-steps.bare c.step.new.bare does))
 
 pub loop-steps-preserved : goal.loop-steps-preserved
-loop-steps-preserved g c = ?
+loop-steps-preserved g c =
+    let found = c.loop-steps.invariant in
+    let does = c.in_default.ensures found.0 (reached_by c.args.verified.now.code c.args.segment.now c.loop-steps._steps found.0 found.1) found.2 in
+    let on = went_on c.args.verified.now.code _ c.loop-steps.bare c.step.new.bare (subst (λ answer. Does c.args.verified.now.code (after c.args.verified.now.code c.args.segment.now found.0) answer c.loop-steps.bare c.step.new.bare) c.in_default.is (c.step.ensures found.0 (reached_by c.args.verified.now.code c.args.segment.now c.loop-steps._steps found.0 found.1) found.2)) in
+    (on.0, goes_on c.args.verified.now.code c.args.segment.now c.loop-steps._steps found.0 on.0 found.1 (sym on.1), on.2)
 
 pub unreachable-requires : goal.unreachable-requires
 unreachable-requires g c =

@@ -1,4 +1,3 @@
-use Rattle.std.proofs.Common.{◌≡◌}
 use Rattle.bpf_meaning.specs.declared.state.State.{State}
 use Rattle.bpf_meaning.proofs.RunLemmas.{IsOnItsWay}
 use Rattle.bpf_machine.specs.Machine.{HoldsState}
