@@ -12,7 +12,8 @@ use tl_segments::Segment;
 // the program as text, where it has no name.
 //
 // First programs over a file of one record, with what they are at the end. A program's bytes are looked at before its jumps, these before its end, and that
-// before what its instructions do. Then files of type 1; `not_roads` and `roads` choose by the class's first letter. Then all four files: the score of
+// before what its instructions do. Then files of type 1, and the other files' limits and faults for a program that reads the record alone; `not_roads` and
+// `roads` choose by the class's first letter. Then all four files: the score of
 // `counts` is 10,000 times the number of alternate names, and the number of ranges; `finds` looks for Oak among the first two alternate names.
 const PROGRAMS: &str = "\
 b700000001000000 9500000000000000; = 0a;;;; 1; 0 09 = 0a; 233 1; mov r0, 1 | exit
@@ -68,6 +69,12 @@ every; = 0a ..5 20 20 20 20 20 20 20 20 20 20 15..;;;; refused 3 rt1 line 2 BadT
 every; = 0a ..5 20 1234 5678x 15..;;;; refused 3 rt1 line 2 BadTlid; 0 09 = 0a
 every; ..14 - 15.. 0a =;;;; refused 3 rt1 line 1 BadTlid;
 every; = 0a 20006 20 20 20 20 20 20 20 20 20 20 15..;;;; refused 2 rt1 line 2 WrongType; 0 09 = 0a
+every; = 0a; = 0a *1000 ..5 0000000005 15.. 0a *1000; = 0a; = 0a *1000; 1; 0 09 = 0a
+every; = 0a; = 0a *1001; ..17 x 18.. 0a; = 0a; refused 6 rt4 line 1001 TooManyNames;
+every; = 0a; = 0a; ..17 x 18.. 0a; = 0a *1001; refused 4 rt5 line 1 BadFeature;
+every; 4 1.. 0a; = 0a; = 0a; ..5 0000000005 15.. 0a *1001; refused 7 rt6 line 1001 TooManyRanges;
+every; 4 1.. 0a; ..14 x 15.. 0a; = 0a; ..75 0a; refused 3 rt4 line 1 BadTlid;
+every; 4 1.. 0a; = 0a; = 0a; ..75 0a; refused 1 rt6 line 1 WrongLength;
 not_roads;;;;; 0;
 not_roads; = 0a ..55 H01 58.. 0a ..55 20 20 20 58.. 0a;;;; 2; 0 09 ..55 H01 58.. 0a 0 09 ..55 20 20 20 58.. 0a
 roads;;;;; 0;

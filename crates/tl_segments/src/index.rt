@@ -2,13 +2,14 @@
 ghost use Rattle.std.specs.Prelude.{◌≡◌, ◌≤◌, ◌+◌, [], ◌++◌, length, IfErr, IfOk, OnErr, OnOk};
 ghost use Rattle.tl_fields.specs.Device.{reader};
 ghost use Rattle.tl_segments.specs.Joining.{JoinedLines, no_lines, segment_of};
-ghost use Rattle.tl_segments.specs.Loading.{IsJoinedFault, readers};
+ghost use Rattle.tl_segments.specs.Loading.{AreFaultless, IsJoinedFault, readers};
 ghost use Rattle.tl_segments.specs.Segment.{HasJoined};
 ghost use Rattle.tl_segments.specs.Tables.{HasShortLists, list_at, names_among};
 ghost use Rattle.tl_segments.specs.declared.fault.CountyFile.TheVariants as county_file;
 ghost use Rattle.tl_segments.specs.declared.fault.LoadFault.TheVariants as load_fault;
 ghost use Rattle.tl_segments.specs.declared.segment.TheConstants.{NAME_LIMIT};
 
+use crate::checked::{NoNames, Rt4Counts, Rt6Counts};
 use crate::county_file::read_file;
 use crate::fault::{CountyFile, LoadFault};
 use crate::feature_names::FeatureNames;
@@ -70,6 +71,25 @@ impl<A: Allocator + Copy> Index<A> {
             names,
             ranges,
         })
+    }
+
+    /// Reads and checks the files as [`load`](Self::load) does, with the same first fault, and keeps nothing of them: while they are read, how
+    /// many lines each TLID has.
+    pub fn check<R: CountedRead>(
+        alloc: A,
+        rt4: &mut R,
+        rt5: &mut R,
+        rt6: &mut R,
+    ) -> Result<(), LoadFault>
+        ensures ok { OnOk result (AreFaultless
+            (readers R.remaining R.failed_reads rt4.old rt5.old rt6.old) (readers R.remaining R.failed_reads rt4.new rt5.new rt6.new)) }
+        ensures err { IfErr result (λ fault. IsJoinedFault fault
+            (readers R.remaining R.failed_reads rt4.old rt5.old rt6.old) (readers R.remaining R.failed_reads rt4.new rt5.new rt6.new)) }
+    {
+        read_file(CountyFile::Rt4, &mut Rt4Counts::new(alloc), rt4)?;
+        read_file(CountyFile::Rt5, &mut NoNames, rt5)?;
+        read_file(CountyFile::Rt6, &mut Rt6Counts::new(alloc), rt6)?;
+        Ok(())
     }
 
     /// The segment of a type 1 line, with the alternate names and the further ranges of its TLID. It asks for memory only where there are
