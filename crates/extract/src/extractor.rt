@@ -10,12 +10,11 @@ ghost use Rattle.extract.specs.declared.program.ProgramFault.{ProgramFault};
 
 use crate::fault::ExtractFault;
 use crate::program::accept;
-use crate::rows::{LONGEST_ROW, write_row_if_chosen};
+use crate::rows::write_row_if_chosen;
 use bpf_meaning::{State, reads_record_alone};
 use bpf_verify::Verified;
 use std::alloc::Allocator;
 use tl_fields::{CountedRead, CountedWrite};
-use tl_records::Line;
 use tl_segments::{Index, LoadFault};
 
 /// Writes the rows of the segments of a county's files that a program chooses, in the order of the type 1 file, and answers their number.
@@ -84,12 +83,12 @@ fn write_rows<A: Allocator + Copy, R: CountedRead, W: CountedWrite>(
         (writer W.contents W.counts out.old) (writer W.contents W.counts out.new) }
     ensures not_program { (fault : ProgramFault) → result ≢ Err (ExtractFault.Program fault) }
 {
-    let mut line = Line::new();
+    let mut number = 0;
+    let mut segment = index.blank_segment();
     let mut state = State::start();
-    let mut text = [0; LONGEST_ROW];
     let mut rows = 0;
-    while let Some(segment) = index.next_segment(rt1, &mut line)? {
-        rows += write_row_if_chosen(verified, &segment, &mut state, &mut text, out)?;
+    while let Some(()) = index.next_segment(rt1, &mut number, &mut segment)? {
+        rows += write_row_if_chosen(verified, &segment, &mut state, out)?;
     }
     Ok(rows)
 }
