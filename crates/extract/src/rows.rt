@@ -32,7 +32,8 @@ pub fn row_text<A: Allocator>(score: u64, segment: &Segment<A>) -> ArrayVec<u8, 
     text
 }
 
-/// Writes the row of a segment with a score, part by part. Nothing is tried again, and nothing is flushed.
+/// Writes the row of a segment with a score in three parts: the score and the tab, the record, the line feed. Nothing is tried again, and nothing
+/// is flushed.
 #[inline]
 pub fn row<A: Allocator, W: CountedWrite>(
     score: u64,
