@@ -21,7 +21,8 @@ extractd run --program p.bpf --data d 01001 | | 1 | refused 1 rt1 line 1 WrongLe
 extractd run --program p.bpf --data d 01001 | 0\t LINE \n | 3 | refused 5 rt1 line 2 Read | p.bpf: ONE EXIT | d/TGR01001.RT1: LINE \n LINE ! 300 pipe
 extractd run --program p.bpf --data d 01001 | ! write 0 | 3 | refused 60 Write | p.bpf: ONE EXIT | d/TGR01001.RT1: LINE \n
 extractd run --program p.bpf --data d 01001 | ! empty 0 | 3 | refused 61 WriteZero | p.bpf: ONE EXIT | d/TGR01001.RT1: LINE \n
-extractd run --program p.bpf --data d 01001 | 0\t LINE \n ! write 1 | 3 | error: the output can't be written: no space left | p.bpf: ONE EXIT | d/TGR01001.RT1: LINE \n
+extractd run --program p.bpf --data d 01001 | 0\t LINE ! write 2 | 3 | refused 60 Write | p.bpf: ONE EXIT | d/TGR01001.RT1: LINE \n
+extractd run --program p.bpf --data d 01001 | 0\t LINE \n ! write 3 | 3 | error: the output can't be written: no space left | p.bpf: ONE EXIT | d/TGR01001.RT1: LINE \n
 extractd run --program p.bpf --data d 01001 | ! write 0 | 1 | refused 40 place 0 ReadsNothing(0) | p.bpf: EXIT | d/TGR01001.RT1: LINE \n
 extractd run --program p.bpf --data d 01001 | ! write 0 | 3 | error: p.bpf: not found | d/TGR01001.RT1: LINE \n
 extractd trace --program p.bpf --data d --line 1 --limit 2 01001 | ! write 0 | 3 | refused 60 Write | p.bpf: ONE EXIT | d/TGR01001.RT1: LINE \n

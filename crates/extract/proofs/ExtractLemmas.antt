@@ -12,7 +12,7 @@ use Rattle.tl_segments.specs.County.{CountyReaders}
 use Rattle.tl_segments.specs.Indexing.{IsIndexOf, IsSegmentRead}
 use Rattle.tl_segments.specs.Joining.{JoinedLines, alternate_names, further_ranges, no_lines, number_in, segment_of, segments_of}
 use Rattle.tl_segments.specs.Loading.{Readers, ReadsJoined, IsJoinedFault, in_rt4, in_rt5, in_rt6}
-use Rattle.tl_segments.specs.Segment.{Contents}
+use Rattle.tl_segments.specs.Segment.{Contents, line_of}
 use Rattle.tl_segments.specs.declared.fault.CountyFile.TheVariants.{Rt1}
 use Rattle.tl_segments.specs.declared.fault.LoadFault.{LoadFault}
 use Rattle.tl_segments.specs.declared.fault.LoadFault.TheVariants as load_fault
@@ -114,17 +114,17 @@ of_load-not_program (load_fault.TooManyNames line) of e = cc
 of_load-not_program (load_fault.TooManyRanges line) of e = cc
 of_load-not_program load_fault.Memory of e = cc
 
-module _ {A : Type 0} (index : Index A) (code : List Insn) (rows : ℕ) (line new_line : LineParts) (rt1 now rt1' : Reader) (out between : Writer) (so_far : IsExtractedSoFar index code rows line rt1 now out between) where
+module _ {A : Type 0} (index : Index A) (code : List Insn) (rows : ℕ) (line : LineParts) (rt1 now rt1' : Reader) (out between : Writer) (so_far : IsExtractedSoFar index code rows line rt1 now out between) (number : ℕ) (segment : Contents) where
   -- a segment more, and its row if it is chosen
-  pub one_row_more : (more : ℕ) (segment : Contents) (out' : Writer) → IsSegmentRead index line new_line now rt1' (Ok (Some segment)) → WritesRow code segment (Ok more) between out' → IsExtractedSoFar index code (rows + more) new_line rt1 rt1' out out'
-  one_row_more more segment out' next (answer, score, answers, counted, appended, counts) = record {
-    lines = so_far.lines ++ new_line.bytes ∷ [];
-    read = good_line_more so_far.lines line new_line rt1 now rt1' so_far.read next.0;
+  pub one_row_more : (more : ℕ) (out' : Writer) → IsSegmentRead index line number segment now rt1' (Ok (Some tt)) → WritesRow code segment (Ok more) between out' → IsExtractedSoFar index code (rows + more) (line_of number segment) rt1 rt1' out out'
+  one_row_more more out' next (answer, score, answers, counted, appended, counts) = record {
+    lines = so_far.lines ++ segment.bytes ∷ [];
+    read = good_line_more so_far.lines line (line_of number segment) rt1 now rt1' so_far.read next.0;
     segments = so_far.segments ++ segment ∷ [];
     made = λ joined of_joined.
         ap (λ segments. segments ++ segment ∷ []) (so_far.made joined of_joined)
         ∙ ap (λ segment. segments_of joined so_far.lines ++ segment ∷ []) (next.1 joined of_joined)
-        ∙ sym (segments_push joined so_far.lines new_line.bytes);
+        ∙ sym (segments_push joined so_far.lines segment.bytes);
     text = so_far.text ++ row_if_chosen answer score segment;
     is_extract =
         subst (λ (n : ℕ). IsExtract code (so_far.segments ++ segment ∷ []) (so_far.text ++ row_if_chosen answer score segment) (rows + n)) (sym counted)
@@ -135,8 +135,8 @@ module _ {A : Type 0} (index : Index A) (code : List Insn) (rows : ℕ) (line ne
   }
 
   -- a row more can still be counted
-  pub fits : (more : ℕ) (segment : Contents) (out' : Writer) → IsSegmentRead index line new_line now rt1' (Ok (Some segment)) → WritesRow code segment (Ok more) between out' → rows + more < 2 ^ 64
-  fits more segment out' next (answer, score, answers, counted, appended, counts) =
+  pub fits : (more : ℕ) (out' : Writer) → IsSegmentRead index line number segment now rt1' (Ok (Some tt)) → WritesRow code segment (Ok more) between out' → rows + more < 2 ^ 64
+  fits more out' next (answer, score, answers, counted, appended, counts) =
       omega (arith, so_far.few, next.0.0.1, counted, chosen_count-le answer)
 
   module _ (program : List ℕ) (safe : IsSafeProgram program code) (own joined : JoinedLines) (of_own : IsIndexOf index own) (alike : AnswersAlike code own joined) (old new : Readers) (reads_joined : ReadsJoined joined old new) where
@@ -157,7 +157,7 @@ module _ {A : Type 0} (index : Index A) (code : List Insn) (rows : ℕ) (line ne
     }
 
     -- the file ended
-    pub end_outcome : IsSegmentRead index line new_line now rt1' (Ok None) → IsOutcome program (Ok rows) (record { rt1 = rt1; joined = old }) (record { rt1 = rt1'; joined = new }) out between
+    pub end_outcome : IsSegmentRead index line number segment now rt1' (Ok None) → IsOutcome program (Ok rows) (record { rt1 = rt1; joined = old }) (record { rt1 = rt1'; joined = new }) out between
     end_outcome next = record {
       code = code;
       is_program = safe;
@@ -167,7 +167,7 @@ module _ {A : Type 0} (index : Index A) (code : List Insn) (rows : ℕ) (line ne
         lines = so_far.lines;
         segments = refl;
         reads_joined = reads_joined;
-        rt1 = all_read Rt1 so_far.lines line new_line rt1 now rt1' so_far.read next;
+        rt1 = all_read Rt1 so_far.lines line (record { number = number; bytes = next.0.0 }) rt1 now rt1' so_far.read next.0.1;
       };
       text = so_far.text;
       is_extract = extract_so_far;
@@ -176,21 +176,21 @@ module _ {A : Type 0} (index : Index A) (code : List Insn) (rows : ℕ) (line ne
     }
 
     -- the next segment can't be made
-    pub fault_outcome : (fault : LoadFault) → IsSegmentRead index line new_line now rt1' (Err fault) → IsOutcome program (Err (of_load fault)) (record { rt1 = rt1; joined = old }) (record { rt1 = rt1'; joined = new }) out between
+    pub fault_outcome : (fault : LoadFault) → IsSegmentRead index line number segment now rt1' (Err fault) → IsOutcome program (Err (of_load fault)) (record { rt1 = rt1; joined = old }) (record { rt1 = rt1'; joined = new }) out between
     fault_outcome (load_fault.Line file fault) next =
-        in_rt1 joined so_far.lines fault (ap (λ file. load_fault.Line file fault) next.0) reads_joined (at_next_fault so_far.lines line new_line rt1 now rt1' so_far.read fault next.1) has_written
+        in_rt1 joined so_far.lines fault (ap (λ file. load_fault.Line file fault) next.0) reads_joined (at_next_fault so_far.lines line (record { number = number; bytes = next.1.0 }) rt1 now rt1' so_far.read fault next.1.1) has_written
     fault_outcome (load_fault.TooManyNames number) next = absurd next
     fault_outcome (load_fault.TooManyRanges number) next = absurd next
     fault_outcome load_fault.Memory next =
-        let more = good_line_more so_far.lines line new_line rt1 now rt1' so_far.read next.0 in
+        let more = good_line_more so_far.lines line (line_of number segment) rt1 now rt1' so_far.read next.0 in
         record {
           written = inr (record {
             joined = joined;
             reads_joined = reads_joined;
             lines = so_far.lines;
-            line = new_line.bytes;
+            line = segment.bytes;
             reads = more.reads;
-            more = alike.more new_line.bytes (next.1 own of_own);
+            more = alike.more segment.bytes (next.1 own of_own);
             before = has_written;
           });
           counts = so_far.counts;
@@ -198,15 +198,15 @@ module _ {A : Type 0} (index : Index A) (code : List Insn) (rows : ℕ) (line ne
         }
 
     -- the writer fails
-    pub write_outcome : (fault : WriteFault) (segment : Contents) (out' : Writer) → IsSegmentRead index line new_line now rt1' (Ok (Some segment)) → WritesRow code segment (Err fault) between out' → IsOutcome program (Err (Write fault)) (record { rt1 = rt1; joined = old }) (record { rt1 = rt1'; joined = new }) out out'
+    pub write_outcome : (fault : WriteFault) (out' : Writer) → IsSegmentRead index line number segment now rt1' (Ok (Some tt)) → WritesRow code segment (Err fault) between out' → IsOutcome program (Err (Write fault)) (record { rt1 = rt1; joined = old }) (record { rt1 = rt1'; joined = new }) out out'
     unfolding has_written
-    write_outcome fault segment out' next row = record {
+    write_outcome fault out' next row = record {
       joined = joined;
       reads_joined = reads_joined;
       lines = so_far.lines;
-      line = new_line.bytes;
-      reads = (good_line_more so_far.lines line new_line rt1 now rt1' so_far.read next.0).reads;
+      line = segment.bytes;
+      reads = (good_line_more so_far.lines line (line_of number segment) rt1 now rt1' so_far.read next.0).reads;
       between = between;
       before = has_written;
-      row = row_alike code own joined new_line.bytes fault between out' alike (subst (λ (s : Contents). WritesRow code s (Err fault) between out') (next.1 own of_own) row);
+      row = row_alike code own joined segment.bytes fault between out' alike (subst (λ (s : Contents). WritesRow code s (Err fault) between out') (next.1 own of_own) row);
     }

@@ -5,12 +5,14 @@ use Rattle.tl_fields.specs.Device.{Writer}
 use Rattle.tl_fields.specs.declared.writing.WriteFault.{WriteFault}
 use Rattle.tl_records.specs.declared.fault.LineFault.{LineFault}
 use Rattle.tl_segments.specs.County.{CountyParts, CountyReaders, LoadsCounty}
+use Rattle.tl_segments.specs.Indexing.{IsIndexOf}
 use Rattle.tl_segments.specs.Joining.{JoinedLines, segment_of, segments_of}
-use Rattle.tl_segments.specs.Loading.{IsFirstFault, IsJoinedFault, ReadsJoined, ReadsLines}
+use Rattle.tl_segments.specs.Loading.{IsFirstFault, IsJoinedFault, Readers, ReadsJoined, ReadsLines}
 use Rattle.tl_segments.specs.Segment.{HasJoined}
 use Rattle.tl_segments.specs.declared.fault.CountyFile.TheVariants.{Rt1}
 use Rattle.tl_segments.specs.declared.fault.LoadFault.{LoadFault}
 use Rattle.tl_segments.specs.declared.fault.LoadFault.TheVariants as load_fault
+use Rattle.tl_segments.specs.declared.index.Index.{Index}
 use Rattle.bpf_insn.specs.declared.instruction.Insn.{Insn}
 use Rattle.bpf_meaning.specs.Extract.{IsExtract}
 use Rattle.bpf_meaning.specs.Run.{Answers}
@@ -39,6 +41,14 @@ pub record AnswersAlike (code : List Insn) (own joined : JoinedLines) : Type 0 w
   pub same : (line : List ℕ) (answer score : ℕ)
       → Answers code (segment_of own line) answer score → Answers code (segment_of joined line) answer score
   pub more : (line : List ℕ) → HasJoined (segment_of own line) → HasJoined (segment_of joined line)
+
+-- The files of types 4, 5 and 6 were read to their ends without a fault, and the code answers with what the index has as with what they have.
+pub record ServesCode {A : Type 0} (code : List Insn) (index : Index A) (old new : Readers) : Type 0 where
+  pub own : JoinedLines
+  pub index_of : IsIndexOf index own
+  pub joined : JoinedLines
+  pub reads : ReadsJoined joined old new
+  pub alike : AnswersAlike code own joined
 
 -- The program is refused, and nothing was read or written.
 pub record IsProgramRefusal (program : List ℕ) (fault : ProgramFault) (old new : CountyReaders) (out out' : Writer) : Type 0 where

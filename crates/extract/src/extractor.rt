@@ -1,30 +1,29 @@
 //! The extract of a county's files.
-ghost use Rattle.std.specs.Prelude.{◌≡◌, ◌≢◌, ℕ, List, Err};
+ghost use Rattle.std.specs.Prelude.{◌≡◌, ◌≢◌, ℕ, List, Err, IfErr, IfOk};
 ghost use Rattle.tl_fields.specs.Device.{reader, writer};
 ghost use Rattle.tl_segments.specs.Indexing.{IsIndexOf};
 ghost use Rattle.tl_segments.specs.Joining.{JoinedLines};
-ghost use Rattle.tl_segments.specs.Loading.{Readers, ReadsJoined, readers};
-ghost use Rattle.extract.specs.Extracting.{AnswersAlike, IsOutcome};
+ghost use Rattle.tl_segments.specs.Loading.{IsJoinedFault, Readers, ReadsJoined, readers};
+ghost use Rattle.extract.specs.Extracting.{AnswersAlike, IsOutcome, ServesCode};
 ghost use Rattle.extract.specs.Program.{IsSafeProgram};
 ghost use Rattle.extract.specs.declared.program.ProgramFault.{ProgramFault};
 
 use crate::fault::ExtractFault;
 use crate::program::accept;
-use crate::rows::{LONGEST_ROW, write_row_if_chosen};
+use crate::rows::write_row_if_chosen;
 use bpf_meaning::{State, reads_record_alone};
 use bpf_verify::Verified;
 use std::alloc::Allocator;
 use tl_fields::{CountedRead, CountedWrite};
-use tl_records::Line;
-use tl_segments::Index;
+use tl_segments::{Index, LoadFault};
 
 /// Writes the rows of the segments of a county's files that a program chooses, in the order of the type 1 file, and answers their number.
 ///
 /// The program is accepted first. Then the files of types 4, 5 and 6 are read, in this order, each to its end, and kept as far as segments
-/// need them. The type 1 file is then read line by line: a line's row is handed to the writer before the next line is read, and nothing of a
-/// line is kept behind its row. So the first fault is answered of the program, of type 4, 5, 6, and of type 1, in this order; with a fault of
-/// line n of type 1 the rows of all lines before it were written, and with any fault before that nothing was. Nothing is flushed, and no read
-/// or write is tried again, not after `Interrupted` either.
+/// need them for the program. The type 1 file is then read line by line: a line's row is handed to the writer before the next line is read, and
+/// nothing of a line is kept behind its row. So the first fault is answered of the program, of type 4, 5, 6, and of type 1, in this order; with a
+/// fault of line n of type 1 the rows of all lines before it were written, and with any fault before that nothing was. Nothing is flushed, and no
+/// read or write is tried again, not after `Interrupted` either.
 pub fn extract<A: Allocator + Copy, R: CountedRead, W: CountedWrite>(
     alloc: A,
     program: &[u8],
@@ -43,14 +42,29 @@ pub fn extract<A: Allocator + Copy, R: CountedRead, W: CountedWrite>(
         → (rt1.new ≡ rt1.old) × (rt4.new ≡ rt4.old) × (rt5.new ≡ rt5.old) × (rt6.new ≡ rt6.old) × (out.new ≡ out.old) }
 {
     let verified = accept(alloc, program)?;
-    let index = Index::load(alloc, rt4, rt5, rt6)?;
-    // Nothing is looked up for a program that reads the record alone.
-    let index = if reads_record_alone(verified.code()) {
-        Index::new(alloc)
-    } else {
-        index
-    };
+    let index = load_index(alloc, &verified, rt4, rt5, rt6)?;
     write_rows(&verified, &index, rt1, out)
+}
+
+/// Reads the files of types 4, 5 and 6 to their ends, and keeps what the code asks for: nothing for one that reads the record alone.
+fn load_index<A: Allocator + Copy, R: CountedRead>(
+    alloc: A,
+    verified: &Verified<A>,
+    rt4: &mut R,
+    rt5: &mut R,
+    rt6: &mut R,
+) -> Result<Index<A>, LoadFault>
+    ensures ok { IfOk result (λ index. ServesCode verified.now.code index
+        (readers R.remaining R.failed_reads rt4.old rt5.old rt6.old) (readers R.remaining R.failed_reads rt4.new rt5.new rt6.new)) }
+    ensures err { IfErr result (λ fault. IsJoinedFault fault
+        (readers R.remaining R.failed_reads rt4.old rt5.old rt6.old) (readers R.remaining R.failed_reads rt4.new rt5.new rt6.new)) }
+{
+    if reads_record_alone(verified.code()) {
+        Index::check(alloc, rt4, rt5, rt6)?;
+        return Ok(Index::new(alloc));
+    }
+    let index = Index::load(alloc, rt4, rt5, rt6)?;
+    Ok(index)
 }
 
 /// Writes the rows of the lines of a type 1 file that are chosen, each before the next line is read, and answers their number. The index may
@@ -69,12 +83,12 @@ fn write_rows<A: Allocator + Copy, R: CountedRead, W: CountedWrite>(
         (writer W.contents W.counts out.old) (writer W.contents W.counts out.new) }
     ensures not_program { (fault : ProgramFault) → result ≢ Err (ExtractFault.Program fault) }
 {
-    let mut line = Line::new();
+    let mut number = 0;
+    let mut segment = index.blank_segment();
     let mut state = State::start();
-    let mut text = [0; LONGEST_ROW];
     let mut rows = 0;
-    while let Some(segment) = index.next_segment(rt1, &mut line)? {
-        rows += write_row_if_chosen(verified, &segment, &mut state, &mut text, out)?;
+    while let Some(()) = index.next_segment(rt1, &mut number, &mut segment)? {
+        rows += write_row_if_chosen(verified, &segment, &mut state, out)?;
     }
     Ok(rows)
 }

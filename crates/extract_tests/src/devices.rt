@@ -114,15 +114,17 @@ fn burst_named(name: &str) -> Burst {
     }
 }
 
-/// How many writes of rows and reads there are until a device without room for more bytes goes wrong, which the two rows of 231 bytes fill. Each of the
-/// three empty files is read once.
+/// How many writes of rows and reads there are until a device without room for more bytes goes wrong, which the two rows of 231 bytes fill, each in
+/// writes of 2, 228 and 1 bytes. Each of the three empty files is read once.
 fn calls_until(room: u64) -> (u64, u64) {
     match room {
         0 => (1, 232),
-        1..231 => (2, 232),
-        231 => (2, 461),
-        232..462 => (3, 461),
-        _ => (2, 462),
+        1..=2 => (2, 232),
+        3..=230 => (3, 232),
+        231 => (4, 461),
+        232..=233 => (5, 461),
+        234..=461 => (6, 461),
+        _ => (6, 462),
     }
 }
 

@@ -12,10 +12,11 @@ use tl_segments::Segment;
 // the program as text, where it has no name.
 //
 // First programs over a file of one record, with what they are at the end. A program's bytes are looked at before its jumps, these before its end, and that
-// before what its instructions do. Then files of type 1; `not_roads` and `roads` choose by the class's first letter. Then all four files: the score of
+// before what its instructions do. Then files of type 1, and the other files' limits and faults for a program that reads the record alone; `not_roads` and
+// `roads` choose by the class's first letter. Then all four files: the score of
 // `counts` is 10,000 times the number of alternate names, and the number of ranges; `finds` looks for Oak among the first two alternate names.
 const PROGRAMS: &str = "\
-b700000001000000 9500000000000000; = 0a;;;; 1; 0 09 = 0a; 233 1; mov r0, 1 | exit
+b700000001000000 9500000000000000; = 0a;;;; 1; 0 09 = 0a; 233 3; mov r0, 1 | exit
 b700000000000000 9500000000000000; = 0a;;;; 0;; 233 0; mov r0, 0 | exit
 ; = 0a;;;; refused 10 Empty;; 0 0; no bytes
 b700000001000000 0500ffff00000000 ff00000000000000; = 0a;;;; refused 13 place 2 UnknownOpcode;; 0 0; mov r0, 1 | ja -1 | an opcode that no instruction has
@@ -26,24 +27,24 @@ bf10000000000000 0500ffff00000000 0500090000000000 0500010000000000 180000000100
 9500000000000000 0500010000000000 1800000001000000 0000000000000000; = 0a;;;; refused 32 place 1 IntoWide;; 0 0; exit | ja +1 | lddw r0, 1
 9500000000000000 b700000001000000; = 0a;;;; refused 33 place 1 LastNotExit;; 0 0; exit | mov r0, 1
 9500000000000000; = 0a;;;; refused 40 place 0 ReadsNothing(0);; 0 0; exit
-b700000001000000 9500000000000000 8500000001000000 9500000000000000; = 0a;;;; 1; 0 09 = 0a; 233 1; mov r0, 1 | exit | call 1 | exit
+b700000001000000 9500000000000000 8500000001000000 9500000000000000; = 0a;;;; 1; 0 09 = 0a; 233 3; mov r0, 1 | exit | call 1 | exit
 bf10000000000000 0500000000000000 9500000000000000; = 0a;;;; refused 51 place 2 ExitNotNumber;; 0 0; mov r0, r1 | ja +0 | exit
-7110e30000000000 9500000000000000; = 0a;;;; 1; 0 09 = 0a; 233 1; ldxb r0, [r1+227] | exit
+7110e30000000000 9500000000000000; = 0a;;;; 1; 0 09 = 0a; 233 3; ldxb r0, [r1+227] | exit
 7110e40000000000 9500000000000000; = 0a;;;; refused 44 place 0 OutOfBounds;; 0 0; ldxb r0, [r1+228] | exit
 7113370000000000 1503010041000000 b702000001000000 bf20000000000000 9500000000000000; = 0a;;;; refused 40 place 3 ReadsNothing(2);; 0 0; ldxb r3, [r1+55] | jeq r3, 65, +1 | mov r2, 1 | mov r0, r2 | exit
 b702000000000000 7113370000000000 1503010041000000 b702000001000000 bf20000000000000 9500000000000000; = 0a;;;; 0;; 233 0; the same behind mov r2, 0
 b700000007000000 3700000000000000 9500000000000000; = 0a;;;; 0;; 233 0; mov r0, 7 | div r0, 0 | exit
-b700000007000000 9700000000000000 9500000000000000; = 0a;;;; 1; 0 09 = 0a; 233 1; mov r0, 7 | mod r0, 0 | exit
-1800000007000000 0000000001000000 9400000000000000 1500010007000000 b700000000000000 9500000000000000; = 0a;;;; 1; 0 09 = 0a; 233 1; lddw r0, 0x100000007 | mod32 r0, 0 | jeq r0, 7, +1 | mov r0, 0 | exit
+b700000007000000 9700000000000000 9500000000000000; = 0a;;;; 1; 0 09 = 0a; 233 3; mov r0, 7 | mod r0, 0 | exit
+1800000007000000 0000000001000000 9400000000000000 1500010007000000 b700000000000000 9500000000000000; = 0a;;;; 1; 0 09 = 0a; 233 3; lddw r0, 0x100000007 | mod32 r0, 0 | jeq r0, 7, +1 | mov r0, 0 | exit
 b4020000ffffffff b700000000000000 55020100ffffffff b700000001000000 9500000000000000; = 0a;;;; 0;; 233 0; mov32 r2, -1 | mov r0, 0 | jne r2, -1, +1 | mov r0, 1 | exit
-b4020000ffffffff b700000000000000 56020100ffffffff b700000001000000 9500000000000000; = 0a;;;; 1; 0 09 = 0a; 233 1; mov32 r2, -1 | mov r0, 0 | jne32 r2, -1, +1 | mov r0, 1 | exit
-b700000001000000 0500010000000000 7190000000000000 9500000000000000; = 0a;;;; 1; 0 09 = 0a; 233 1; mov r0, 1 | ja +1 | ldxb r0, [r9+0] | exit
-1800000088776655 0000000044332211 dc00000010000000 1500010077880000 b700000000000000 9500000000000000; = 0a;;;; 1; 0 09 = 0a; 233 1; lddw r0, 0x1122334455667788 | be16 r0 | jeq r0, 34935, +1 | mov r0, 0 | exit
-1800000088776655 0000000044332211 d400000020000000 1500010088776655 b700000000000000 9500000000000000; = 0a;;;; 1; 0 09 = 0a; 233 1; lddw r0, 0x1122334455667788 | le32 r0 | jeq r0, 1432778632, +1 | mov r0, 0 | exit
-b700000000000000 7112370000000000 25020200e3000000 0f21000000000000 7110000000000000 9500000000000000; = 0a;;;; 1; 0 09 = 0a; 233 1; mov r0, 0 | ldxb r2, [r1+55] | jgt r2, 227, +2 | add r1, r2 | ldxb r0, [r1+0] | exit
+b4020000ffffffff b700000000000000 56020100ffffffff b700000001000000 9500000000000000; = 0a;;;; 1; 0 09 = 0a; 233 3; mov32 r2, -1 | mov r0, 0 | jne32 r2, -1, +1 | mov r0, 1 | exit
+b700000001000000 0500010000000000 7190000000000000 9500000000000000; = 0a;;;; 1; 0 09 = 0a; 233 3; mov r0, 1 | ja +1 | ldxb r0, [r9+0] | exit
+1800000088776655 0000000044332211 dc00000010000000 1500010077880000 b700000000000000 9500000000000000; = 0a;;;; 1; 0 09 = 0a; 233 3; lddw r0, 0x1122334455667788 | be16 r0 | jeq r0, 34935, +1 | mov r0, 0 | exit
+1800000088776655 0000000044332211 d400000020000000 1500010088776655 b700000000000000 9500000000000000; = 0a;;;; 1; 0 09 = 0a; 233 3; lddw r0, 0x1122334455667788 | le32 r0 | jeq r0, 1432778632, +1 | mov r0, 0 | exit
+b700000000000000 7112370000000000 25020200e3000000 0f21000000000000 7110000000000000 9500000000000000; = 0a;;;; 1; 0 09 = 0a; 233 3; mov r0, 0 | ldxb r2, [r1+55] | jgt r2, 227, +2 | add r1, r2 | ldxb r0, [r1+0] | exit
 b700000000000000 7112370000000000 25020200e3000000 0f21000000000000 7110000000000000 07000000e0ffffff 9500000000000000; = 0a;;;; 0;; 233 0; the same with add r0, -32 | exit
 b700000000000000 7112370000000000 25020200e4000000 0f21000000000000 7110000000000000 9500000000000000; = 0a;;;; refused 44 place 4 OutOfBounds;; 0 0; the same with jgt r2, 228
-b700000000000000 7112370000000000 65020200e3000000 0f21000000000000 7110000000000000 9500000000000000; = 0a;;;; 1; 0 09 = 0a; 233 1; the same with jsgt r2, 227
+b700000000000000 7112370000000000 65020200e3000000 0f21000000000000 7110000000000000 9500000000000000; = 0a;;;; 1; 0 09 = 0a; 233 3; the same with jsgt r2, 227
 every;;;;; 0;
 every; = 0a = 0a;;;; 2; 0 09 = 0a 0 09 = 0a
 every; = 0d 0a = 0d 0a;;;; 2; 0 09 = 0a 0 09 = 0a
@@ -68,6 +69,12 @@ every; = 0a ..5 20 20 20 20 20 20 20 20 20 20 15..;;;; refused 3 rt1 line 2 BadT
 every; = 0a ..5 20 1234 5678x 15..;;;; refused 3 rt1 line 2 BadTlid; 0 09 = 0a
 every; ..14 - 15.. 0a =;;;; refused 3 rt1 line 1 BadTlid;
 every; = 0a 20006 20 20 20 20 20 20 20 20 20 20 15..;;;; refused 2 rt1 line 2 WrongType; 0 09 = 0a
+every; = 0a; = 0a *1000 ..5 0000000005 15.. 0a *1000; = 0a; = 0a *1000; 1; 0 09 = 0a
+every; = 0a; = 0a *1001; ..17 x 18.. 0a; = 0a; refused 6 rt4 line 1001 TooManyNames;
+every; = 0a; = 0a; ..17 x 18.. 0a; = 0a *1001; refused 4 rt5 line 1 BadFeature;
+every; 4 1.. 0a; = 0a; = 0a; ..5 0000000005 15.. 0a *1001; refused 7 rt6 line 1001 TooManyRanges;
+every; 4 1.. 0a; ..14 x 15.. 0a; = 0a; ..75 0a; refused 3 rt4 line 1 BadTlid;
+every; 4 1.. 0a; = 0a; = 0a; ..75 0a; refused 1 rt6 line 1 WrongLength;
 not_roads;;;;; 0;
 not_roads; = 0a ..55 H01 58.. 0a ..55 20 20 20 58.. 0a;;;; 2; 0 09 ..55 H01 58.. 0a 0 09 ..55 20 20 20 58.. 0a
 roads;;;;; 0;

@@ -18,8 +18,17 @@ pub fn rt1(line: &Line) -> Result<Rt1<'_>, LineFault>
     ensures ok { IfOk result (λ rt1. (rt1.bytes ≡ line.now.bytes) × IsGoodLine Rt1.LAYOUT line.now.bytes) }
     ensures err { IfErr result (λ fault. IsLineFault Rt1.LAYOUT line.now fault) }
 {
-    let number = checked_number(Rt1::LAYOUT, line)?;
-    Ok(Rt1::of(line.bytes(), number))
+    rt1_of(line.number(), line.bytes())
+}
+
+/// The same for a number and bytes that don't stand in a [`Line`].
+#[inline]
+pub fn rt1_of(number: u32, line: &[u8]) -> Result<Rt1<'_>, LineFault>
+    ensures ok { IfOk result (λ rt1. (rt1.bytes ≡ line.now) × IsGoodLine Rt1.LAYOUT line.now) }
+    ensures err { IfErr result (λ fault. IsLineFault Rt1.LAYOUT (record { number = number; bytes = line.now }) fault) }
+{
+    let tlid = checked_number(Rt1::LAYOUT, number, line)?;
+    Ok(Rt1::of(line, tlid))
 }
 
 /// The line as a record of type 4, or its first flaw: `WrongLength`, `WrongType`, `BadTlid`.
@@ -27,7 +36,7 @@ pub fn rt4(line: &Line) -> Result<Rt4<'_>, LineFault>
     ensures ok { IfOk result (λ rt4. (rt4.bytes ≡ line.now.bytes) × IsGoodLine Rt4.LAYOUT line.now.bytes) }
     ensures err { IfErr result (λ fault. IsLineFault Rt4.LAYOUT line.now fault) }
 {
-    let number = checked_number(Rt4::LAYOUT, line)?;
+    let number = checked_number(Rt4::LAYOUT, line.number(), line.bytes())?;
     Ok(Rt4::of(line.bytes(), number))
 }
 
@@ -36,7 +45,7 @@ pub fn rt5(line: &Line) -> Result<Rt5<'_>, LineFault>
     ensures ok { IfOk result (λ rt5. (rt5.bytes ≡ line.now.bytes) × IsGoodLine Rt5.LAYOUT line.now.bytes) }
     ensures err { IfErr result (λ fault. IsLineFault Rt5.LAYOUT line.now fault) }
 {
-    let number = checked_number(Rt5::LAYOUT, line)?;
+    let number = checked_number(Rt5::LAYOUT, line.number(), line.bytes())?;
     Ok(Rt5::of(line.bytes(), number))
 }
 
@@ -45,21 +54,21 @@ pub fn rt6(line: &Line) -> Result<Rt6<'_>, LineFault>
     ensures ok { IfOk result (λ rt6. (rt6.bytes ≡ line.now.bytes) × IsGoodLine Rt6.LAYOUT line.now.bytes) }
     ensures err { IfErr result (λ fault. IsLineFault Rt6.LAYOUT line.now fault) }
 {
-    let number = checked_number(Rt6::LAYOUT, line)?;
+    let number = checked_number(Rt6::LAYOUT, line.number(), line.bytes())?;
     Ok(Rt6::of(line.bytes(), number))
 }
 
 // The number of the field that has one in each line of a record type, or the first flaw of the line.
-fn checked_number(layout: Layout, line: &Line) -> Result<u64, LineFault>
+fn checked_number(layout: Layout, at: u32, line: &[u8]) -> Result<u64, LineFault>
     requires { IsWithin layout.number layout.length }
-    ensures number { IfOk result (λ n. number_of (field_at layout.number line.now.bytes) ≡ Some n) }
-    ensures good { IfOk result (λ _. IsGoodLine layout line.now.bytes) }
-    ensures err { IfErr result (λ fault. IsLineFault layout line.now fault) }
+    ensures number { IfOk result (λ n. number_of (field_at layout.number line.now) ≡ Some n) }
+    ensures good { IfOk result (λ _. IsGoodLine layout line.now) }
+    ensures err { IfErr result (λ fault. IsLineFault layout (record { number = at; bytes = line.now }) fault) }
 {
-    match flawless_number(layout, line.bytes()) {
+    match flawless_number(layout, line) {
         Ok(number) => Ok(number),
         Err(flaw) => Err(LineFault {
-            line: u64::from(line.number()),
+            line: u64::from(at),
             flaw,
         }),
     }

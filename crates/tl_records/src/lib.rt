@@ -11,10 +11,10 @@ mod type4;
 mod type5;
 mod type6;
 
-pub use checks::{rt1, rt4, rt5, rt6};
+pub use checks::{rt1, rt1_of, rt4, rt5, rt6};
 pub use fault::{LineFault, LineFlaw};
 pub use layout::{Layout, Places};
-pub use lines::{Line, read_line};
+pub use lines::{Line, read_line, read_line_into};
 pub use type1::Rt1;
 pub use type4::Rt4;
 pub use type5::Rt5;

@@ -68,33 +68,46 @@ pub fn read_line<R: CountedRead>(input: &mut R, line: &mut Line) -> Result<Optio
     ensures { IsLineRead line.old line.new
         (reader R.remaining R.failed_reads input.old) (reader R.remaining R.failed_reads input.new) result }
 {
-    if line.number == u32::MAX {
-        line.content.clear();
+    read_line_into(input, &mut line.number, &mut line.content)
+}
+
+/// The same for a number and bytes that don't stand in a [`Line`].
+#[inline(always)]
+pub fn read_line_into<R: CountedRead>(
+    input: &mut R,
+    number: &mut u32,
+    content: &mut ArrayVec<u8, LONGEST_CONTENT>,
+) -> Result<Option<()>, LineFault>
+    ensures { IsLineRead (record { number = number.old; bytes = content.old.items }) (record { number = number.new; bytes = content.new.items })
+        (reader R.remaining R.failed_reads input.old) (reader R.remaining R.failed_reads input.new) result }
+{
+    if *number == u32::MAX {
+        content.clear();
         return expect_end(input);
     }
-    let next = line.number + 1;
-    match input.read_content(&mut line.content) {
+    let next = *number + 1;
+    match input.read_content(content) {
         Stop::LineFeed => {
-            take_off_return(&mut line.content);
-            line.number = next;
+            take_off_return(content);
+            *number = next;
             Ok(Some(()))
         }
         Stop::EndOfInput => {
-            if line.content.is_empty() {
+            if content.is_empty() {
                 return Ok(None);
             }
-            line.number = next;
+            *number = next;
             Ok(Some(()))
         }
         Stop::TooLong => {
-            line.content.clear();
+            content.clear();
             Err(LineFault {
                 line: u64::from(next),
                 flaw: LineFlaw::WrongLength,
             })
         }
         Stop::ReadFailed => {
-            line.content.clear();
+            content.clear();
             Err(LineFault {
                 line: u64::from(next),
                 flaw: LineFlaw::Read,

@@ -1,19 +1,22 @@
 -- What an index has of a TLID is what its lines have.
-use Rattle.std.proofs.Common.{◌≡◌, ◌≤◌, ℕ, inl, inr, length, List, [], ◌∷◌, ◌++◌, map, Option, Some, None, is_some, IsSome, refl, sym, ap, ◌∙◌, arith}
+use Rattle.std.proofs.Common.{◌≡◌, ◌≤◌, ℕ, inl, inr, length, List, [], ◌∷◌, ◌++◌, map, Option, Some, None, is_some, IsSome, Ok, Err, refl, sym, ap, subst, ◌∙◌, arith}
 use Rattle.std.specs.List.{filter_map, flat_map, cons_option}
 use Rattle.std.specs.Option.{option_and_then, option_map_or}
 use Rattle.std.proofs.lemmas.List.{map-append}
 use Rattle.std.proofs.lemmas.List.Elements.{filter_map-append, All-nil, All-cons}
+use Rattle.tl_fields.specs.Device.{Reader}
 use Rattle.tl_fields.specs.Number.{number_of}
 use Rattle.tl_records.specs.Layout.{field_at}
+use Rattle.tl_records.specs.Lines.{LineParts}
 use Rattle.tl_records.specs.declared.layout.Places.{Places}
 use Rattle.tl_records.specs.declared.type4.TheConstants.Rt4.{FEAT1, FEAT2, FEAT3, FEAT4, FEAT5}
 use Rattle.tl_segments.specs.County.{AreTlids, HasTlids, tlid_of}
-use Rattle.tl_segments.specs.Indexing.{IsIndexOf, names_in}
+use Rattle.tl_segments.specs.Indexing.{IsIndexOf, IsRecordRead, IsSegmentRead, ReadsGoodLine, names_in}
 use Rattle.tl_segments.specs.Joining.{JoinedLines, number_in, lines_with, features_of, feature_name, alternate_names, further_ranges, segment_of}
-use Rattle.tl_segments.specs.Segment.{Contents, HasJoined}
+use Rattle.tl_segments.specs.Segment.{Contents, HasJoined, line_of}
 use Rattle.tl_segments.specs.Tables.{feature_numbers, list_at, name_at, names_among}
 use Rattle.tl_segments.specs.declared.fault.CountyFile.TheVariants.{Rt1, Rt4}
+use Rattle.tl_segments.specs.declared.fault.LoadFault.TheVariants.{Memory}
 use Rattle.tl_segments.specs.declared.feature_names.FeatureNames.{FeatureNames}
 use Rattle.tl_segments.specs.declared.index.Index.{Index}
 
@@ -57,6 +60,26 @@ module _ {A : Type 0} (index : Index A) (lines : JoinedLines) (line : List ℕ) 
 
   pub ranges_joined : 1 ≤ length (list_at index.ranges tlid) → HasJoined (segment_of lines line)
   ranges_joined some = inr (λ none. let same = ap (λ (segment : Contents). length segment.ranges) from_index in let no = ap length none in omega (arith, some, same, no))
+
+-- what is so of the line that was read into a segment, where the segment still has its bytes
+module _ {A : Type 0} (index : Index A) (line : LineParts) (number tlid : ℕ) (read : Contents) (old new : Reader) (is : IsRecordRead line number read old new (Ok (Some tlid))) (segment : Contents) (same : segment.bytes ≡ read.bytes) where
+  good_line : ReadsGoodLine line (line_of number segment) old new
+  good_line = subst (λ bytes. ReadsGoodLine line (record { number = number; bytes = bytes }) old new) (sym same) is.0.0
+
+  numbered : number_in Rt1 segment.bytes ≡ Some tlid
+  numbered = ap (number_in Rt1) same ∙ is.0.1
+
+  -- it has what the index has of its TLID
+  pub segment_read : segment ≡ record { bytes = segment.bytes; names = names_in index tlid; ranges = list_at index.ranges tlid } → IsSegmentRead index line number segment old new (Ok (Some tt))
+  segment_read made =
+      (good_line, λ lines of_lines. segment_from_index index lines segment.bytes tlid segment of_lines numbered made)
+
+  -- memory is wanting for a name or a range
+  pub wants_names : 1 ≤ length (names_in index tlid) → IsSegmentRead index line number segment old new (Err Memory)
+  wants_names some = (good_line, λ lines of_lines. names_joined index lines segment.bytes tlid of_lines numbered some)
+
+  pub wants_ranges : 1 ≤ length (list_at index.ranges tlid) → IsSegmentRead index line number segment old new (Err Memory)
+  wants_ranges some = (good_line, λ lines of_lines. ranges_joined index lines segment.bytes tlid of_lines numbered some)
 
 -- segments with these numbers for TLIDs have numbers for TLIDs
 pub has_tlids : (tlids : List ℕ) (segments : List Contents) → AreTlids tlids segments → HasTlids segments

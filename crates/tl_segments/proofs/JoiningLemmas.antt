@@ -10,7 +10,8 @@ use Rattle.std.proofs.lemmas.List.Folds.{find-append}
 use Rattle.tl_records.specs.Layout.{field_at}
 use Rattle.tl_records.specs.declared.type5.TheConstants.Rt5.{FENAME}
 use Rattle.tl_segments.specs.Joining.{JoinedLines, number_in, has_number, lines_with, feature_name, segment_of, segments_of, FewHaveEach}
-use Rattle.tl_segments.specs.Tables.{AddsAt, AddsNameAt, KeepsNames, list_at, name_at}
+use Rattle.tl_segments.specs.Tables.{AddsAt, AddsNameAt, CountsAt, KeepsCounts, KeepsNames, list_at, name_at}
+use Rattle.tl_segments.specs.declared.counts.Counts.{Counts}
 use Rattle.tl_segments.specs.declared.fault.CountyFile.{CountyFile}
 use Rattle.tl_segments.specs.declared.fault.CountyFile.TheVariants.{Rt5}
 use Rattle.tl_segments.specs.declared.feature_names.FeatureNames.{FeatureNames}
@@ -79,3 +80,8 @@ keeps-full file f table lines number keeps full = omega (arith, ap length keeps,
 -- the segment of one line more
 pub segments_push : (joined : JoinedLines) (lines : List (List ℕ)) (line : List ℕ) → segments_of joined (lines ++ line ∷ []) ≡ segments_of joined lines ++ segment_of joined line ∷ []
 segments_push joined lines line = map-append (segment_of joined) lines (line ∷ [])
+
+-- counts of lines that count one line more
+pub counts-push : {A : Type 0} (file : CountyFile) (old new : Counts A) (lines : List (List ℕ)) (line : List ℕ) (number : ℕ) → number_in file line ≡ Some number → KeepsCounts file old lines → CountsAt old new number → KeepsCounts file new (lines ++ line ∷ [])
+counts-push file old new lines line number is keeps adds q =
+    adds.counts q ∙ ap (λ n. n + cond (nat_eq number q) 1 0) (keeps q) ∙ sym (length_with-push file lines line number q is)

@@ -1,15 +1,15 @@
 -- An index of what is joined to type 1 lines, as the lines of types 4, 5 and 6 that it's made of.
-use Rattle.std.specs.Prelude.{◌≡◌, ◌⊎◌, ℕ, List, Option, Some, None, Result, Ok, Err}
+use Rattle.std.specs.Prelude.{◌≡◌, ◌⊎◌, ℕ, List, [], Option, Some, None, Result, Ok, Err}
 use Rattle.std.specs.List.{flat_map}
 use Rattle.tl_fields.specs.Device.{Reader}
 use Rattle.tl_records.specs.Lines.{LineParts, IsLineRead}
 use Rattle.tl_records.specs.Records.{IsGoodLine, IsLineFault}
 use Rattle.tl_records.specs.declared.fault.LineFault.{LineFault}
 use Rattle.tl_segments.specs.CountyFile.{layout}
-use Rattle.tl_segments.specs.Joining.{JoinedLines, segment_of}
+use Rattle.tl_segments.specs.Joining.{JoinedLines, number_in, segment_of}
 use Rattle.tl_segments.specs.Loading.{Readers, ReadsJoined}
 use Rattle.tl_segments.specs.Tables.{KeepsFeatures, KeepsNames, KeepsRanges, list_at, names_among}
-use Rattle.tl_segments.specs.Segment.{Contents, HasJoined}
+use Rattle.tl_segments.specs.Segment.{Contents, HasJoined, blank_segment, line_of}
 use Rattle.tl_segments.specs.declared.fault.CountyFile.TheVariants.{Rt1}
 use Rattle.tl_segments.specs.declared.fault.LoadFault.{LoadFault}
 use Rattle.tl_segments.specs.declared.fault.LoadFault.TheVariants.{Line, Memory}
@@ -40,12 +40,29 @@ abbrev pub IsNextFault : LineFault → LineParts → LineParts → Reader → Re
 IsNextFault fault line line' old new =
     IsLineRead line line' old new (Err fault) ⊎ (IsLineRead line line' old new (Ok (Some tt)) × IsLineFault (layout Rt1) line' fault)
 
--- what making the segment of the next type 1 line does to the line and the reader; memory is wanting only where something is joined to the line
-abbrev pub IsSegmentRead : {A : Type 0} → Index A → LineParts → LineParts → Reader → Reader → Result (Option Contents) LoadFault → Type 0
-IsSegmentRead index line line' old new (Ok (Some segment)) =
-    ReadsGoodLine line line' old new × ((lines : JoinedLines) → IsIndexOf index lines → segment ≡ segment_of lines line'.bytes)
-IsSegmentRead index line line' old new (Ok None) = IsLineRead line line' old new (Ok None)
-IsSegmentRead index line line' old new (Err (Line file fault)) = (file ≡ Rt1) × IsNextFault fault line line' old new
-IsSegmentRead index line line' old new (Err Memory) =
-    ReadsGoodLine line line' old new × ((lines : JoinedLines) → IsIndexOf index lines → HasJoined (segment_of lines line'.bytes))
-IsSegmentRead index line line' old new (Err fault) = ⊥
+-- what reading the next line of a type 1 file does to the line and the reader: it was read and is good, and its TLID has this number
+abbrev pub IsRt1Read : LineParts → LineParts → Reader → Reader → Result (Option ℕ) LineFault → Type 0
+IsRt1Read line line' old new (Ok (Some tlid)) = ReadsGoodLine line line' old new × (number_in Rt1 line'.bytes ≡ Some tlid)
+IsRt1Read line line' old new (Ok None) = IsLineRead line line' old new (Ok None)
+IsRt1Read line line' old new (Err fault) = IsNextFault fault line line' old new
+
+-- The same of a segment that the line is read into, and of the line's number. At the end of the input and after a fault the segment is blank,
+-- whatever bytes the line had.
+abbrev pub IsRecordRead : LineParts → ℕ → Contents → Reader → Reader → Result (Option ℕ) LineFault → Type 0
+IsRecordRead line number segment old new (Ok (Some tlid)) =
+    IsRt1Read line (line_of number segment) old new (Ok (Some tlid)) × (segment ≡ record { bytes = segment.bytes; names = []; ranges = [] })
+IsRecordRead line number segment old new result =
+    ((bytes : List ℕ) × IsRt1Read line (record { number = number; bytes = bytes }) old new result) × (segment ≡ blank_segment)
+
+-- What reading the next segment does to the number of lines, the segment and the reader: its line was read and is good, and it has what the
+-- index's lines give it; or it is blank, at the end of the input or after a fault. Memory is wanting only where something is joined to the line.
+abbrev pub IsSegmentRead : {A : Type 0} → Index A → LineParts → ℕ → Contents → Reader → Reader → Result (Option (Unit {0})) LoadFault → Type 0
+IsSegmentRead index line number segment old new (Ok (Some done)) =
+    ReadsGoodLine line (line_of number segment) old new × ((lines : JoinedLines) → IsIndexOf index lines → segment ≡ segment_of lines segment.bytes)
+IsSegmentRead index line number segment old new (Ok None) =
+    ((bytes : List ℕ) × IsLineRead line (record { number = number; bytes = bytes }) old new (Ok None)) × (segment ≡ blank_segment)
+IsSegmentRead index line number segment old new (Err (Line file fault)) =
+    (file ≡ Rt1) × ((bytes : List ℕ) × IsNextFault fault line (record { number = number; bytes = bytes }) old new) × (segment ≡ blank_segment)
+IsSegmentRead index line number segment old new (Err Memory) =
+    ReadsGoodLine line (line_of number segment) old new × ((lines : JoinedLines) → IsIndexOf index lines → HasJoined (segment_of lines segment.bytes))
+IsSegmentRead index line number segment old new (Err fault) = ⊥

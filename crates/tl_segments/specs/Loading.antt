@@ -119,6 +119,10 @@ pub record ReadsJoined (lines : JoinedLines) (old new : Readers) : Type 0 where
   pub rt5 : ReadsFile Rt5 lines.rt5 old.rt5 new.rt5
   pub rt6 : ReadsFile Rt6 lines.rt6 old.rt6 new.rt6
 
+-- these files were read to their ends without a fault
+abbrev pub AreFaultless : Readers → Readers → Type 0
+AreFaultless old new = (lines : JoinedLines) × ReadsJoined lines old new
+
 -- why these files can't be loaded: they are read in this order, each to its end, up to the first that can't be
 pub data IsJoinedFault (fault : LoadFault) (old new : Readers) : Type 0 where
   in_rt4 : IsFileFault Rt4 fault old.rt4 new.rt4 → new.rt5 ≡ old.rt5 → new.rt6 ≡ old.rt6 → IsJoinedFault fault old new

@@ -1,6 +1,7 @@
 -- Street segments (TIGER/Line 2006, record types 1, 4, 5 and 6).
-use Rattle.std.specs.Prelude.{◌≢◌, ◌⊎◌, ℕ, ◌≤◌, List, [], ◌∷◌, length, All}
+use Rattle.std.specs.Prelude.{◌≢◌, ◌⊎◌, ℕ, ◌≤◌, List, [], ◌∷◌, length, replicate, All}
 use Rattle.tl_records.specs.Layout.{field_at}
+use Rattle.tl_records.specs.Lines.{LineParts}
 use Rattle.tl_records.specs.declared.type1.TheConstants.Rt1.{FENAME}
 use Rattle.tl_segments.specs.Range.{AreBytes, IsRange, own_range}
 use Rattle.tl_segments.specs.declared.name.TheConstants.{NAME_LENGTH}
@@ -20,6 +21,14 @@ pub record IsSegment (segment : Contents) : Type 0 where
   pub few_names : length segment.names ≤ NAME_LIMIT
   pub ranges : All IsRange segment.ranges
   pub few_ranges : length segment.ranges ≤ RANGE_LIMIT
+
+-- blanks for a record, and nothing else
+abbrev pub blank_segment : Contents
+blank_segment = record { bytes = replicate RECORD_LENGTH 32; names = []; ranges = [] }
+
+-- the line of this number, whose bytes are the segment's record
+abbrev pub line_of : ℕ → Contents → LineParts
+line_of number segment = record { number = number; bytes = segment.bytes }
 
 -- something is joined to the record: an alternate name or a further range
 abbrev pub HasJoined : Contents → Type 0

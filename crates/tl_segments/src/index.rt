@@ -2,13 +2,14 @@
 ghost use Rattle.std.specs.Prelude.{◌≡◌, ◌≤◌, ◌+◌, [], ◌++◌, length, IfErr, IfOk, OnErr, OnOk};
 ghost use Rattle.tl_fields.specs.Device.{reader};
 ghost use Rattle.tl_segments.specs.Joining.{JoinedLines, no_lines, segment_of};
-ghost use Rattle.tl_segments.specs.Loading.{IsJoinedFault, readers};
-ghost use Rattle.tl_segments.specs.Segment.{HasJoined};
+ghost use Rattle.tl_segments.specs.Loading.{AreFaultless, IsJoinedFault, readers};
+ghost use Rattle.tl_segments.specs.Segment.{HasJoined, blank_segment, line_of};
 ghost use Rattle.tl_segments.specs.Tables.{HasShortLists, list_at, names_among};
 ghost use Rattle.tl_segments.specs.declared.fault.CountyFile.TheVariants as county_file;
 ghost use Rattle.tl_segments.specs.declared.fault.LoadFault.TheVariants as load_fault;
 ghost use Rattle.tl_segments.specs.declared.segment.TheConstants.{NAME_LIMIT};
 
+use crate::checked::{NoNames, Rt4Counts, Rt6Counts};
 use crate::county_file::read_file;
 use crate::fault::{CountyFile, LoadFault};
 use crate::feature_names::FeatureNames;
@@ -18,7 +19,7 @@ use crate::segment::Segment;
 use crate::tables::Features;
 use std::alloc::{AllocError, Allocator};
 use tl_fields::CountedRead;
-use tl_records::{Line, LineFault, Rt1, read_line, rt1};
+use tl_records::{LineFault, Rt1};
 
 /// The alternate names and the further ranges of a county's segments, by TLID: what its files of types 4, 5 and 6 have.
 #[derive(Drop)]
@@ -72,6 +73,25 @@ impl<A: Allocator + Copy> Index<A> {
         })
     }
 
+    /// Reads and checks the files as [`load`](Self::load) does, with the same first fault, and keeps nothing of them: while they are read, how
+    /// many lines each TLID has.
+    pub fn check<R: CountedRead>(
+        alloc: A,
+        rt4: &mut R,
+        rt5: &mut R,
+        rt6: &mut R,
+    ) -> Result<(), LoadFault>
+        ensures ok { OnOk result (AreFaultless
+            (readers R.remaining R.failed_reads rt4.old rt5.old rt6.old) (readers R.remaining R.failed_reads rt4.new rt5.new rt6.new)) }
+        ensures err { IfErr result (λ fault. IsJoinedFault fault
+            (readers R.remaining R.failed_reads rt4.old rt5.old rt6.old) (readers R.remaining R.failed_reads rt4.new rt5.new rt6.new)) }
+    {
+        read_file(CountyFile::Rt4, &mut Rt4Counts::new(alloc), rt4)?;
+        read_file(CountyFile::Rt5, &mut NoNames, rt5)?;
+        read_file(CountyFile::Rt6, &mut Rt6Counts::new(alloc), rt6)?;
+        Ok(())
+    }
+
     /// The segment of a type 1 line, with the alternate names and the further ranges of its TLID. It asks for memory only where there are
     /// any.
     #[inline(always)]
@@ -87,33 +107,41 @@ impl<A: Allocator + Copy> Index<A> {
         Ok(segment)
     }
 
-    /// Reads the next line of a type 1 file into `line` and gives its segment, `None` at the end of the input. A line without an alternate name
-    /// and a further range takes no memory.
-    // Else each segment is copied on its way out.
+    /// A blank segment, for [`next_segment`](Self::next_segment) to read into. It takes no memory.
+    pub fn blank_segment(&self) -> Segment<A>
+        ensures { result ≡ blank_segment }
+    {
+        Segment::blank(self.alloc)
+    }
+
+    /// Reads the next line of a type 1 file, and makes the segment that of this line; `None` at the end of the input. `number` is that of the line
+    /// before, 0 before the first one, and then of this line. A line without an alternate name and a further range takes no memory. At the end and
+    /// after a fault the segment is blank; where memory is wanting it has the line's bytes.
     #[inline(always)]
     pub fn next_segment<R: CountedRead>(
         &self,
         input: &mut R,
-        line: &mut Line,
-    ) -> Result<Option<Segment<A>>, LoadFault>
-        ensures { IsSegmentRead self.now line.old line.new
+        number: &mut u32,
+        segment: &mut Segment<A>,
+    ) -> Result<Option<()>, LoadFault>
+        ensures { IsSegmentRead self.now (line_of number.old segment.old) number.new segment.new
             (reader R.remaining R.failed_reads input.old) (reader R.remaining R.failed_reads input.new) result }
     {
-        match read_line(input, line) {
-            Ok(Some(())) => {}
+        let tlid = match segment.read_record(input, number) {
+            Ok(Some(tlid)) => tlid,
             Ok(None) => return Ok(None),
             Err(fault) => return Err(rt1_fault(fault)),
-        }
-        match rt1(line) {
-            Ok(record) => Ok(Some(self.segment(&record)?)),
-            Err(fault) => Err(rt1_fault(fault)),
-        }
+        };
+        self.push_names(tlid, segment)?;
+        self.push_ranges(tlid, segment)?;
+        Ok(Some(()))
     }
 
     fn push_names(&self, tlid: u64, segment: &mut Segment<A>) -> Result<(), AllocError>
         requires { segment.old.names ≡ [] }
         ensures names { OnOk result (segment.new ≡ record segment.old { names = names_in self.now tlid }) }
         ensures some { OnErr result (1 ≤ length (names_in self.now tlid)) }
+        ensures bytes { segment.new.bytes ≡ segment.old.bytes }
     {
         let lines = self.features.list(tlid);
         for features in lines {
@@ -131,6 +159,7 @@ impl<A: Allocator + Copy> Index<A> {
         ensures names { OnOk result (segment.new ≡ record segment.old { names = segment.old.names ++ names_among self.now.names features.now }) }
         ensures few { OnOk result (length segment.new.names ≤ length segment.old.names + 5) }
         ensures some { OnErr result (1 ≤ length (names_among self.now.names features.now)) }
+        ensures bytes { segment.new.bytes ≡ segment.old.bytes }
     {
         for feat in features {
             if let Some(name) = self.names.name(*feat) {
@@ -144,6 +173,7 @@ impl<A: Allocator + Copy> Index<A> {
         requires { segment.old.ranges ≡ [] }
         ensures ranges { OnOk result (segment.new ≡ record segment.old { ranges = list_at self.now.ranges tlid }) }
         ensures some { OnErr result (1 ≤ length (list_at self.now.ranges tlid)) }
+        ensures bytes { segment.new.bytes ≡ segment.old.bytes }
     {
         let ranges = self.ranges.list(tlid);
         for range in ranges {

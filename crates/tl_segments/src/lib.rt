@@ -1,6 +1,8 @@
 //! Street segments (TIGER/Line 2006, record types 1, 4, 5 and 6): their names and address ranges, and how a county's files give them.
 #![tactic(auto)]
 
+mod checked;
+mod counts;
 mod county;
 mod county_file;
 mod fault;

@@ -1,14 +1,18 @@
 //! Street segments.
-ghost use Rattle.std.specs.Prelude.{◌≡◌, ◌≤◌, ◌<◌, ◌+◌, [], ◌∷◌, ◌++◌, length, option_copied, option_map, slice_get, IfSome, OnOk, OnErr};
+ghost use Rattle.std.specs.Prelude.{◌≡◌, ◌≤◌, ◌<◌, ◌+◌, [], ◌∷◌, ◌++◌, length, replicate, option_copied, option_map, slice_get, IfSome, OnOk, OnErr};
+ghost use Rattle.tl_fields.specs.Device.{reader};
+ghost use Rattle.tl_segments.specs.Indexing.{IsRecordRead, IsRt1Read};
 ghost use Rattle.tl_segments.specs.Range.{AreBytes, HasFieldLengths, IsRange, fields_of};
-ghost use Rattle.tl_segments.specs.Segment.{IsSegment, names_of, ranges_of};
+ghost use Rattle.tl_segments.specs.Segment.{IsSegment, blank_segment, line_of, names_of, ranges_of};
 ghost use Rattle.tl_segments.specs.declared.range.RangeFields.{RangeFields};
 
 use crate::name::NAME_LENGTH;
 use crate::range::{Range, RangeFields, copy_of, field_at, own_range};
+use arrayvec::ArrayVec;
 use std::alloc::{AllocError, Allocator};
 use std::marker::Model;
-use tl_records::Rt1;
+use tl_fields::{CountedRead, LONGEST_CONTENT};
+use tl_records::{LineFault, Rt1, read_line_into, rt1_of};
 
 /// How many bytes a type 1 record has, its end of line not counted (TIGER/Line 2006, record type 1).
 pub const RECORD_LENGTH: usize = 228;
@@ -27,7 +31,8 @@ pub const RANGE_LIMIT: usize = 1000;
 /// memory.
 #[derive(Drop)]
 pub struct Segment<A: Allocator> {
-    record: [u8; RECORD_LENGTH],
+    // A line is read into it, so it has room for the longest one.
+    record: ArrayVec<u8, LONGEST_CONTENT>,
     names: Vec<[u8; NAME_LENGTH], A>,
     ranges: Vec<RangeFields, A>,
 }
@@ -37,9 +42,9 @@ impl<A: Allocator> Model for Segment<A> {
 
     ghost Value = { Contents };
 
-    ghost view = { λ segment. record { bytes = segment.record; names = segment.names.items; ranges = segment.ranges.items } };
+    ghost view = { λ segment. record { bytes = segment.record.items; names = segment.names.items; ranges = segment.ranges.items } };
 
-    ghost invariant = { λ segment. IsSegment (record { bytes = segment.record; names = segment.names.items; ranges = segment.ranges.items }) };
+    ghost invariant = { λ segment. IsSegment (record { bytes = segment.record.items; names = segment.names.items; ranges = segment.ranges.items }) };
 }
 
 impl<A: Allocator + Copy> Segment<A> {
@@ -50,7 +55,18 @@ impl<A: Allocator + Copy> Segment<A> {
         ensures { result ≡ record { bytes = bytes.now; names = []; ranges = [] } }
     {
         Segment {
-            record: copy_of(bytes),
+            record: record_of(bytes),
+            names: Vec::new(alloc),
+            ranges: Vec::new(alloc),
+        }
+    }
+
+    /// The segment of a blank record, for a line to be read into.
+    pub(crate) fn blank(alloc: A) -> Self
+        ensures { result ≡ blank_segment }
+    {
+        Segment {
+            record: blank_record(),
             names: Vec::new(alloc),
             ranges: Vec::new(alloc),
         }
@@ -58,6 +74,33 @@ impl<A: Allocator + Copy> Segment<A> {
 }
 
 impl<A: Allocator> Segment<A> {
+    /// Reads the next line of a type 1 file in place of all that the segment has, and answers the number of its TLID, `None` at the end of the
+    /// input. `number` is that of the line before, and then of this one. At the end and after a fault the segment is blank. The room for names
+    /// and ranges is kept.
+    #[inline(always)]
+    pub(crate) fn read_record<R: CountedRead>(
+        &mut self,
+        input: &mut R,
+        number: &mut u32,
+    ) -> Result<Option<u64>, LineFault>
+        ensures { IsRecordRead (line_of number.old self.old) number.new self.new
+            (reader R.remaining R.failed_reads input.old) (reader R.remaining R.failed_reads input.new) result }
+    {
+        self.names.clear();
+        self.ranges.clear();
+        match read_rt1(input, number, &mut self.record) {
+            Ok(Some(tlid)) => Ok(Some(tlid)),
+            Ok(None) => {
+                self.record = blank_record();
+                Ok(None)
+            }
+            Err(fault) => {
+                self.record = blank_record();
+                Err(fault)
+            }
+        }
+    }
+
     /// Adds an alternate name behind the others.
     pub fn push_name(&mut self, name: &[u8]) -> Result<(), AllocError>
         requires length { length name.now ≡ NAME_LENGTH }
@@ -85,7 +128,7 @@ impl<A: Allocator> Segment<A> {
         ensures value { result.now ≡ self.now.bytes }
         ensures whole { IsSegment self.now }
     {
-        &self.record
+        self.record.as_slice()
     }
 
     /// How many alternate names it has.
@@ -103,7 +146,7 @@ impl<A: Allocator> Segment<A> {
         ensures bytes { IfSome result (λ name. AreBytes NAME_LENGTH name.now) }
     {
         let Some(further) = n.checked_sub(1) else {
-            return Some(field_at(Rt1::FENAME, &self.record));
+            return Some(field_at(Rt1::FENAME, self.record.as_slice()));
         };
         let name = self.names.get(further as usize)?;
         Some(name)
@@ -125,9 +168,49 @@ impl<A: Allocator> Segment<A> {
         ensures fields { IfSome result (λ range. IsRange (fields_of range)) }
     {
         let Some(further) = n.checked_sub(1) else {
-            return Some(own_range(&self.record));
+            return Some(own_range(self.record.as_slice()));
         };
         let fields = self.ranges.get(further as usize)?;
         Some(fields.as_range())
+    }
+}
+
+/// The bytes, in room for a line.
+fn record_of(bytes: &[u8]) -> ArrayVec<u8, LONGEST_CONTENT>
+    requires { length bytes.now ≡ RECORD_LENGTH }
+    ensures value { result.items ≡ bytes.now }
+    ensures bytes { AreBytes RECORD_LENGTH result.items }
+{
+    let mut record = ArrayVec::new();
+    record.try_extend_from_slice(bytes).unwrap();
+    record
+}
+
+#[cold]
+fn blank_record() -> ArrayVec<u8, LONGEST_CONTENT>
+    ensures value { result.items ≡ replicate RECORD_LENGTH 32 }
+    ensures bytes { AreBytes RECORD_LENGTH result.items }
+{
+    record_of(&[b' '; RECORD_LENGTH])
+}
+
+/// Reads the next line of a type 1 file, and answers the number of its TLID, `None` at the end of the input.
+#[inline(always)]
+fn read_rt1<R: CountedRead>(
+    input: &mut R,
+    number: &mut u32,
+    content: &mut ArrayVec<u8, LONGEST_CONTENT>,
+) -> Result<Option<u64>, LineFault>
+    ensures { IsRt1Read (record { number = number.old; bytes = content.old.items }) (record { number = number.new; bytes = content.new.items })
+        (reader R.remaining R.failed_reads input.old) (reader R.remaining R.failed_reads input.new) result }
+{
+    match read_line_into(input, number, content) {
+        Ok(Some(())) => {}
+        Ok(None) => return Ok(None),
+        Err(fault) => return Err(fault),
+    }
+    match rt1_of(*number, content.as_slice()) {
+        Ok(rt1) => Ok(Some(rt1.tlid_number())),
+        Err(fault) => Err(fault),
     }
 }

@@ -4,7 +4,6 @@ use crate::fixtures::{Files, behind_files, cut};
 use std::alloc::Global;
 use std::io::{BufReader, Read};
 use tl_fields::{Buffered, CountedRead, Counting};
-use tl_records::Line;
 use tl_segments::{County, Index};
 
 // The files, in one of which a line is refused, and how many bytes of each were taken then.
@@ -64,9 +63,10 @@ fn is_refused_by_segments<R: CountedRead>(alloc: Global, readers: &mut Readers<R
     let Ok(index) = joined else {
         return true;
     };
-    let mut line = Line::new();
+    let mut number = 0;
+    let mut segment = index.blank_segment();
     for _ in 0..9 {
-        match index.next_segment(&mut readers.rt1, &mut line) {
+        match index.next_segment(&mut readers.rt1, &mut number, &mut segment) {
             Ok(Some(_)) => {}
             Ok(None) => return false,
             Err(_) => return true,

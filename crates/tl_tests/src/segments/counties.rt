@@ -4,7 +4,7 @@ use crate::files::files_of;
 use crate::fixtures::{Files, RECORD_1, behind_files, cut, load, reader};
 use linked_list_allocator::LocalHeap;
 use std::alloc::{Allocator, Global};
-use tl_records::{Line, LineFault, LineFlaw};
+use tl_records::{LineFault, LineFlaw};
 use tl_segments::{County, CountyFile, Index, LoadFault, Segment};
 
 /// Whether this is said of a county that was loaded.
@@ -351,21 +351,16 @@ fn little_memory(rt: HostRuntime) {
     assert!(rt; refused > 100 && refused < 900, "{refused}");
 }
 
-/// Whether the next segment is the record's.
-fn is_record<A: Allocator>(segment: &Result<Option<Segment<A>>, LoadFault>) -> bool {
-    match segment {
-        Ok(Some(segment)) => segment.bytes() == RECORD_1.as_slice(),
-        _ => false,
-    }
-}
-
 /// Whether a line that nothing is joined to gets its segment where there is no memory at all.
 fn is_made_without_memory(alloc: Global) -> bool {
     let Ok(heap) = LocalHeap::new(alloc, 0) else {
         return false;
     };
+    let index = Index::new(&heap);
+    let mut segment = index.blank_segment();
     let mut rt1 = reader(RECORD_1, u64::MAX);
-    is_record(&Index::new(&heap).next_segment(&mut rt1, &mut Line::new()))
+    index.next_segment(&mut rt1, &mut 0, &mut segment) == Ok(Some(()))
+        && segment.bytes() == RECORD_1.as_slice()
 }
 
 #[test]

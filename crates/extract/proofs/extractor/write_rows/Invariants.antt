@@ -1,11 +1,12 @@
 use Rattle.std.proofs.Common.{◌-◌, ◌^◌}
 use Rattle.tl_fields.specs.Device.{reader, writer}
+use Rattle.tl_segments.specs.Segment.{line_of}
 use Rattle.extract.proofs.ExtractLemmas.{IsExtractedSoFar}
 use Rattle.extract.proofs.extractor.write_rows.Given as goal
 
 abbrev pub invariant-loop-segment : goal.invariant-loop-segment
 invariant-loop-segment g l =
-    IsExtractedSoFar l.index l.verified.code l.rows l.line (reader g.R.Read.remaining g.R.CountedRead.failed_reads l.initial.rt1) (reader g.R.Read.remaining g.R.CountedRead.failed_reads l.rt1) (writer g.W.Write.contents g.W.CountedWrite.counts l.initial.out) (writer g.W.Write.contents g.W.CountedWrite.counts l.out)
+    IsExtractedSoFar l.index l.verified.code l.rows (line_of l.number l.segment) (reader g.R.Read.remaining g.R.CountedRead.failed_reads l.initial.rt1) (reader g.R.Read.remaining g.R.CountedRead.failed_reads l.rt1) (writer g.W.Write.contents g.W.CountedWrite.counts l.initial.out) (writer g.W.Write.contents g.W.CountedWrite.counts l.out)
 
 abbrev pub decreases-loop-segment : goal.decreases-loop-segment
-decreases-loop-segment g l = 2 ^ 32 - l.line.number
+decreases-loop-segment g l = 2 ^ 32 - l.number

@@ -1,20 +1,31 @@
-use Rattle.std.proofs.Common.{ap, subst, ◌∙◌}
+use Rattle.std.proofs.Common.{ap, sym, ◌∙◌}
 use Rattle.std.proofs.lemmas.Result.{err_from_is_err_and}
-use Rattle.tl_segments.specs.Joining.{segment_of}
-use Rattle.tl_segments.specs.Segment.{HasJoined}
+use Rattle.tl_segments.specs.Indexing.{names_in}
+use Rattle.tl_segments.specs.Segment.{Contents, line_of}
+use Rattle.tl_segments.specs.Tables.{list_at}
+use Rattle.tl_segments.proofs.IndexLemmas.{segment_read, wants_names, wants_ranges}
 use Rattle.tl_segments.proofs.index.Index.next_segment.Goals as goal
 
-pub returns-in_ok-segment-in-Ok : goal.returns-in_ok-segment-in-Ok
-returns-in_ok-segment-in-Ok g c =
-    let next = rw c.in-Ok-Some.field-0-is at c.in-Ok-Some.ensures in
-    let record_of = c.in-Ok.ensures.ok in
-    let made = c.in_ok-segment-in-Ok.ensures.ok in
-    ((next, record_of.1), λ lines of_lines. made lines of_lines ∙ ap (λ bytes. segment_of lines bytes) record_of.0)
+pub returns : goal.returns
+returns g c =
+    let index = c.args.self.now in
+    let tlid = c.in-Ok-Some.tlid in
+    let names = names_in index tlid in
+    let ranges = list_at index.ranges tlid in
+    let is = rw c.in-Ok-Some.field-0-is at c.in-Ok-Some.ensures in
+    let same = c.push_ranges.ensures.bytes ∙ c.push_names.ensures.bytes in
+    let made = c.in_ok-push_ranges.ensures.ranges ∙ ap (λ (segment : Contents). record segment { ranges = ranges }) c.in_ok-push_names.ensures.names in
+    segment_read index (line_of c.args.number.now c.args.segment.now) _ tlid c.read_record.new.self _ _ is c.push_ranges.new.segment same (made ∙ ap (λ bytes. record { bytes = bytes; names = names; ranges = ranges }) (sym same))
 
-pub returns-in_err-segment-in-Ok : goal.returns-in_err-segment-in-Ok
-returns-in_err-segment-in-Ok g c =
-    let next = rw c.in-Ok-Some.field-0-is at c.in-Ok-Some.ensures in
-    let record_of = c.in-Ok.ensures.ok in
+pub returns-in_err-push_names : goal.returns-in_err-push_names
+returns-in_err-push_names g c =
+    let is = rw c.in-Ok-Some.field-0-is at c.in-Ok-Some.ensures in
     let returned = err_from_is_err_and c.from_residual.result c.from_residual.ensures.1 in
-    rw (returned.1, returned.2)
-    ((next, record_of.1), λ lines of_lines. subst (λ bytes. HasJoined (segment_of lines bytes)) record_of.0 (c.in_err-segment-in-Ok.ensures.memory lines of_lines))
+    rw (returned.1, returned.2) (wants_names c.args.self.now (line_of c.args.number.now c.args.segment.now) _ c.in-Ok-Some.tlid c.read_record.new.self _ _ is c.push_names.new.segment c.push_names.ensures.bytes c.in_err-push_names.ensures.some)
+
+pub returns-in_err-push_ranges : goal.returns-in_err-push_ranges
+returns-in_err-push_ranges g c =
+    let is = rw c.in-Ok-Some.field-0-is at c.in-Ok-Some.ensures in
+    let same = c.push_ranges.ensures.bytes ∙ c.push_names.ensures.bytes in
+    let returned = err_from_is_err_and c.from_residual-in_err-push_ranges.result c.from_residual-in_err-push_ranges.ensures.1 in
+    rw (returned.1, returned.2) (wants_ranges c.args.self.now (line_of c.args.number.now c.args.segment.now) _ c.in-Ok-Some.tlid c.read_record.new.self _ _ is c.push_ranges.new.segment same c.in_err-push_ranges.ensures.some)

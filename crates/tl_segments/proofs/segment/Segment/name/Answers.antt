@@ -6,7 +6,7 @@ use Rattle.tl_segments.proofs.segment.Segment.name.Goals as goal
 
 pub returns-in_default-clause-bytes : goal.returns-in_default-clause-bytes
 returns-in_default-clause-bytes g c =
-    rw c.field_at.ensures.value (AreBytes-field_of c.self.inside.record 228 20 49 c.self.invariant.bytes (omega arith) (omega arith) (omega arith))
+    rw (c.field_at.ensures.value, c.as_slice.ensures.value) (AreBytes-field_of c.self.inside.record.items 228 20 49 c.self.invariant.bytes (omega arith) (omega arith) (omega arith))
 
 pub returns-in_err-name-clause-value : goal.returns-in_err-name-clause-value
 returns-in_err-name-clause-value g c =

@@ -8,7 +8,7 @@ use Rattle.tl_segments.proofs.segment.Segment.range.Goals as goal
 pub returns-in_default-clause-value : goal.returns-in_default-clause-value
 returns-in_default-clause-value g c =
     let first : c.args.n < 1 = omega (arith, c.in_default.ensures) in
-    let own = c.own_range.ensures.value ∙ ap (λ (segment : Contents). own_range segment.bytes) c.self.view_is in
+    let own = c.own_range.ensures.value ∙ ap (λ bytes. own_range bytes) c.as_slice.ensures.value ∙ ap (λ (segment : Contents). own_range segment.bytes) c.self.view_is in
     rw own (sym (slice_get-own (own_range c.args.self.now.bytes) c.args.self.now.ranges c.args.n first))
 
 pub returns-in_err-fields-clause-value : goal.returns-in_err-fields-clause-value
