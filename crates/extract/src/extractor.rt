@@ -11,7 +11,8 @@ ghost use Rattle.extract.specs.declared.program.ProgramFault.{ProgramFault};
 use crate::fault::ExtractFault;
 use crate::program::accept;
 use crate::rows::write_row_if_chosen;
-use bpf_meaning::{State, reads_record_alone};
+use bpf_machine::Bare;
+use bpf_meaning::reads_record_alone;
 use bpf_verify::Verified;
 use std::alloc::Allocator;
 use tl_fields::{CountedRead, CountedWrite};
@@ -85,10 +86,10 @@ fn write_rows<A: Allocator + Copy, R: CountedRead, W: CountedWrite>(
 {
     let mut number = 0;
     let mut segment = index.blank_segment();
-    let mut state = State::start();
+    let mut bare = Bare::start();
     let mut rows = 0;
     while let Some(()) = index.next_segment(rt1, &mut number, &mut segment)? {
-        rows += write_row_if_chosen(verified, &segment, &mut state, out)?;
+        rows += write_row_if_chosen(verified, &segment, &mut bare, out)?;
     }
     Ok(rows)
 }

@@ -6,8 +6,7 @@ ghost use Rattle.bpf_meaning.specs.Extract.{row_of};
 ghost use Rattle.extract.specs.Rows.{WritesRow};
 
 use arrayvec::ArrayVec;
-use bpf_machine::run_in;
-use bpf_meaning::State;
+use bpf_machine::{Bare, run_in};
 use bpf_verify::Verified;
 use itoa::Buffer;
 use std::alloc::Allocator;
@@ -49,18 +48,18 @@ pub fn row<A: Allocator, W: CountedWrite>(
     Ok(())
 }
 
-/// Writes the row of a segment if the code chooses it, and answers how many rows that were. The code runs in the state, whatever it is.
+/// Writes the row of a segment if the code chooses it, and answers how many rows that were. The code runs in the machine, whatever it holds.
 #[inline]
 pub(crate) fn write_row_if_chosen<A: Allocator, B: Allocator, W: CountedWrite>(
     verified: &Verified<A>,
     segment: &Segment<B>,
-    state: &mut State,
+    bare: &mut Bare,
     out: &mut W,
 ) -> Result<u64, WriteFault>
     ensures { WritesRow verified.now.code segment.now result
         (writer W.contents W.counts out.old) (writer W.contents W.counts out.new) }
 {
-    let answer = run_in(state, verified, segment);
+    let answer = run_in(bare, verified, segment);
     if answer.r0 == 0 {
         return Ok(0);
     }
