@@ -53,8 +53,8 @@ pub struct Bare {
 }
 
 impl Bare {
-    /// The machine with which a program starts: register 1 points to the record's first byte, register 10 behind the frame's last, and what
-    /// else it holds is never read before it is written.
+    /// The machine with which a program starts, the same on every segment: register 1 points to the record's first byte, register 10 behind the
+    /// frame's last. What else it holds is read by no program before it's written.
     pub fn start() -> Self
         ensures entry { result.at ≡ 0 }
         ensures words { Holds start (words_of result) }
@@ -99,6 +99,7 @@ impl Bare {
         self.registers.words[usize::from(destination.number)] = word;
     }
 
+    /// An operation with an immediate as the second operand (RFC 9669, section 4.1).
     #[inline(always)]
     #[tactic(auto, unfolding(crate::specs::Words::next_words))]
     pub(crate) fn alu_immediate(
@@ -117,6 +118,7 @@ impl Bare {
         next
     }
 
+    /// An operation with a register as the second operand.
     #[inline(always)]
     #[tactic(auto, unfolding(crate::specs::Words::next_words))]
     pub(crate) fn alu_register(
@@ -135,6 +137,7 @@ impl Bare {
         next
     }
 
+    /// A move that extends a sign.
     #[inline(always)]
     #[tactic(auto, unfolding(crate::specs::Words::next_words))]
     pub(crate) fn extend(
@@ -151,6 +154,7 @@ impl Bare {
         next
     }
 
+    /// A register's negative.
     #[inline(always)]
     #[tactic(auto, unfolding(crate::specs::Words::next_words))]
     pub(crate) fn negate(
@@ -167,6 +171,7 @@ impl Bare {
         next
     }
 
+    /// A register's bytes in another order (section 4.2).
     #[inline(always)]
     #[tactic(auto, unfolding(crate::specs::Words::next_words))]
     pub(crate) fn byte_swap(
@@ -184,6 +189,7 @@ impl Bare {
         next
     }
 
+    /// A number of 64 bits (section 5.4).
     #[inline(always)]
     #[tactic(auto, unfolding(crate::specs::Words::next_words))]
     pub(crate) fn wide_load(
@@ -201,6 +207,7 @@ impl Bare {
         next
     }
 
+    /// A conditional jump that compares with an immediate (section 4.3).
     #[inline(always)]
     #[tactic(auto, unfolding(crate::specs::Words::next_words))]
     pub(crate) fn jump_immediate(
@@ -221,6 +228,7 @@ impl Bare {
         next
     }
 
+    /// A conditional jump that compares with a register.
     #[inline(always)]
     #[tactic(auto, unfolding(crate::specs::Words::next_words))]
     pub(crate) fn jump_register(
@@ -252,7 +260,7 @@ impl Bare {
         }
     }
 
-    /// A load from the record.
+    /// A load from the record (sections 5.1 and 5.2).
     #[inline(always)]
     #[tactic(auto, unfolding(crate::specs::Words::next_words))]
     pub(crate) fn load_record<A: Allocator>(
@@ -291,6 +299,7 @@ impl Bare {
         next
     }
 
+    /// A store of an immediate in the frame (section 5.1).
     #[inline(always)]
     #[tactic(auto, unfolding(crate::specs::Words::next_words))]
     pub(crate) fn store_immediate<A: Allocator>(
@@ -314,6 +323,7 @@ impl Bare {
         next
     }
 
+    /// A store of a register in the frame.
     #[inline(always)]
     #[tactic(auto, unfolding(crate::specs::Words::next_words))]
     pub(crate) fn store_register<A: Allocator>(
