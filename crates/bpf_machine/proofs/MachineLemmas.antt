@@ -1,5 +1,6 @@
 -- What a run that is on its way comes to, and what a run that exits excludes.
-use Rattle.std.proofs.Common.{◌≡◌, ℕ, ◌≤◌, List, [], ◌∷◌, length, Some, None, refl, subst, arith}
+use Rattle.std.proofs.Common.{◌≡◌, ℕ, ◌≤◌, List, [], ◌∷◌, length, Some, None, refl, sym, ap, subst, arith}
+use Rattle.bpf_insn.specs.Code.{place_of}
 use Rattle.bpf_insn.specs.declared.instruction.Insn.{Insn}
 use Rattle.tl_segments.specs.Segment.{Contents}
 use Rattle.bpf_meaning.specs.State.{start}
@@ -7,10 +8,12 @@ use Rattle.bpf_meaning.specs.Step.{Configuration, Running, Exited, Stuck, after}
 use Rattle.bpf_meaning.specs.Run.{FollowSteps, last_of, Answers, IsNeverStuck, Exits}
 use Rattle.bpf_meaning.specs.declared.cause.Cause.{Cause}
 use Rattle.bpf_meaning.specs.declared.state.State.{State}
+use Rattle.bpf_machine.specs.Machine as machine
 use Rattle.bpf_machine.specs.Machine.{Does, HoldsState, IsReached}
+use Rattle.bpf_machine.specs.Words.{Holds, words_of}
 use Rattle.bpf_machine.specs.declared.bare.Answer.{Answer}
 use Rattle.bpf_machine.specs.declared.bare.Bare.{Bare}
-use Rattle.bpf_meaning.proofs.RunLemmas.{one_next, ends_there, IsOnItsWay, comes_to}
+use Rattle.bpf_meaning.proofs.RunLemmas.{goes_on, one_next, ends_there, IsOnItsWay, comes_to}
 
 -- no way that exits is as short as one that is still running
 pub exits_first : (code : List Insn) (segment : Contents) (from : Configuration) (run others : List Configuration) (answer score : ℕ) (state : State) → FollowSteps code segment from run → FollowSteps code segment from others → last_of from run ≡ Exited answer score → last_of from others ≡ Running state → length run ≤ length others → ⊥
@@ -53,3 +56,23 @@ has_ended code (Stuck place cause) answer old new does = absurd does
 
 pub reached_by : (code : List Insn) (segment : Contents) (steps : ℕ) (state : State) → IsOnItsWay code segment steps state → IsReached code segment state
 reached_by code segment steps state way = record { run = way.run; is_run = way.is_run; ends = way.ends }
+
+-- a step that goes on leaves the machine on its way
+
+stays_reached : (code : List Insn) (segment : Contents) (state next : State) → IsReached code segment state → after code segment state ≡ Running next → IsReached code segment next
+stays_reached code segment state next reached is =
+    let way = goes_on code segment (length reached.run) state next (record { run = reached.run; is_run = reached.is_run; ends = reached.ends; long = refl }) (sym is) in
+    record { run = way.run; is_run = way.is_run; ends = way.ends }
+
+pub stays_on : (code : List Insn) (segment : Contents) (state : State) (old new : Bare) → IsReached code segment state → Does code (after code segment state) None old new → machine.IsOnItsWay code segment new
+stays_on code segment state old new reached does =
+    let on = went_on code (after code segment state) old new does in record { state = on.0; reached = stays_reached code segment state on.0 reached on.1; holds = on.2 }
+
+-- and so does the start
+
+pub begins : (code : List Insn) (segment : Contents) (bare : Bare) → bare.at ≡ 0 → Holds start (words_of bare) → machine.IsOnItsWay code segment bare
+begins code segment bare at holds = record {
+  state = start;
+  reached = record { run = []; is_run = tt; ends = refl };
+  holds = record { at = sym (ap (place_of code) at); words = holds };
+}

@@ -1,5 +1,5 @@
 //! The state of a bare machine, and what an instruction does to it.
-ghost use Rattle.std.specs.Prelude.{◌≡◌, ◌≤◌, ◌≤ℤ◌, ◌+◌, ℕ, pos, length, Ok, IsOk, unsigned_abs};
+ghost use Rattle.std.specs.Prelude.{◌≡◌, ◌≤◌, ◌≤ℤ◌, ◌+◌, ℕ, pos, List, length, Ok, IsOk, unsigned_abs};
 ghost use Rattle.std.specs.Int.{bytes_low_first};
 ghost use Rattle.tl_segments.specs.Segment.{Contents};
 ghost use Rattle.bpf_insn.specs.Memory.{load_length, store_length};
@@ -9,6 +9,7 @@ ghost use Rattle.bpf_flat.specs.Flat.{alu_immediate, alu_register, jump_immediat
 ghost use Rattle.bpf_helpers.specs.Call.{MeetsSignature, write};
 ghost use Rattle.bpf_helpers.specs.Helper.{signature};
 ghost use Rattle.bpf_meaning.specs.State.{start};
+ghost use Rattle.bpf_machine.specs.Machine.{IsOnItsWay};
 ghost use Rattle.bpf_machine.specs.Words.{Ends, Goes, Holds, MeetsCall, address, argument_word, argument_words, call_helper, end_of, loaded, next_words, with_word, word_in, words_of};
 
 use bpf_flat::{
@@ -58,6 +59,7 @@ impl Bare {
     pub fn start() -> Self
         ensures entry { result.at ≡ 0 }
         ensures words { Holds start (words_of result) }
+        ensures begins { (code : List Insn) (segment : Contents) → IsOnItsWay code segment result }
     {
         let mut bare = Bare {
             at: 0,

@@ -1,5 +1,5 @@
 //! Steps and runs of verified programs on bare words.
-ghost use Rattle.std.specs.Prelude.{◌≡◌};
+ghost use Rattle.std.specs.Prelude.{◌≡◌, None};
 ghost use Rattle.bpf_meaning.specs.Run.{Answers};
 ghost use Rattle.bpf_meaning.specs.Step.{after};
 ghost use Rattle.bpf_meaning.specs.declared.state.State.{State};
@@ -19,8 +19,9 @@ pub fn step<A: Allocator, B: Allocator>(
     segment: &Segment<B>,
 ) -> Option<Answer>
     requires { IsOnItsWay verified.now.code segment.now bare.old }
-    ensures { (state : State) → IsReached verified.now.code segment.now state → HoldsState verified.now.code state bare.old
+    ensures does { (state : State) → IsReached verified.now.code segment.now state → HoldsState verified.now.code state bare.old
         → Does verified.now.code (after verified.now.code segment.now state) result bare.old bare.new }
+    ensures goes_on { result ≡ None → IsOnItsWay verified.now.code segment.now bare.new }
 {
     let flat_forms = verified.flat_forms();
     // Not read: that the segment is whole is what a safe code needs.

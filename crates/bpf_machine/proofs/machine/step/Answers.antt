@@ -2,6 +2,7 @@ use Rattle.std.proofs.Common.{sym, ◌∙◌, subst, arith, refl, IsOk}
 use Rattle.bpf_meaning.specs.Step.{after}
 use Rattle.bpf_machine.specs.Words.{words_of}
 use Rattle.bpf_machine.specs.declared.bare.Bare.{Bare}
+use Rattle.bpf_machine.proofs.MachineLemmas.{stays_on}
 use Rattle.bpf_machine.proofs.StepHeld.{ends, goes_on, leads_on, same_next, within_on}
 use Rattle.bpf_machine.proofs.machine.step.Goals as goal
 
@@ -40,16 +41,21 @@ execute-requires-clause-meets g c =
     c.flat_forms-flat_forms.ensures.value c.requires.state c.args.bare.now c.index-flat_forms-at.result c.requires.reached c.requires.holds c.index-flat_forms-at.is in
     leads.meets
 
-pub returns-in-Some : goal.returns-in-Some
-returns-in-Some g c = λ state reached holds.
+pub returns-in-Some-clause-does : goal.returns-in-Some-clause-does
+returns-in-Some-clause-does g c = λ state reached holds.
     let leads =
     leads_on c.args.verified.now.code c.args.segment.now c.bytes-bytes.ensures.whole c.flat_forms-flat_forms.ensures.safe c.args.verified.now.areas c.flat_forms-flat_forms.result.now c.flat_forms-flat_forms.ensures.areas
     c.flat_forms-flat_forms.ensures.value state c.args.bare.now c.index-flat_forms-at.result reached holds c.index-flat_forms-at.is in
     let new : Bare = record { at = c.in-Some.next; registers = c.execute.new.bare.registers; frame = c.execute.new.bare.frame; score = c.execute.new.bare.score } in
     goes_on c.args.verified.now.code (after c.args.verified.now.code c.args.segment.now state) new leads.next (words_of c.execute.new.bare) leads.holds (same_next _ _ _ _ leads.leads c.in-Some.ensures.value refl) refl c.args.bare.now
 
-pub returns-in-None : goal.returns-in-None
-returns-in-None g c = λ state reached holds.
+pub returns-in-Some-clause-goes_on : goal.returns-in-Some-clause-goes_on
+returns-in-Some-clause-goes_on g c = λ none.
+    let new : Bare = record { at = c.in-Some.next; registers = c.execute.new.bare.registers; frame = c.execute.new.bare.frame; score = c.execute.new.bare.score } in
+    stays_on c.args.verified.now.code c.args.segment.now c.requires.state c.args.bare.now new c.requires.reached (returns-in-Some-clause-does g c c.requires.state c.requires.reached c.requires.holds)
+
+pub returns-in-None-clause-does : goal.returns-in-None-clause-does
+returns-in-None-clause-does g c = λ state reached holds.
     let leads =
     leads_on c.args.verified.now.code c.args.segment.now c.bytes-bytes.ensures.whole c.flat_forms-flat_forms.ensures.safe c.args.verified.now.areas c.flat_forms-flat_forms.result.now c.flat_forms-flat_forms.ensures.areas
     c.flat_forms-flat_forms.ensures.value state c.args.bare.now c.index-flat_forms-at.result reached holds c.index-flat_forms-at.is in
