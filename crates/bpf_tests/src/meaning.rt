@@ -7,7 +7,7 @@ use bpf_meaning::{Outcome, State, step, trace};
 use std::alloc::{AllocError, Global};
 use tl_segments::{Range, Segment};
 
-const OUTCOMES: &str = concat!(
+pub const OUTCOMES: &str = concat!(
     // Operations, jumps and memory.
     "\
 1; mov r0, 1; b700000001000000 9500000000000000
