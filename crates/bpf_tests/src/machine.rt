@@ -1,12 +1,13 @@
 //! Programs worked by hand, or by another tool, on a record whose bytes are known. Each row has register 0 at the end, and the score if
 //! it isn't 0, the program's text without its EXIT, and its words in hexadecimal.
 
-use crate::fixtures::{RECORD, code_of, cut, is_exit};
+use crate::fixtures::{RECORD, code_of, cut, is_exit, repeated};
 use crate::meaning::OUTCOMES;
 use bpf_flow::Flow;
 use bpf_insn::{Code, decode};
 use bpf_machine::{Answer, Bare, Registers, run, step};
 use bpf_meaning::{Outcome, trace};
+use bpf_text::assemble;
 use bpf_verify::{Verified, verify};
 use std::alloc::{AllocError, Global};
 use tl_segments::{Range, Segment};
@@ -311,6 +312,72 @@ impl Chance {
         }
         program.extend_from_slice(END).ok()?;
         Some(program)
+    }
+
+    /// A program of 4,096 words, most of them the same one, of a form.
+    fn long_program(&mut self, alloc: Global, form: &str) -> Option<Vec<u8>> {
+        repeated(alloc, START, &self.word(form)?, 4_072, END).ok()
+    }
+}
+
+/// As many instructions of each form as a program has room for.
+#[test]
+fn long_programs(rt: HostRuntime) {
+    let segment = segment_of(rt.alloc()).expect(&rt, "memory");
+    let mut chance = Chance { state: 9669 };
+    for form in FORMS.lines() {
+        let program = chance.long_program(rt.alloc(), form).expect(&rt, form);
+        let code = decode(rt.alloc(), &program).expect(&rt, form);
+        let verified = accepted(rt.alloc(), code).expect(&rt, form);
+        assert!(rt; verified.code().words() == 4096, "{form}");
+        assert!(rt; agree(&verified, &segment), "{form}");
+    }
+}
+
+/// A call of each helper function, with the instructions before it that make its arguments.
+const CALLS: &str = "\
+mov r1, 1 | call 1
+mov r1, 5 | call 2
+call 3
+call 4
+mov r1, 1 | mov r2, 151 | call 5
+mov r1, 1 | mov r2, r10 | add r2, -30 | mov r3, 30 | call 6
+mov r1, 0 | mov r2, r10 | add r2, -512 | mov r3, 4 | call 7
+mov r1, 77 | call 8
+mov r1, 2 | call 9
+";
+
+/// Whether steps, run and trace agree on a code that makes one call and then another, and writes and reads both ends of the frame.
+fn calls_agree(
+    alloc: Global,
+    segment: &Segment<Global>,
+    first: &str,
+    second: &str,
+) -> Option<bool> {
+    let mut text = String::new(alloc);
+    text.push_str("stw [r10-512], 0x6e69616d | stdw [r10-8], -2 | mov r6, 0 | ")
+        .ok()?;
+    text.push_str(first).ok()?;
+    text.push_str(" | add r6, r0 | ").ok()?;
+    text.push_str(second).ok()?;
+    text.push_str(
+        " | add r6, r0 | ldxdw r0, [r10-8] | add r6, r0 | ldxw r0, [r10-512] | add r0, r6 | exit",
+    ).ok()?;
+    let lines = text.as_str().replace(alloc, " | ", "\n").ok()?;
+    let verified = accepted(alloc, assemble(alloc, &lines).ok()?)?;
+    Some(agree(&verified, segment))
+}
+
+/// Whether that is so of one call and each other one.
+fn all_agree(alloc: Global, segment: &Segment<Global>, first: &str) -> bool {
+    CALLS.lines().all(|second| calls_agree(alloc, segment, first, second) == Some(true))
+}
+
+#[test]
+fn calls_in_each_order(rt: HostRuntime) {
+    let segment = segment_of(rt.alloc()).expect(&rt, "memory");
+    for first in CALLS.lines() {
+        assert!(rt; all_agree(rt.alloc(), &segment, first), "{first}");
     }
 }
 
