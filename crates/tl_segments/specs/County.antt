@@ -1,5 +1,5 @@
 -- A county: the segments of its four files.
-use Rattle.std.specs.Prelude.{◌≡◌, ℕ, List, map, All, Option, Some, IsSome}
+use Rattle.std.specs.Prelude.{◌≡◌, ℕ, List, length, map, All, Option, Some, IsSome}
 use Rattle.tl_fields.specs.Device.{Reader}
 use Rattle.tl_fields.specs.Number.{number_of}
 use Rattle.tl_records.specs.Layout.{field_at}
@@ -28,9 +28,10 @@ HasTlids segments = All (λ segment. IsSome (tlid_of segment)) segments
 abbrev pub AreTlids : List ℕ → List Contents → Type 0
 AreTlids tlids segments = map Some tlids ≡ map tlid_of segments
 
--- the segments are those of these type 1 lines, with what the index joins to them, and the numbers are those of their TLIDs
+-- the segments are those of these type 1 lines, one of each, with what the index joins to them, and the numbers are those of their TLIDs
 pub record KeepsSegments {A : Type 0} (index : Index A) (segments : List Contents) (tlids : List ℕ) (lines : List (List ℕ)) : Type 0 where
   pub joined : (joined : JoinedLines) → IsIndexOf index joined → segments ≡ segments_of joined lines
+  pub counted : length segments ≡ length lines
   pub numbered : AreTlids tlids segments
 
 -- the readers of a county's files

@@ -1,5 +1,5 @@
 //! The segments of a county's files.
-ghost use Rattle.std.specs.Prelude.{◌≡◌, ℕ, List, IfErr, IfOk};
+ghost use Rattle.std.specs.Prelude.{◌≡◌, ℕ, ◌^◌, ◌<◌, List, length, IfErr, IfOk};
 ghost use Rattle.tl_fields.specs.Device.{reader};
 ghost use Rattle.tl_segments.specs.County.{AreTlids, HasTlids, IsCountyFault, KeepsSegments, LoadsCounty};
 ghost use Rattle.tl_segments.specs.Indexing.{IsIndexOf};
@@ -16,8 +16,8 @@ use std::marker::Model;
 use tl_fields::CountedRead;
 use tl_records::{Line, read_line, rt1};
 
-/// The segments of a county, one of each line of its type 1 file, in their order. The TLID of each has a number. Contracts see it as a record
-/// with the field `segments`.
+/// The segments of a county, one of each line of its type 1 file, in their order: fewer than 2^32. The TLID of each has a number. Contracts see
+/// it as a record with the field `segments`.
 #[derive(Drop)]
 pub struct County<A: Allocator> {
     segments: Vec<Segment<A>, A>,
@@ -25,13 +25,14 @@ pub struct County<A: Allocator> {
 }
 
 impl<A: Allocator> Model for County<A> {
+    ghost use Rattle.std.specs.Prelude.{◌^◌, ◌<◌, length};
     ghost use Rattle.tl_segments.specs.County.{AreTlids, CountyParts};
 
     ghost Value = { CountyParts };
 
     ghost view = { λ county. record { segments = county.segments.items } };
 
-    ghost invariant = { λ county. AreTlids county.tlids.items county.segments.items };
+    ghost invariant = { λ county. AreTlids county.tlids.items county.segments.items × (length county.segments.items < 2 ^ 32) };
 }
 
 impl<A: Allocator + Copy> County<A> {
@@ -60,6 +61,7 @@ impl<A: Allocator> County<A> {
     pub fn segments(&self) -> &[Segment<A>]
         ensures value { result.now ≡ self.now.segments }
         ensures tlids { HasTlids result.now }
+        ensures few { length result.now < 2 ^ 32 }
     {
         self.segments.as_slice()
     }

@@ -1,4 +1,4 @@
-use Rattle.std.proofs.Common.{◌≡◌, [], ◌∷◌, ◌++◌, Some, ap, sym, ◌∙◌}
+use Rattle.std.proofs.Common.{◌≡◌, [], ◌∷◌, ◌++◌, Some, ap, sym, ◌∙◌, length-append, arith}
 use Rattle.tl_segments.specs.County.{AreTlids, tlid_of}
 use Rattle.tl_segments.specs.Joining.{number_in, segment_of}
 use Rattle.tl_segments.specs.declared.fault.CountyFile.TheVariants.{Rt1}
@@ -22,6 +22,7 @@ returns g c = λ lines kept.
             ∙ ap (λ segment. segments ++ segment ∷ []) (c.in_ok-segment.ensures.ok joined of_joined ∙ ap (λ bytes. segment_of joined bytes) record_of.0)
             ∙ ap (λ segments. segments ++ segment_of joined bytes ∷ []) (kept.joined joined of_joined)
             ∙ sym (segments_push joined lines bytes);
+        counted = rw c.in_ok-push.ensures.items (omega (arith, kept.counted, length-append segments (segment ∷ []), length-append lines (bytes ∷ [])));
         numbered = numbered;
       },
     )
