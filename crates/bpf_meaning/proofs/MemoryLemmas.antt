@@ -56,11 +56,6 @@ frame_bytes-replicate zero (byte ∷ bytes) same = absurd (omega arith)
 frame_bytes-replicate (suc count) [] same = absurd (omega arith)
 frame_bytes-replicate (suc count) (byte ∷ bytes) same = ap (λ (l : List FrameByte). Byte byte ∷ l) (frame_bytes-replicate count bytes (omega arith))
 
-pub frame_bytes-none : (count : ℕ) (bytes : List ℕ) → length bytes ≡ count → frame_bytes (replicate count false) bytes ≡ replicate count Unwritten
-frame_bytes-none zero bytes same = refl
-frame_bytes-none (suc count) [] same = absurd (omega arith)
-frame_bytes-none (suc count) (byte ∷ bytes) same = ap (λ (l : List FrameByte). Unwritten ∷ l) (frame_bytes-none count bytes (omega arith))
-
 -- the little-endian number of at most eight bytes fits
 
 power_grows : (n : ℕ) → n ≤ 7 → 256 ^ n ≤ 256 ^ 7

@@ -17,20 +17,14 @@ pub struct Frame {
     bytes: [u8; FRAME_LENGTH],
     /// Which of the bytes were written.
     marks: [bool; FRAME_LENGTH],
-    /// Whether any of them may have been. Most programs write none, and `clear` has nothing to do then.
-    has_marks: bool,
 }
 
 impl Model for Frame {
-    ghost use Rattle.std.specs.Prelude.{◌≡◌, false, replicate};
     ghost use Rattle.bpf_meaning.specs.Memory.{FrameContents, frame_bytes};
-    ghost use Rattle.bpf_insn.specs.declared.memory.TheConstants.{FRAME_LENGTH};
 
     ghost Value = { FrameContents };
 
     ghost view = { λ frame. record { bytes = frame_bytes frame.marks frame.bytes } };
-
-    ghost invariant = { λ frame. frame.has_marks ≡ false → frame.marks ≡ replicate FRAME_LENGTH false };
 }
 
 impl Frame {
@@ -41,17 +35,6 @@ impl Frame {
         Frame {
             bytes: [0; FRAME_LENGTH],
             marks: [false; FRAME_LENGTH],
-            has_marks: false,
-        }
-    }
-
-    /// Leaves nothing written.
-    pub fn clear(&mut self)
-        ensures { self.new.bytes ≡ replicate FRAME_LENGTH Unwritten }
-    {
-        if self.has_marks {
-            self.marks.fill(false);
-            self.has_marks = false;
         }
     }
 
@@ -84,7 +67,6 @@ impl Frame {
         let bytes = number.to_le_bytes();
         self.bytes[at..at + count].copy_from_slice(&bytes[..count]);
         self.marks[at..at + count].fill(true);
-        self.has_marks = true;
     }
 
     /// Whether so many bytes from an offset on are written.
@@ -120,7 +102,6 @@ impl Frame {
             let _bytes = segment.bytes();
             let [_, at, count] = arguments;
             self.marks[at as usize..at as usize + count as usize].fill(true);
-            self.has_marks = true;
         }
         answer
     }

@@ -44,16 +44,6 @@ impl State {
         }
     }
 
-    /// Makes of it the state in which a program starts, whatever it was, so that one piece of memory serves many runs.
-    pub fn restart(&mut self)
-        ensures { self.new ≡ start }
-    {
-        self.place = 0;
-        self.registers = start_registers();
-        self.frame.clear();
-        self.score = 0;
-    }
-
     /// What a register holds, if anything.
     #[inline(always)]
     pub(crate) fn read(&self, register: u8) -> Result<Value, Cause>
