@@ -11,3 +11,4 @@ pub mod CheckLemmas
 pub mod TagLemmas
 pub mod WalkForesees
 pub mod EffectLemmas
+pub mod ExtractLemmas

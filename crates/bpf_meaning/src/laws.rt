@@ -5,6 +5,7 @@ ghost use Rattle.bpf_insn.specs.declared.instruction.Insn.{Insn};
 ghost use Rattle.bpf_insn.specs.declared.instruction.Insn.TheVariants.{Call};
 ghost use Rattle.bpf_insn.specs.declared.value.Value.TheVariants.{Empty};
 ghost use Rattle.tl_segments.specs.Segment.{Contents, IsSegment};
+ghost use Rattle.bpf_meaning.specs.Extract.{IsExtract};
 ghost use Rattle.bpf_meaning.specs.Memory.{FrameByte, number_of, store};
 ghost use Rattle.bpf_meaning.specs.RecordAlone.{reads_record_alone};
 ghost use Rattle.bpf_meaning.specs.State.{HoldsBytes, IsWhole, register_value};
@@ -80,4 +81,13 @@ pub fn one_answer()
 pub fn record_decides()
     ensures { (code : List Insn) (segment other : Contents) (answer score : ℕ) → IsTrue (reads_record_alone code)
         → segment.bytes ≡ other.bytes → Answers code segment answer score → Answers code other answer score }
+{}
+
+/// The extract of segments one behind the other is that of the first ones and, behind it, that of the others. A code has at most one extract of a list
+/// of segments.
+pub fn extracts_join()
+    ensures join { (code : List Insn) (front back : List Contents) (text more : List ℕ) (rows others : ℕ)
+        → IsExtract code front text rows → IsExtract code back more others → IsExtract code (front ++ back) (text ++ more) (rows + others) }
+    ensures one { (code : List Insn) (segments : List Contents) (text other : List ℕ) (rows others : ℕ)
+        → IsExtract code segments text rows → IsExtract code segments other others → (text ≡ other) × (rows ≡ others) }
 {}

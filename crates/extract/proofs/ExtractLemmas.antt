@@ -21,6 +21,7 @@ use Rattle.tl_segments.proofs.JoiningLemmas.{segments_push}
 use Rattle.tl_segments.proofs.ReadingLemmas.{IsReadSoFar, none_read, good_line_more, all_read, at_next_fault}
 use Rattle.bpf_meaning.specs.Extract.{IsExtract, row_if_chosen}
 use Rattle.bpf_meaning.specs.RecordAlone.{reads_record_alone}
+use Rattle.bpf_meaning.proofs.ExtractLemmas.{extract_push}
 use Rattle.bpf_meaning.proofs.RecordLemmas.{answers_alike}
 use Rattle.extract.specs.ExtractFault.{of_program, of_load}
 use Rattle.extract.specs.Extracting.{AnswersAlike, HasWritten, AreUnfailed, before_rt1, in_rt1, IsOutcome}
@@ -29,7 +30,7 @@ use Rattle.extract.specs.Rows.{WritesRow}
 use Rattle.extract.specs.declared.fault.ExtractFault.TheVariants.{Program, Write}
 use Rattle.extract.specs.declared.program.ProgramFault.{ProgramFault}
 use Rattle.extract.specs.declared.program.ProgramFault.TheVariants as program_fault
-use Rattle.extract.proofs.RowLemmas.{extract_push, chosen_count-le, extract_alike, row_alike}
+use Rattle.extract.proofs.RowLemmas.{chosen_count-le, extract_alike, row_alike}
 
 -- Lines were read so far, all good, segments made of them with what the index has, and all of the extract of these written: so many rows, at
 -- most one a line. Nothing failed.

@@ -1,5 +1,5 @@
--- What writing rows does to a writer.
-use Rattle.std.specs.Prelude.{◌≡◌, ◌≢◌, ℕ, List, Result, Ok, Err}
+-- Which segments a code chooses, and what their rows do to bytes and to a writer.
+use Rattle.std.specs.Prelude.{◌≡◌, ◌≢◌, ℕ, List, ◌++◌, Option, Some, None, Result, Ok, Err}
 use Rattle.std.specs.Io.KnownBytes.{Appends}
 use Rattle.tl_fields.specs.Counted.{CountsFault}
 use Rattle.tl_fields.specs.Device.{Writer}
@@ -9,6 +9,16 @@ use Rattle.bpf_insn.specs.declared.instruction.Insn.{Insn}
 use Rattle.bpf_meaning.specs.Run.{Answers}
 use Rattle.tl_segments.specs.Segment.{Contents}
 use Rattle.bpf_meaning.specs.Extract.{row_if_chosen, chosen_count}
+
+-- the code answers with a number other than 0, and so chooses the segment with its score; or it doesn't
+abbrev pub Chooses : List Insn → Contents → Option ℕ → Type 0
+Chooses code segment (Some score) = (answer : ℕ) × Answers code segment answer score × (answer ≢ 0)
+Chooses code segment None = (score : ℕ) × Answers code segment 0 score
+
+-- the row of a segment, if the code chooses it, was appended
+abbrev pub AppendsRow : List Insn → Contents → List ℕ → List ℕ → Type 0
+AppendsRow code segment old new =
+    (answer : ℕ) × (score : ℕ) × Answers code segment answer score × (new ≡ old ++ row_if_chosen answer score segment)
 
 -- the row of a segment that the code chooses was written whole, or a beginning of it up to the fault
 abbrev pub WritesRow : List Insn → Contents → Result ℕ WriteFault → Writer → Writer → Type 0

@@ -9,4 +9,4 @@ mod rows;
 pub use extractor::extract;
 pub use fault::ExtractFault;
 pub use program::{ProgramFault, accept};
-pub use rows::{LONGEST_ROW, row, row_text};
+pub use rows::{LONGEST_ROW, push_row_if_chosen, row, row_text, score_if_chosen};

@@ -1,15 +1,15 @@
 //! Rows, and how they are written.
-ghost use Rattle.std.specs.Prelude.{◌≡◌, [], ◌∷◌, ◌++◌, decimal};
+ghost use Rattle.std.specs.Prelude.{◌≡◌, [], ◌∷◌, ◌++◌, decimal, OnErr, OnOk};
 ghost use Rattle.tl_fields.specs.Device.{writer};
 ghost use Rattle.tl_fields.specs.Writing.{WritesText};
 ghost use Rattle.bpf_meaning.specs.Extract.{row_of};
-ghost use Rattle.extract.specs.Rows.{WritesRow};
+ghost use Rattle.extract.specs.Rows.{AppendsRow, Chooses, WritesRow};
 
 use arrayvec::ArrayVec;
 use bpf_machine::{Bare, run_in};
 use bpf_verify::Verified;
 use itoa::Buffer;
-use std::alloc::Allocator;
+use std::alloc::{AllocError, Allocator};
 use tl_fields::{CountedWrite, WriteFault, write_whole};
 use tl_segments::Segment;
 
@@ -48,6 +48,40 @@ pub fn row<A: Allocator, W: CountedWrite>(
     Ok(())
 }
 
+/// The score with which a code chooses a segment, `None` where it doesn't choose it. The code runs in the machine, whatever it holds. It takes
+/// no memory.
+#[inline]
+pub fn score_if_chosen<A: Allocator, B: Allocator>(
+    verified: &Verified<A>,
+    segment: &Segment<B>,
+    bare: &mut Bare,
+) -> Option<u64>
+    ensures { Chooses verified.now.code segment.now result }
+{
+    let answer = run_in(bare, verified, segment);
+    if answer.r0 == 0 {
+        return None;
+    }
+    Some(answer.score)
+}
+
+/// Appends the row of a segment if the code chooses it. Where memory is wanting the rows stay as they were.
+#[inline]
+pub fn push_row_if_chosen<A: Allocator, B: Allocator, C: Allocator>(
+    verified: &Verified<A>,
+    segment: &Segment<B>,
+    bare: &mut Bare,
+    rows: &mut Vec<u8, C>,
+) -> Result<(), AllocError>
+    ensures ok { OnOk result (AppendsRow verified.now.code segment.now rows.old.items rows.new.items) }
+    ensures err { OnErr result (rows.new.items ≡ rows.old.items) }
+{
+    match score_if_chosen(verified, segment, bare) {
+        Some(score) => rows.extend_from_slice(row_text(score, segment).as_slice()),
+        None => Ok(()),
+    }
+}
+
 /// Writes the row of a segment if the code chooses it, and answers how many rows that were. The code runs in the machine, whatever it holds.
 #[inline]
 pub(crate) fn write_row_if_chosen<A: Allocator, B: Allocator, W: CountedWrite>(
@@ -59,11 +93,10 @@ pub(crate) fn write_row_if_chosen<A: Allocator, B: Allocator, W: CountedWrite>(
     ensures { WritesRow verified.now.code segment.now result
         (writer W.contents W.counts out.old) (writer W.contents W.counts out.new) }
 {
-    let answer = run_in(bare, verified, segment);
-    if answer.r0 == 0 {
+    let Some(score) = score_if_chosen(verified, segment, bare) else {
         return Ok(0);
-    }
-    match row(answer.score, segment, out) {
+    };
+    match row(score, segment, out) {
         Ok(()) => Ok(1),
         Err(fault) => Err(fault),
     }
