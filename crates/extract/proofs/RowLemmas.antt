@@ -1,8 +1,7 @@
 -- How the rows of segments join, that they are alike where the answers are, and how a row is written part by part.
-use Rattle.std.proofs.Common.{◌≡◌, ℕ, zero, suc, Ok, Err, ◌+◌, ◌≤◌, List, [], ◌∷◌, ◌++◌, length, take, refl, sym, ap, subst, ◌∙◌, append_assoc, arith}
+use Rattle.std.proofs.Common.{◌≡◌, ℕ, zero, suc, Ok, Err, ◌≤◌, List, [], ◌∷◌, ◌++◌, length, take, refl, sym, ap, subst, ◌∙◌, append_assoc, arith}
 use Rattle.std.specs.Io.KnownBytes.{Appends}
 use Rattle.std.specs.Prelude.{Result, decimal}
-use Rattle.std.proofs.lemmas.List.{append-nil}
 use Rattle.std.proofs.lemmas.Bool.Decides.{nat_tests}
 use Rattle.bpf_insn.specs.declared.instruction.Insn.{Insn}
 use Rattle.tl_fields.specs.Counted.{CountsFault}
@@ -12,8 +11,7 @@ use Rattle.tl_fields.specs.declared.writing.WriteFault.{WriteFault}
 use Rattle.tl_fields.proofs.KnownBytesLemmas.{Appends-append, AppendsBeginning-further}
 use Rattle.tl_segments.specs.Joining.{JoinedLines, segment_of, segments_of}
 use Rattle.tl_segments.specs.Segment.{Contents}
-use Rattle.bpf_meaning.specs.Run.{Answers}
-use Rattle.bpf_meaning.specs.Extract.{IsExtract, row_of, row_if_chosen, chosen_count}
+use Rattle.bpf_meaning.specs.Extract.{IsExtract, row_of, chosen_count}
 use Rattle.extract.specs.Extracting.{AnswersAlike}
 use Rattle.extract.specs.Rows.{WritesRow}
 

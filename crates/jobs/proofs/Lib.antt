@@ -1,0 +1,5 @@
+mod MapLemmas
+mod SegmentLemmas
+mod TableLemmas
+mod NextLemmas
+mod RunLemmas

@@ -1,0 +1,35 @@
+use Rattle.std.proofs.Common.{◌∙◌, ap, arith, take}
+use Rattle.jobs.proofs.SegmentLemmas.{none_turned, one_turned_more, taken_off, turn_of_rest, turn_unfinished, turn_whole}
+use Rattle.jobs.proofs.turn.advance_from.Goals as goal
+
+pub loop-turned-init : goal.loop-turned-init
+loop-turned-init g c = (c.requires, none_turned _ _ _ _ c.requires)
+
+pub returns-in_default-clause-ok : goal.returns-in_default-clause-ok
+returns-in_default-clause-ok g c =
+    let few = c.loop-turned.auto._turned-end in
+    rw c.in_default.ensures.next.1 (turn_of_rest _ _ _ _ _ _ _ c.loop-turned.invariant.1 c.requires.within few c.in_default.ensures.next.0)
+
+pub returns-in-Err-clause-err : goal.returns-in-Err-clause-err
+returns-in-Err-clause-err g c =
+    c.truncate.ensures.items
+    ∙ ap (λ rows. take c.len-before.result rows) c.in-Err.ensures.err
+    ∙ ap (λ n. take n c.loop-turned.rows.items) (c.len-before.ensures ∙ c.args.rows.now.ok.0)
+    ∙ taken_off _ _ _ _ _ _ _ c.loop-turned.invariant.1
+
+pub returns-in-Err-clause-unfinished : goal.returns-in-Err-clause-unfinished
+returns-in-Err-clause-unfinished g c =
+    turn_unfinished _ _ _ _ _ _ _ c.loop-turned.invariant.1 _ _ c.in-Some.ensures.next.0
+
+pub loop-turned-preserved : goal.loop-turned-preserved
+loop-turned-preserved g c =
+    (c.next.ensures.position, one_turned_more _ _ _ _ _ _ _ c.loop-turned.invariant.1 _ c.in-Some.segment.now _ c.in-Some.ensures.next.0 c.in-Some.ensures.next.1 c.in_default-push_row_if_chosen.ensures.ok)
+
+pub returns-clause-position : goal.returns-clause-position
+returns-clause-position g c = c.loop-turned.invariant.0
+
+pub returns-clause-ok : goal.returns-clause-ok
+returns-clause-ok g c =
+    let last = c.loop-turned-test.false in
+    let within = c.loop-turned.auto._turned-end in
+    turn_whole _ _ _ _ _ _ _ c.loop-turned.invariant.1 c.requires.within (omega arith)

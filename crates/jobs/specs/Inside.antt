@@ -1,0 +1,27 @@
+-- Inside the crate: what a table's map of jobs stands for, and what always holds of it.
+use Rattle.std.specs.Prelude.{◌≡◌, ℕ, ◌^◌, ◌<◌, ◌≤◌, List, [], ◌∷◌, length, map, All}
+use Rattle.std.specs.Map.{values_of}
+use Rattle.tl_segments.specs.County.{CountyParts}
+use Rattle.jobs.specs.Segments.{IsPositionIn, segments_of}
+use Rattle.jobs.specs.Table.{JobParts}
+use Rattle.jobs.specs.declared.job.Job.{Job}
+
+-- what a job is to contracts: its machine isn't kept, and how it finds its next segment isn't seen
+abbrev pub parts_of : {A : Type 0} → Job A → JobParts
+parts_of job = record { code = job.verified.code; done = job.position.done; rows = job.rows.items }
+
+-- the jobs of a map's entries, by their ids
+abbrev pub jobs_of : {A : Type 0} → List (ℕ × Job A) → List (ℕ × JobParts)
+jobs_of entries = map (λ entry. (entry.0, parts_of entry.1)) entries
+
+-- the ids ascend from one above `low` to at most `high`
+abbrev pub Ascend : {X : Type 0} → ℕ → List (ℕ × X) → ℕ → Type 0
+Ascend low [] high = Unit {0}
+Ascend low (entry ∷ entries) high = (low < entry.0) × (entry.0 ≤ high) × Ascend entry.0 entries high
+
+-- The total is that of the counties' segments; ids ascend, up to the last one at most; each job stands where its number of segments says.
+pub record IsTable {A : Type 0} (counties : List CountyParts) (total : ℕ) (entries : List (ℕ × Job A)) (last_id : ℕ) : Type 0 where
+  pub counted : total ≡ length (segments_of counties)
+  pub few : length (segments_of counties) < 2 ^ 64
+  pub ascend : Ascend 0 entries last_id
+  pub positions : All (λ job. IsPositionIn counties job.position) (values_of entries)

@@ -1,0 +1,5 @@
+pub mod JobFault
+pub mod Segments
+pub mod Table
+pub mod Inside
+pub mod Run

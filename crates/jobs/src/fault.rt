@@ -1,0 +1,89 @@
+//! Why a table of jobs refuses what is asked.
+ghost use Rattle.std.specs.Prelude.{◌≡◌};
+ghost use Rattle.jobs.specs.JobFault as job_fault;
+ghost use Rattle.jobs.specs.JobFault.{of_program};
+ghost use Rattle.jobs.specs.declared.fault.JobFault.TheVariants.{Memory};
+
+use arrayvec::ArrayString;
+use bpf_insn::{memory_name, refusal_line};
+use extract::ProgramFault;
+use std::alloc::{AllocError, AllocFailed};
+use thiserror::Error;
+
+/// Why a table of jobs refuses what is asked.
+#[derive(Clone, Copy, Debug, PartialEq, Eq, Error)]
+pub enum JobFault {
+    /// As many jobs are open as may be, or the last of the ids was given.
+    #[error("no job can be opened")]
+    Full,
+    /// No open job has this id.
+    #[error("no such job")]
+    NoJob,
+    /// The program isn't accepted. This is never want of memory.
+    #[error("{0}")]
+    Program(ProgramFault),
+    #[error("out of memory")]
+    Memory,
+}
+
+impl From<ProgramFault> for JobFault {
+    ghost from_gives = { λ fault given. given ≡ of_program fault };
+
+    fn from(fault: ProgramFault) -> JobFault {
+        match fault {
+            ProgramFault::Memory => JobFault::Memory,
+            fault => JobFault::Program(fault),
+        }
+    }
+}
+
+impl From<AllocError> for JobFault {
+    ghost from_gives = { λ fault given. given ≡ Memory };
+
+    fn from(_fault: AllocError) -> JobFault {
+        JobFault::Memory
+    }
+}
+
+impl<T: Drop> From<AllocFailed<T>> for JobFault {
+    ghost from_gives = { λ fault given. given ≡ Memory };
+
+    fn from(_fault: AllocFailed<T>) -> JobFault {
+        JobFault::Memory
+    }
+}
+
+impl JobFault {
+    /// None for want of memory. A refused program has the same number whatever its own.
+    pub fn number(&self) -> Option<u8>
+        ensures { result ≡ job_fault.number self.now }
+    {
+        match *self {
+            JobFault::Full => Some(70),
+            JobFault::NoJob => Some(71),
+            JobFault::Program(_) => Some(72),
+            JobFault::Memory => None,
+        }
+    }
+
+    pub fn name(&self) -> &'static str
+        ensures { result.now ≡ job_fault.name self.now }
+    {
+        match *self {
+            JobFault::Full => "Full",
+            JobFault::NoJob => "NoJob",
+            JobFault::Program(_) => "Refused",
+            JobFault::Memory => memory_name(),
+        }
+    }
+
+    /// The refusal's line of text, without an end of line: of a refused program, its own. It takes no memory.
+    pub fn line(&self) -> ArrayString<64>
+        ensures { result.bytes ≡ job_fault.line self.now }
+    {
+        match *self {
+            JobFault::Program(fault) => fault.line(),
+            fault => refusal_line(fault.number(), fault.name()),
+        }
+    }
+}

@@ -1,0 +1,46 @@
+//! One job of a table.
+ghost use Rattle.std.specs.Prelude.{◌≡◌, ℕ, ◌^◌, ◌<◌, List, length, OnErr, OnOk};
+ghost use Rattle.tl_segments.specs.County.{CountyParts};
+ghost use Rattle.jobs.specs.Inside.{parts_of};
+ghost use Rattle.jobs.specs.Segments.{IsPositionIn, segments_of};
+ghost use Rattle.jobs.specs.Table.{IsTurned, new_job};
+
+use crate::position::Position;
+use crate::turn::advance_from;
+use bpf_verify::Verified;
+use std::alloc::{AllocError, Allocator};
+use tl_segments::County;
+
+/// A job: its program, where it stands, and its rows so far. A turn runs the program in a machine of its own, which isn't kept.
+#[derive(Drop)]
+pub(crate) struct Job<A: Allocator> {
+    pub verified: Verified<A>,
+    pub position: Position,
+    pub rows: Vec<u8, A>,
+}
+
+impl<A: Allocator> Job<A> {
+    /// A job before its first turn.
+    pub fn of(alloc: A, verified: Verified<A>) -> Self
+        ensures parts { parts_of result ≡ new_job verified.code }
+        ensures position { (counties : List CountyParts) → length (segments_of counties) < 2 ^ 64 → IsPositionIn counties result.position }
+    {
+        Job {
+            verified,
+            position: Position::start(),
+            rows: Vec::new(alloc),
+        }
+    }
+
+    /// Goes on by a turn. Where memory is wanting it stays as it was.
+    pub fn go_on(&mut self, counties: &[County<A>]) -> Result<(), AllocError>
+        requires { IsPositionIn counties.now self.old.position }
+        ensures position { IsPositionIn counties.now self.new.position }
+        ensures ok { OnOk result (IsTurned counties.now (parts_of self.old) (parts_of self.new)) }
+        ensures err { OnErr result (parts_of self.new ≡ parts_of self.old) }
+        ensures unfinished { OnErr result (self.old.position.done < length (segments_of counties.now)) }
+    {
+        self.position = advance_from(&self.verified, counties, self.position, &mut self.rows)?;
+        Ok(())
+    }
+}

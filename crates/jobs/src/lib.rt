@@ -1,0 +1,16 @@
+//! A table of jobs: extracts of counties that are made turn by turn, many under way at once, none of which sees another.
+#![tactic(auto)]
+
+mod event;
+mod fault;
+mod job;
+pub mod laws;
+mod position;
+mod table;
+mod turn;
+
+pub use event::{Event, Reply};
+pub use fault::JobFault;
+pub use position::COUNTY_LIMIT;
+pub use table::{JOB_LIMIT, Jobs};
+pub use turn::{SEGMENTS_PER_TURN, advance};

@@ -1,0 +1,90 @@
+//! Where a job stands among the segments of counties.
+ghost use Rattle.std.specs.Prelude.{◌≡◌, ◌+◌, ◌^◌, ◌<◌, ◌≤◌, ◌∷◌, [], length, MatchOption};
+ghost use Rattle.jobs.specs.Segments.{IsPositionIn, left_at, segments_of};
+
+use std::alloc::Allocator;
+use tl_segments::{County, Segment};
+
+/// How many counties jobs go over at most.
+pub const COUNTY_LIMIT: usize = 100_000;
+
+/// How many segments counties have.
+pub(crate) fn count_segments<A: Allocator>(counties: &[County<A>]) -> u64
+    requires { length counties.now ≤ COUNTY_LIMIT }
+    ensures { result ≡ length (segments_of counties.now) }
+{
+    let mut total = 0;
+    for county in counties {
+        total += county.segments().len() as u64;
+    }
+    total
+}
+
+/// Where a job stands: behind so many segments, which all counties before its own have and the first ones of its own.
+#[derive(Clone, Copy)]
+pub(crate) struct Position {
+    pub done: u64,
+    /// The county of the next segment, counted from 0.
+    pub county: usize,
+    /// The next segment's number in it, counted from 0.
+    pub segment: usize,
+}
+
+impl Position {
+    /// Before all segments.
+    pub fn start() -> Self
+        ensures { result ≡ record { done = 0; county = 0; segment = 0 } }
+    {
+        Position {
+            done: 0,
+            county: 0,
+            segment: 0,
+        }
+    }
+
+    /// Behind so many segments: it goes over counties, but not over their segments.
+    pub fn behind<A: Allocator>(done: u64, counties: &[County<A>]) -> Self
+        requires within { done ≤ length (segments_of counties.now) }
+        requires few { length (segments_of counties.now) < 2 ^ 64 }
+        ensures done { result.done ≡ done }
+        ensures position { IsPositionIn counties.now result }
+    {
+        let mut left = done;
+        for (number, county) in counties.iter().enumerate() {
+            let segments = county.segments().len() as u64;
+            if left < segments {
+                return Position {
+                    done,
+                    county: number,
+                    segment: left as usize,
+                };
+            }
+            left -= segments;
+        }
+        Position {
+            done,
+            county: counties.len(),
+            segment: 0,
+        }
+    }
+
+    /// The next segment, behind which it then stands, or `None` behind the last one.
+    #[inline]
+    pub fn next<'a, A: Allocator>(&mut self, counties: &'a [County<A>]) -> Option<&'a Segment<A>>
+        requires { IsPositionIn counties.now self.old }
+        ensures position { IsPositionIn counties.now self.new }
+        ensures next { MatchOption result ((left_at counties.now self.old ≡ []) × (self.new.done ≡ self.old.done))
+            (λ segment. (left_at counties.now self.old ≡ segment.now ∷ left_at counties.now self.new) × (self.new.done ≡ self.old.done + 1)) }
+    {
+        while let Some(county) = counties.get(self.county) {
+            if let Some(segment) = county.segments().get(self.segment) {
+                self.done += 1;
+                self.segment += 1;
+                return Some(segment);
+            }
+            self.county += 1;
+            self.segment = 0;
+        }
+        None
+    }
+}

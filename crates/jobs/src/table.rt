@@ -1,0 +1,157 @@
+//! The table of jobs.
+ghost use Rattle.std.specs.Prelude.{◌≡◌, ◌≤◌, length, IfOk, IfErr, OnOk, ⊤};
+ghost use Rattle.std.specs.Borrow.{follows_so, sem};
+ghost use mathlib.Core.Option.{none};
+ghost use Rattle.jobs.specs.Table.{IsNextTurn, Step, empty_table, total_of};
+ghost use Rattle.jobs.specs.declared.event.Event.TheVariants.{Drop, Fetch, Submit, Turn};
+ghost use Rattle.jobs.specs.declared.event.Reply.TheVariants.{Dropped, Refused, Submitted, Turned};
+
+use crate::event::{Event, Reply};
+use crate::fault::JobFault;
+use crate::job::Job;
+use crate::position::{COUNTY_LIMIT, count_segments};
+use extract::accept;
+use std::alloc::Allocator;
+use std::collections::BTreeMap;
+use std::marker::Model;
+use tl_segments::County;
+
+/// How many jobs may be open at once.
+pub const JOB_LIMIT: usize = 64;
+
+/// A table of jobs, each of which makes the extract of a program over all segments of the same counties, in the counties' order. Contracts see it
+/// as a record with the fields `counties`, `jobs` and `last_id`.
+#[derive(Drop)]
+pub struct Jobs<A: Allocator> {
+    alloc: A,
+    counties: Vec<County<A>, A>,
+    total: u64,
+    jobs: BTreeMap<u64, Job<A>, A>,
+    last_id: u64,
+}
+
+impl<A: Allocator> Model for Jobs<A> {
+    ghost use Rattle.jobs.specs.Inside.{IsTable, jobs_of};
+    ghost use Rattle.jobs.specs.Table.{Table};
+
+    ghost Value = { Table };
+
+    ghost view = { λ table. record { counties = table.counties.items; jobs = jobs_of table.jobs.entries; last_id = table.last_id } };
+
+    ghost invariant = { λ table. IsTable table.counties.items table.total table.jobs.entries table.last_id };
+}
+
+impl<A: Allocator + Copy> Jobs<A> {
+    ghost use Rattle.jobs.specs.contracts.table.Jobs.{the_row};
+
+    /// A table with no job, over counties, which it keeps. It takes no memory.
+    pub fn new(alloc: A, counties: Vec<County<A>, A>) -> Self
+        requires { length counties.items ≤ COUNTY_LIMIT }
+        ensures { result ≡ empty_table counties.items }
+    {
+        let total = count_segments(counties.as_slice());
+        Jobs {
+            alloc,
+            counties,
+            total,
+            jobs: BTreeMap::new(alloc),
+            last_id: 0,
+        }
+    }
+
+    /// The counties that the table was made of.
+    pub fn counties(&self) -> &[County<A>]
+        ensures { result.now ≡ self.now.counties }
+    {
+        self.counties.as_slice()
+    }
+
+    /// Does what is asked, and replies. A refused event changes nothing.
+    pub fn apply(&mut self, event: Event<'_>) -> Reply<'_>
+        ensures* step { sem 𝓛 (follows_so (the_row A.row A.Allocator) (the_row A.row A.Allocator) self.entry.ghost_name none (λ _ _. ⊤)
+            (Step self.old event.entry result)) }
+    {
+        match event {
+            Event::Submit(program) => match self.submit(program) {
+                Ok(id) => Reply::Submitted(id),
+                Err(fault) => Reply::Refused(fault),
+            },
+            Event::Turn(id) => match self.turn(id) {
+                Ok(done) => Reply::Turned {
+                    done,
+                    total: self.total,
+                },
+                Err(fault) => Reply::Refused(fault),
+            },
+            Event::Fetch(id) => self.fetch(id),
+            Event::Drop(id) => match self.remove(id) {
+                Ok(()) => Reply::Dropped,
+                Err(fault) => Reply::Refused(fault),
+            },
+        }
+    }
+
+    fn submit(&mut self, program: &[u8]) -> Result<u64, JobFault>
+        ensures ok { IfOk result (λ id. Step self.old (Submit program.entry) (Submitted id) self.new) }
+        ensures err { IfErr result (λ fault. Step self.old (Submit program.entry) (Refused fault) self.new) }
+    {
+        if self.jobs.len() >= JOB_LIMIT || self.last_id == u64::MAX {
+            return Err(JobFault::Full);
+        }
+        let verified = accept(self.alloc, program)?;
+        let id = self.last_id + 1;
+        self.jobs.insert(id, Job::of(self.alloc, verified))?;
+        self.last_id = id;
+        Ok(id)
+    }
+
+    fn turn(&mut self, id: u64) -> Result<u64, JobFault>
+        ensures ok { IfOk result (λ done. Step self.old (Turn id) (Turned done (total_of self.old)) self.new) }
+        ensures err { IfErr result (λ fault. Step self.old (Turn id) (Refused fault) self.new) }
+    {
+        let Some(job) = self.jobs.get_mut(&id) else {
+            return Err(JobFault::NoJob);
+        };
+        job.go_on(self.counties.as_slice())?;
+        Ok(job.position.done)
+    }
+
+    fn fetch(&self, id: u64) -> Reply<'_>
+        ensures { Step self.now (Fetch id) result self.now }
+    {
+        match self.jobs.get(&id) {
+            Some(job) => Reply::Rows {
+                done: job.position.done,
+                total: self.total,
+                rows: job.rows.as_slice(),
+            },
+            None => Reply::Refused(JobFault::NoJob),
+        }
+    }
+
+    fn remove(&mut self, id: u64) -> Result<(), JobFault>
+        ensures ok { OnOk result (Step self.old (Drop id) Dropped self.new) }
+        ensures err { IfErr result (λ fault. Step self.old (Drop id) (Refused fault) self.new) }
+    {
+        let Some(_job) = self.jobs.remove(&id) else {
+            return Err(JobFault::NoJob);
+        };
+        Ok(())
+    }
+
+    /// The job whose turn is next: of the unfinished ones that with the fewest segments done, the least id among equals; `None` where all are
+    /// finished.
+    pub fn next_turn(&self) -> Option<u64>
+        ensures { IsNextTurn self.now result }
+    {
+        let mut next = None;
+        let mut least = self.total;
+        for (id, job) in self.jobs.iter() {
+            if job.position.done < least {
+                next = Some(*id);
+                least = job.position.done;
+            }
+        }
+        next
+    }
+}
