@@ -15,6 +15,10 @@ abbrev pub Chooses : List Insn → Contents → Option ℕ → Type 0
 Chooses code segment (Some score) = (answer : ℕ) × Answers code segment answer score × (answer ≢ 0)
 Chooses code segment None = (score : ℕ) × Answers code segment 0 score
 
+-- the code chooses the segment, with some score
+abbrev pub IsChosen : List Insn → Contents → Type 0
+IsChosen code segment = (score : ℕ) × Chooses code segment (Some score)
+
 -- the row of a segment, if the code chooses it, was appended
 abbrev pub AppendsRow : List Insn → Contents → List ℕ → List ℕ → Type 0
 AppendsRow code segment old new =

@@ -3,7 +3,7 @@ ghost use Rattle.std.specs.Prelude.{◌≡◌, [], ◌∷◌, ◌++◌, decimal,
 ghost use Rattle.tl_fields.specs.Device.{writer};
 ghost use Rattle.tl_fields.specs.Writing.{WritesText};
 ghost use Rattle.bpf_meaning.specs.Extract.{row_of};
-ghost use Rattle.extract.specs.Rows.{AppendsRow, Chooses, WritesRow};
+ghost use Rattle.extract.specs.Rows.{AppendsRow, Chooses, IsChosen, WritesRow};
 
 use arrayvec::ArrayVec;
 use bpf_machine::{Bare, run_in};
@@ -75,6 +75,7 @@ pub fn push_row_if_chosen<A: Allocator, B: Allocator, C: Allocator>(
 ) -> Result<(), AllocError>
     ensures ok { OnOk result (AppendsRow verified.now.code segment.now rows.old.items rows.new.items) }
     ensures err { OnErr result (rows.new.items ≡ rows.old.items) }
+    ensures chosen { OnErr result (IsChosen verified.now.code segment.now) }
 {
     match score_if_chosen(verified, segment, bare) {
         Some(score) => rows.extend_from_slice(row_text(score, segment).as_slice()),

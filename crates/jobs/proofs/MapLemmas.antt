@@ -1,8 +1,8 @@
 -- Lists of values by ascending ids: what is found in them after a change, and the ordered map's words for it.
-use Rattle.std.proofs.Common.{◌≡◌, ◌≢◌, ℕ, ◌<◌, ◌≤◌, nat_eq, cond, inl, inr, List, [], ◌∷◌, ◌++◌, Some, None, Bool, true, false, refl, sym, ap, ◌∙◌, arith}
+use Rattle.std.proofs.Common.{◌≡◌, ◌≢◌, ℕ, ◌<◌, ◌≤◌, nat_eq, cond, inl, inr, List, [], ◌∷◌, ◌++◌, Some, None, Bool, true, false, refl, sym, ap, ◌∙◌, arith, zero, suc, length, slice_index_or, subst}
 use Rattle.std.specs.Prelude.{◌⊎◌, map}
 use Rattle.std.specs.BTreeMap.{insert_entry, is_at}
-use Rattle.std.specs.List.{AllByRecursion}
+use Rattle.std.specs.List.{AllByRecursion, Contains}
 use Rattle.std.specs.Map.{lookup, remove_entry, set_value}
 use Rattle.std.specs.Option.{option_map}
 use Rattle.std.specs.Ordering.{match_ordering, nat_cmp}
@@ -119,10 +119,30 @@ less_before low (first ∷ front) entry back high ascend =
     let above = others.0 in
     ((let first = ascend.0 in omega arith), (above, others.1))
 
+-- an entry is found by its id
+pub found_at : {X : Type 0} (low : ℕ) (es : List (ℕ × X)) (high id : ℕ) (value : X) (k : ℕ) → Ascend low es high → k < length es → slice_index_or es k (id, value) ≡ (id, value) → (low < id) × (lookup (nat_eq id) es ≡ Some value)
+found_at low [] high id value k ascend inside is = absurd (omega arith)
+found_at {X} low (e ∷ es) high id value zero ascend inside is =
+    let here : e ≡ (id, value) = is in
+    rw here (subst (λ (e : ℕ × X). low < e.0) here ascend.0, (let same : nat_eq id id ≡ true = grind (arith, nat_tests) in ap (λ at. cond at (Some value) (lookup (nat_eq id) es)) same))
+found_at {X} low (e ∷ es) high id value (suc k) ascend inside is =
+    let there = found_at e.0 es high id value k ascend.2 (omega arith) is in
+    let above = there.0 in
+    let first = ascend.0 in
+    let other : nat_eq id e.0 ≡ false = grind (arith, nat_tests) in
+    ((omega arith), ap (λ at. cond at (Some e.1) (lookup (nat_eq id) es)) other ∙ there.1)
+
+pub found_among : {X : Type 0} (low : ℕ) (es : List (ℕ × X)) (high id : ℕ) (value : X) → Ascend low es high → Contains es (id, value) → lookup (nat_eq id) es ≡ Some value
+found_among low es high id value ascend among = (found_at low es high id value among.0 ascend among.1 among.2).1
+
 -- the entries of a map, with what is seen of each value
 module _ {X Y : Type 0} (seen : X → Y) where
   abbrev pub entries_seen : List (ℕ × X) → List (ℕ × Y)
   entries_seen es = map (λ e. (e.0, seen e.1)) es
+
+  pub Ascend-seen : (low : ℕ) (es : List (ℕ × X)) (high : ℕ) → Ascend low es high → Ascend low (entries_seen es) high
+  Ascend-seen low [] high ascend = tt
+  Ascend-seen low (e ∷ es) high ascend = (ascend.0, ascend.1, Ascend-seen e.0 es high ascend.2)
 
   pub lookup-seen : (id : ℕ) (es : List (ℕ × X)) → lookup (nat_eq id) (entries_seen es) ≡ option_map seen (lookup (is_at (nat_cmp id)) es)
   lookup-seen id [] = refl

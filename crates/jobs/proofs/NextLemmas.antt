@@ -1,4 +1,5 @@
 -- Whose turn is next, among the first jobs of a table.
+use Rattle.std.specs.List.{Contains}
 use Rattle.std.proofs.Common.{◌≡◌, ℕ, zero, suc, ◌<◌, ◌≤◌, inl, inr, List, [], ◌∷◌, ◌++◌, slice_index_or, Option, Some, None, refl, sym, ap, ◌∙◌, subst, append_assoc, arith}
 use Rattle.std.specs.Prelude.{◌⊎◌}
 use Rattle.std.specs.List.{All, AllByRecursion}
@@ -6,13 +7,19 @@ use Rattle.std.proofs.Math.Nat.{eq-or-lt_of_le}
 use Rattle.std.proofs.lemmas.List.{append-nil, map-append}
 use Rattle.std.proofs.lemmas.List.Elements.{All-push, Contains-append_left, Contains-append_right}
 use Rattle.jobs.specs.Inside.{Ascend, jobs_of, parts_of}
-use Rattle.jobs.specs.Table.{IsBefore, IsNext, IsNextTurn, JobParts, Table, total_of}
+use Rattle.jobs.specs.Table.{IsBefore, IsNextTurn, JobParts, Table, total_of}
 use Rattle.jobs.specs.declared.job.Job.{Job}
-use Rattle.jobs.proofs.MapLemmas.{less_before}
+use Rattle.jobs.proofs.MapLemmas.{found_among, less_before}
+
+-- among these jobs this one is unfinished, and before every other that is
+pub record IsFirst (total : ℕ) (jobs : List (ℕ × JobParts)) (id : ℕ) (job : JobParts) : Type 0 where
+  pub among : Contains jobs (id, job)
+  pub unfinished : job.done < total
+  pub first : All (λ other. other.1.done < total → IsBefore (id, job) other) jobs
 
 -- among these jobs: the next one and how many of its segments are done, or that all are finished, and then the total
 abbrev pub FirstOf : ℕ → List (ℕ × JobParts) → Option ℕ → ℕ → Type 0
-FirstOf total jobs (Some id) least = (job : JobParts) × (job.done ≡ least) × IsNext total jobs id job
+FirstOf total jobs (Some id) least = (job : JobParts) × (job.done ≡ least) × IsFirst total jobs id job
 FirstOf total jobs None least = (least ≡ total) × All (λ entry. total ≤ entry.1.done) jobs
 
 -- the jobs so far, and those that are left
@@ -115,6 +122,13 @@ pub all_seen : {A : Type 0} (total : ℕ) (entries left : List (ℕ × Job A)) (
 all_seen total entries left next least so_far none =
     subst (λ entries. FirstOf total (jobs_of entries) next least) (sym (so_far.split ∙ ap (λ left. so_far.seen ++ left) none ∙ append-nil so_far.seen)) so_far.first
 
-pub next_turn_is : (table : Table) (next : Option ℕ) (least : ℕ) → FirstOf (total_of table) table.jobs next least → IsNextTurn table next
-next_turn_is table None least first = first.1
-next_turn_is table (Some id) least (job, is, next) = (job, next)
+pub next_turn_is : (table : Table) (next : Option ℕ) (least : ℕ) → Ascend 0 table.jobs table.last_id → FirstOf (total_of table) table.jobs next least → IsNextTurn table next
+next_turn_is table None least ascend first = first.1
+next_turn_is table (Some id) least ascend (job, is, next) = (
+  job,
+  record {
+    there = found_among 0 table.jobs table.last_id id job ascend next.among;
+    unfinished = next.unfinished;
+    first = next.first;
+  },
+)

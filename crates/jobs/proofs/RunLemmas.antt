@@ -4,7 +4,10 @@ use Rattle.std.specs.List.{cons_option, range_with_len}
 use Rattle.std.proofs.lemmas.Bool.Decides.{nat_tests}
 use Rattle.std.proofs.lemmas.List.{append-nil}
 use Rattle.std.proofs.lemmas.List.Elements.{filter_map-append}
+use Rattle.bpf_insn.specs.Code.{IsCodeOf}
 use Rattle.bpf_insn.specs.declared.instruction.Insn.{Insn}
+use Rattle.bpf_insn.proofs.CodeLemmas.{one_code}
+use Rattle.bpf_meaning.proofs.ExtractLemmas.{one_extract_lem}
 use Rattle.bpf_meaning.specs.Extract.{IsExtract}
 use Rattle.extract.specs.Program.{IsSafeProgram}
 use Rattle.tl_segments.specs.County.{CountyParts}
@@ -233,3 +236,21 @@ run_more counties past (exchange ∷ exchanges) old new so_far (now, step, run) 
 -- a whole run, from a table with no job
 pub whole_run : (counties : List CountyParts) (exchanges : List Exchange) (table : Table) → IsRun (empty_table counties) exchanges table → IsSoFar counties exchanges table
 whole_run counties exchanges table run = run_more counties [] exchanges (empty_table counties) table (nothing_so_far counties) run
+
+-- jobs of the same program with as many turns are the same
+pub own_alike : (counties : List CountyParts) (exchanges others : List Exchange) (id other_id : ℕ) (job other : JobParts) → programs_of id exchanges ≡ programs_of other_id others → turns_of id exchanges ≡ turns_of other_id others → IsOwn counties exchanges id job → IsOwn counties others other_id other → job ≡ other
+own_alike counties exchanges others id other_id job other programs turns own also =
+    let segments = segments_of counties in
+    let program = same_first own.program also.program (sym own.submitted ∙ programs ∙ also.submitted) in
+    let is_code = subst (λ program. IsCodeOf program job.code) program own.accepted.is_code in
+    let code : job.code ≡ other.code = one_code job.code other.code (sym is_code.words ∙ also.accepted.is_code.words) in
+    let done : job.done ≡ other.done = own.done ∙ ap (λ turns. min (length segments) (SEGMENTS_PER_TURN * turns)) turns ∙ sym also.done in
+    let extract = subst (λ code. IsExtract code (take job.done segments) job.rows own.chosen) code (own.rows) in
+    let extract' = subst (λ done. IsExtract other.code (take done segments) job.rows own.chosen) done extract in
+    let rows = (one_extract_lem other.code (take other.done segments) job.rows other.rows own.chosen also.chosen extract' also.rows).0 in
+    ap (λ code. record { code = code; done = job.done; rows = job.rows }) code
+    ∙ ap (λ done. record { code = other.code; done = done; rows = job.rows }) done
+    ∙ ap (λ rows. record { code = other.code; done = other.done; rows = rows }) rows
+  where
+    same_first : (program other : List ℕ) → program ∷ [] ≡ other ∷ [] → program ≡ other
+    same_first program other is = cc

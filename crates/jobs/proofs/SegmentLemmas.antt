@@ -1,16 +1,18 @@
 -- Where a job stands among segments, and how its rows grow by a turn.
+use Rattle.std.specs.List.{Contains}
 use Rattle.std.proofs.Common.{◌≡◌, ℕ, zero, suc, ◌+◌, ◌-◌, ◌*◌, ◌^◌, ◌<◌, ◌≤◌, nat_lt, true, List, [], ◌∷◌, ◌++◌, length, take, drop, min, slice_index_or, refl, sym, ap, ◌∙◌, subst, append_assoc, arith}
 use Rattle.std.proofs.lemmas.Bool.Decides.{nat_tests}
-use Rattle.std.proofs.lemmas.List.{append-nil, drop_all, drop-append-le, drop_more, length-append, length-drop, take_all, take_at, take_min, take_more}
+use Rattle.std.proofs.lemmas.List.{append-nil, drop_all, drop-append-le, drop_more, get_or-take, length-append, length-drop, length-take, take_all, take_at, take_min, take_more}
 use Rattle.std.proofs.lemmas.Grind.{flat_map-append}
 use Rattle.std.proofs.Math.Seq.{drop-append-add, take-add}
 use Rattle.bpf_insn.specs.declared.instruction.Insn.{Insn}
 use Rattle.bpf_meaning.specs.Extract.{IsExtract, row_if_chosen, chosen_count}
 use Rattle.tl_segments.specs.County.{CountyParts}
 use Rattle.tl_segments.specs.Segment.{Contents}
-use Rattle.extract.specs.Rows.{AppendsRow}
+use Rattle.extract.specs.Rows.{AppendsRow, IsChosen}
 use Rattle.bpf_meaning.proofs.ExtractLemmas.{extract_append, extract_push}
-use Rattle.jobs.specs.Segments.{Advances, IsPositionIn, left_at, segments_behind, segments_of}
+use Rattle.jobs.specs.Inside.{IsPositionIn, left_at, segments_behind}
+use Rattle.jobs.specs.Segments.{Advances, WantsRow, segments_of}
 use Rattle.jobs.specs.declared.position.Position.{Position}
 use Rattle.jobs.specs.declared.turn.TheConstants.{SEGMENTS_PER_TURN}
 
@@ -135,6 +137,20 @@ position_more counties old new segment is left done =
     tail (first ∷ xs) zero x rest is = cc
     tail (first ∷ xs) (suc i) x rest is = tail xs i x rest is
 
+-- an element within the first ones is among them
+next_among : {X : Type 0} (front : List X) (x : X) (back : List X) (n : ℕ) → length front < n → Contains (take n (front ++ x ∷ back)) x
+next_among {X = X} front x back n within =
+    let whole : length (front ++ x ∷ back) ≡ length front + suc (length back) = length-append front (x ∷ back) in
+    let long : length (take n (front ++ x ∷ back)) ≡ min n (length (front ++ x ∷ back)) = length-take n (front ++ x ∷ back) in (
+      length front,
+      (omega (arith, whole, long)),
+      get_or-take n (front ++ x ∷ back) (length front) x within ∙ at_end front,
+    )
+  where
+    at_end : (front : List X) → slice_index_or (front ++ x ∷ back) (length front) x ≡ x
+    at_end [] = refl
+    at_end (first ∷ front) = at_end front
+
 -- So many segments were gone over from a position, and the rows that the code chooses of them appended.
 pub record IsTurnedSoFar (code : List Insn) (counties : List CountyParts) (from now : Position) (count : ℕ) (rows new_rows : List ℕ) : Type 0 where
   pub seen : List Contents
@@ -200,12 +216,14 @@ module _ (code : List Insn) (counties : List CountyParts) (from now : Position) 
     appended = so_far.appended;
   }
 
-  -- where a segment is left
-  pub turn_unfinished : (segment : Contents) (others : List Contents) → left_at counties now ≡ segment ∷ others → from.done < length (segments_of counties)
-  turn_unfinished segment others left =
-      let count = left_count in
-      let some : length (left_at counties now) ≡ suc (length others) = ap (λ (xs : List Contents). length xs) left in
-      omega (arith, count, some)
+  -- where memory is wanting for the row of the next segment
+  pub turn_wants : (segment : Contents) (others : List Contents) → left_at counties now ≡ segment ∷ others → count < SEGMENTS_PER_TURN → IsChosen code segment → WantsRow code (segments_of counties) from.done
+  turn_wants segment others left few chosen = (
+    segment,
+    subst (λ left. Contains (take SEGMENTS_PER_TURN left) segment) (sym (so_far.left ∙ ap (λ left. so_far.seen ++ left) left))
+        (next_among so_far.seen segment others SEGMENTS_PER_TURN (let counted = so_far.counted in omega (arith, few))),
+    chosen,
+  )
 
   -- where memory is wanting, what was appended is taken off again
   pub taken_off : take (length rows) new_rows ≡ rows

@@ -8,26 +8,17 @@ use Rattle.std.proofs.lemmas.List.{length-map}
 use Rattle.std.proofs.lemmas.Map.Steps.{set_value_same}
 use Rattle.std.proofs.lemmas.Map.Views.{All-values-insert_entry, All-map-remove_entry, All-values-set_value}
 use Rattle.tl_segments.specs.County.{CountyParts}
-use Rattle.jobs.specs.Inside.{Ascend, IsTable, jobs_of, parts_of}
-use Rattle.jobs.specs.Segments.{IsPositionIn, segments_of}
+use Rattle.jobs.specs.Inside.{Ascend, IsPositionIn, IsTable, jobs_of, parts_of}
 use Rattle.jobs.specs.Table.{IsFull}
 use Rattle.jobs.specs.declared.job.Job.{Job}
 use Rattle.jobs.specs.declared.table.TheConstants.{JOB_LIMIT}
 use Rattle.jobs.proofs.MapLemmas.{Ascend-push, Ascend-remove, Ascend-set, insert_entry-last, insert_entry-seen, lookup-seen, remove_entry-seen, set_value-seen}
 
--- a table without jobs
-pub no_jobs : {A : Type 0} (counties : List CountyParts) (total : ℕ) → total ≡ length (segments_of counties) → total < 2 ^ 64 → IsTable {A = A} counties total [] 0
-no_jobs counties total counted few = record {
-  counted = counted;
-  few = omega (arith, counted);
-  ascend = tt;
-  positions = λ k d inside. absurd (omega arith);
-}
-
 module _ {A : Type 0} (counties : List CountyParts) (total : ℕ) (entries : List (ℕ × Job A)) (last_id : ℕ) (is : IsTable counties total entries last_id) where
   -- one job more
   pub table_pushed : (job : Job A) → IsPositionIn counties job.position → IsTable counties total (insert_entry nat_cmp entries (last_id + 1) job) (last_id + 1)
   table_pushed job position = record {
+    within = is.within;
     counted = is.counted;
     few = is.few;
     ascend =
@@ -42,6 +33,7 @@ module _ {A : Type 0} (counties : List CountyParts) (total : ℕ) (entries : Lis
   -- one job changed
   pub table_changed : (id : ℕ) (job : Job A) → IsPositionIn counties job.position → IsTable counties total (set_value (is_at (nat_cmp id)) entries job) last_id
   table_changed id job position = record {
+    within = is.within;
     counted = is.counted;
     few = is.few;
     ascend = Ascend-set (is_at (nat_cmp id)) 0 entries last_id job is.ascend;
@@ -62,6 +54,7 @@ module _ {A : Type 0} (counties : List CountyParts) (total : ℕ) (entries : Lis
   -- one job less
   pub table_removed : (id : ℕ) → IsTable counties total (remove_entry (is_at (nat_cmp id)) entries) last_id
   table_removed id = record {
+    within = is.within;
     counted = is.counted;
     few = is.few;
     ascend = Ascend-remove (is_at (nat_cmp id)) 0 entries last_id is.ascend;

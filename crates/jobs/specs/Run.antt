@@ -40,18 +40,18 @@ program_of id event reply = None
 abbrev pub programs_of : ℕ → List Exchange → List (List ℕ)
 programs_of id exchanges = filter_map (λ exchange. program_of id exchange.event exchange.reply) exchanges
 
--- 1 for a turn of the job with this id that was done
+-- 1 for a turn of the job with this id that was answered with how far it is
 abbrev pub turn_count : ℕ → Event → Reply → ℕ
 turn_count id (Turn turned) (Turned done total) = if turned == id then 1 else 0
 turn_count id event reply = 0
 
--- how many turns of the job with this id were done
+-- how many turns of the job with this id were answered so
 abbrev pub turns_of : ℕ → List Exchange → ℕ
 turns_of id [] = 0
 turns_of id (exchange ∷ exchanges) = turn_count id exchange.event exchange.reply + turns_of id exchanges
 
 -- A job is what its own submission and its own turns make of it: its code is that of the one program that was submitted and answered with its
--- id; so many segments are done as its turns went over; its rows are the extract of its code over these.
+-- id; as many segments are done as its turns make, and no more than there are; its rows are the extract of its code over these.
 pub record IsOwn (counties : List CountyParts) (exchanges : List Exchange) (id : ℕ) (job : JobParts) : Type 0 where
   pub program : List ℕ
   pub submitted : programs_of id exchanges ≡ program ∷ []

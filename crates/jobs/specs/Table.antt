@@ -1,11 +1,11 @@
 -- The table of jobs, and its steps: a case an event and its reply.
-use Rattle.std.specs.Prelude.{◌≡◌, ◌≢◌, ◌⊎◌, ℕ, ◌+◌, ◌-◌, ◌^◌, ◌<◌, ◌≤◌, nat_eq, List, [], ◌∷◌, ◌++◌, length, All, Contains, Option, Some, None}
+use Rattle.std.specs.Prelude.{◌≡◌, ◌≢◌, ◌⊎◌, ℕ, ◌+◌, ◌-◌, ◌^◌, ◌<◌, ◌≤◌, nat_eq, List, [], ◌∷◌, ◌++◌, length, All, Option, Some, None}
 use Rattle.std.specs.Map.{lookup, remove_entry, set_value}
 use Rattle.bpf_insn.specs.declared.instruction.Insn.{Insn}
 use Rattle.extract.specs.Program.{IsSafeProgram, IsProgramFault}
 use Rattle.extract.specs.declared.program.ProgramFault.TheVariants as program_fault
 use Rattle.tl_segments.specs.County.{CountyParts}
-use Rattle.jobs.specs.Segments.{Advances, segments_of}
+use Rattle.jobs.specs.Segments.{Advances, WantsRow, segments_of}
 use Rattle.jobs.specs.declared.event.Event.{Event}
 use Rattle.jobs.specs.declared.event.Event.TheVariants.{Submit, Turn, Fetch, Drop}
 use Rattle.jobs.specs.declared.event.Reply.{Reply}
@@ -19,7 +19,8 @@ pub record JobParts : Type 0 where
   pub done : ℕ
   pub rows : List ℕ
 
--- a table: the counties that its jobs go over, the open jobs by ascending ids, and the id that was given last, 0 before the first
+-- a table: the counties that its jobs go over, the open jobs by their ids, in the order in which they were opened, and the id
+-- that was given last, 0 before the first
 pub record Table : Type 0 where
   pub counties : List CountyParts
   pub jobs : List (ℕ × JobParts)
@@ -78,7 +79,8 @@ Step old (Turn id) (Turned done total) new =
     (job : JobParts) × (job_of old id ≡ Some job) × (job' : JobParts) × IsTurned old.counties job job' × (new ≡ with_changed_job old id job')
     × (done ≡ job'.done) × (total ≡ total_of old)
 Step old (Turn id) (Refused NoJob) new = (job_of old id ≡ None) × (new ≡ old)
-Step old (Turn id) (Refused Memory) new = (job : JobParts) × (job_of old id ≡ Some job) × (job.done < total_of old) × (new ≡ old)
+Step old (Turn id) (Refused Memory) new =
+    (job : JobParts) × (job_of old id ≡ Some job) × WantsRow job.code (segments_of old.counties) job.done × (new ≡ old)
 Step old (Fetch id) (Rows done total rows) new =
     (job : JobParts) × (job_of old id ≡ Some job) × (done ≡ job.done) × (total ≡ total_of old) × (rows.now ≡ job.rows) × (new ≡ old)
 Step old (Fetch id) (Refused NoJob) new = (job_of old id ≡ None) × (new ≡ old)
@@ -91,13 +93,13 @@ Step old event reply new = ⊥
 abbrev pub IsBefore : ℕ × JobParts → ℕ × JobParts → Type 0
 IsBefore job other = (job.1.done < other.1.done) ⊎ ((job.1.done ≡ other.1.done) × (job.0 ≤ other.0))
 
--- the job is unfinished, and before every other that is
-pub record IsNext (total : ℕ) (jobs : List (ℕ × JobParts)) (id : ℕ) (job : JobParts) : Type 0 where
-  pub among : Contains jobs (id, job)
-  pub unfinished : job.done < total
-  pub first : All (λ other. other.1.done < total → IsBefore (id, job) other) jobs
+-- the open job with this id is unfinished, and before every other that is
+pub record IsNext (table : Table) (id : ℕ) (job : JobParts) : Type 0 where
+  pub there : job_of table id ≡ Some job
+  pub unfinished : job.done < total_of table
+  pub first : All (λ other. other.1.done < total_of table → IsBefore (id, job) other) table.jobs
 
 -- whose turn is next, or that all jobs are finished
 abbrev pub IsNextTurn : Table → Option ℕ → Type 0
-IsNextTurn table (Some id) = (job : JobParts) × IsNext (total_of table) table.jobs id job
+IsNextTurn table (Some id) = (job : JobParts) × IsNext table id job
 IsNextTurn table None = All (λ entry. total_of table ≤ entry.1.done) table.jobs

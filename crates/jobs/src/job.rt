@@ -1,8 +1,8 @@
 //! One job of a table.
 ghost use Rattle.std.specs.Prelude.{◌≡◌, ℕ, ◌^◌, ◌<◌, List, length, OnErr, OnOk};
 ghost use Rattle.tl_segments.specs.County.{CountyParts};
-ghost use Rattle.jobs.specs.Inside.{parts_of};
-ghost use Rattle.jobs.specs.Segments.{IsPositionIn, segments_of};
+ghost use Rattle.jobs.specs.Inside.{IsPositionIn, parts_of};
+ghost use Rattle.jobs.specs.Segments.{WantsRow, segments_of};
 ghost use Rattle.jobs.specs.Table.{IsTurned, new_job};
 
 use crate::position::Position;
@@ -38,7 +38,7 @@ impl<A: Allocator> Job<A> {
         ensures position { IsPositionIn counties.now self.new.position }
         ensures ok { OnOk result (IsTurned counties.now (parts_of self.old) (parts_of self.new)) }
         ensures err { OnErr result (parts_of self.new ≡ parts_of self.old) }
-        ensures unfinished { OnErr result (self.old.position.done < length (segments_of counties.now)) }
+        ensures wants { OnErr result (WantsRow self.old.verified.code (segments_of counties.now) self.old.position.done) }
     {
         self.position = advance_from(&self.verified, counties, self.position, &mut self.rows)?;
         Ok(())

@@ -1,8 +1,8 @@
 //! Laws, each the contract of a function that does nothing.
-ghost use Rattle.std.specs.Prelude.{◌≡◌, ℕ, List, Some};
+ghost use Rattle.std.specs.Prelude.{◌≡◌, ℕ, List, Some, Contains};
 ghost use Rattle.std.specs.List.{range_with_len};
 ghost use Rattle.tl_segments.specs.County.{CountyParts};
-ghost use Rattle.jobs.specs.Run.{Exchange, IsOwn, IsRun, ids_given};
+ghost use Rattle.jobs.specs.Run.{Exchange, IsOwn, IsRun, ids_given, programs_of, turns_of};
 ghost use Rattle.jobs.specs.Table.{JobParts, Table, empty_table, job_of};
 ghost use Rattle.jobs.specs.declared.position.TheConstants.{COUNTY_LIMIT};
 ghost use Rattle.jobs.specs.declared.table.TheConstants.{JOB_LIMIT};
@@ -16,10 +16,19 @@ pub fn limits()
 {}
 
 /// Whatever is asked of a table, in whatever order, and whatever it replies: each open job is what its own submission and its own turns make of it,
-/// and no program, refusal, turn or removal of another job is in that. The ids that were given are 1, 2, 3 and on, each once.
+/// and no program, refusal, turn or removal of another job is in that. Ids are 1, 2, 3 and on, each given once, and an open job has its id alone.
+///
+/// So a job is the same, to the byte, as that of another run over the same counties which has as many turns and whose program is the same, whatever
+/// its id there, and whatever else is asked of either table.
 pub fn runs()
     ensures own { (counties : List CountyParts) (exchanges : List Exchange) (table : Table) → IsRun (empty_table counties) exchanges table
         → (id : ℕ) (job : JobParts) → job_of table id ≡ Some job → IsOwn counties exchanges id job }
+    ensures each { (counties : List CountyParts) (exchanges : List Exchange) (table : Table) → IsRun (empty_table counties) exchanges table
+        → (id : ℕ) (job : JobParts) → Contains table.jobs (id, job) → job_of table id ≡ Some job }
+    ensures alike { (counties : List CountyParts) (exchanges others : List Exchange) (table other : Table)
+        → IsRun (empty_table counties) exchanges table → IsRun (empty_table counties) others other
+        → (id other_id : ℕ) (job other_job : JobParts) → job_of table id ≡ Some job → job_of other other_id ≡ Some other_job
+        → programs_of id exchanges ≡ programs_of other_id others → turns_of id exchanges ≡ turns_of other_id others → job ≡ other_job }
     ensures ids { (counties : List CountyParts) (exchanges : List Exchange) (table : Table) → IsRun (empty_table counties) exchanges table
         → ids_given exchanges ≡ range_with_len 1 table.last_id }
     ensures counties { (counties : List CountyParts) (exchanges : List Exchange) (table : Table) → IsRun (empty_table counties) exchanges table

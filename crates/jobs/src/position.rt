@@ -1,6 +1,7 @@
 //! Where a job stands among the segments of counties.
 ghost use Rattle.std.specs.Prelude.{◌≡◌, ◌+◌, ◌^◌, ◌<◌, ◌≤◌, ◌∷◌, [], length, MatchOption};
-ghost use Rattle.jobs.specs.Segments.{IsPositionIn, left_at, segments_of};
+ghost use Rattle.jobs.specs.Inside.{IsPositionIn, left_at};
+ghost use Rattle.jobs.specs.Segments.{segments_of};
 
 use std::alloc::Allocator;
 use tl_segments::{County, Segment};
@@ -20,9 +21,10 @@ pub(crate) fn count_segments<A: Allocator>(counties: &[County<A>]) -> u64
     total
 }
 
-/// Where a job stands: behind so many segments, which all counties before its own have and the first ones of its own.
+/// Where a job stands: behind all segments of the counties before its own, and behind the first ones of its own.
 #[derive(Clone, Copy)]
 pub(crate) struct Position {
+    /// How many segments are done in all.
     pub done: u64,
     /// The county of the next segment, counted from 0.
     pub county: usize,

@@ -61,13 +61,15 @@ impl<A: Allocator + Copy> Jobs<A> {
 
     /// The counties that the table was made of.
     pub fn counties(&self) -> &[County<A>]
-        ensures { result.now ≡ self.now.counties }
+        ensures value { result.now ≡ self.now.counties }
+        ensures few { length result.now ≤ COUNTY_LIMIT }
     {
         self.counties.as_slice()
     }
 
     /// Does what is asked, and replies. A refused event changes nothing.
     pub fn apply(&mut self, event: Event<'_>) -> Reply<'_>
+        // What the table is once the reply is given back. To a caller it is as any other clause.
         ensures* step { sem 𝓛 (follows_so (the_row A.row A.Allocator) (the_row A.row A.Allocator) self.entry.ghost_name none (λ _ _. ⊤)
             (Step self.old event.entry result)) }
     {

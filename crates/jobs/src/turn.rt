@@ -1,6 +1,7 @@
 //! Turns: an extract that goes on over a few segments more.
-ghost use Rattle.std.specs.Prelude.{◌≡◌, ◌<◌, ◌≤◌, length, IfOk, OnErr};
-ghost use Rattle.jobs.specs.Segments.{Advances, IsPositionIn, segments_of};
+ghost use Rattle.std.specs.Prelude.{◌≡◌, ◌≤◌, length, IfOk, OnErr};
+ghost use Rattle.jobs.specs.Inside.{IsPositionIn};
+ghost use Rattle.jobs.specs.Segments.{Advances, WantsRow, segments_of};
 
 use crate::position::{COUNTY_LIMIT, Position, count_segments};
 use bpf_machine::Bare;
@@ -15,7 +16,8 @@ pub const SEGMENTS_PER_TURN: usize = 256;
 /// Appends the rows that a code chooses of the next 256 segments of counties, or of the rest, behind the first `done` of them, and answers how
 /// many are done then. Where memory is wanting the rows stay as they were.
 ///
-/// Beside these segments it goes over the counties, which a table of jobs doesn't, and asks each for the number of its segments.
+/// It goes over the counties twice, to count all segments and to find where it stands, which a turn in a table needn't. It takes memory for rows
+/// alone.
 pub fn advance<A: Allocator>(
     verified: &Verified<A>,
     counties: &[County<A>],
@@ -26,6 +28,7 @@ pub fn advance<A: Allocator>(
     requires few { length counties.now ≤ COUNTY_LIMIT }
     ensures ok { IfOk result (λ now. Advances verified.now.code (segments_of counties.now) done rows.old.items now rows.new.items) }
     ensures err { OnErr result (rows.new.items ≡ rows.old.items) }
+    ensures wants { OnErr result (WantsRow verified.now.code (segments_of counties.now) done) }
 {
     // That all of them can be counted is what a position needs.
     let _total = count_segments(counties);
@@ -45,8 +48,7 @@ pub(crate) fn advance_from<A: Allocator>(
     ensures position { IfOk result (IsPositionIn counties.now) }
     ensures ok { IfOk result (λ now. Advances verified.now.code (segments_of counties.now) from.done rows.old.items now.done rows.new.items) }
     ensures err { OnErr result (rows.new.items ≡ rows.old.items) }
-    // Only where a segment is left.
-    ensures unfinished { OnErr result (from.done < length (segments_of counties.now)) }
+    ensures wants { OnErr result (WantsRow verified.now.code (segments_of counties.now) from.done) }
 {
     let before = rows.len();
     let mut bare = Bare::start();

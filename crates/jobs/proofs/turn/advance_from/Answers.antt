@@ -1,5 +1,5 @@
 use Rattle.std.proofs.Common.{◌∙◌, ap, arith, take}
-use Rattle.jobs.proofs.SegmentLemmas.{none_turned, one_turned_more, taken_off, turn_of_rest, turn_unfinished, turn_whole}
+use Rattle.jobs.proofs.SegmentLemmas.{none_turned, one_turned_more, taken_off, turn_of_rest, turn_wants, turn_whole}
 use Rattle.jobs.proofs.turn.advance_from.Goals as goal
 
 pub loop-turned-init : goal.loop-turned-init
@@ -17,9 +17,9 @@ returns-in-Err-clause-err g c =
     ∙ ap (λ n. take n c.loop-turned.rows.items) (c.len-before.ensures ∙ c.args.rows.now.ok.0)
     ∙ taken_off _ _ _ _ _ _ _ c.loop-turned.invariant.1
 
-pub returns-in-Err-clause-unfinished : goal.returns-in-Err-clause-unfinished
-returns-in-Err-clause-unfinished g c =
-    turn_unfinished _ _ _ _ _ _ _ c.loop-turned.invariant.1 _ _ c.in-Some.ensures.next.0
+pub returns-in-Err-clause-wants : goal.returns-in-Err-clause-wants
+returns-in-Err-clause-wants g c =
+    turn_wants _ _ _ _ _ _ _ c.loop-turned.invariant.1 _ _ c.in-Some.ensures.next.0 c.loop-turned-test.true c.in-Err.ensures.chosen
 
 pub loop-turned-preserved : goal.loop-turned-preserved
 loop-turned-preserved g c =

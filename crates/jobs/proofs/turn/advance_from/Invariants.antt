@@ -1,4 +1,4 @@
-use Rattle.jobs.specs.Segments.{IsPositionIn}
+use Rattle.jobs.specs.Inside.{IsPositionIn}
 use Rattle.jobs.proofs.SegmentLemmas.{IsTurnedSoFar}
 use Rattle.jobs.proofs.turn.advance_from.Given as goal
 

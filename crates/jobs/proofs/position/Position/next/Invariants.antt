@@ -1,5 +1,5 @@
 use Rattle.std.proofs.Common.{◌≡◌, ◌-◌, length}
-use Rattle.jobs.specs.Segments.{left_at}
+use Rattle.jobs.specs.Inside.{left_at}
 use Rattle.jobs.proofs.position.Position.next.Given as goal
 
 abbrev pub invariant-loop-county : goal.invariant-loop-county

@@ -1,6 +1,7 @@
 use Rattle.std.proofs.Common.{◌≡◌, ◌∙◌, ap, subst, sym}
-use Rattle.jobs.specs.Inside.{Ascend, jobs_of}
+use Rattle.jobs.specs.Inside.{Ascend, jobs_of, parts_of}
 use Rattle.jobs.specs.Table.{total_of}
+use Rattle.jobs.proofs.MapLemmas.{Ascend-seen}
 use Rattle.jobs.proofs.NextLemmas.{FirstOf, all_seen, job_passed, job_taken, next_turn_is, none_seen}
 use Rattle.jobs.proofs.table.Jobs.next_turn.Goals as goal
 
@@ -23,6 +24,7 @@ loop-id-preserved g c =
 pub returns : goal.returns
 returns g c =
     let all = c.into_iter-id-iterator.ensures.into_iter_gives ∙ c.iter-id-items.ensures.rest in
-    next_turn_is c.args.self.now _ c.loop-id.least
+    let ascend = subst (λ table. Ascend 0 table.jobs table.last_id) c.self.view_is (Ascend-seen parts_of 0 c.self.inside.jobs.entries c.self.inside.last_id c.self.invariant.ascend) in
+    next_turn_is c.args.self.now _ c.loop-id.least ascend
     (subst (λ jobs. FirstOf (total_of c.args.self.now) jobs c.loop-id.next c.loop-id.least) (ap jobs_of all ∙ ap (λ table. table.jobs) c.self.view_is)
     (all_seen _ _ _ _ _ c.loop-id.invariant c.in-None.ensures.steps.0))

@@ -1,8 +1,9 @@
-use Rattle.std.proofs.Common.{◌≡◌, ◌<◌, ◌∙◌, None, Some, ap, refl, subst}
+use Rattle.std.proofs.Common.{◌≡◌, ◌∙◌, None, Some, ap, refl, subst}
 use Rattle.std.specs.BTreeMap.{BTreeMap}
 use Rattle.std.proofs.lemmas.Result.{err_from_is_err_and}
 use Rattle.jobs.specs.Inside.{jobs_of, parts_of}
-use Rattle.jobs.specs.Table.{IsTurned, job_of, total_of, with_changed_job}
+use Rattle.jobs.specs.Segments.{WantsRow, segments_of}
+use Rattle.jobs.specs.Table.{IsTurned, job_of, with_changed_job}
 use Rattle.jobs.proofs.TableLemmas.{job_found, jobs_changed, jobs_unchanged, table_changed}
 use Rattle.jobs.proofs.table.Jobs.turn.Goals as goal
 
@@ -25,11 +26,11 @@ returns-in_err-go_on-clause-err g c =
     let inside = c.self.inside in
     let old = c.in-Some.job.now in
     let returned = err_from_is_err_and c.from_residual.result c.from_residual.ensures.1 in
-    let unfinished = rw c.as_slice.ensures.value at c.in_err-go_on.ensures.unfinished in
+    let wants = rw c.as_slice.ensures.value at c.in_err-go_on.ensures.wants in
     rw (returned.1, returned.2) (
       parts_of old,
       subst (λ table. job_of table c.args.id ≡ Some (parts_of old)) c.self.view_is (job_found _ _ _ _ c.self.invariant c.args.id (Some old) c.in-Some.ensures.value),
-      subst (λ table. old.position.done < total_of table) c.self.view_is unfinished,
+      subst (λ table. WantsRow old.verified.code (segments_of table.counties) old.position.done) c.self.view_is wants,
       ap (λ jobs. record { counties = inside.counties.items; jobs = jobs; last_id = inside.last_id })
           (ap jobs_of (c.get_mut.follows.holds c.go_on.new.self).0
           ∙ jobs_unchanged _ _ _ _ c.self.invariant c.args.id old c.go_on.new.self c.in-Some.ensures.value c.in_err-go_on.ensures.err)
