@@ -254,3 +254,10 @@ own_alike counties exchanges others id other_id job other programs turns own als
   where
     same_first : (program other : List ℕ) → program ∷ [] ≡ other ∷ [] → program ≡ other
     same_first program other is = cc
+
+-- a step behind a run
+pub run_push : (old now new : Table) (exchanges : List Exchange) (event : Event) (reply : Reply) → IsRun old exchanges now → Step now event reply new → IsRun old (exchanges ++ exchange_of event reply ∷ []) new
+run_push old now new [] event reply same step =
+    (new, subst (λ table. Step table event reply new) same step, refl)
+run_push old now new (exchange ∷ exchanges) event reply (next, first, run) step =
+    (next, first, run_push next now new exchanges event reply run step)

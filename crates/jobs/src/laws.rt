@@ -1,9 +1,11 @@
 //! Laws, each the contract of a function that does nothing.
-ghost use Rattle.std.specs.Prelude.{◌≡◌, ℕ, List, Some, Contains};
+ghost use Rattle.std.specs.Prelude.{◌≡◌, ℕ, List, [], ◌∷◌, ◌++◌, Some, Contains};
 ghost use Rattle.std.specs.List.{range_with_len};
 ghost use Rattle.tl_segments.specs.County.{CountyParts};
 ghost use Rattle.jobs.specs.Run.{Exchange, IsOwn, IsRun, ids_given, programs_of, turns_of};
-ghost use Rattle.jobs.specs.Table.{JobParts, Table, empty_table, job_of};
+ghost use Rattle.jobs.specs.Table.{JobParts, Step, Table, empty_table, job_of};
+ghost use Rattle.jobs.specs.declared.event.Event.{Event};
+ghost use Rattle.jobs.specs.declared.event.Reply.{Reply};
 ghost use Rattle.jobs.specs.declared.position.TheConstants.{COUNTY_LIMIT};
 ghost use Rattle.jobs.specs.declared.table.TheConstants.{JOB_LIMIT};
 ghost use Rattle.jobs.specs.declared.turn.TheConstants.{SEGMENTS_PER_TURN};
@@ -33,4 +35,10 @@ pub fn runs()
         → ids_given exchanges ≡ range_with_len 1 table.last_id }
     ensures counties { (counties : List CountyParts) (exchanges : List Exchange) (table : Table) → IsRun (empty_table counties) exchanges table
         → table.counties ≡ counties }
+{}
+
+/// A step behind a run makes a longer run. So what was asked of a table, call by call, and what it replied are a run from the table that it was at first.
+pub fn runs_go_on()
+    ensures { (old now new : Table) (exchanges : List Exchange) (event : Event) (reply : Reply)
+        → IsRun old exchanges now → Step now event reply new → IsRun old (exchanges ++ record { event = event; reply = reply } ∷ []) new }
 {}
