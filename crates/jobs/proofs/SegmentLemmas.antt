@@ -33,10 +33,6 @@ behind_none (county ∷ counties) = refl
 pub behind_within : (segment : ℕ) (county : CountyParts) (counties : List CountyParts) → segment ≤ length county.segments → segments_behind segment (county ∷ counties) ≡ drop segment (segments_of (county ∷ counties))
 behind_within segment county counties within = sym (drop-append-le segment county.segments (segments_of counties) within)
 
--- before the first segment
-pub at_start : (counties : List CountyParts) → left_at counties (record { done = 0; county = 0; segment = 0 }) ≡ segments_of counties
-at_start counties = behind_none counties
-
 module _ (counties : List CountyParts) (done at segment : ℕ) (county : CountyParts) (here : drop at counties ≡ county ∷ drop (at + 1) counties) where
   -- the next segment, and what is left behind it
   pub left_found : (found : Contents) → drop segment county.segments ≡ found ∷ drop (segment + 1) county.segments → left_at counties (record { done = done; county = at; segment = segment }) ≡ found ∷ left_at counties (record { done = done + 1; county = at; segment = segment + 1 })
@@ -51,10 +47,6 @@ module _ (counties : List CountyParts) (done at segment : ℕ) (county : CountyP
       ap (λ counties. segments_behind segment counties) here
       ∙ ap (λ (front : List Contents). front ++ segments_of (drop (at + 1) counties)) (drop_all segment county.segments none)
       ∙ sym (behind_none (drop (at + 1) counties))
-
--- behind the last county nothing is left
-pub left_none : (counties : List CountyParts) (position : Position) → length counties ≤ position.county → left_at counties position ≡ []
-left_none counties position none = ap (λ counties. segments_behind position.segment counties) (drop_all position.county counties none)
 
 -- the segments of one county more, each of which has fewer than 2^32
 pub segments_more : (counties : List CountyParts) (i : ℕ) (county : CountyParts) (total : ℕ) → i < length counties → county ≡ slice_index_or counties i county → (total ≡ length (segments_of (take i counties))) × (total ≤ i * 2 ^ 32) → length county.segments < 2 ^ 32 → (total + length county.segments ≡ length (segments_of (take (i + 1) counties))) × (total + length county.segments ≤ (i + 1) * 2 ^ 32)

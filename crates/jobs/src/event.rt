@@ -3,7 +3,7 @@
 use crate::fault::JobFault;
 
 /// What is asked of a table of jobs.
-#[derive(Clone, Copy, Debug, PartialEq, Eq)]
+#[derive(Clone, Copy)]
 pub enum Event<'a> {
     /// A job is to be opened for the program with these bytes.
     Submit(&'a [u8]),
@@ -16,7 +16,7 @@ pub enum Event<'a> {
 }
 
 /// What a table of jobs replies. Of a job with `total` segments to go over, `done` are done.
-#[derive(Clone, Copy, Debug, PartialEq, Eq)]
+#[derive(Clone, Copy, PartialEq, Eq)]
 pub enum Reply<'a> {
     /// To a submission: the id of the job that was opened, counted from 1.
     Submitted(u64),

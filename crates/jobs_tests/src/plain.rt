@@ -4,7 +4,7 @@ use jobs::{Event, JobFault, Jobs, Reply};
 use std::alloc::{Allocator, Global};
 
 /// What is asked of both.
-#[derive(Clone, Copy, Debug)]
+#[derive(Clone, Copy)]
 pub enum Asked {
     Submit(&'static str),
     Turn(u64),
