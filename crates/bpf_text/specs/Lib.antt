@@ -9,3 +9,5 @@ pub mod Notes
 pub mod Spelled
 pub mod TextFlaw
 pub mod TextFault
+pub mod SourceFault
+pub mod Conversion

@@ -1,6 +1,8 @@
-//! Why program text is refused.
+//! Why program text, or a source that should hold one, is refused.
 ghost use Rattle.std.specs.Prelude.{◌≡◌, ◌≤◌, length};
+ghost use Rattle.bpf_text.specs.declared.fault.SourceFault.TheVariants as source;
 ghost use Rattle.bpf_text.specs.declared.fault.TextFault.TheVariants.{Memory};
+ghost use Rattle.bpf_text.specs.SourceFault.{of_text};
 ghost use Rattle.bpf_text.specs.TextFlaw as text_flaw;
 ghost use Rattle.bpf_text.specs.TextFault as text_fault;
 
@@ -59,6 +61,36 @@ impl<T: Drop> From<AllocFailed<T>> for TextFault {
 
     fn from(_error: AllocFailed<T>) -> TextFault {
         TextFault::Memory
+    }
+}
+
+/// Why a source has no instruction words, or that memory was wanting, which `Text` never says.
+#[derive(Clone, Copy, Debug, PartialEq, Eq, Error)]
+pub enum SourceFault {
+    #[error("the source isn't UTF-8")]
+    NotUtf8,
+    #[error("{0}")]
+    Text(TextFault),
+    #[error("out of memory")]
+    Memory,
+}
+
+impl From<TextFault> for SourceFault {
+    ghost from_gives = { λ fault given. given ≡ of_text fault };
+
+    fn from(fault: TextFault) -> SourceFault {
+        match fault {
+            TextFault::Memory => SourceFault::Memory,
+            fault => SourceFault::Text(fault),
+        }
+    }
+}
+
+impl From<AllocError> for SourceFault {
+    ghost from_gives = { λ _ fault. fault ≡ source.Memory };
+
+    fn from(_error: AllocError) -> SourceFault {
+        SourceFault::Memory
     }
 }
 

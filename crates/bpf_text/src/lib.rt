@@ -2,6 +2,7 @@
 #![tactic(auto)]
 
 mod assembler;
+mod conversion;
 mod disassembler;
 mod fault;
 mod form;
@@ -12,5 +13,6 @@ mod operand;
 mod words;
 
 pub use assembler::assemble;
+pub use conversion::{assemble_source, disassemble_program};
 pub use disassembler::disassemble;
-pub use fault::{TextFault, TextFlaw};
+pub use fault::{SourceFault, TextFault, TextFlaw};

@@ -1,0 +1,50 @@
+//! Program text and program bytes, each made of the other.
+ghost use Rattle.std.specs.Prelude.{◌≡◌, ◌≢◌, ◌<◌, ◌⊎◌, ℕ, List, All, IfErr, IfOk, IsErrAnd, MatchResult};
+ghost use Rattle.std.specs.String.{string_bytes};
+ghost use Rattle.bpf_insn.specs.Code.{IsFirstFault};
+ghost use Rattle.bpf_text.specs.Conversion.{IsAssembled, IsDisassembled};
+ghost use Rattle.bpf_text.specs.SourceFault.{IsSourceFault};
+ghost use Rattle.bpf_text.specs.declared.fault.SourceFault.{SourceFault};
+
+use crate::assembler::assemble;
+use crate::disassembler::disassemble;
+use crate::fault::SourceFault;
+use bpf_insn::{CodeFault, decode, encode};
+use std::alloc::Allocator;
+
+/// The instruction words, little-endian, of the code that a source means: program text in UTF-8.
+pub fn assemble_source<A: Allocator + Copy>(
+    alloc: A,
+    source: &[u8],
+) -> Result<Vec<u8, A>, SourceFault>
+    ensures ok { IfOk result (λ words. IsAssembled source.now words.items) }
+    ensures err { IfErr result (IsSourceFault source.now) }
+
+    // A source that is assembled to some words is refused for memory alone, and gives no other words.
+    ensures only { (words : List ℕ) → All (λ byte. byte < 256) words → IsAssembled source.now words
+        → MatchResult result (λ given. given.items ≡ words) (λ fault. fault ≡ SourceFault.Memory) }
+
+    // A source that has a fault is refused, with it or for memory.
+    ensures refused { (fault : SourceFault) → IsSourceFault source.now fault → fault ≢ SourceFault.Memory
+        → IsErrAnd result (λ given. (given ≡ fault) ⊎ (given ≡ SourceFault.Memory)) }
+{
+    let Ok(text) = str::from_utf8(source) else {
+        return Err(SourceFault::NotUtf8);
+    };
+    let code = assemble(alloc, text)?;
+    let words = encode(alloc, &code)?;
+    Ok(words)
+}
+
+/// The text of the code that a program's bytes have. It is assembled to these bytes again.
+pub fn disassemble_program<A: Allocator + Copy>(
+    alloc: A,
+    program: &[u8],
+) -> Result<String<A>, CodeFault>
+    ensures ok { IfOk result (λ text. IsDisassembled program.now (string_bytes text)) }
+    ensures err { IfErr result (IsFirstFault program.now) }
+{
+    let code = decode(alloc, program)?;
+    let text = disassemble(alloc, &code)?;
+    Ok(text)
+}
