@@ -1,2 +1,3 @@
 mod PositionLemmas
 mod HitLemmas
+mod QueryLemmas

@@ -1,6 +1,7 @@
 -- The line of text of a hit.
 use Rattle.std.specs.Prelude.{ℕ, List, ◌++◌, codes, decimal, Option, Some, None}
 use Rattle.std.specs.Fmt.{signed_decimal}
+use Rattle.std.specs.List.{flat_map}
 use Rattle.geocode.specs.declared.hit.Hit.{Hit}
 use Rattle.geocode.specs.declared.hit.Place.{Place}
 use Rattle.geocode.specs.declared.hit.Side.{Side}
@@ -18,3 +19,7 @@ place_text None = codes "-\t-"
 -- TLID, the side's letter, longitude and latitude, with tabs between them and LF at the end
 abbrev pub line : Hit → List ℕ
 line hit = decimal hit.tlid ++ codes "\t" ++ letter hit.side ++ codes "\t" ++ place_text hit.place ++ codes "\n"
+
+-- the lines of hits, one after the other
+abbrev pub hit_lines : List Hit → List ℕ
+hit_lines hits = flat_map line hits

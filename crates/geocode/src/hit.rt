@@ -1,9 +1,10 @@
 //! Hits, and the line of text that each gets.
-ghost use Rattle.std.specs.Prelude.{◌≡◌, ◌≤◌, ◌<◌, ◌+◌, ◌++◌, length};
-ghost use Rattle.geocode.specs.HitLine.{letter, line, place_text};
+ghost use Rattle.std.specs.Prelude.{◌≡◌, ◌≤◌, ◌<◌, ◌+◌, ◌++◌, length, IfOk};
+ghost use Rattle.geocode.specs.HitLine.{hit_lines, letter, line, place_text};
 
 use arrayvec::ArrayString;
 use itoa::Buffer;
+use std::alloc::{AllocError, Allocator};
 
 /// How many bytes the longest line of a hit has, its end counted.
 pub const LINE_LENGTH: usize = 65;
@@ -47,6 +48,17 @@ impl Hit {
         text.push_str("\n");
         text
     }
+}
+
+/// The lines of hits, one after the other.
+pub fn hit_lines<A: Allocator>(alloc: A, hits: &[Hit]) -> Result<Vec<u8, A>, AllocError>
+    ensures { IfOk result (λ text. text.items ≡ hit_lines hits.now) }
+{
+    let mut text = Vec::new(alloc);
+    for hit in hits {
+        text.extend_from_slice(hit.line().as_bytes())?;
+    }
+    Ok(text)
 }
 
 impl Side {

@@ -4,7 +4,11 @@
 mod hit;
 mod hits;
 mod position;
+mod query;
 mod sides;
+mod street_name;
 
-pub use hit::{Hit, LINE_LENGTH, Place, Side};
+pub use hit::{Hit, LINE_LENGTH, Place, Side, hit_lines};
 pub use hits::find;
+pub use query::{MOST_DIGITS, Query, QueryFault};
+pub use street_name::StreetName;

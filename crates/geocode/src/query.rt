@@ -1,0 +1,92 @@
+//! What a geocoder is asked for, as texts write it.
+ghost use Rattle.std.specs.Prelude.{◌≡◌, IfOk, MatchResult, Ok, Err};
+ghost use Rattle.std.specs.Char.{is_ascii_digit};
+ghost use Rattle.std.specs.List.{list_all};
+ghost use Rattle.std.specs.Option.{option_copied};
+ghost use Rattle.geocode.specs.Query.{hits_of, house_number, parts_of, query_of, zip_number};
+
+use crate::hit::Hit;
+use crate::hits::find;
+use crate::street_name::StreetName;
+use std::alloc::{AllocError, Allocator};
+use tl_fields::number;
+use tl_segments::County;
+
+/// A house number and a ZIP code have as many digits at most, as an address field has.
+pub const MOST_DIGITS: usize = 11;
+
+/// What a geocoder is asked for.
+#[derive(Clone, Copy)]
+pub struct Query<'a> {
+    /// The house number.
+    pub number: u64,
+    pub name: StreetName<'a>,
+    /// The number of the ZIP code, where only that one will do.
+    pub zip: Option<u64>,
+}
+
+/// Which text of a query isn't in its form.
+#[derive(Clone, Copy)]
+pub enum QueryFault {
+    /// The house number isn't 1 to 11 digits.
+    Number,
+    /// The name isn't 1 to 30 bytes.
+    Name,
+    /// The ZIP code isn't 1 to 11 digits.
+    Zip,
+}
+
+impl<'a> Query<'a> {
+    /// The query that these texts make, or the first of them that isn't in its form.
+    pub fn of(
+        number: &'a [u8],
+        name: &'a [u8],
+        zip: Option<&'a [u8]>,
+    ) -> Result<Query<'a>, QueryFault>
+        ensures { MatchResult result
+            (λ query. query_of number.now name.now (option_copied zip.entry) ≡ Ok (parts_of query))
+            (λ fault. query_of number.now name.now (option_copied zip.entry) ≡ Err fault) }
+    {
+        let number = house_number(number).ok_or(QueryFault::Number)?;
+        let name = StreetName::of(name).ok_or(QueryFault::Name)?;
+        let zip = zip_number(zip).ok_or(QueryFault::Zip)?;
+        Ok(Query { number, name, zip })
+    }
+
+    /// The hits over these counties, in their order. It asks for memory only for hits.
+    pub fn find<A: Allocator + Copy>(
+        self,
+        alloc: A,
+        counties: &[County<A>],
+    ) -> Result<Vec<Hit, A>, AllocError>
+        ensures { IfOk result (λ hits. hits.items ≡ hits_of (parts_of self.entry) counties.now) }
+    {
+        find(alloc, counties, self.number, self.name.text, self.zip)
+    }
+}
+
+/// The number of a house or of a ZIP code that a text writes: digits, without a sign or blanks.
+fn house_number(text: &[u8]) -> Option<u64>
+    ensures { result ≡ house_number text.now }
+{
+    if !are_digits(text) {
+        return None;
+    }
+    number(text)
+}
+
+fn are_digits(text: &[u8]) -> bool
+    ensures { result ≡ list_all is_ascii_digit text.now }
+{
+    text.iter().all(|byte| byte.is_ascii_digit())
+}
+
+/// The number of a ZIP code, where one is given.
+fn zip_number(text: Option<&[u8]>) -> Option<Option<u64>>
+    ensures { result ≡ zip_number (option_copied text.entry) }
+{
+    match text {
+        Some(text) => house_number(text).map(Some),
+        None => Some(None),
+    }
+}
