@@ -2,4 +2,5 @@ pub mod ExtractFault
 pub mod Extracting
 pub mod Program
 pub mod ProgramFault
+pub mod Refusal
 pub mod Rows

@@ -4,9 +4,11 @@
 mod extractor;
 mod fault;
 mod program;
+mod refusal;
 mod rows;
 
 pub use extractor::extract;
 pub use fault::ExtractFault;
 pub use program::{ProgramFault, accept};
+pub use refusal::{Class, Refusal};
 pub use rows::{LONGEST_ROW, push_row_if_chosen, row, row_text, score_if_chosen};
