@@ -70,15 +70,7 @@ pub fn number<'a>(
     name: &'static str,
     most_digits: usize,
 ) -> Result<u64, ArgumentsFault<'a>> {
-    number_in(name, most_digits, value(matches, name)?)
-}
-
-/// The number of an option's value: 1 to so many digits.
-pub fn number_in<'a>(
-    name: &'static str,
-    most_digits: usize,
-    text: &'a str,
-) -> Result<u64, ArgumentsFault<'a>> {
+    let text = value(matches, name)?;
     let fault = ArgumentsFault::Number {
         name,
         most_digits,

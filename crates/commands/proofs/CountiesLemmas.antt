@@ -74,14 +74,14 @@ codes_at codes i d inside =
 pub tells_counties : (known later : Known) (folder : List ℕ) (codes : List (Bor (List ℕ))) (i : ℕ) (d : Bor (List ℕ)) (counties : List CountyParts) (failure : Failure)
     → ((other : List ℕ) → later other ≡ known other) → i < length codes → AreCountiesOf known folder (texts (take i codes)) counties
     → TellsCounty later folder (get_or codes i d).now failure → TellsCounties known folder (texts codes) failure
-tells_counties known later folder codes i d counties (Refusal number line) same inside so_far told = λ is. record {
+tells_counties known later folder codes i d counties (Refusal refusal) same inside so_far told = λ is. record {
   before = texts (take i codes);
   code = (get_or codes i d).now;
   behind = texts (drop (suc i) codes);
   are_codes = codes_at codes i d inside;
   counties = counties;
   loaded = so_far;
-  refused = refused_known known later folder (get_or codes i d).now number line.bytes same (told is);
+  refused = refused_known known later folder (get_or codes i d).now refusal.number refusal.line.bytes same (told is);
 }
 tells_counties known later folder codes i d counties (File name error) same inside so_far told = tt
 tells_counties known later folder codes i d counties (CountyFile folder' code file error) same inside so_far told = tt

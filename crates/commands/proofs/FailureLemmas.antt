@@ -1,26 +1,28 @@
 -- The exit statuses of failures.
-use Rattle.std.proofs.Common.{◌≡◌, ◌≢◌, ◌⊎◌, ℕ, List, Bool, true, false, Option, Some, None, Err, inl, inr, refl, arith}
-use Rattle.std.specs.Prelude.{◌==◌, ◌||◌, if◌then◌else◌}
+use Rattle.std.proofs.Common.{◌≡◌, ◌≢◌, ◌⊎◌, ℕ, List, Option, Err, inl, inr, refl, arith}
 use Rattle.std.specs.Io.KnownBytes.{Keeps}
 use Rattle.tl_fields.specs.Device.{Writer}
 use Rattle.commands.specs.Command.{IsCarriedOut, IsRefusal, LacksLine}
-use Rattle.commands.specs.Failure.{Says, file_status, refusal_status, status}
+use Rattle.extract.specs.Refusal.{class_of}
+use Rattle.extract.specs.declared.refusal.Class.{Class}
+use Rattle.extract.specs.declared.refusal.Class.TheVariants as class
+use Rattle.commands.specs.Failure.{Says, class_status, file_status, refusal_status, status}
 use Rattle.commands.specs.declared.request.Request.{Request}
 use Rattle.commands.specs.declared.failure.Failure.{Failure}
 use Rattle.commands.specs.declared.files.FileFault.{FileFault}
 use Rattle.commands.specs.declared.files.FileFault.TheVariants.{Unusable, Memory}
 use Rattle.commands.specs.declared.failure.Failure.TheVariants.{Refusal, File, CountyFile, NotUtf8, NoLine, Output}
 
+class_statuses : (of : Class) → (class_status of ≡ 1) ⊎ (class_status of ≡ 3) ⊎ (class_status of ≡ 4)
+class_statuses class.Refused = inl refl
+class_statuses class.Device = inr (inl refl)
+class_statuses class.Memory = inr (inr refl)
+
 refusal_statuses : (number : Option ℕ) → (refusal_status number ≡ 1) ⊎ (refusal_status number ≡ 3) ⊎ (refusal_status number ≡ 4)
-refusal_statuses None = inr (inr refl)
-refusal_statuses (Some number) = by_test (number == 5 || number == 60 || number == 61) _ refl
-  where
-    by_test : (b : Bool) (n : ℕ) → n ≡ (if b then 3 else 1) → (n ≡ 1) ⊎ (n ≡ 3) ⊎ (n ≡ 4)
-    by_test true n is = inr (inl is)
-    by_test false n is = inl is
+refusal_statuses number = class_statuses (class_of number)
 
 pub statuses : (failure : Failure) → (status failure ≡ 1) ⊎ (status failure ≡ 2) ⊎ (status failure ≡ 3) ⊎ (status failure ≡ 4)
-statuses (Refusal number line) = one_of _ (refusal_statuses number)
+statuses (Refusal refusal) = one_of _ (refusal_statuses refusal.number)
   where
     one_of : (n : ℕ) → (n ≡ 1) ⊎ (n ≡ 3) ⊎ (n ≡ 4) → (n ≡ 1) ⊎ (n ≡ 2) ⊎ (n ≡ 3) ⊎ (n ≡ 4)
     one_of n (inl is) = inl is
@@ -44,8 +46,8 @@ refusal_not_usage number is = not_two _ (refusal_statuses number) is
 pub refusal_said : (request : Request) (known : List ℕ → Option (List ℕ)) (failure : Failure) (out unflushed out' errors errors' : Writer)
     → IsCarriedOut request known (Err failure) out unflushed → Keeps unflushed.held out'.held → Says failure errors errors' → status failure ≡ 1
     → IsRefusal request known out out' errors errors'
-refusal_said request known (Refusal number line) out unflushed out' errors errors' is kept said one =
-    record { number = number; is_number = one; line = line.bytes; unflushed = unflushed; refused = is one; kept = kept; said = said }
+refusal_said request known (Refusal refusal) out unflushed out' errors errors' is kept said one =
+    record { number = refusal.number; is_number = one; line = refusal.line.bytes; unflushed = unflushed; refused = is one; kept = kept; said = said }
 refusal_said request known (File name error) out unflushed out' errors errors' is kept said one = absurd (omega arith)
 refusal_said request known (CountyFile folder code file error) out unflushed out' errors errors' is kept said one = absurd (omega arith)
 refusal_said request known (NotUtf8 name) out unflushed out' errors errors' is kept said one = absurd (omega arith)
@@ -55,7 +57,7 @@ refusal_said request known (Output error) out unflushed out' errors errors' is k
 -- where it's neither a refusal by a library nor a line that isn't there nothing is promised
 pub promises_nothing : (request : Request) (known : List ℕ → Option (List ℕ)) (failure : Failure) (out out' : Writer)
     → (status failure ≢ 1) × (status failure ≢ 2) → IsCarriedOut request known (Err failure) out out'
-promises_nothing request known (Refusal number line) out out' other = λ one. absurd (other.0 one)
+promises_nothing request known (Refusal refusal) out out' other = λ one. absurd (other.0 one)
 promises_nothing request known (File name error) out out' other = tt
 promises_nothing request known (CountyFile folder code file error) out out' other = tt
 promises_nothing request known (NotUtf8 name) out out' other = tt
@@ -69,7 +71,7 @@ file_unusable Memory failure is = (λ one. omega (arith, is, one), λ two. omega
 -- a line is lacked where the status is 2
 pub line_lacked : (request : Request) (known : List ℕ → Option (List ℕ)) (failure : Failure) (out out' : Writer)
     → IsCarriedOut request known (Err failure) out out' → status failure ≡ 2 → LacksLine request known
-line_lacked request known (Refusal number line) out out' is two = absurd (refusal_not_usage number two)
+line_lacked request known (Refusal refusal) out out' is two = absurd (refusal_not_usage refusal.number two)
 line_lacked request known (File name error) out out' is two = absurd (omega arith)
 line_lacked request known (CountyFile folder code file error) out out' is two = absurd (omega arith)
 line_lacked request known (NotUtf8 name) out out' is two = absurd (omega arith)

@@ -32,7 +32,7 @@ module _ (trace : Trace) (known : List ℕ → Option (List ℕ)) (program : Lis
 
   -- there is no outcome
   pub no_outcome : (failure : Failure) (out : Writer) → EndsAs trace program old new (Err failure) → IsCarriedOut (request.Trace trace) known (Err failure) out out
-  no_outcome (Refusal number line) out fault = λ one. record { program = program; old = old; hold = hold; new = new; fault = fault; unwritten = refl }
+  no_outcome (Refusal refusal) out fault = λ one. record { program = program; old = old; hold = hold; new = new; fault = fault; unwritten = refl }
   no_outcome (File name error) out fault = tt
   no_outcome (CountyFile folder code file error) out fault = tt
   no_outcome (NotUtf8 name) out fault = tt

@@ -41,7 +41,8 @@ LacksLine request known = ⊥
 -- output can't be used, or memory is wanting, nothing is promised.
 abbrev pub IsCarriedOut : Request → (List ℕ → Option (List ℕ)) → Result (Unit {0}) Failure → Writer → Writer → Type 0
 IsCarriedOut request known (Ok done) out out' = IsWritten request known out out'
-IsCarriedOut request known (Err (Refusal number line)) out out' = refusal_status number ≡ 1 → IsRefused request known number line.bytes out out'
+IsCarriedOut request known (Err (Refusal refusal)) out out' =
+    refusal_status refusal.number ≡ 1 → IsRefused request known refusal.number refusal.line.bytes out out'
 IsCarriedOut request known (Err (NoLine line)) out out' = LacksLine request known
 IsCarriedOut request known (Err failure) out out' = ⊤
 

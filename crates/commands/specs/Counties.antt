@@ -42,10 +42,12 @@ pub record HaveRefusedCounty (known : List ℕ → Option (List ℕ)) (folder : 
 
 -- what a failure says of the county of this code, where that is refused
 abbrev pub TellsCounty : (List ℕ → Option (List ℕ)) → List ℕ → List ℕ → Failure → Type 0
-TellsCounty known folder code (Refusal number line) = refusal_status number ≡ 1 → IsRefusedCounty known folder code number line.bytes
+TellsCounty known folder code (Refusal refusal) =
+    refusal_status refusal.number ≡ 1 → IsRefusedCounty known folder code refusal.number refusal.line.bytes
 TellsCounty known folder code failure = ⊤
 
 -- what a failure says of the counties of these codes, where one is refused
 abbrev pub TellsCounties : (List ℕ → Option (List ℕ)) → List ℕ → List (List ℕ) → Failure → Type 0
-TellsCounties known folder codes (Refusal number line) = refusal_status number ≡ 1 → HaveRefusedCounty known folder codes number line.bytes
+TellsCounties known folder codes (Refusal refusal) =
+    refusal_status refusal.number ≡ 1 → HaveRefusedCounty known folder codes refusal.number refusal.line.bytes
 TellsCounties known folder codes failure = ⊤

@@ -1,5 +1,8 @@
 -- Why a command isn't done: its exit status, and what is said of it.
-use Rattle.std.specs.Prelude.{◌≡◌, ◌≢◌, ℕ, ◌==◌, ◌||◌, if◌then◌else◌, List, [], ◌∷◌, ◌++◌, Option, Some, None, ⊤, Result, Ok, Err}
+use Rattle.std.specs.Prelude.{◌≡◌, ◌≢◌, ℕ, List, [], ◌∷◌, ◌++◌, Option, ⊤, Result, Ok, Err}
+use Rattle.extract.specs.Refusal.{class_of}
+use Rattle.extract.specs.declared.refusal.Class.{Class}
+use Rattle.extract.specs.declared.refusal.Class.TheVariants as class
 use Rattle.tl_fields.specs.Device.{Writer}
 use Rattle.tl_fields.specs.Writing.{WritesText}
 use Rattle.tl_fields.specs.declared.writing.WriteFault.{WriteFault}
@@ -8,14 +11,19 @@ use Rattle.commands.specs.declared.files.FileFault.TheVariants.{Unusable, Memory
 use Rattle.commands.specs.declared.failure.Failure.{Failure}
 use Rattle.commands.specs.declared.failure.Failure.TheVariants.{Refusal, NoLine}
 
--- 4 for want of memory, which has no number, 3 where a read or a write failed, else 1
+-- the exit status of the refusals of a class
+abbrev pub class_status : Class → ℕ
+class_status class.Refused = 1
+class_status class.Device = 3
+class_status class.Memory = 4
+
+-- the exit status of a refusal with this number, which want of memory hasn't
 abbrev pub refusal_status : Option ℕ → ℕ
-refusal_status None = 4
-refusal_status (Some number) = if number == 5 || number == 60 || number == 61 then 3 else 1
+refusal_status number = class_status (class_of number)
 
 -- a line that the file doesn't have is a fault of usage, 2; a file or an output that can't be used is 3
 abbrev pub status : Failure → ℕ
-status (Refusal number line) = refusal_status number
+status (Refusal refusal) = refusal_status refusal.number
 status (NoLine line) = 2
 status failure = 3
 
@@ -29,7 +37,7 @@ SaysLine line errors errors' = (written : Result (Unit {0}) WriteFault) × Write
 
 -- a refusal's line is said
 abbrev pub Says : Failure → Writer → Writer → Type 0
-Says (Refusal number line) errors errors' = SaysLine line.bytes errors errors'
+Says (Refusal refusal) errors errors' = SaysLine refusal.line.bytes errors errors'
 Says failure errors errors' = ⊤
 
 -- no file's open has failed, but where the status is 3

@@ -1,9 +1,8 @@
 -- What `geocode` writes, and what it is refused for.
 use Rattle.std.specs.Prelude.{◌≡◌, ℕ, List, map, Option}
 use Rattle.std.specs.Io.KnownBytes.{Appends}
-use Rattle.std.specs.List.{flat_map}
-use Rattle.geocode.specs.HitLine.{line}
-use Rattle.geocode.specs.Hits.{find}
+use Rattle.geocode.specs.HitLine.{hit_lines}
+use Rattle.geocode.specs.Query.{hits_of, parts_of}
 use Rattle.tl_fields.specs.Device.{Writer}
 use Rattle.tl_segments.specs.County.{CountyParts}
 use Rattle.commands.specs.Counties.{AreCountiesOf, HaveRefusedCounty}
@@ -17,8 +16,7 @@ codes_of geocode = map (λ code. code.now) geocode.codes.items
 pub record IsWritten (geocode : Geocode) (known : List ℕ → Option (List ℕ)) (out out' : Writer) : Type 0 where
   pub counties : List CountyParts
   pub are_counties : AreCountiesOf known geocode.«data».now (codes_of geocode) counties
-  pub written : Appends out.held out'.held
-      (flat_map line (find geocode.name.text.now (record { number = geocode.number; zip = geocode.zip }) counties))
+  pub written : Appends out.held out'.held (hit_lines (hits_of (parts_of geocode.query) counties))
   pub counts : out'.counts ≡ out.counts
 
 -- One of the counties is refused, and nothing was written.

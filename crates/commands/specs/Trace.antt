@@ -68,7 +68,7 @@ pub data IsTraceFault (program : List ℕ) (old new : CountyReaders) (number : O
 -- how it ends: with an outcome, or with a refusal of this number and line, or where there is no such line
 abbrev pub EndsAs : Trace → List ℕ → CountyReaders → CountyReaders → Result Outcome Failure → Type 0
 EndsAs trace program old new (Ok outcome) = IsOutcomeOn trace program old new outcome
-EndsAs trace program old new (Err (Refusal number line)) = IsTraceFault program old new number line.bytes
+EndsAs trace program old new (Err (Refusal refusal)) = IsTraceFault program old new refusal.number refusal.line.bytes
 EndsAs trace program old new (Err (NoLine line)) = IsWithoutLine trace program old new
 EndsAs trace program old new (Err failure) = ⊤
 

@@ -7,8 +7,8 @@ ghost use Rattle.commands.specs.declared.request.Request.{Request};
 
 use crate::failure::{Failure, write};
 use crate::files::{Files, read_file};
-use bpf_insn::encode;
-use bpf_text::assemble;
+use bpf_text::{SourceFault, assemble_source};
+use extract::Refusal;
 use std::alloc::Global;
 use tl_fields::CountedWrite;
 
@@ -36,19 +36,16 @@ impl<'a> Assemble<'a> {
             Ok(source) => source,
             Err(fault) => return Err(Failure::of_file(self.source, fault)),
         };
-        let Ok(text) = str::from_utf8(source.as_slice()) else {
-            return Err(Failure::NotUtf8 { name: self.source });
-        };
-        let code = match assemble(alloc, text) {
-            Ok(code) => code,
-            Err(fault) => {
-                return Err(Failure::Refusal {
+        match assemble_source(alloc, source.as_slice()) {
+            Ok(words) => write(out, words.as_slice()),
+            Err(SourceFault::NotUtf8) => Err(Failure::NotUtf8 { name: self.source }),
+            Err(SourceFault::Text(fault)) => {
+                Err(Failure::Refusal(Refusal {
                     number: fault.number(),
                     line: fault.line(),
-                });
+                }))
             }
-        };
-        let words = encode(alloc, &code)?;
-        write(out, words.as_slice())
+            Err(SourceFault::Memory) => Err(Failure::memory()),
+        }
     }
 }

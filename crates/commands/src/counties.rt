@@ -6,6 +6,7 @@ ghost use Rattle.commands.specs.Failure.{TellsOpens, status};
 use crate::county::open_county;
 use crate::failure::Failure;
 use crate::files::Files;
+use extract::Refusal;
 use std::alloc::Global;
 use tl_segments::County;
 
@@ -51,9 +52,6 @@ fn load_county<'a, F: Files>(
     };
     match inputs.load(alloc) {
         Ok(county) => Ok(county),
-        Err(fault) => Err(Failure::Refusal {
-            number: fault.number(),
-            line: fault.line(),
-        }),
+        Err(fault) => Err(Failure::Refusal(Refusal::from(fault))),
     }
 }

@@ -7,8 +7,8 @@ ghost use Rattle.commands.specs.declared.request.Request.{Request};
 
 use crate::failure::{Failure, write};
 use crate::files::{Files, read_file};
-use bpf_insn::decode;
-use bpf_text::disassemble;
+use bpf_text::disassemble_program;
+use extract::Refusal;
 use std::alloc::Global;
 use tl_fields::CountedWrite;
 
@@ -36,16 +36,9 @@ impl<'a> Disassemble<'a> {
             Ok(program) => program,
             Err(fault) => return Err(Failure::of_file(self.program, fault)),
         };
-        let code = match decode(alloc, program.as_slice()) {
-            Ok(code) => code,
-            Err(fault) => {
-                return Err(Failure::Refusal {
-                    number: fault.number(),
-                    line: fault.line(),
-                });
-            }
-        };
-        let text = disassemble(alloc, &code)?;
-        write(out, text.as_bytes())
+        match disassemble_program(alloc, program.as_slice()) {
+            Ok(text) => write(out, text.as_bytes()),
+            Err(fault) => Err(Failure::Refusal(Refusal::from(fault))),
+        }
     }
 }

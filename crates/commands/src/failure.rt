@@ -2,12 +2,12 @@
 ghost use Rattle.std.specs.Prelude.{◌≡◌, ◌≢◌, ◌∷◌, [], ◌++◌, IfErr, IfOk};
 ghost use Rattle.std.specs.Io.KnownBytes.{Appends};
 ghost use Rattle.tl_fields.specs.Device.{writer};
-ghost use Rattle.commands.specs.Failure.{Says, file_status, refusal_status, status};
+ghost use Rattle.commands.specs.Failure.{Says, class_status, file_status, status};
 
 use crate::county::name_end;
 use crate::files::FileFault;
 use arrayvec::{ArrayString, ArrayVec};
-use bpf_insn::{memory_name, refusal_line};
+use extract::{Class, Refusal};
 use std::alloc::{AllocError, AllocFailed};
 use std::io::{ErrorKind, Write};
 use std::{fmt, io};
@@ -27,11 +27,8 @@ pub const OUT_OF_MEMORY: u8 = 4;
 /// Why a command isn't done.
 #[derive(Clone, Copy)]
 pub enum Failure<'a> {
-    /// A refusal: its number, which want of memory hasn't, and its line.
-    Refusal {
-        number: Option<u8>,
-        line: ArrayString<64>,
-    },
+    /// A library refuses, or memory is wanting.
+    Refusal(Refusal),
     /// The file of this name can't be opened or read.
     File {
         name: &'a str,
@@ -61,10 +58,7 @@ impl<'a> Failure<'a> {
     pub fn memory() -> Self
         ensures { status result ≡ 4 }
     {
-        Failure::Refusal {
-            number: None,
-            line: refusal_line(None, memory_name()),
-        }
+        Failure::Refusal(Refusal::memory())
     }
 
     /// What is wrong with the file of this name.
@@ -97,7 +91,7 @@ impl<'a> Failure<'a> {
         ensures { result ≡ status self.now }
     {
         match self {
-            Failure::Refusal { number, .. } => refusal_status(*number),
+            Failure::Refusal(refusal) => class_status(refusal.class()),
             Failure::NoLine { .. } => USAGE,
             _ => UNUSABLE,
         }
@@ -108,8 +102,8 @@ impl<'a> Failure<'a> {
         ensures { Says self.now (writer E.contents E.counts errors.old) (writer E.contents E.counts errors.new) }
     {
         let _ = match self {
-            Failure::Refusal { line, .. } => {
-                let _ = write_whole(errors, with_line_end(*line).as_slice());
+            Failure::Refusal(refusal) => {
+                let _ = write_whole(errors, with_line_end(refusal.line).as_slice());
                 return;
             }
             Failure::File { name, error } => {
@@ -155,14 +149,14 @@ impl<T: Drop> From<AllocFailed<T>> for Failure<'_> {
     }
 }
 
-/// The exit status of a refusal with this number, or of want of memory, which has none.
-fn refusal_status(number: Option<u8>) -> u8
-    ensures { result ≡ refusal_status number }
+/// The exit status of the refusals of a class.
+fn class_status(class: Class) -> u8
+    ensures { result ≡ class_status class }
 {
-    match number {
-        None => OUT_OF_MEMORY,
-        Some(5 | 60 | 61) => UNUSABLE,
-        Some(_) => REFUSED,
+    match class {
+        Class::Refused => REFUSED,
+        Class::Device => UNUSABLE,
+        Class::Memory => OUT_OF_MEMORY,
     }
 }
 
@@ -183,10 +177,7 @@ pub fn write<'a, W: CountedWrite>(out: &mut W, text: &[u8]) -> Result<(), Failur
 {
     match write_whole(out, text) {
         Ok(()) => Ok(()),
-        Err(fault) => Err(Failure::Refusal {
-            number: Some(fault.number()),
-            line: refusal_line(Some(fault.number()), fault.name()),
-        }),
+        Err(fault) => Err(Failure::Refusal(Refusal::from(fault))),
     }
 }
 

@@ -1,8 +1,7 @@
 //! `geocode`: where a house number is, over counties.
 ghost use Rattle.std.specs.Prelude.{◌≡◌, ◌≢◌, IfErr, IfOk};
 ghost use Rattle.std.specs.Io.KnownBytes.{Appends};
-ghost use Rattle.std.specs.List.{flat_map};
-ghost use Rattle.geocode.specs.HitLine.{line};
+ghost use Rattle.geocode.specs.HitLine.{hit_lines};
 ghost use Rattle.tl_fields.specs.Device.{writer};
 ghost use Rattle.commands.specs.Command.{IsCarriedOut};
 ghost use Rattle.commands.specs.Failure.{TellsOpens, status};
@@ -11,8 +10,7 @@ ghost use Rattle.commands.specs.declared.request.Request.{Request};
 use crate::counties::load_counties;
 use crate::failure::{Failure, write};
 use crate::files::Files;
-use crate::street_name::StreetName;
-use geocode::{Hit, find};
+use geocode::{Hit, Query};
 use std::alloc::Global;
 use tl_fields::CountedWrite;
 
@@ -21,12 +19,7 @@ use tl_fields::CountedWrite;
 pub struct Geocode<'a> {
     /// The folder of the county files.
     pub data: &'a str,
-    /// The house number.
-    pub number: u64,
-    /// The street's name, without its type and direction.
-    pub name: StreetName<'a>,
-    /// The number of the ZIP code, where only that one will do.
-    pub zip: Option<u64>,
+    pub query: Query<'a>,
     /// The counties: five digits each, of the state and of the county in it.
     pub codes: Vec<&'a str>,
 }
@@ -48,20 +41,14 @@ impl<'a> Geocode<'a> {
             Ok(counties) => counties,
             Err(failure) => return Err(failure),
         };
-        let hits = find(
-            alloc,
-            counties.as_slice(),
-            self.number,
-            self.name.text.as_bytes(),
-            self.zip,
-        )?;
+        let hits = self.query.find(alloc, counties.as_slice())?;
         write_lines(out, hits.as_slice())
     }
 }
 
 /// Writes the lines of hits, one after the other, up to the first that can't be written whole.
 fn write_lines<'a, W: CountedWrite>(out: &mut W, hits: &[Hit]) -> Result<(), Failure<'a>>
-    ensures written { IfOk result (λ _. Appends (W.contents out.old) (W.contents out.new) (flat_map line hits.now)) }
+    ensures written { IfOk result (λ _. Appends (W.contents out.old) (W.contents out.new) (hit_lines hits.now)) }
     ensures counts { IfOk result (λ _. W.counts out.new ≡ W.counts out.old) }
     ensures err { IfErr result (λ failure. (status failure ≢ 1) × (status failure ≢ 2)) }
 {

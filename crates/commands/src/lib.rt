@@ -10,7 +10,6 @@ mod files;
 mod geocoder;
 mod request;
 mod run;
-mod street_name;
 mod trace;
 mod verify;
 
@@ -21,6 +20,5 @@ pub use files::{FileFault, Files, INPUT_BUFFER, SystemFiles, read_to_end};
 pub use geocoder::Geocode;
 pub use request::Request;
 pub use run::Run;
-pub use street_name::StreetName;
 pub use trace::Trace;
 pub use verify::Verify;

@@ -8,6 +8,7 @@ ghost use Rattle.commands.specs.declared.request.Request.{Request};
 use crate::county::open_county;
 use crate::failure::Failure;
 use crate::files::{Files, open, read_to_end};
+use extract::Refusal;
 use std::alloc::Global;
 use tl_fields::CountedWrite;
 
@@ -49,10 +50,7 @@ impl<'a> Run<'a> {
         };
         match inputs.extract(alloc, program.as_slice(), out) {
             Ok(_) => Ok(()),
-            Err(fault) => Err(Failure::Refusal {
-                number: fault.number(),
-                line: fault.line(),
-            }),
+            Err(fault) => Err(Failure::Refusal(Refusal::from(fault))),
         }
     }
 }

@@ -13,6 +13,7 @@ use crate::files::{Files, open, read_to_end};
 use arrayvec::ArrayString;
 use bpf_insn::decode;
 use bpf_meaning::{Outcome, trace};
+use extract::Refusal;
 use itoa::Buffer;
 use std::alloc::{Allocator, Global};
 use tl_fields::{CountedRead, CountedWrite};
@@ -76,21 +77,11 @@ impl<'a> Trace<'a> {
     {
         let code = match decode(alloc, program) {
             Ok(code) => code,
-            Err(fault) => {
-                return Err(Failure::Refusal {
-                    number: fault.number(),
-                    line: fault.line(),
-                });
-            }
+            Err(fault) => return Err(Failure::Refusal(Refusal::from(fault))),
         };
         let county = match inputs.load(alloc) {
             Ok(county) => county,
-            Err(fault) => {
-                return Err(Failure::Refusal {
-                    number: fault.number(),
-                    line: fault.line(),
-                });
-            }
+            Err(fault) => return Err(Failure::Refusal(Refusal::from(fault))),
         };
         match segment_of_line(&county, self.line) {
             Some(segment) => Ok(trace(&code, segment, self.limit)),

@@ -7,7 +7,7 @@ ghost use Rattle.commands.specs.declared.request.Request.{Request};
 
 use crate::failure::{Failure, write};
 use crate::files::{Files, read_file};
-use extract::accept;
+use extract::{Refusal, accept};
 use std::alloc::Global;
 use tl_fields::CountedWrite;
 
@@ -37,10 +37,7 @@ impl<'a> Verify<'a> {
         };
         match accept(alloc, program.as_slice()) {
             Ok(_verified) => write(out, b"accepted\n"),
-            Err(fault) => Err(Failure::Refusal {
-                number: fault.number(),
-                line: fault.line(),
-            }),
+            Err(fault) => Err(Failure::Refusal(Refusal::from(fault))),
         }
     }
 }

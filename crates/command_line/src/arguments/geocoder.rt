@@ -1,8 +1,9 @@
 //! The arguments of `geocode`.
 use crate::fault::ArgumentsFault;
-use crate::options::{codes, number, number_in, option, value};
+use crate::options::{codes, option, value};
 use clap::{Arg, ArgAction, ArgMatches, Command};
-use commands::{Geocode, StreetName};
+use commands::Geocode;
+use geocode::{MOST_DIGITS, Query, QueryFault};
 use std::alloc::{AllocError, Global};
 
 pub fn command<'a>(alloc: Global) -> Result<Command<'a>, AllocError> {
@@ -48,9 +49,6 @@ fn counties_option<'a>(alloc: Global) -> Arg<'a> {
         .action(ArgAction::Append)
 }
 
-// A house number and a ZIP code have as many digits at most, as an address field has.
-const MOST_DIGITS: usize = 11;
-
 /// What the arguments that were matched ask for.
 pub fn request<'a>(
     alloc: Global,
@@ -58,22 +56,38 @@ pub fn request<'a>(
 ) -> Result<Geocode<'a>, ArgumentsFault<'a>> {
     Ok(Geocode {
         data: value(matches, "data")?,
-        number: number(matches, "number", MOST_DIGITS)?,
-        name: name(value(matches, "name")?)?,
-        zip: zip(matches)?,
+        query: query(
+            value(matches, "number")?,
+            value(matches, "name")?,
+            matches.get_str("zip"),
+        )?,
         codes: codes(alloc, matches)?,
     })
 }
 
-/// The number of the ZIP code, if one is given.
-fn zip<'a>(matches: &ArgMatches<'a>) -> Result<Option<u64>, ArgumentsFault<'a>> {
-    match matches.get_str("zip") {
-        Some(text) => Ok(Some(number_in("zip", MOST_DIGITS, text)?)),
-        None => Ok(None),
+/// The query that the values of these options make.
+fn query<'a>(
+    number: &'a str,
+    name: &'a str,
+    zip: Option<&'a str>,
+) -> Result<Query<'a>, ArgumentsFault<'a>> {
+    match Query::of(
+        number.as_bytes(),
+        name.as_bytes(),
+        zip.map(|zip| zip.as_bytes()),
+    ) {
+        Ok(query) => Ok(query),
+        Err(QueryFault::Number) => Err(no_number("number", number)),
+        Err(QueryFault::Name) => Err(ArgumentsFault::Name(name)),
+        Err(QueryFault::Zip) => Err(no_number("zip", zip.unwrap_or(""))),
     }
 }
 
-/// The street's name that is looked for: 1 to 30 bytes.
-fn name<'a>(text: &'a str) -> Result<StreetName<'a>, ArgumentsFault<'a>> {
-    StreetName::of(text).ok_or(ArgumentsFault::Name(text))
+/// The option's value isn't 1 to 11 digits.
+fn no_number<'a>(name: &'static str, text: &'a str) -> ArgumentsFault<'a> {
+    ArgumentsFault::Number {
+        name,
+        most_digits: MOST_DIGITS,
+        text,
+    }
 }
