@@ -61,7 +61,7 @@ const HITS: &str = "\
 ||||151|main||";
 
 /// The counties of rows.
-fn counties_of(alloc: Global, rows: &str) -> Option<Vec<County<Global>>> {
+pub fn counties_of(alloc: Global, rows: &str) -> Option<Vec<County<Global>>> {
     let mut counties = Vec::new(alloc);
     for row in rows.lines() {
         let files = files_of(alloc, row)?;

@@ -11,6 +11,8 @@ mod fixtures;
 #[cfg(test)]
 mod hits;
 #[cfg(test)]
+mod queries;
+#[cfg(test)]
 mod records;
 #[cfg(test)]
 mod segments;
