@@ -1,0 +1,33 @@
+-- Heads at the front of an input: bytes that follow change none, and there is one at most.
+use Rattle.std.proofs.Common.{◌≡◌, ℕ, ◌<◌, List, [], ◌∷◌, ◌++◌, length, length-append, ap, ◌∙◌, sym, arith}
+use Rattle.httparse.specs.Grammar.{HasNoRequest, print_blank, print_end, print_section, print_version}
+use Rattle.httparse.proofs.GrammarLemmas.{ReadsRequest-append, print_request-append, request_unique}
+use Rattle.http_request.specs.Head.{Head, HasHead, head_of}
+
+-- bytes that follow stand behind the rest
+pub HasHead-append : (input more : List ℕ) (head : Head) (rest : List ℕ) → HasHead input head rest → HasHead (input ++ more) head (rest ++ more)
+HasHead-append input more head rest has = record {
+  tree = has.tree;
+  reads = ReadsRequest-append input has.tree rest more has.reads;
+  short = has.short;
+  few = has.few;
+  parts = has.parts;
+}
+
+-- an input has one head at most, and one rest behind it
+pub HasHead-unique : (input : List ℕ) (a b : Head) (r s : List ℕ) → HasHead input a r → HasHead input b s → (a ≡ b) × (r ≡ s)
+HasHead-unique input a b r s first second =
+    let same = request_unique input first.tree second.tree r s first.reads second.reads in
+    (first.parts ∙ ap head_of same.0 ∙ sym second.parts, same.1)
+
+-- an empty input has no head
+pub empty-HasNoRequest : HasNoRequest []
+empty-HasNoRequest tree rest reads =
+    let after = tree.target ++ 32 ∷ (print_version tree.minor ++ (print_end tree.line_end ++ (print_section tree.fields tree.last ++ rest))) in
+    let printed = reads.1 ∙ print_request-append tree rest in
+    absurd (omega (arith, ap length printed, length-append (print_blank tree.blank) (tree.method ++ 32 ∷ after), length-append tree.method (32 ∷ after)))
+
+-- an input with a head isn't empty
+pub HasHead-some : (input : List ℕ) (head : Head) (rest : List ℕ) → HasHead input head rest → 0 < length input
+HasHead-some [] head rest has = absurd (empty-HasNoRequest has.tree rest has.reads)
+HasHead-some (byte ∷ bytes) head rest has = omega arith

@@ -1,0 +1,86 @@
+-- What was read of an input, joined to the whole of it.
+use Rattle.std.proofs.Common.{◌≡◌, ℕ, List, [], ◌++◌, length, inl, inr, Some, None, Option, ◌∙◌, ap, arith, refl, sym, subst, length-append}
+use Rattle.std.specs.Prelude.{unwrap_or}
+use Rattle.std.proofs.lemmas.List.{append-nil, take-append-le}
+use Rattle.std.specs.Io.KnownBytes.{Consumes, IsAtEnd, Keeps}
+use Rattle.tl_fields.specs.Device.{Reader}
+use Rattle.http_request.specs.Reading.{EndsInBody, IsClosed, LacksHead, ReadsBody, ReadsHead, Request, Takes}
+use Rattle.http_request.specs.Whole.{HadHead, HadNoHead, HadRequest, HadShortRequest, left_of}
+use Rattle.http_request.proofs.TakeLemmas.{Takes-append}
+use Rattle.http_request.proofs.HeadLemmas.{HasHead-append}
+
+whole_input : (taken : List ℕ) (old new : Option (List ℕ)) → Consumes old new taken → Keeps old (Some (taken ++ unwrap_or new []))
+whole_input taken None new consumed = tt
+whole_input taken (Some input) None consumed = absurd consumed
+whole_input taken (Some input) (Some left) consumed = sym consumed
+
+nothing_left : (left : Option (List ℕ)) → IsAtEnd left → unwrap_or left [] ≡ []
+nothing_left None ended = refl
+nothing_left (Some bytes) ended = ended
+
+-- what a reader had left is what was taken, and then what it has left now
+pub known_whole : (taken : List ℕ) (old new : Reader) → Takes taken old new → Keeps old.left (Some (taken ++ left_of new))
+known_whole taken old new takes = whole_input taken old.left new.left takes.consumed
+
+-- the same at the end of the input: it is what was taken
+pub known_at_end : (taken : List ℕ) (old new : Reader) → Takes taken old new → IsAtEnd new.left → Keeps old.left (Some taken)
+known_at_end taken old new takes ended =
+    let all : taken ++ left_of new ≡ taken = ap (λ (left : List ℕ). taken ++ left) (nothing_left new.left ended) ∙ append-nil taken in
+    subst (λ (input : List ℕ). Keeps old.left (Some input)) all (known_whole taken old new takes)
+
+-- a reader that had ended before its first byte had none left
+pub known_closed : (old new : Reader) → IsClosed old new → Keeps old.left (Some [])
+known_closed old new closed = known_at_end [] old new closed.takes closed.ended
+
+-- a head was read
+pub had_head : (request : Request) (old new : Reader) → ReadsHead request old new → HadHead request.head (request.behind ++ left_of new) old
+had_head request old new read = record {
+  input = read.taken ++ left_of new;
+  known = known_whole read.taken old new read.takes;
+  has = HasHead-append read.taken (left_of new) request.head request.behind read.has;
+}
+
+-- no head could be read
+pub had_no_head : (old new : Reader) → LacksHead old new → HadNoHead old
+had_no_head old new lacking = elim lacking.lacks [
+  | inl never ↦ record {
+    input = lacking.taken ++ left_of new;
+    known = known_whole lacking.taken old new lacking.takes;
+    has_none = never (left_of new);
+  }
+  | inr none ↦ record {
+    input = lacking.taken;
+    known = known_at_end lacking.taken old new lacking.takes none.0;
+    has_none = none.1;
+  }
+]
+
+-- a head was read, and then bytes behind it
+had_more : (request : Request) (taken : List ℕ) (old now new : Reader) → ReadsHead request old now → Takes taken now new → HadHead request.head (request.behind ++ taken ++ left_of new) old
+had_more request taken old now new read takes = record {
+  input = read.taken ++ taken ++ left_of new;
+  known = known_whole (read.taken ++ taken) old new (Takes-append read.taken taken old now new read.takes takes);
+  has = HasHead-append (read.taken ++ taken) (left_of new) request.head (request.behind ++ taken) (HasHead-append read.taken taken request.head request.behind read.has);
+}
+
+-- a head was read, and then the body
+pub had_request : (request : Request) (count : ℕ) (body : List ℕ) (old now new : Reader) → ReadsHead request old now → ReadsBody request.behind count body now new → HadRequest request.head count body old
+had_request request count body old now new read body_read =
+    let there = request.behind ++ body_read.taken in
+    record {
+      rest = there ++ left_of new;
+      had = had_more request body_read.taken old now new read body_read.takes;
+      whole = omega (arith, body_read.whole, length-append there (left_of new));
+      is_body = body_read.is_body ∙ sym (take-append-le count there (left_of new) body_read.whole);
+    }
+
+-- a head was read, and the input ended within the body
+pub had_short_request : (request : Request) (count : ℕ) (old now new : Reader) → ReadsHead request old now → EndsInBody request.behind count now new → HadShortRequest request.head count old
+had_short_request request count old now new read ends =
+    let there = request.behind ++ ends.taken in
+    let none = nothing_left new.left ends.ended in
+    record {
+      rest = there ++ left_of new;
+      had = had_more request ends.taken old now new read ends.takes;
+      short = omega (arith, ends.short, length-append there (left_of new), ap length none);
+    }

@@ -1,0 +1,25 @@
+-- The head of a request (RFC 9112, sections 2 to 5), at the front of an input.
+use Rattle.std.specs.Prelude.{◌≡◌, ℕ, ◌≤◌, List, length, map}
+use Rattle.httparse.specs.Grammar.{ReadsRequest, RequestHead, print_request}
+use Rattle.httparse.specs.Spans.{name_and_value}
+use Rattle.http_request.specs.declared.head.TheConstants.{HEAD_LIMIT, HEADER_LIMIT}
+
+-- What counts of a head: the method, the request target, and each header's name with its value, without the blanks and tabs around that.
+pub record Head : Type 0 where
+  pub method : List ℕ
+  pub target : List ℕ
+  pub headers : List (List ℕ × List ℕ)
+
+abbrev pub head_of : RequestHead → Head
+head_of tree = record { method = tree.method; target = tree.target; headers = map name_and_value tree.fields }
+
+-- The input begins with a request head of the grammar, within the limits of bytes and of headers; behind it the rest follows.
+pub record HasHead (input : List ℕ) (head : Head) (rest : List ℕ) : Type 0 where
+  pub tree : RequestHead
+  pub reads : ReadsRequest input tree rest
+  pub short : length (print_request tree) ≤ HEAD_LIMIT
+  pub few : length tree.fields ≤ HEADER_LIMIT
+  pub parts : head ≡ head_of tree
+
+abbrev pub HasNoHead : List ℕ → Type 0
+HasNoHead input = (head : Head) (rest : List ℕ) → HasHead input head rest → ⊥

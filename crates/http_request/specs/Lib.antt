@@ -1,0 +1,5 @@
+pub mod Head
+pub mod Length
+pub mod Reading
+pub mod Search
+pub mod Whole

@@ -1,0 +1,59 @@
+//! The body of a request, read piece by piece.
+ghost use Rattle.std.specs.Prelude.{◌≡◌, MatchResult};
+ghost use Rattle.tl_fields.specs.Device.{reader};
+ghost use Rattle.http_request.specs.Reading.{EndsBody, ReadsBody};
+ghost use Rattle.http_request.specs.declared.body.BodyFault.TheVariants.{Memory};
+
+use std::alloc::{AllocError, Allocator};
+use thiserror::Error;
+use tl_fields::CountedRead;
+
+/// Why a body isn't there.
+#[derive(Clone, Copy, Debug, PartialEq, Eq, Error)]
+pub enum BodyFault {
+    /// The input ended within the body.
+    #[error("the body is shorter than announced")]
+    Short,
+    #[error("a read failed")]
+    Read,
+    #[error("out of memory")]
+    Memory,
+}
+
+impl From<AllocError> for BodyFault {
+    ghost from_gives = { λ error fault. fault ≡ Memory };
+
+    fn from(_error: AllocError) -> BodyFault {
+        BodyFault::Memory
+    }
+}
+
+// A body is read in pieces of at most this size.
+const PIECE: usize = 16_384;
+
+/// Reads the body that has this length: first from what was read behind the head, and then from the reader, no byte more than the body has.
+///
+/// Memory is taken for what is there, so that an announced length alone takes none. No read is tried again, not after `Interrupted` either.
+pub fn read_body<A: Allocator + Copy, R: CountedRead>(
+    alloc: A,
+    behind: &[u8],
+    length: usize,
+    input: &mut R,
+) -> Result<Vec<u8, A>, BodyFault>
+    ensures { MatchResult result
+        (λ body. ReadsBody behind.now length body.items (reader R.remaining R.failed_reads input.old) (reader R.remaining R.failed_reads input.new))
+        (λ fault. EndsBody fault behind.now length (reader R.remaining R.failed_reads input.old) (reader R.remaining R.failed_reads input.new)) }
+{
+    let mut body = Vec::new(alloc);
+    body.extend_from_slice(&behind[..length.min(behind.len())])?;
+    let mut piece = [0; PIECE];
+    while body.len() < length {
+        let most = (length - body.len()).min(PIECE);
+        match input.read_counted(&mut piece[..most]) {
+            Ok(0) => return Err(BodyFault::Short),
+            Ok(count) => body.extend_from_slice(&piece[..count])?,
+            Err(_) => return Err(BodyFault::Read),
+        }
+    }
+    Ok(body)
+}

@@ -1,0 +1,104 @@
+//! The head of a request, read into a buffer of a fixed size.
+ghost use Rattle.std.specs.Prelude.{◌≡◌, length};
+ghost use Rattle.tl_fields.specs.Device.{reader};
+ghost use Rattle.http_request.specs.Reading.{AnswersHead};
+ghost use Rattle.http_request.specs.Search.{AnswersSearch};
+
+use crate::request::Request;
+use httparse::Status;
+use httparse::spans::{EMPTY_HEADER_SPAN, HeaderSpan, RequestSpans, parse_request};
+use thiserror::Error;
+use tl_fields::CountedRead;
+
+/// The most bytes that a head may have, with the empty line that ends it.
+pub const HEAD_LIMIT: usize = 8192;
+
+/// The most headers that a head may have.
+pub const HEADER_LIMIT: usize = 64;
+
+/// Why there is no head to judge.
+#[derive(Clone, Copy, Debug, PartialEq, Eq, Error)]
+pub enum HeadFault {
+    /// The input ended before its first byte.
+    #[error("the input has ended")]
+    Closed,
+    #[error("a read failed")]
+    Read,
+}
+
+/// Where a head is in what was read.
+#[derive(Drop)]
+struct Found {
+    spans: RequestSpans,
+    /// How many bytes were read.
+    count: usize,
+}
+
+/// The room for one head. What it holds is lent to the request that was read last.
+#[derive(Drop)]
+pub struct HeadBuffer {
+    bytes: [u8; HEAD_LIMIT],
+    headers: [HeaderSpan; HEADER_LIMIT],
+}
+
+impl HeadBuffer {
+    pub fn new() -> Self {
+        HeadBuffer {
+            bytes: [0; HEAD_LIMIT],
+            headers: [EMPTY_HEADER_SPAN; HEADER_LIMIT],
+        }
+    }
+
+    /// Reads a request's head, and with it what the same reads gave of the bytes behind it.
+    ///
+    /// `None` is an input that has no head of the grammar within the limits, whatever else it holds. No read is tried again, not after
+    /// `Interrupted` either.
+    pub fn read_head<R: CountedRead>(
+        &mut self,
+        input: &mut R,
+    ) -> Result<Option<Request<'_>>, HeadFault>
+        ensures { AnswersHead result (reader R.remaining R.failed_reads input.old) (reader R.remaining R.failed_reads input.new) }
+    {
+        match find_head(&mut self.bytes, &mut self.headers, input)? {
+            Some(found) => Ok(Some(Request::of(
+                &self.bytes[..found.count],
+                &self.headers,
+                found.spans,
+            ))),
+            None => Ok(None),
+        }
+    }
+}
+
+/// Reads until the head is there, or can't come any more.
+fn find_head<R: CountedRead>(
+    bytes: &mut [u8],
+    headers: &mut [HeaderSpan],
+    input: &mut R,
+) -> Result<Option<Found>, HeadFault>
+    requires bytes { length bytes.old ≡ HEAD_LIMIT }
+    requires headers { length headers.old ≡ HEADER_LIMIT }
+    ensures { AnswersSearch bytes.new headers.new result
+        (reader R.remaining R.failed_reads input.old) (reader R.remaining R.failed_reads input.new) }
+{
+    let mut count = 0;
+    while count < bytes.len() {
+        let Ok(read) = input.read_counted(&mut bytes[count..]) else {
+            return Err(HeadFault::Read);
+        };
+        if read == 0 {
+            return if count == 0 {
+                Err(HeadFault::Closed)
+            } else {
+                Ok(None)
+            };
+        }
+        count += read;
+        match parse_request(&bytes[..count], headers) {
+            Ok(Status::Complete(spans)) => return Ok(Some(Found { spans, count })),
+            Ok(Status::Partial) => {}
+            Err(_) => return Ok(None),
+        }
+    }
+    Ok(None)
+}

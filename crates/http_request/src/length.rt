@@ -1,0 +1,62 @@
+//! The length of a body, as a header says it.
+ghost use Rattle.std.specs.Prelude.{◌≡◌, IsTrue};
+ghost use Rattle.std.specs.Char.{is_ascii_digit};
+ghost use Rattle.std.specs.List.{list_all};
+ghost use Rattle.std.specs.Str.Parse.{digits_value};
+ghost use Rattle.http_request.specs.Length.{is_numeral, length_of, up_to_limit};
+
+use thiserror::Error;
+
+/// The most bytes that a body may have.
+pub const BODY_LIMIT: usize = 1_048_576;
+
+/// Why no length of a body is taken from a head.
+#[derive(Clone, Copy, Debug, PartialEq, Eq, Error)]
+pub enum LengthFault {
+    /// No length is announced, or the body is in a transfer coding.
+    #[error("no length of the body")]
+    Missing,
+    /// More than one length is announced, or none that is a number.
+    #[error("a bad length of the body")]
+    Invalid,
+    #[error("the body is too long")]
+    TooLarge,
+}
+
+/// The length that the value of a Content-Length header says: digits and nothing else.
+pub(crate) fn length_of(value: &[u8]) -> Result<usize, LengthFault>
+    ensures { result ≡ length_of value.now }
+{
+    if is_numeral(value) {
+        number_up_to_limit(value)
+    } else {
+        Err(LengthFault::Invalid)
+    }
+}
+
+fn is_numeral(value: &[u8]) -> bool
+    ensures { result ≡ is_numeral value.now }
+{
+    !value.is_empty() && are_digits(value)
+}
+
+fn are_digits(bytes: &[u8]) -> bool
+    ensures { result ≡ list_all is_ascii_digit bytes.now }
+{
+    bytes.iter().all(|byte| byte.is_ascii_digit())
+}
+
+/// The number that these digits write.
+fn number_up_to_limit(digits: &[u8]) -> Result<usize, LengthFault>
+    requires { IsTrue (list_all is_ascii_digit digits.now) }
+    ensures { result ≡ up_to_limit (digits_value 10 digits.now) }
+{
+    let mut number = 0;
+    for digit in digits {
+        number = number * 10 + usize::from(*digit - b'0');
+        if number > BODY_LIMIT {
+            return Err(LengthFault::TooLarge);
+        }
+    }
+    Ok(number)
+}

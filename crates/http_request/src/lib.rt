@@ -1,0 +1,13 @@
+//! One request of HTTP/1.1, read from a reader: its head without memory, and its body with as much memory as it has bytes.
+#![tactic(auto)]
+
+mod body;
+mod head;
+pub mod laws;
+mod length;
+mod request;
+
+pub use body::{BodyFault, read_body};
+pub use head::{HEAD_LIMIT, HEADER_LIMIT, HeadBuffer, HeadFault};
+pub use length::{BODY_LIMIT, LengthFault};
+pub use request::Request;

@@ -1,0 +1,133 @@
+//! A request, of which the head was read.
+ghost use Rattle.std.specs.Prelude.{◌≡◌, IsUtf8, codes, drop, length, map, take};
+ghost use Rattle.std.specs.List.{list_any};
+ghost use Rattle.httparse.specs.Spans.{IsHeaderWithin, IsRequestWithin, header_bytes, span_bytes};
+ghost use Rattle.http_request.specs.Length.{announced, body_length, is_named, values_of};
+
+use crate::length::{LengthFault, length_of};
+use httparse::spans::{HeaderSpan, RequestSpans};
+use std::marker::Model;
+use std::str;
+
+const CONTENT_LENGTH: &str = "content-length";
+
+const TRANSFER_ENCODING: &str = "transfer-encoding";
+
+/// A request's head, and what was read behind it, lent by the buffer that they were read into.
+#[derive(Drop)]
+pub struct Request<'a> {
+    bytes: &'a [u8],
+    method: &'a [u8],
+    target: &'a str,
+    // Where the headers are in the bytes.
+    headers: &'a [HeaderSpan],
+    behind: &'a [u8],
+}
+
+impl<'a> Model for Request<'a> {
+    ghost use Rattle.std.specs.Prelude.{All, length, map};
+    ghost use Rattle.httparse.specs.Spans.{IsHeaderWithin, header_bytes};
+    ghost use Rattle.http_request.specs.Reading.{Request};
+
+    ghost Value = { Request };
+
+    ghost view = { λ request. record {
+      head = record { method = request.method.now; target = request.target.now; headers = map (header_bytes request.bytes.now) request.headers.now };
+      behind = request.behind.now;
+    } };
+
+    ghost invariant = { λ request. All (IsHeaderWithin (length request.bytes.now)) request.headers.now };
+}
+
+impl<'a> Request<'a> {
+    /// The request whose parts are at these places in what was read.
+    pub(crate) fn of(bytes: &'a [u8], headers: &'a [HeaderSpan], spans: RequestSpans) -> Self
+        requires within { IsRequestWithin bytes.now headers.now spans }
+        requires text { IsUtf8 (span_bytes bytes.now spans.path) }
+        ensures method { result.head.method ≡ span_bytes bytes.now spans.method }
+        ensures target { result.head.target ≡ span_bytes bytes.now spans.path }
+        ensures headers { result.head.headers ≡ map (header_bytes bytes.now) (take spans.headers headers.now) }
+        ensures behind { result.behind ≡ drop spans.len bytes.now }
+    {
+        Request {
+            bytes,
+            method: spans.method.of(bytes),
+            target: str::from_utf8(spans.path.of(bytes)).unwrap(),
+            headers: &headers[..spans.headers],
+            behind: &bytes[spans.len..],
+        }
+    }
+
+    /// The method, as `GET`; upper and lower case are different.
+    #[inline]
+    pub fn method(&self) -> &'a [u8]
+        ensures { result.now ≡ self.now.head.method }
+    {
+        self.method
+    }
+
+    /// The request target, as it was sent.
+    #[inline]
+    pub fn target(&self) -> &'a str
+        ensures { result.now ≡ self.now.head.target }
+    {
+        self.target
+    }
+
+    /// What was read behind the head: the body's beginning, where there is a body, and perhaps more.
+    #[inline]
+    pub fn behind(&self) -> &'a [u8]
+        ensures { result.now ≡ self.now.behind }
+    {
+        self.behind
+    }
+
+    /// How many bytes the body has, as the head announces them.
+    ///
+    /// A body in a transfer coding isn't taken: it counts as one without a length.
+    pub fn body_length(&self) -> Result<usize, LengthFault>
+        ensures { result ≡ body_length self.now.head }
+    {
+        if self.has_header(TRANSFER_ENCODING) {
+            return Err(LengthFault::Missing);
+        }
+        self.announced_length()
+    }
+
+    fn has_header(&self, name: &str) -> bool
+        ensures { result ≡ list_any (is_named name.now) self.now.head.headers }
+    {
+        for header in self.headers {
+            if is_named(self.bytes, header, name) {
+                return true;
+            }
+        }
+        false
+    }
+
+    fn announced_length(&self) -> Result<usize, LengthFault>
+        ensures { result ≡ announced (values_of (codes "content-length") self.now.head) }
+    {
+        let mut found = None;
+        for header in self.headers {
+            if is_named(self.bytes, header, CONTENT_LENGTH) {
+                if found.is_some() {
+                    return Err(LengthFault::Invalid);
+                }
+                found = Some(header.value.of(self.bytes));
+            }
+        }
+        match found {
+            Some(value) => length_of(value),
+            None => Err(LengthFault::Missing),
+        }
+    }
+}
+
+/// Whether the header has this name, in any case (RFC 9110, section 5.1).
+fn is_named(bytes: &[u8], header: &HeaderSpan, name: &str) -> bool
+    requires { IsHeaderWithin (length bytes.now) header.now }
+    ensures { result ≡ is_named name.now (header_bytes bytes.now header.now) }
+{
+    header.name.of(bytes).eq_ignore_ascii_case(name.as_bytes())
+}
