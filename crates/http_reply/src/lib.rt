@@ -1,0 +1,9 @@
+//! Replies of an HTTP server (RFC 9112) that closes each connection behind its reply.
+#![tactic(auto)]
+
+pub mod laws;
+mod reply;
+mod status;
+
+pub use reply::{ALLOW_LIMIT, LEAD_LIMIT, MediaType, Reply};
+pub use status::Status;

@@ -1,0 +1,151 @@
+//! Replies, and how they are written.
+ghost use Rattle.std.specs.Prelude.{[], ◌≡◌, ◌≤◌, ◌+◌, ◌++◌, length, None, option_map};
+ghost use Rattle.std.specs.Option.{ForSome};
+ghost use Rattle.tl_fields.specs.Device.{writer};
+ghost use Rattle.tl_fields.specs.Writing.{WritesText};
+ghost use Rattle.http_reply.specs.Status.{text};
+ghost use Rattle.http_reply.specs.Reply.{allow_header, head, header, media_type, parts_of, reply_text, status_line};
+ghost use Rattle.http_reply.specs.declared.reply.MediaType.TheVariants.{Plain};
+
+use crate::status::Status;
+use arrayvec::ArrayVec;
+use itoa::Buffer;
+use tl_fields::{CountedWrite, WriteFault, write_whole};
+
+/// How many bytes of a body can be made for one reply.
+pub const LEAD_LIMIT: usize = 65;
+
+/// How many bytes the methods of an `Allow` header have at most.
+pub const ALLOW_LIMIT: usize = 32;
+
+// How many bytes are written at once at most, of those that aren't lent.
+const PACKET_LIMIT: usize = 1024;
+
+type Packet = ArrayVec<u8, PACKET_LIMIT>;
+
+/// What a body is.
+#[derive(Clone, Copy, PartialEq, Eq)]
+pub enum MediaType {
+    Plain,
+    Octets,
+}
+
+impl MediaType {
+    fn as_str(self) -> &'static str
+        ensures value { result.now ≡ media_type self }
+        ensures short { length result.now ≤ 24 }
+    {
+        match self {
+            MediaType::Plain => "text/plain",
+            MediaType::Octets => "application/octet-stream",
+        }
+    }
+}
+
+/// A reply that lends its body, which is `lead` and then `rest`.
+#[derive(Drop)]
+pub struct Reply<'a> {
+    pub status: Status,
+    pub media: MediaType,
+    /// The methods that the path has, where another was asked for.
+    pub allow: Option<&'a str>,
+    /// What was made for this reply, as a refusal's line.
+    pub lead: ArrayVec<u8, LEAD_LIMIT>,
+    /// What is written from where it lies.
+    pub rest: &'a [u8],
+}
+
+impl Reply<'_> {
+    /// A plain reply whose body is the status's own text.
+    pub fn of_status(status: Status) -> Reply<'static>
+        ensures { parts_of result ≡ record { status = status; media = Plain; allow = None; body = text status } }
+    {
+        Reply {
+            status,
+            media: MediaType::Plain,
+            allow: None,
+            lead: ArrayVec::new(),
+            rest: status.text().as_bytes(),
+        }
+    }
+
+    /// Writes the reply, in one write where all of it fits into a small packet, else the part that isn't `rest` in one, and `rest` in another.
+    /// Nothing is tried again, and nothing is flushed. It takes no memory.
+    pub fn write<W: CountedWrite>(&self, out: &mut W) -> Result<(), WriteFault>
+        requires { ForSome (parts_of self.now).allow (λ methods. length methods ≤ ALLOW_LIMIT) }
+        ensures { WritesText (reply_text (parts_of self.now)) result
+            (writer W.contents W.counts out.old) (writer W.contents W.counts out.new) }
+    {
+        let mut packet = Packet::new();
+        self.push_head(&mut packet);
+        packet.try_extend_from_slice(self.lead.as_slice()).unwrap();
+        if packet.try_extend_from_slice(self.rest).is_ok() {
+            return write_whole(out, packet.as_slice());
+        }
+        write_both(packet.as_slice(), self.rest, out)
+    }
+
+    fn push_head(&self, packet: &mut Packet)
+        requires empty { packet.old.items ≡ [] }
+        requires short { ForSome (parts_of self.now).allow (λ methods. length methods ≤ ALLOW_LIMIT) }
+        ensures value { packet.new.items ≡ head (parts_of self.now) }
+        ensures room { length packet.new.items + LEAD_LIMIT ≤ PACKET_LIMIT }
+    {
+        let length = self.lead.len() + self.rest.len();
+        push_status_line(self.status, packet);
+        push_header("Content-Type", self.media.as_str(), packet);
+        push_header("Content-Length", Buffer::new().format(length), packet);
+        push_header("Connection", "close", packet);
+        push_allow(self.allow, packet);
+        push("\r\n", packet);
+    }
+}
+
+#[tactic(auto, using(crate::proofs::WritingLemmas::first_failed))]
+fn write_both<W: CountedWrite>(first: &[u8], second: &[u8], out: &mut W) -> Result<(), WriteFault>
+    ensures { WritesText (first.now ++ second.now) result
+        (writer W.contents W.counts out.old) (writer W.contents W.counts out.new) }
+{
+    write_whole(out, first)?;
+    write_whole(out, second)
+}
+
+fn push_status_line(status: Status, packet: &mut Packet)
+    requires { packet.old.items ≡ [] }
+    ensures value { packet.new.items ≡ status_line status }
+    ensures short { length packet.new.items ≤ 40 }
+{
+    push("HTTP/1.1 ", packet);
+    push(Buffer::new().format(status.code().as_u16()), packet);
+    push(" ", packet);
+    push(status.phrase(), packet);
+    push("\r\n", packet);
+}
+
+fn push_allow(methods: Option<&str>, packet: &mut Packet)
+    requires short { ForSome methods (λ methods. length methods.now ≤ ALLOW_LIMIT) }
+    requires room { length packet.old.items + ALLOW_LIMIT + 9 ≤ PACKET_LIMIT }
+    ensures value { packet.new.items ≡ packet.old.items ++ allow_header (option_map (λ methods. methods.now) methods.entry) }
+    ensures short { length packet.new.items ≤ length packet.old.items + ALLOW_LIMIT + 9 }
+{
+    if let Some(methods) = methods {
+        push_header("Allow", methods, packet);
+    }
+}
+
+fn push_header(name: &str, value: &str, packet: &mut Packet)
+    requires { length packet.old.items + length name.now + length value.now + 4 ≤ PACKET_LIMIT }
+    ensures { packet.new.items ≡ packet.old.items ++ header name.now value.now }
+{
+    push(name, packet);
+    push(": ", packet);
+    push(value, packet);
+    push("\r\n", packet);
+}
+
+fn push(text: &str, packet: &mut Packet)
+    requires { length packet.old.items + length text.now ≤ PACKET_LIMIT }
+    ensures { packet.new.items ≡ packet.old.items ++ text.now }
+{
+    packet.try_extend_from_slice(text.as_bytes()).unwrap();
+}

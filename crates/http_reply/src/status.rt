@@ -1,0 +1,56 @@
+//! The statuses that replies have.
+ghost use Rattle.std.specs.Prelude.{◌≡◌, ◌≤◌, length};
+ghost use Rattle.http_reply.specs.Status.{number, phrase, text};
+
+use http::StatusCode;
+
+/// The status of a reply.
+#[derive(Clone, Copy, PartialEq, Eq)]
+pub enum Status {
+    Ok,
+    BadRequest,
+    NotFound,
+    MethodNotAllowed,
+    LengthRequired,
+    PayloadTooLarge,
+    UnprocessableEntity,
+    ServiceUnavailable,
+}
+
+impl Status {
+    pub fn code(self) -> StatusCode
+        ensures { result ≡ number self }
+    {
+        match self {
+            Status::Ok => StatusCode::OK,
+            Status::BadRequest => StatusCode::BAD_REQUEST,
+            Status::NotFound => StatusCode::NOT_FOUND,
+            Status::MethodNotAllowed => StatusCode::METHOD_NOT_ALLOWED,
+            Status::LengthRequired => StatusCode::LENGTH_REQUIRED,
+            Status::PayloadTooLarge => StatusCode::PAYLOAD_TOO_LARGE,
+            Status::UnprocessableEntity => StatusCode::UNPROCESSABLE_ENTITY,
+            Status::ServiceUnavailable => StatusCode::SERVICE_UNAVAILABLE,
+        }
+    }
+
+    pub(crate) fn phrase(self) -> &'static str
+        ensures value { result.now ≡ phrase self }
+        ensures short { length result.now ≤ 20 }
+    {
+        self.code().canonical_reason().unwrap_or("")
+    }
+
+    /// The body that a reply has where nothing else is said.
+    pub fn text(self) -> &'static str
+        ensures { result.now ≡ text self }
+    {
+        match self {
+            Status::BadRequest => "bad request\n",
+            Status::NotFound => "not found\n",
+            Status::MethodNotAllowed => "method not allowed\n",
+            Status::LengthRequired => "length required\n",
+            Status::PayloadTooLarge => "too large\n",
+            Status::Ok | Status::UnprocessableEntity | Status::ServiceUnavailable => "",
+        }
+    }
+}

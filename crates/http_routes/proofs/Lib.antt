@@ -1,0 +1,3 @@
+mod SeekLemmas
+mod TableLemmas
+mod TargetLemmas

@@ -1,0 +1,90 @@
+-- The table of routes, as the router holds it.
+use Rattle.std.proofs.Common.{◌≡◌, ℕ, Bool, true, false, cond, List, [], ◌∷◌, ◌++◌, Err, Option, None, Some, ◌∙◌, sym, refl, ap, subst, rules}
+use Rattle.std.specs.Prelude.{Result, codes, option_map}
+use Rattle.std.specs.Str.{bytes_eq}
+use Rattle.std.proofs.lemmas.Slice.Eq.{bytes_eq-Decides}
+use Rattle.matchit.proofs.OnLiterals.{matchit_on_literals}
+use Rattle.matchit.specs.Order.{lookup, placed}
+use Rattle.matchit.specs.Route.{parse_route}
+use Rattle.matchit.specs.Seek.{or_else, seek}
+use Rattle.matchit.specs.Rows.{RowsOf}
+use Rattle.matchit.specs.Router.{Inserted, InsertsRead, Refused, RouteOf, nearest}
+use Rattle.matchit.specs.declared.error.InsertError.{InsertError}
+use Rattle.matchit.specs.declared.error.InsertError.TheVariants.{Conflict, InvalidParam, InvalidParamSegment, InvalidCatchAll, OutOfMemory}
+use Rattle.http_routes.specs.Routes.{matches, path, route_of}
+use Rattle.http_routes.specs.Table.{FindsRoutes, pattern, row}
+use Rattle.http_routes.proofs.SeekLemmas.{seek_alone, seek_among, seek_literal}
+use Rattle.http_routes.specs.declared.route.Route.{Route}
+use Rattle.http_routes.specs.declared.route.Route.TheVariants.{Verify, Assemble, Disassemble, Extract, Geocode, Jobs, Job}
+
+-- what inserting a route's path does to the rows
+pub row_inserted : (route : Route) (old new : RowsOf (RouteOf Route)) (result : Result (Unit {0}) InsertError) → InsertsRead (parse_route (path route)) route old new result → Inserted (row route).1 old new result
+unfolding matchit_on_literals
+row_inserted Verify old new result is = is
+row_inserted Assemble old new result is = is
+row_inserted Disassemble old new result is = is
+row_inserted Extract old new result is = is
+row_inserted Geocode old new result is = is
+row_inserted Jobs old new result is = is
+row_inserted Job old new result is = is
+
+-- a path that conflicts with none is refused for want of memory alone
+pub refused_for_memory : (route : Route) (old new : RowsOf (RouteOf Route)) (error : InsertError) → InsertsRead (parse_route (path route)) route old new (Err error) → nearest (pattern route) old ≡ None → error ≡ OutOfMemory
+refused_for_memory route old new error is free = by_error error (row_inserted route old new (Err error) is).1
+  where
+    by_error : (error : InsertError) → Refused (pattern route) old error → error ≡ OutOfMemory
+    by_error (Conflict with) refused = let conflicting = sym free ∙ refused.1 in cc
+    by_error OutOfMemory refused = refl
+    by_error InvalidParamSegment refused = absurd refused
+    by_error InvalidParam refused = absurd refused
+    by_error InvalidCatchAll refused = absurd refused
+
+-- the rows in the router's order
+before_job : RowsOf (RouteOf Route)
+before_job = row Assemble ∷ row Disassemble ∷ row Extract ∷ row Geocode ∷ []
+
+behind_job : RowsOf (RouteOf Route)
+behind_job = row Jobs ∷ row Verify ∷ []
+
+pub table : RowsOf (RouteOf Route)
+table = before_job ++ row Job ∷ behind_job
+
+-- which route is found, by which tests pass
+in_order : (assemble disassemble extract geocode jobs job : Bool)
+    → option_map (λ (found : RouteOf Route). found.value) (or_else
+    (cond assemble (Some (row Assemble).1) (cond disassemble (Some (row Disassemble).1) (cond extract (Some (row Extract).1) (cond geocode (Some (row Geocode).1) (cond jobs (Some (row Jobs).1) None)))))
+    (cond job (Some (row Job).1) None))
+    ≡ cond assemble (Some Assemble) (cond disassemble (Some Disassemble) (cond extract (Some Extract) (cond geocode (Some Geocode) (cond jobs (Some Jobs) (cond job (Some Job) None)))))
+in_order true disassemble extract geocode jobs job = refl
+in_order false true extract geocode jobs job = refl
+in_order false false true geocode jobs job = refl
+in_order false false false true jobs job = refl
+in_order false false false false true job = refl
+in_order false false false false false true = refl
+in_order false false false false false false = refl
+
+abbrev FindsRoute : List ℕ → Type 0
+FindsRoute path =
+    option_map (λ (found : RouteOf Route). found.value) (or_else (lookup path (before_job ++ behind_job)) (cond (matches Job path) (Some (row Job).1) None)) ≡ route_of path
+
+finds_route : (path : List ℕ) → FindsRoute path
+unfolding before_job behind_job
+finds_route path = by_test (bytes_eq (codes "/verify") path) refl
+  where
+    by_test : (same : Bool) → bytes_eq (codes "/verify") path ≡ same → FindsRoute path
+    by_test true is = subst FindsRoute ((bytes_eq-Decides (codes "/verify") path).0 is) refl
+    by_test false is = rw is (in_order _ _ _ _ _ _)
+
+pub table_finds : FindsRoutes table
+unfolding table before_job behind_job
+table_finds path =
+    ap (option_map (λ (found : RouteOf Route). found.value))
+    (seek_among (codes "/jobs/") (row Job).1 before_job behind_job path (search rules) (search rules) (search rules)
+    ∙ ap (λ (found : Option (RouteOf Route)). or_else found (seek 0 (row Job ∷ []) path)) (seek_literal (before_job ++ behind_job) path (search rules))
+    ∙ ap (or_else (lookup path (before_job ++ behind_job))) (seek_alone (codes "/jobs/") (row Job).1 path (search rules)))
+    ∙ finds_route path
+
+-- the routes, inserted one after the other
+pub table_is : placed (row Job) (placed (row Jobs) (placed (row Geocode) (placed (row Extract) (placed (row Disassemble) (placed (row Assemble) (placed (row Verify) [])))))) ≡ table
+unfolding table before_job behind_job
+table_is = refl

@@ -1,0 +1,62 @@
+-- The routes: which paths and methods there are, and what each asks for.
+use Rattle.std.specs.Prelude.{ℕ, Bool, ◌==◌, ◌||◌, ◌&&◌, not, false, List, [], ◌∷◌, ◌++◌, length, drop, find, map, codes, Option, option_map, nat_lt, nat_eq}
+use Rattle.std.specs.List.{starts_with}
+use Rattle.std.specs.Str.{bytes_eq}
+use Rattle.http_routes.specs.declared.route.Action.{Action}
+use Rattle.http_routes.specs.declared.route.Route.{Route}
+use Rattle.http_routes.specs.declared.route.Route.TheVariants.{Verify, Assemble, Disassemble, Extract, Geocode, Jobs, Job}
+use Rattle.http_routes.specs.declared.route.Action.TheVariants as action
+
+-- the paths: what stands in braces is any one segment of a path that isn't empty
+abbrev pub path : Route → List ℕ
+path Verify = codes "/verify"
+path Assemble = codes "/assemble"
+path Disassemble = codes "/disassemble"
+path Extract = codes "/extract"
+path Geocode = codes "/geocode"
+path Jobs = codes "/jobs"
+path Job = codes "/jobs/{id}"
+
+-- the methods of a route, and what each asks for
+abbrev pub actions : Route → List (List ℕ × Action)
+actions Verify = (codes "POST", action.Verify) ∷ []
+actions Assemble = (codes "POST", action.Assemble) ∷ []
+actions Disassemble = (codes "POST", action.Disassemble) ∷ []
+actions Extract = (codes "POST", action.Extract) ∷ []
+actions Geocode = (codes "GET", action.Geocode) ∷ []
+actions Jobs = (codes "POST", action.Submit) ∷ []
+actions Job = (codes "GET", action.Fetch) ∷ (codes "DELETE", action.Drop) ∷ []
+
+abbrev pub has_slash : List ℕ → Bool
+has_slash [] = false
+has_slash (byte ∷ text) = byte == 47 || has_slash text
+
+-- one segment of a path: not empty, and without a slash
+abbrev pub is_segment : List ℕ → Bool
+is_segment text = nat_lt 0 (length text) && not (has_slash text)
+
+-- a route has a path: what stands in braces is a segment, and all else itself
+abbrev pub matches : Route → List ℕ → Bool
+matches Job text = starts_with nat_eq text (codes "/jobs/") && is_segment (drop 6 text)
+matches route text = bytes_eq (path route) text
+
+abbrev pub routes : List Route
+routes = Verify ∷ Assemble ∷ Disassemble ∷ Extract ∷ Geocode ∷ Jobs ∷ Job ∷ []
+
+-- the route that has a path
+abbrev pub route_of : List ℕ → Option Route
+route_of text = find (λ route. matches route text) routes
+
+-- what a method asks of a route
+abbrev pub action_of : Route → List ℕ → Option Action
+action_of route method = option_map (λ row. row.1) (find (λ row. bytes_eq row.0 method) (actions route))
+
+-- the names, with a comma and a blank between each two
+abbrev pub listed : List (List ℕ) → List ℕ
+listed [] = []
+listed (name ∷ []) = name
+listed (name ∷ next ∷ names) = name ++ codes ", " ++ listed (next ∷ names)
+
+-- the methods of a route, as the header `Allow` has them (RFC 9110, section 10.2.1)
+abbrev pub allow : Route → List ℕ
+allow route = listed (map (λ row. row.0) (actions route))

@@ -1,0 +1,56 @@
+//! The router.
+ghost use Rattle.std.specs.Prelude.{◌≡◌, None, OnOk};
+ghost use Rattle.matchit.specs.Order.{placed};
+ghost use Rattle.matchit.specs.Router.{nearest};
+ghost use Rattle.http_routes.specs.Routes.{route_of};
+ghost use Rattle.http_routes.specs.Table.{FindsRoutes, pattern, row};
+
+use crate::route::Route;
+use matchit::{InsertError, Router};
+use std::alloc::{AllocError, Global};
+
+/// The routes, ready to be looked up.
+#[derive(Drop)]
+pub struct Routes {
+    router: Router<Route>,
+    ghost finds: { FindsRoutes router },
+}
+
+impl Routes {
+    /// The routes of the table. This alone takes memory.
+    pub fn new(alloc: Global) -> Result<Routes, AllocError> {
+        let mut router = Router::new(alloc);
+        insert(Route::Verify, &mut router)?;
+        insert(Route::Assemble, &mut router)?;
+        insert(Route::Disassemble, &mut router)?;
+        insert(Route::Extract, &mut router)?;
+        insert(Route::Geocode, &mut router)?;
+        insert(Route::Jobs, &mut router)?;
+        insert(Route::Job, &mut router)?;
+        Ok(Routes { router })
+    }
+
+    /// The route that has a path, `None` where none has. It takes no memory.
+    pub fn find(&self, path: &str) -> Option<Route>
+        ensures { result ≡ route_of path.now }
+    {
+        match self.router.at(path) {
+            Ok(found) => Some(*found.value),
+            Err(_) => None,
+        }
+    }
+}
+
+// Want of memory is the one fault.
+fn insert(route: Route, router: &mut Router<Route>) -> Result<(), AllocError>
+    requires { nearest (pattern route) router.old ≡ None }
+    ensures { OnOk result (router.new ≡ placed (row route) router.old) }
+{
+    match router.insert(route.path(), route) {
+        Ok(()) => Ok(()),
+        Err(error) => {
+            prove!(matches!(&error, InsertError::OutOfMemory));
+            Err(AllocError)
+        }
+    }
+}

@@ -1,0 +1,48 @@
+//! Request targets, and what stands in them.
+ghost use Rattle.std.specs.Prelude.{◌≡◌};
+ghost use Rattle.std.specs.Char.{is_ascii_digit};
+ghost use Rattle.std.specs.List.{list_all};
+ghost use Rattle.http_routes.specs.Target.{job_id, path_of, query_of};
+
+// How many digits the greatest number below 2^64 has.
+const ID_LENGTH: usize = 20;
+
+/// A request target, cut into its path and its query. No percent sign is decoded.
+#[derive(Clone, Copy)]
+pub struct Target<'a> {
+    pub path: &'a str,
+    pub query: &'a str,
+}
+
+impl<'a> Target<'a> {
+    pub fn of(target: &'a str) -> Target<'a>
+        ensures path { result.path.now ≡ path_of target.now }
+        ensures query { result.query.now ≡ query_of target.now }
+    {
+        match target.split_once('?') {
+            Some((path, query)) => Target { path, query },
+            None => Target {
+                path: target,
+                query: "",
+            },
+        }
+    }
+}
+
+/// The id of the job that a path names, `None` where that isn't a number below 2^64 in at most 20 digits.
+pub fn job_id(path: &str) -> Option<u64>
+    ensures { result ≡ job_id path.now }
+{
+    let text = path.strip_prefix("/jobs/")?;
+    if text.len() > ID_LENGTH || !all_digits(text) {
+        return None;
+    }
+    text.parse().ok()
+}
+
+// `parse` takes a plus sign too.
+fn all_digits(text: &str) -> bool
+    ensures { result ≡ list_all is_ascii_digit text.now }
+{
+    text.as_bytes().iter().all(|byte| byte.is_ascii_digit())
+}
