@@ -1,5 +1,5 @@
 mod MapLemmas
-mod SegmentLemmas
+pub mod SegmentLemmas
 mod TableLemmas
 mod NextLemmas
 mod RunLemmas

@@ -1,0 +1,7 @@
+mod AnswerLemmas
+mod DecisionLemmas
+mod EventLemmas
+mod ReadingLemmas
+mod RowsLemmas
+mod ServingLemmas
+mod QueryLemmas

@@ -1,0 +1,172 @@
+-- What is replied to what was decided, and what it leaves of the state.
+use Rattle.std.specs.Prelude.{◌≡◌, ◌<◌, ◌⊎◌, ℕ, List, [], ◌∷◌, ◌++◌, codes, decimal, Option, Some, None}
+use Rattle.bpf_insn.specs.Code.{IsFirstFault}
+use Rattle.bpf_insn.specs.CodeFault as code_fault
+use Rattle.bpf_insn.specs.Refusal.{memory_name, refusal_line}
+use Rattle.bpf_insn.specs.declared.fault.CodeFault.{CodeFault}
+use Rattle.bpf_insn.specs.declared.instruction.Insn.{Insn}
+use Rattle.bpf_meaning.specs.Extract.{IsExtract}
+use Rattle.bpf_text.specs.Conversion.{IsAssembled, IsDisassembled}
+use Rattle.bpf_text.specs.SourceFault.{IsSourceFault}
+use Rattle.bpf_text.specs.TextFault as text_fault
+use Rattle.bpf_text.specs.declared.fault.SourceFault.{SourceFault}
+use Rattle.bpf_text.specs.declared.fault.SourceFault.TheVariants as source_fault
+use Rattle.extract.specs.Program.{IsProgramFault, IsSafeProgram}
+use Rattle.extract.specs.ProgramFault as program_fault
+use Rattle.extract.specs.Refusal.{class_of}
+use Rattle.extract.specs.declared.program.ProgramFault.{ProgramFault}
+use Rattle.extract.specs.declared.refusal.Class.{Class}
+use Rattle.extract.specs.declared.refusal.Class.TheVariants as class
+use Rattle.geocode.specs.HitLine.{hit_lines}
+use Rattle.geocode.specs.Query.{QueryParts, hits_of}
+use Rattle.http_reply.specs.Reply.{ReplyParts}
+use Rattle.http_reply.specs.Status.{text}
+use Rattle.http_reply.specs.declared.reply.MediaType.TheVariants.{Plain, Octets}
+use Rattle.http_reply.specs.declared.status.Status.{Status}
+use Rattle.http_reply.specs.declared.status.Status.TheVariants as status
+use Rattle.http_routes.specs.Routes.{allow}
+use Rattle.http_routes.specs.Target.{job_id}
+use Rattle.http_routes.specs.declared.route.Action.{Action}
+use Rattle.http_routes.specs.declared.route.Action.TheVariants as action
+use Rattle.http_routes.specs.declared.route.Route.{Route}
+use Rattle.jobs.specs.JobFault as job_fault
+use Rattle.jobs.specs.Segments.{segments_of}
+use Rattle.jobs.specs.Table.{Step, Table}
+use Rattle.jobs.specs.declared.event.Event.{Event}
+use Rattle.jobs.specs.declared.event.Event.TheVariants as event
+use Rattle.jobs.specs.declared.event.Reply.{Reply}
+use Rattle.jobs.specs.declared.event.Reply.TheVariants.{Submitted, Turned, Rows, Dropped, Refused}
+use Rattle.jobs.specs.declared.fault.JobFault.{JobFault}
+use Rattle.jobs.specs.declared.fault.JobFault.TheVariants.{Full, NoJob}
+use Rattle.tl_segments.specs.County.{CountyParts}
+use Rattle.wire.specs.Decision.{AnnouncesBody, AskedParts, DecisionParts, IsDecided, Refuses, Disallows, Asks}
+use Rattle.wire.specs.Query.{asked_place}
+use Rattle.wire.specs.State.{StateParts, counties_of}
+
+abbrev pub plain : Status → List ℕ → ReplyParts
+plain status body = record { status = status; media = Plain; allow = None; body = body }
+
+-- a 200 of bytes
+abbrev pub octets : List ℕ → ReplyParts
+octets body = record { status = status.Ok; media = Octets; allow = None; body = body }
+
+-- a status with its own text
+abbrev pub status_reply : Status → ReplyParts
+status_reply status = plain status (text status)
+
+-- 405 says which methods the route has
+abbrev pub disallowed : Route → ReplyParts
+disallowed route = record { status = status.MethodNotAllowed; media = Plain; allow = Some (allow route); body = text status.MethodNotAllowed }
+
+-- the status of a refusal, by its class
+abbrev pub class_status : Class → Status
+class_status class.Refused = status.UnprocessableEntity
+class_status class.Device = status.ServiceUnavailable
+class_status class.Memory = status.ServiceUnavailable
+
+abbrev pub line_reply : Status → List ℕ → ReplyParts
+line_reply status line = plain status (line ++ 10 ∷ [])
+
+-- a refusal with this number, if it has one, and with this line
+abbrev pub refusal_reply : Option ℕ → List ℕ → ReplyParts
+refusal_reply number line = line_reply (class_status (class_of number)) line
+
+abbrev pub memory_reply : ReplyParts
+memory_reply = refusal_reply None (refusal_line None memory_name)
+
+-- a program is accepted, or refused for its fault
+abbrev pub IsVerified : List ℕ → ReplyParts → Type 0
+IsVerified program reply =
+    ((code : List Insn) × IsSafeProgram program code × (reply ≡ plain status.Ok (codes "accepted\n")))
+    ⊎ ((fault : ProgramFault) × IsProgramFault program fault × (reply ≡ refusal_reply (program_fault.number fault) (program_fault.line fault)))
+
+-- the words of a source, or why it has none
+abbrev pub source_reply : SourceFault → ReplyParts
+source_reply source_fault.NotUtf8 = status_reply status.BadRequest
+source_reply (source_fault.Text fault) = refusal_reply (text_fault.number fault) (text_fault.line fault)
+source_reply source_fault.Memory = memory_reply
+
+abbrev pub AssemblesTo : List ℕ → ReplyParts → Type 0
+AssemblesTo source reply =
+    ((words : List ℕ) × IsAssembled source words × (reply ≡ octets words))
+    ⊎ ((fault : SourceFault) × IsSourceFault source fault × (reply ≡ source_reply fault))
+
+-- the text of a program, or its first fault
+abbrev pub DisassemblesTo : List ℕ → ReplyParts → Type 0
+DisassemblesTo program reply =
+    ((source : List ℕ) × IsDisassembled program source × (reply ≡ plain status.Ok source))
+    ⊎ ((fault : CodeFault) × IsFirstFault program fault × (reply ≡ refusal_reply (code_fault.number fault) (code_fault.line fault)))
+
+-- the rows of a program over all counties, or its fault
+abbrev pub ExtractsTo : List CountyParts → List ℕ → ReplyParts → Type 0
+ExtractsTo counties program reply =
+    ((code : List Insn) × IsSafeProgram program code × (rows : List ℕ) × (chosen : ℕ) × IsExtract code (segments_of counties) rows chosen
+    × (reply ≡ octets rows))
+    ⊎ ((fault : ProgramFault) × IsProgramFault program fault × (reply ≡ refusal_reply (program_fault.number fault) (program_fault.line fault)))
+
+-- the lines of the hits
+abbrev pub place_reply : List CountyParts → Option QueryParts → ReplyParts
+place_reply counties None = status_reply status.BadRequest
+place_reply counties (Some place) = plain status.Ok (hit_lines (hits_of place counties))
+
+abbrev pub GeocodesTo : List CountyParts → List ℕ → ReplyParts → Type 0
+GeocodesTo counties query reply = (reply ≡ place_reply counties (asked_place query)) ⊎ (reply ≡ memory_reply)
+
+abbrev pub job_fault_reply : JobFault → ReplyParts
+job_fault_reply NoJob = status_reply status.NotFound
+job_fault_reply Full = line_reply status.ServiceUnavailable (job_fault.line Full)
+job_fault_reply fault = refusal_reply (job_fault.number fault) (job_fault.line fault)
+
+-- how many of the segments are done, of how many, and the rows behind that
+abbrev pub rows_reply : ℕ → ℕ → List ℕ → ReplyParts
+rows_reply done total rows = octets ((decimal done ++ codes " " ++ decimal total ++ 10 ∷ []) ++ rows)
+
+-- what the table says, as a reply; no request asks for a turn
+abbrev pub job_reply : Reply → ReplyParts
+job_reply (Submitted id) = line_reply status.Ok (decimal id)
+job_reply (Turned done total) = rows_reply done total []
+job_reply (Rows done total rows) = rows_reply done total rows.now
+job_reply Dropped = plain status.Ok (codes "dropped\n")
+job_reply (Refused fault) = job_fault_reply fault
+
+-- one event of the table of jobs
+pub record TellsTable (asked : Event → Type 0) (old : Table) (reply : ReplyParts) (new : Table) : Type 0 where
+  pub event : Event
+  pub is_event : asked event
+  pub said : Reply
+  pub step : Step old event said new
+  pub told : reply ≡ job_reply said
+
+-- a program is submitted
+abbrev pub Submits : List ℕ → Event → Type 0
+Submits program (event.Submit submitted) = submitted.now ≡ program
+Submits program other = ⊥
+
+-- what is asked of the job of an id; an id that isn't one is of no job
+abbrev pub AsksJob : (ℕ → Event) → Option ℕ → StateParts → ReplyParts → StateParts → Type 0
+AsksJob asked None old reply new = (reply ≡ status_reply status.NotFound) × (new ≡ old)
+AsksJob asked (Some id) old reply new = TellsTable (λ event. event ≡ asked id) old.table reply new.table
+
+-- What is replied to what is asked for, a row each, and the state that it leaves. What is asked of jobs is one event of their table, and nothing
+-- else changes the state.
+abbrev pub AnswersAction : Action → StateParts → AskedParts → ReplyParts → StateParts → Type 0
+AnswersAction action.Verify old asked reply new = IsVerified asked.body reply × (new ≡ old)
+AnswersAction action.Assemble old asked reply new = AssemblesTo asked.body reply × (new ≡ old)
+AnswersAction action.Disassemble old asked reply new = DisassemblesTo asked.body reply × (new ≡ old)
+AnswersAction action.Extract old asked reply new = ExtractsTo (counties_of old) asked.body reply × (new ≡ old)
+AnswersAction action.Geocode old asked reply new = GeocodesTo (counties_of old) asked.query reply × (new ≡ old)
+AnswersAction action.Submit old asked reply new = TellsTable (Submits asked.body) old.table reply new.table
+AnswersAction action.Fetch old asked reply new = AsksJob event.Fetch (job_id asked.path) old reply new
+AnswersAction action.Drop old asked reply new = AsksJob event.Drop (job_id asked.path) old reply new
+
+-- what is replied to a decision
+abbrev pub Answers : StateParts → DecisionParts → ReplyParts → StateParts → Type 0
+Answers old (Refuses status) reply new = (reply ≡ status_reply status) × (new ≡ old)
+Answers old (Disallows route) reply new = (reply ≡ disallowed route) × (new ≡ old)
+Answers old (Asks asked) reply new = AnswersAction asked.action old asked reply new
+
+-- What is replied to an input: what it decides is answered; or, where memory was wanting for a body that isn't empty, that is said, and the state stays.
+abbrev pub Replies : List ℕ → StateParts → ReplyParts → StateParts → Type 0
+Replies input old reply new =
+    ((decision : DecisionParts) × IsDecided input decision × Answers old decision reply new)
+    ⊎ ((announced : AnnouncesBody input) × (0 < announced.count) × (reply ≡ memory_reply) × (new ≡ old))

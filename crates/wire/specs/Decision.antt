@@ -1,0 +1,99 @@
+-- What an input decides: whether it is a request, and what that asks for. It is of the whole input, however that was read.
+use Rattle.std.specs.Prelude.{◌≡◌, ◌⊎◌, ◌<◌, ◌≤◌, ℕ, nat_le, Bool, true, false, if◌then◌else◌, List, [], length, take, Option, Some, None, Result, Ok, Err, IsTrue}
+use Rattle.std.specs.Option.{option_and_then}
+use Rattle.http_request.specs.Head.{Head, HasHead, HasNoHead}
+use Rattle.http_request.specs.Length.{body_length}
+use Rattle.http_request.specs.declared.head.TheConstants.{HEAD_LIMIT}
+use Rattle.http_request.specs.declared.length.LengthFault.{LengthFault}
+use Rattle.http_request.specs.declared.length.LengthFault.TheVariants.{Missing, Invalid, TooLarge}
+use Rattle.http_reply.specs.declared.status.Status.{Status}
+use Rattle.http_reply.specs.declared.status.Status.TheVariants.{BadRequest, NotFound, LengthRequired, PayloadTooLarge}
+use Rattle.http_routes.specs.Routes.{action_of, route_of}
+use Rattle.http_routes.specs.Target.{path_of, query_of}
+use Rattle.http_routes.specs.declared.route.Action.{Action}
+use Rattle.http_routes.specs.declared.route.Action.TheVariants.{Verify, Assemble, Disassemble, Extract, Geocode, Submit, Fetch, Drop}
+use Rattle.http_routes.specs.declared.route.Route.{Route}
+
+-- what a request asks for, with the path and the query of its target and with its body
+pub record AskedParts : Type 0 where
+  pub action : Action
+  pub path : List ℕ
+  pub query : List ℕ
+  pub body : List ℕ
+
+-- a request is refused with a status, or for its method, which its route hasn't; or it asks for something
+pub data DecisionParts : Type 0 where
+  Refuses : Status → DecisionParts
+  Disallows : Route → DecisionParts
+  Asks : AskedParts → DecisionParts
+
+-- what is asked for with a body: all that is asked by POST
+abbrev pub takes_body : Action → Bool
+takes_body Geocode = false
+takes_body Fetch = false
+takes_body Drop = false
+takes_body action = true
+
+-- the status that a request without a usable length of its body gets
+abbrev pub length_status : LengthFault → Status
+length_status Missing = LengthRequired
+length_status Invalid = BadRequest
+length_status TooLarge = PayloadTooLarge
+
+-- what a head asks for with this body
+abbrev pub asked_by : Head → Action → List ℕ → AskedParts
+asked_by head action body = record { action = action; path = path_of head.target; query = query_of head.target; body = body }
+
+-- A body is as long as was announced. What follows it is passed over.
+abbrev pub decide_body : Head → Action → Result ℕ LengthFault → List ℕ → DecisionParts
+decide_body head action (Err fault) rest = Refuses (length_status fault)
+decide_body head action (Ok count) rest =
+    if nat_le count (length rest) then Asks (asked_by head action (take count rest)) else Refuses BadRequest
+
+-- GET and DELETE take no body, whatever length is announced
+abbrev pub decide_action : Head → Route → Option Action → List ℕ → DecisionParts
+decide_action head route None rest = Disallows route
+decide_action head route (Some action) rest =
+    if takes_body action then decide_body head action (body_length head) rest else Asks (asked_by head action [])
+
+-- a route, then its method, then the body
+abbrev pub decide_route : Head → Option Route → List ℕ → DecisionParts
+decide_route head None rest = Refuses NotFound
+decide_route head (Some route) rest = decide_action head route (action_of route head.method) rest
+
+-- what a head decides, with what follows it
+abbrev pub decide : Head → List ℕ → DecisionParts
+decide head rest = decide_route head (route_of (path_of head.target)) rest
+
+-- what an input decides: without a head it is refused, and with one the head decides
+abbrev pub IsDecided : List ℕ → DecisionParts → Type 0
+IsDecided input decision =
+    (HasNoHead input × (decision ≡ Refuses BadRequest))
+    ⊎ ((head : Head) × (rest : List ℕ) × HasHead input head rest × (decision ≡ decide head rest))
+
+-- what a head asks for, by its route and its method
+abbrev pub asked_action : Head → Option Action
+asked_action head = option_and_then (λ route. action_of route head.method) (route_of (path_of head.target))
+
+-- The input has a head that asks for something with a body, whose length it announces.
+pub record AnnouncesBody (input : List ℕ) : Type 0 where
+  pub head : Head
+  pub rest : List ℕ
+  pub has : HasHead input head rest
+  pub action : Action
+  pub asks : asked_action head ≡ Some action
+  pub takes : IsTrue (takes_body action)
+  pub count : ℕ
+  pub announces : body_length head ≡ Ok count
+
+-- What was read of an input doesn't decide: it has no head yet, or not all of the body that its head announces.
+abbrev pub IsUndecided : List ℕ → Type 0
+IsUndecided taken =
+    (HasNoHead taken × (length taken < HEAD_LIMIT))
+    ⊎ ((announced : AnnouncesBody taken) × (length announced.rest < announced.count))
+
+-- No more was read than decides: what may hold a head, or no more than that has and the body that it announces.
+abbrev pub IsEnough : List ℕ → Type 0
+IsEnough taken =
+    (length taken ≤ HEAD_LIMIT)
+    ⊎ ((announced : AnnouncesBody taken) × (length announced.rest ≤ announced.count))

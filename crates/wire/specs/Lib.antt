@@ -1,0 +1,10 @@
+pub mod WireFault
+pub mod State
+pub mod Turn
+pub mod Decision
+pub mod Query
+pub mod Answer
+pub mod Event
+pub mod Serving
+pub mod Reading
+pub mod Reply

@@ -1,0 +1,64 @@
+-- Inside the crate: what reading an input and answering it came to.
+use Rattle.std.specs.Prelude.{◌≡◌, ◌<◌, ℕ, List, Option, Some, Result, Ok, Err, ⊤}
+use Rattle.std.specs.Io.KnownBytes.{Keeps}
+use Rattle.http_reply.specs.Reply.{ReplyParts, reply_text}
+use Rattle.http_request.specs.Reading.{IsClosed}
+use Rattle.http_request.specs.declared.head.HeadFault.{HeadFault}
+use Rattle.http_request.specs.declared.head.HeadFault.TheVariants as head_fault
+use Rattle.tl_fields.specs.Device.{Reader, Writer}
+use Rattle.tl_fields.specs.Writing.{WritesText}
+use Rattle.tl_fields.specs.declared.writing.WriteFault.{WriteFault}
+use Rattle.wire.specs.Decision.{AnnouncesBody, AskedParts, DecisionParts, IsDecided}
+use Rattle.wire.specs.Decision as parts
+use Rattle.wire.specs.Serving.{FailsUndecided, ReadsEnough}
+use Rattle.wire.specs.WireFault.{of_write}
+use Rattle.wire.specs.declared.fault.WireFault.{WireFault}
+use Rattle.wire.specs.declared.decision.Asked.{Asked}
+use Rattle.wire.specs.declared.decision.Decision.{Decision}
+use Rattle.wire.specs.declared.decision.Decision.TheVariants.{Refuses, Disallows, Asks}
+use Rattle.wire.specs.declared.decision.ReadFault.{ReadFault}
+use Rattle.wire.specs.declared.decision.ReadFault.TheVariants.{Closed, Read, Memory}
+
+abbrev pub of_head : HeadFault → ReadFault
+of_head head_fault.Closed = Closed
+of_head head_fault.Read = Read
+
+abbrev pub asked_of : {A : Type 0} → Asked A → AskedParts
+asked_of asked = record { action = asked.action; path = asked.path.now; query = asked.query.now; body = asked.body.items }
+
+abbrev pub decision_of : {A : Type 0} → Decision A → DecisionParts
+decision_of (Refuses status) = parts.Refuses status
+decision_of (Disallows route) = parts.Disallows route
+decision_of (Asks asked) = parts.Asks (asked_of asked)
+
+-- all that the reader had left is an input, which decides this
+pub record Decides (decision : DecisionParts) (old new : Reader) : Type 0 where
+  pub input : List ℕ
+  pub is_input : Keeps old.left (Some input)
+  pub decided : IsDecided input decision
+  pub read : ReadsEnough old new
+
+-- all that the reader had left is an input with a head that announces a body, which isn't empty
+pub record StopsInBody (old new : Reader) : Type 0 where
+  pub input : List ℕ
+  pub is_input : Keeps old.left (Some input)
+  pub announced : AnnouncesBody input
+  pub wanted : 0 < announced.count
+  pub read : ReadsEnough old new
+
+abbrev pub FailsToDecide : ReadFault → Reader → Reader → Type 0
+FailsToDecide Closed old new = IsClosed old new
+FailsToDecide Read old new = FailsUndecided old new
+FailsToDecide Memory old new = StopsInBody old new
+
+-- a fault of the writer is one of the connection
+abbrev pub IsResultOf : {T : Type 0} → Result (Unit {0}) WriteFault → Result T WireFault → Type 0
+IsResultOf (Ok done) (Ok value) = ⊤
+IsResultOf (Err fault) (Err given) = given ≡ of_write fault
+IsResultOf written result = ⊥
+
+-- a reply that is such was written, whole or up to the writer's fault
+pub record WritesReply (is_reply : ReplyParts → Type 0) (written : Result (Unit {0}) WriteFault) (old new : Writer) : Type 0 where
+  pub reply : ReplyParts
+  pub is_such : is_reply reply
+  pub writes : WritesText (reply_text reply) written old new

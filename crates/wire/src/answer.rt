@@ -1,0 +1,128 @@
+//! What a request is answered with.
+ghost use Rattle.std.specs.Prelude.{◌≡◌, ◌++◌, ◌∷◌, [], codes, decimal};
+ghost use Rattle.tl_fields.specs.Device.{writer};
+ghost use Rattle.tl_fields.specs.Writing.{WritesText};
+ghost use Rattle.http_reply.specs.Reply.{parts_of, reply_text};
+ghost use Rattle.http_reply.specs.declared.status.Status.TheVariants as status;
+ghost use Rattle.wire.specs.Answer.{class_status, plain};
+ghost use Rattle.wire.specs.Reply.{reply_of};
+
+use arrayvec::{ArrayString, ArrayVec};
+use extract::{Class, Refusal};
+use http_reply::{LEAD_LIMIT, MediaType, Reply, Status};
+use http_routes::Route;
+use itoa::Buffer;
+use std::alloc::Allocator;
+use tl_fields::{CountedWrite, WriteFault};
+
+/// What a request is answered with, before it is laid out as a reply.
+#[derive(Drop)]
+pub(crate) enum Answer<'a, A: Allocator> {
+    /// A status with its own text.
+    Status(Status),
+    /// The method isn't one of this route's.
+    Disallowed(Route),
+    /// A 200 of a text that always is the same.
+    Text(&'static str),
+    /// A 200 of what was made for it.
+    Made {
+        media: MediaType,
+        body: Vec<u8, A>,
+    },
+    Refused(Refusal),
+    /// A status with a line.
+    Line {
+        status: Status,
+        line: ArrayString<64>,
+    },
+    /// A 200 of a job's rows, behind how many of the segments are done.
+    Rows {
+        done: u64,
+        total: u64,
+        rows: &'a [u8],
+    },
+}
+
+impl<'a, A: Allocator> Answer<'a, A> {
+    /// The reply, which lends what is large in it.
+    fn reply(&self) -> Reply<'_>
+        ensures { parts_of result ≡ reply_of self.now }
+    {
+        match self {
+            Answer::Status(status) => Reply::of_status(*status),
+            Answer::Disallowed(route) => Reply {
+                allow: Some(route.allow()),
+                ..Reply::of_status(Status::MethodNotAllowed)
+            },
+            Answer::Text(text) => plain(ArrayVec::new(), text.as_bytes()),
+            Answer::Made { media, body } => Reply {
+                media: *media,
+                ..plain(ArrayVec::new(), body.as_slice())
+            },
+            Answer::Refused(refusal) => Reply {
+                status: class_status(refusal.class()),
+                ..plain(with_line_end(refusal.line), &[])
+            },
+            Answer::Line { status, line } => Reply {
+                status: *status,
+                ..plain(with_line_end(*line), &[])
+            },
+            Answer::Rows { done, total, rows } => Reply {
+                media: MediaType::Octets,
+                ..plain(with_line_end(counts(*done, *total)), rows)
+            },
+        }
+    }
+
+    /// Writes the reply, in as few writes as its parts allow. It takes no memory.
+    pub fn write<W: CountedWrite>(self, out: &mut W) -> Result<(), WriteFault>
+        ensures { WritesText (reply_text (reply_of self.entry)) result
+            (writer W.contents W.counts out.old) (writer W.contents W.counts out.new) }
+    {
+        self.reply().write(out)
+    }
+}
+
+/// The status of a refusal, by its class.
+fn class_status(class: Class) -> Status
+    ensures { result ≡ class_status class }
+{
+    match class {
+        Class::Refused => Status::UnprocessableEntity,
+        Class::Device | Class::Memory => Status::ServiceUnavailable,
+    }
+}
+
+/// A 200 of this body, in plain text.
+fn plain(lead: ArrayVec<u8, LEAD_LIMIT>, rest: &[u8]) -> Reply<'_>
+    ensures { parts_of result ≡ plain status.Ok (lead.items ++ rest.now) }
+{
+    Reply {
+        status: Status::Ok,
+        media: MediaType::Plain,
+        allow: None,
+        lead,
+        rest,
+    }
+}
+
+/// The line, with its end of line.
+fn with_line_end(line: ArrayString<64>) -> ArrayVec<u8, LEAD_LIMIT>
+    ensures { result.items ≡ line.bytes ++ 10 ∷ [] }
+{
+    let mut text = ArrayVec::new();
+    text.try_extend_from_slice(line.as_bytes()).unwrap();
+    text.push(b'\n');
+    text
+}
+
+/// How many of the segments are done, and of how many.
+fn counts(done: u64, total: u64) -> ArrayString<64>
+    ensures { result.bytes ≡ decimal done ++ codes " " ++ decimal total }
+{
+    let mut text = ArrayString::new();
+    text.push_str(Buffer::new().format(done));
+    text.push_str(" ");
+    text.push_str(Buffer::new().format(total));
+    text
+}

@@ -1,0 +1,123 @@
+//! What an input decides: whether it is a request, and what that asks for.
+ghost use Rattle.std.specs.Prelude.{◌≡◌, IfErr, IfOk};
+ghost use Rattle.tl_fields.specs.Device.{reader};
+ghost use Rattle.wire.specs.Decision.{length_status, takes_body};
+ghost use Rattle.wire.specs.Reading.{Decides, FailsToDecide, decision_of, of_head};
+
+use crate::serving::Extent;
+use http_reply::Status;
+use http_request::{BodyFault, HeadBuffer, HeadFault, LengthFault, read_body};
+use http_routes::{Action, Route, Routes, Target};
+use std::alloc::Allocator;
+use tl_fields::CountedRead;
+
+/// What a request asks for, with the path and the query of its target and with its body.
+#[derive(Drop)]
+pub(crate) struct Asked<'a, A: Allocator> {
+    pub action: Action,
+    pub path: &'a str,
+    pub query: &'a str,
+    pub body: Vec<u8, A>,
+}
+
+/// What an input decides.
+#[derive(Drop)]
+pub(crate) enum Decision<'a, A: Allocator> {
+    Refuses(Status),
+    Disallows(Route),
+    Asks(Asked<'a, A>),
+}
+
+impl<A: Allocator> Decision<'_, A> {
+    /// How much of the request was read.
+    pub fn extent(&self) -> Extent {
+        match self {
+            Decision::Refuses(_) | Decision::Disallows(_) => Extent::Part,
+            Decision::Asks(_) => Extent::Whole,
+        }
+    }
+}
+
+/// Why nothing was decided.
+#[derive(Clone, Copy)]
+pub(crate) enum ReadFault {
+    Closed,
+    Read,
+    Memory,
+}
+
+impl From<HeadFault> for ReadFault {
+    ghost from_gives = { λ fault given. given ≡ of_head fault };
+
+    fn from(fault: HeadFault) -> ReadFault {
+        match fault {
+            HeadFault::Closed => ReadFault::Closed,
+            HeadFault::Read => ReadFault::Read,
+        }
+    }
+}
+
+/// Reads an input as far as it takes to decide.
+pub(crate) fn read_decision<'a, A: Allocator + Copy, R: CountedRead>(
+    alloc: A,
+    routes: &Routes,
+    buffer: &'a mut HeadBuffer,
+    input: &mut R,
+) -> Result<Decision<'a, A>, ReadFault>
+    ensures ok { IfOk result (λ decision. Decides (decision_of decision)
+        (reader R.remaining R.failed_reads input.old) (reader R.remaining R.failed_reads input.new)) }
+    ensures err { IfErr result (λ fault. FailsToDecide fault
+        (reader R.remaining R.failed_reads input.old) (reader R.remaining R.failed_reads input.new)) }
+{
+    let Some(request) = buffer.read_head(input)? else {
+        return Ok(Decision::Refuses(Status::BadRequest));
+    };
+    let target = Target::of(request.target());
+    let Some(route) = routes.find(target.path) else {
+        return Ok(Decision::Refuses(Status::NotFound));
+    };
+    let Some(action) = route.action(request.method()) else {
+        return Ok(Decision::Disallows(route));
+    };
+    if !takes_body(action) {
+        return Ok(Decision::Asks(Asked {
+            action,
+            path: target.path,
+            query: target.query,
+            body: Vec::new(alloc),
+        }));
+    }
+    let length = match request.body_length() {
+        Ok(length) => length,
+        Err(fault) => return Ok(Decision::Refuses(length_status(fault))),
+    };
+    match read_body(alloc, request.behind(), length, input) {
+        Ok(body) => Ok(Decision::Asks(Asked {
+            action,
+            path: target.path,
+            query: target.query,
+            body,
+        })),
+        Err(BodyFault::Short) => Ok(Decision::Refuses(Status::BadRequest)),
+        Err(BodyFault::Read) => Err(ReadFault::Read),
+        Err(BodyFault::Memory) => Err(ReadFault::Memory),
+    }
+}
+
+/// What is asked for with a body: all that is asked by POST.
+fn takes_body(action: Action) -> bool
+    ensures { result ≡ takes_body action }
+{
+    !matches!(action, Action::Geocode | Action::Fetch | Action::Drop)
+}
+
+/// The status that a request without a usable length of its body gets.
+fn length_status(fault: LengthFault) -> Status
+    ensures { result ≡ length_status fault }
+{
+    match fault {
+        LengthFault::Missing => Status::LengthRequired,
+        LengthFault::Invalid => Status::BadRequest,
+        LengthFault::TooLarge => Status::PayloadTooLarge,
+    }
+}

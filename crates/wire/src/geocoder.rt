@@ -1,0 +1,72 @@
+//! What is answered to the query of a place.
+ghost use Rattle.std.specs.Prelude.{◌≡◌, ◌⊎◌, IfOk, option_map};
+ghost use Rattle.std.specs.Cow.{cow_str_bytes};
+ghost use Rattle.wire.specs.Answer.{GeocodesTo, place_reply};
+ghost use Rattle.wire.specs.Query.{asked_place, first_value};
+ghost use Rattle.wire.specs.Reply.{reply_of};
+
+use crate::answer::Answer;
+use extract::Refusal;
+use form_urlencoded::{decode, raw_pairs};
+use geocode::{Query, hit_lines};
+use http_reply::{MediaType, Status};
+use std::alloc::{AllocError, Allocator};
+use std::borrow::CowStr;
+use tl_segments::County;
+
+/// The lines of the hits of the place that a query asks for.
+pub(crate) fn geocode<A: Allocator + Copy>(
+    alloc: A,
+    counties: &[County<A>],
+    query: &str,
+) -> Answer<'static, A>
+    ensures { GeocodesTo counties.now query.now (reply_of result) }
+{
+    match answer_place(alloc, counties, query.as_bytes()) {
+        Ok(answer) => answer,
+        Err(_wanting) => Answer::Refused(Refusal::memory()),
+    }
+}
+
+fn answer_place<A: Allocator + Copy>(
+    alloc: A,
+    counties: &[County<A>],
+    query: &[u8],
+) -> Result<Answer<'static, A>, AllocError>
+    ensures { IfOk result (λ answer. reply_of answer ≡ place_reply counties.now (asked_place query.now)) }
+{
+    let number = first_value(alloc, "number", query)?;
+    let name = first_value(alloc, "name", query)?;
+    let zip = first_value(alloc, "zip", query)?;
+    let (Some(number), Some(name)) = (number, name) else {
+        return Ok(Answer::Status(Status::BadRequest));
+    };
+    let zip = zip.as_ref().map(|zip| zip.as_bytes());
+    let Ok(place) = Query::of(number.as_bytes(), name.as_bytes(), zip) else {
+        return Ok(Answer::Status(Status::BadRequest));
+    };
+    let hits = place.find(alloc, counties)?;
+    Ok(Answer::Made {
+        media: MediaType::Plain,
+        body: hit_lines(alloc, hits.as_slice())?,
+    })
+}
+
+/// The value of the first pair with this key.
+#[tactic(auto, using(crate::proofs::QueryLemmas::found_first, crate::proofs::QueryLemmas::passed_over))]
+fn first_value<'q, A: Allocator + Copy>(
+    alloc: A,
+    key: &str,
+    query: &'q [u8],
+) -> Result<Option<CowStr<'q, A>>, AllocError>
+    ensures { IfOk result (λ value. option_map cow_str_bytes value ≡ first_value key.now query.now) }
+{
+    for (name, value) in raw_pairs(query) {
+        let name = decode(alloc, name)?;
+        if name.as_bytes() == key.as_bytes() {
+            let value = decode(alloc, value)?;
+            return Ok(Some(value));
+        }
+    }
+    Ok(None)
+}

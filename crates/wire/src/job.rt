@@ -1,0 +1,100 @@
+//! What the table of jobs says, as an answer.
+ghost use Rattle.std.specs.Prelude.{◌≡◌, decimal, false};
+ghost use Rattle.tl_fields.specs.Device.{writer};
+ghost use Rattle.wire.specs.Answer.{TellsTable, job_fault_reply, job_reply};
+ghost use Rattle.wire.specs.Reading.{WritesReply};
+ghost use Rattle.wire.specs.Turn.{IsTurn, lends_rows};
+ghost use Rattle.wire.specs.Reply.{reply_of};
+
+use crate::answer::Answer;
+use arrayvec::ArrayString;
+use extract::Refusal;
+use http_reply::Status;
+use itoa::Buffer;
+use jobs::{Event, JobFault, Jobs, Reply};
+use std::alloc::Allocator;
+use tl_fields::{CountedWrite, WriteFault};
+
+/// Tells the table what is asked of it, and writes what it says.
+pub(crate) fn tell<A: Allocator + Copy, W: CountedWrite>(
+    jobs: &mut Jobs<A>,
+    event: Event<'_>,
+    out: &mut W,
+) -> Result<(), WriteFault>
+    ensures { WritesReply (λ reply. TellsTable (λ told. told ≡ event.entry) jobs.old reply jobs.new) result
+        (writer W.contents W.counts out.old) (writer W.contents W.counts out.new) }
+{
+    let said = jobs.apply(event);
+    job_answer::<A>(said).write(out)
+}
+
+/// Moves the job whose turn is next on by a turn.
+pub(crate) fn next_turn<A: Allocator + Copy>(jobs: &mut Jobs<A>) -> Option<Reply<'static>>
+    ensures { IsTurn jobs.old result jobs.new }
+{
+    let id = jobs.next_turn()?;
+    let said = jobs.apply(Event::Turn(id));
+    Some(without_rows(said))
+}
+
+/// The reply to a turn, which lends nothing.
+fn without_rows(said: Reply<'_>) -> Reply<'static>
+    ensures { lends_rows said.entry ≡ false → result ≡ said.entry }
+{
+    match said {
+        Reply::Submitted(id) => Reply::Submitted(id),
+        Reply::Turned { done, total } => Reply::Turned { done, total },
+        Reply::Rows { done, total, .. } => Reply::Rows {
+            done,
+            total,
+            rows: &[],
+        },
+        Reply::Dropped => Reply::Dropped,
+        Reply::Refused(fault) => Reply::Refused(fault),
+    }
+}
+
+/// What the table says, as an answer.
+fn job_answer<'a, A: Allocator>(said: Reply<'a>) -> Answer<'a, A>
+    ensures { reply_of result ≡ job_reply said.entry }
+{
+    match said {
+        Reply::Submitted(id) => Answer::Line {
+            status: Status::Ok,
+            line: id_line(id),
+        },
+        Reply::Rows { done, total, rows } => Answer::Rows { done, total, rows },
+        Reply::Turned { done, total } => Answer::Rows {
+            done,
+            total,
+            rows: &[],
+        },
+        Reply::Dropped => Answer::Text("dropped\n"),
+        Reply::Refused(fault) => job_fault_answer(fault),
+    }
+}
+
+fn job_fault_answer<A: Allocator>(fault: JobFault) -> Answer<'static, A>
+    ensures { reply_of result ≡ job_fault_reply fault }
+{
+    match fault {
+        JobFault::NoJob => Answer::Status(Status::NotFound),
+        JobFault::Full => Answer::Line {
+            status: Status::ServiceUnavailable,
+            line: fault.line(),
+        },
+        _ => Answer::Refused(Refusal {
+            number: fault.number(),
+            line: fault.line(),
+        }),
+    }
+}
+
+/// The id that a job was given.
+fn id_line(id: u64) -> ArrayString<64>
+    ensures { result.bytes ≡ decimal id }
+{
+    let mut line = ArrayString::new();
+    line.push_str(Buffer::new().format(id));
+    line
+}

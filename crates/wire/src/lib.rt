@@ -1,0 +1,16 @@
+//! The HTTP server over readers and writers: one request is read and one reply is written (RFC 9112; HTTP/1.0 and 1.1).
+#![tactic(auto)]
+
+mod answer;
+mod decision;
+mod fault;
+mod geocoder;
+mod job;
+pub mod laws;
+mod programs;
+mod serving;
+mod state;
+
+pub use fault::WireFault;
+pub use serving::{Extent, serve_one, serve_request};
+pub use state::State;

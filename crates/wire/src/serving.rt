@@ -1,0 +1,141 @@
+//! One request, read and answered.
+ghost use Rattle.tl_fields.specs.Device.{reader, writer};
+ghost use Rattle.std.specs.Prelude.{◌≡◌, Result};
+ghost use Rattle.tl_fields.specs.declared.writing.WriteFault.{WriteFault};
+ghost use Rattle.tl_fields.specs.Writing.{WritesText};
+ghost use Rattle.http_reply.specs.Reply.{reply_text};
+ghost use Rattle.http_reply.specs.declared.status.Status.TheVariants.{NotFound};
+ghost use Rattle.wire.specs.Answer.{Answers, AnswersAction, memory_reply, status_reply};
+ghost use Rattle.wire.specs.Reading.{IsResultOf, WritesReply, asked_of, decision_of};
+ghost use Rattle.wire.specs.Serving.{IsServed};
+
+use crate::answer::Answer;
+use crate::decision::{Asked, Decision, ReadFault, read_decision};
+use crate::fault::WireFault;
+use crate::geocoder::geocode;
+use crate::job::tell;
+use crate::programs::{assemble, disassemble, extract, verify};
+use crate::state::State;
+use extract::Refusal;
+use http_reply::Status;
+use http_request::HeadBuffer;
+use http_routes::{Action, job_id};
+use jobs::Event;
+use std::alloc::Allocator;
+use tl_fields::{CountedRead, CountedWrite, WriteFault};
+
+/// How much of a request was read.
+#[derive(Clone, Copy, PartialEq, Eq)]
+pub enum Extent {
+    /// All of it that counts: what comes later isn't of the request, or is a body of one that has none.
+    Whole,
+    /// As much as it took to refuse it: the client may still be sending.
+    Part,
+}
+
+/// Reads one request and writes one reply.
+///
+/// No read is made once what came decides the reply; a read of the head may take what stands behind it, 8,192 bytes with the head at most. No read and
+/// no write is tried again, and nothing is flushed. The reply that memory was wanting takes none itself.
+pub fn serve_one<A: Allocator + Copy, R: CountedRead, W: CountedWrite>(
+    state: &mut State<A>,
+    input: &mut R,
+    out: &mut W,
+) -> Result<(), WireFault>
+    ensures { IsServed result
+        (record { state = state.old; reader = reader R.remaining R.failed_reads input.old; writer = writer W.contents W.counts out.old })
+        (record { state = state.new; reader = reader R.remaining R.failed_reads input.new; writer = writer W.contents W.counts out.new }) }
+{
+    match serve_request(state, input, out) {
+        Ok(_extent) => Ok(()),
+        Err(fault) => Err(fault),
+    }
+}
+
+/// The same as [`serve_one`], which also tells how much of the request was read.
+pub fn serve_request<A: Allocator + Copy, R: CountedRead, W: CountedWrite>(
+    state: &mut State<A>,
+    input: &mut R,
+    out: &mut W,
+) -> Result<Extent, WireFault>
+    ensures { IsServed result
+        (record { state = state.old; reader = reader R.remaining R.failed_reads input.old; writer = writer W.contents W.counts out.old })
+        (record { state = state.new; reader = reader R.remaining R.failed_reads input.new; writer = writer W.contents W.counts out.new }) }
+{
+    let mut buffer = HeadBuffer::new();
+    let decision = match read_decision(state.alloc, &state.routes, &mut buffer, input) {
+        Ok(decision) => decision,
+        Err(ReadFault::Closed) => return Err(WireFault::Closed),
+        Err(ReadFault::Read) => return Err(WireFault::Read),
+        Err(ReadFault::Memory) => return lack_memory::<A, W>(out),
+    };
+    match state.answer(&decision, out) {
+        Ok(()) => Ok(decision.extent()),
+        Err(fault) => Err(WireFault::from(fault)),
+    }
+}
+
+/// Says that memory was wanting for the body.
+fn lack_memory<A: Allocator, W: CountedWrite>(out: &mut W) -> Result<Extent, WireFault>
+    ensures { (written : Result (Unit {0}) WriteFault) × WritesText (reply_text memory_reply) written
+        (writer W.contents W.counts out.old) (writer W.contents W.counts out.new) × IsResultOf written result }
+{
+    match Answer::<A>::Refused(Refusal::memory()).write(out) {
+        Ok(()) => Ok(Extent::Part),
+        Err(fault) => Err(WireFault::from(fault)),
+    }
+}
+
+impl<A: Allocator + Copy> State<A> {
+    /// Answers what was decided.
+    fn answer<W: CountedWrite>(
+        &mut self,
+        decision: &Decision<'_, A>,
+        out: &mut W,
+    ) -> Result<(), WriteFault>
+        ensures { WritesReply (λ reply. Answers self.old (decision_of decision.now) reply self.new) result
+            (writer W.contents W.counts out.old) (writer W.contents W.counts out.new) }
+    {
+        match decision {
+            Decision::Refuses(status) => Answer::<A>::Status(*status).write(out),
+            Decision::Disallows(route) => Answer::<A>::Disallowed(*route).write(out),
+            Decision::Asks(asked) => self.answer_asked(asked, out),
+        }
+    }
+
+    /// Answers what is asked for.
+    fn answer_asked<W: CountedWrite>(
+        &mut self,
+        asked: &Asked<'_, A>,
+        out: &mut W,
+    ) -> Result<(), WriteFault>
+        ensures { WritesReply (λ reply. AnswersAction asked.now.action self.old (asked_of asked.now) reply self.new) result
+            (writer W.contents W.counts out.old) (writer W.contents W.counts out.new) }
+    {
+        let body = asked.body.as_slice();
+        match asked.action {
+            Action::Verify => verify(self.alloc, body).write(out),
+            Action::Assemble => assemble(self.alloc, body).write(out),
+            Action::Disassemble => disassemble(self.alloc, body).write(out),
+            Action::Extract => extract(self.alloc, self.jobs.counties(), body).write(out),
+            Action::Geocode => geocode(self.alloc, self.jobs.counties(), asked.query).write(out),
+            Action::Submit => tell(&mut self.jobs, Event::Submit(body), out),
+            Action::Fetch => match job_id(asked.path) {
+                Some(id) => tell(&mut self.jobs, Event::Fetch(id), out),
+                None => no_job::<A, W>(out),
+            },
+            Action::Drop => match job_id(asked.path) {
+                Some(id) => tell(&mut self.jobs, Event::Drop(id), out),
+                None => no_job::<A, W>(out),
+            },
+        }
+    }
+}
+
+/// An id that isn't one is of no job.
+fn no_job<A: Allocator, W: CountedWrite>(out: &mut W) -> Result<(), WriteFault>
+    ensures { WritesText (reply_text (status_reply NotFound)) result
+        (writer W.contents W.counts out.old) (writer W.contents W.counts out.new) }
+{
+    Answer::<A>::Status(Status::NotFound).write(out)
+}

@@ -1,0 +1,54 @@
+//! The state of a server.
+ghost use Rattle.std.specs.Prelude.{◌≡◌, ◌≤◌, length, IfOk};
+ghost use Rattle.jobs.specs.declared.position.TheConstants.{COUNTY_LIMIT};
+ghost use Rattle.wire.specs.State.{new_state};
+ghost use Rattle.wire.specs.Turn.{IsTurn};
+
+use crate::job::next_turn;
+use http_routes::Routes;
+use jobs::{Jobs, Reply};
+use std::alloc::{AllocError, Allocator, Global};
+use std::marker::Model;
+use tl_segments::County;
+
+/// What a server keeps from one connection to the next: its counties, and the jobs that are open. Contracts see it as a record with the table.
+#[derive(Drop)]
+pub struct State<A: Allocator> {
+    pub(crate) alloc: A,
+    pub(crate) routes: Routes,
+    pub(crate) jobs: Jobs<A>,
+}
+
+impl<A: Allocator> Model for State<A> {
+    ghost use Rattle.wire.specs.State.{StateParts};
+
+    ghost Value = { StateParts };
+
+    ghost view = { λ state. record { table = state.jobs } };
+}
+
+impl<A: Allocator + Copy> State<A> {
+    /// A state with no job, over counties, which it keeps. The routes are kept in `global` memory.
+    pub fn new(
+        global: Global,
+        alloc: A,
+        counties: Vec<County<A>, A>,
+    ) -> Result<State<A>, AllocError>
+        requires { length counties.items ≤ COUNTY_LIMIT }
+        ensures { IfOk result (λ state. state ≡ new_state counties.items) }
+    {
+        let routes = Routes::new(global)?;
+        Ok(State {
+            alloc,
+            routes,
+            jobs: Jobs::new(alloc, counties),
+        })
+    }
+
+    /// Moves the job whose turn is next on by a turn, and answers what came of it; `None` where no job is unfinished.
+    pub fn turn(&mut self) -> Option<Reply<'static>>
+        ensures { IsTurn self.old.table result self.new.table }
+    {
+        next_turn(&mut self.jobs)
+    }
+}

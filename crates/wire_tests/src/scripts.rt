@@ -1,0 +1,207 @@
+//! Requests and turns that follow each other.
+use crate::fixtures::state_of;
+use crate::serving::{BYTES, WHOLE, Way};
+use crate::tables::{is_right, row_of, rows_of, wrong_in_script, wrong_row};
+use std::alloc::Global;
+use wire::State;
+
+// Scripts with an empty line between: the counties, and then requests and turns, each with what comes of it.
+//
+// The first has what an id is and isn't. Then come jobs side by side over two counties, and jobs over no segments.
+const SCRIPTS: &str = r"{line}{line}
+turn => none
+GET /jobs/1{end} => 404
+DELETE /jobs/1{end} => 404
+POST /jobs HTTP/1.1 >> {every} => = HTTP/1.1 200 OK\r\nContent-Type: text/plain\r\nContent-Length: 2\r\nConnection: close\r\n\r\n1\n
+GET /jobs/1{end} => = HTTP/1.1 200 OK\r\nContent-Type: application/octet-stream\r\nContent-Length: 4\r\nConnection: close\r\n\r\n0 2\n
+GET /jobs/1{end} => 200 octets 0 2\n
+GET /jobs/1{end} => 200 octets 0 2\n
+turn => 2 2
+GET /jobs/1{end} => 200 octets 2 2\n{row*2}
+GET /jobs/01{end} => 200 octets 2 2\n{row*2}
+GET /jobs/1?x=y{end} => 200 octets 2 2\n{row*2}
+GET /jobs/00000000000000000001{end} => 200 octets 2 2\n{row*2}
+GET /jobs/000000000000000000001{end} => 404
+GET /jobs/0{end} => 404
+GET /jobs/00{end} => 404
+GET /jobs/2{end} => 404
+GET /jobs/10{end} => 404
+GET /jobs/18446744073709551615{end} => 404
+GET /jobs/18446744073709551616{end} => 404
+GET /jobs/18446744073709551617{end} => 404
+GET /jobs/36893488147419103233{end} => 404
+GET /jobs/99999999999999999999{end} => 404
+GET /jobs/340282366920938463463374607431768211457{end} => 404
+GET /jobs/x{end} => 404
+GET /jobs/1x{end} => 404
+GET /jobs/x1{end} => 404
+GET /jobs/+1{end} => 404
+GET /jobs/-1{end} => 404
+GET /jobs/1.0{end} => 404
+GET /jobs/0x1{end} => 404
+GET /jobs/1_{end} => 404
+GET /jobs/1%20{end} => 404
+GET /jobs/%31{end} => 404
+GET /jobs/\xd9\xa1{end} => 404
+DELETE /jobs/000000000000000000001{end} => 404
+DELETE /jobs/0{end} => 404
+DELETE /jobs/18446744073709551617{end} => 404
+DELETE /jobs/x{end} => 404
+DELETE /jobs/+1{end} => 404
+DELETE /jobs/-1{end} => 404
+DELETE /jobs/%31{end} => 404
+PUT /jobs/1{end} => 405 GET, DELETE
+PUT /jobs/x{end} => 405 GET, DELETE
+PUT /jobs/18446744073709551617{end} => 405 GET, DELETE
+POST /jobs HTTP/1.1 >> {stuck} => 422 refused 40 place 0 ReadsNothing(0)
+POST /jobs HTTP/1.1 >> => 422 refused 10 Empty
+POST /jobs HTTP/1.1 >> {backward} => 422 refused 30 place 1 BackwardJump
+POST /jobs HTTP/1.1 >> {unknown} => 422 refused 13 place 0 UnknownOpcode
+POST /jobs HTTP/1.1\r\n\r\n{every} => 411
+GET /jobs/2{end} => 404
+POST /jobs HTTP/1.1 >> {scored} => 200 text 2\n
+GET /jobs/2{end} => 200 octets 0 2\n
+GET /jobs/1{end} => 200 octets 2 2\n{row*2}
+DELETE /jobs/1{end} => = HTTP/1.1 200 OK\r\nContent-Type: text/plain\r\nContent-Length: 8\r\nConnection: close\r\n\r\ndropped\n
+GET /jobs/1{end} => = HTTP/1.1 404 Not Found\r\nContent-Type: text/plain\r\nContent-Length: 10\r\nConnection: close\r\n\r\nnot found\n
+DELETE /jobs/1{end} => 404
+GET /jobs/01{end} => 404
+PUT /jobs/1{end} => 405 GET, DELETE
+GET /jobs/2{end} => 200 octets 0 2\n
+turn => 2 2
+GET /jobs/2{end} => 200 octets 2 2\n{scored_row*2}
+POST /jobs HTTP/1.1 >> {every} => 200 text 3\n
+DELETE /jobs/02 HTTP/1.1\r\nContent-Length: x\r\nTransfer-Encoding: chunked\r\n\r\n => 200 text dropped\n
+GET /jobs/2{end} => 404
+GET /jobs/3{end} => 200 octets 0 2\n
+
+{line} | {line*0} | {..55}H01{58..}\n{line}
+POST /jobs HTTP/1.1 >> {roads} => 200 text 1\n
+POST /jobs HTTP/1.1 >> {never} => 200 text 2\n
+POST /jobs HTTP/1.1 >> {every} => 200 text 3\n
+turn => 3 3
+GET /jobs/1{end} => 200 octets 3 3\n{row*2}
+GET /jobs/2{end} => 200 octets 0 3\n
+turn => 3 3
+GET /jobs/2{end} => 200 octets 3 3\n
+DELETE /jobs/3{end} => 200 text dropped\n
+turn => none
+POST /jobs HTTP/1.1 >> {scored} => 200 text 4\n
+turn => 3 3
+GET /jobs/4{end} => 200 octets 3 3\n{scored_row}18446744073709551615\t{..55}H01{58..}\n{scored_row}
+GET /jobs/3{end} => 404
+GET /jobs/1{end} => 200 octets 3 3\n{row*2}
+
+-
+POST /jobs HTTP/1.1 >> {every} => 200 text 1\n
+turn => none
+GET /jobs/1{end} => 200 octets 0 0\n
+POST /jobs HTTP/1.1 >> {stuck} => 422 refused 40 place 0 ReadsNothing(0)
+POST /jobs HTTP/1.1 >> {every} => 200 text 2\n
+DELETE /jobs/1{end} => 200 text dropped\n
+GET /jobs/1{end} => 404
+GET /jobs/2{end} => 200 octets 0 0\n
+turn => none";
+
+#[test]
+fn scripts(rt: HostRuntime) {
+    for script in SCRIPTS.split("\n\n") {
+        assert_eq!(rt; wrong_in_script(rt.alloc(), script, 1), Ok(None));
+    }
+}
+
+// Two jobs side by side over 600 segments, with a refused program between them.
+const TURNS: &str = r"{line*600}
+POST /jobs HTTP/1.1 >> {every} => 200 text 1\n
+GET /jobs/1{end} => 200 octets 0 600\n
+GET /jobs/1{end} => 200 octets 0 600\n
+turn => 256 600
+GET /jobs/1{end} => = HTTP/1.1 200 OK\r\nContent-Type: application/octet-stream\r\nContent-Length: 59144\r\nConnection: close\r\n\r\n256 600\n{row*256}
+GET /jobs/01{end} => 200 octets 256 600\n{row*256}
+POST /jobs HTTP/1.1 >> {stuck} => 422 refused 40 place 0 ReadsNothing(0)
+POST /jobs HTTP/1.1 >> {scored} => 200 text 2\n
+turn => 256 600
+GET /jobs/1{end} => 200 octets 256 600\n{row*256}
+GET /jobs/2{end} => 200 octets 256 600\n{scored_row*256}
+turn => 512 600
+GET /jobs/1{end} => 200 octets 512 600\n{row*512}
+turn => 512 600
+turn => 600 600
+GET /jobs/1{end} => 200 octets 600 600\n{row*600}
+DELETE /jobs/1{end} => 200 text dropped\n
+GET /jobs/1{end} => 404
+GET /jobs/2{end} => 200 octets 512 600\n{scored_row*512}
+turn => 600 600
+turn => none
+GET /jobs/2{end} => 200 octets 600 600\n{scored_row*600}
+POST /extract HTTP/1.1 >> {every} => 200 octets {row*600}";
+
+#[test]
+fn turns(rt: HostRuntime) {
+    assert_eq!(rt; wrong_in_script(rt.alloc(), TURNS, 17), Ok(None));
+}
+
+// What is asked where as many jobs are open as may be: a body is looked at before that, and a program behind.
+const FULL: &str =
+    r"POST /jobs HTTP/1.1 >> {every} => = HTTP/1.1 503 Service Unavailable\r\nContent-Type: text/plain\r\nContent-Length: 16\r\nConnection: close\r\n\r\nrefused 70 Full\n
+POST /jobs HTTP/1.1 >> {stuck} => 503 refused 70 Full
+POST /jobs HTTP/1.1 >> => 503 refused 70 Full
+POST /jobs HTTP/1.1 >> {every*2048}{stuck} => 503 refused 70 Full
+POST /jobs HTTP/1.1\r\n\r\n{stuck} => 411
+POST /jobs HTTP/1.1\r\nTransfer-Encoding: chunked\r\nContent-Length: 8\r\n\r\n{stuck} => 411
+POST /jobs HTTP/1.1\r\nContent-Length: 9\r\n\r\n{stuck} => 400
+POST /jobs HTTP/1.1\r\nContent-Length: 8\r\nContent-Length: 8\r\n\r\n{stuck} => 400
+POST /jobs HTTP/1.1\r\nContent-Length: 1048577\r\n\r\n => 413
+GET /jobs{end} => 405 POST
+POST /verify HTTP/1.1 >> {stuck} => 422 refused 40 place 0 ReadsNothing(0)
+POST /verify HTTP/1.1 >> {every} => 200 text accepted\n
+GET /jobs/64{end} => 200 octets 0 1\n
+GET /jobs/65{end} => 404
+DELETE /jobs/65{end} => 404
+POST /jobs HTTP/1.1 >> {stuck} => 503 refused 70 Full
+DELETE /jobs/17{end} => 200 text dropped\n
+POST /jobs HTTP/1.1 >> {stuck} => 422 refused 40 place 0 ReadsNothing(0)
+POST /jobs HTTP/1.1 >> => 422 refused 10 Empty
+POST /jobs HTTP/1.1 >> {two} => 200 text 65\n
+POST /jobs HTTP/1.1 >> {two} => 503 refused 70 Full
+GET /jobs/17{end} => 404
+GET /jobs/65{end} => 200 octets 0 1\n
+turn => 1 1
+GET /jobs/1{end} => 200 octets 1 1\n{row}
+GET /jobs/2{end} => 200 octets 0 1\n
+POST /jobs HTTP/1.1 >> {two} => 503 refused 70 Full";
+
+/// Opens as many jobs as may be. Whether each gets the next id.
+fn opens_all(alloc: Global, state: &mut State<Global>, way: Way) -> bool {
+    let program = "{every}";
+    for id in 1..=64 {
+        let Ok(text) = format!(in alloc; "POST /jobs HTTP/1.1 >> {program} => 200 text {id}\\n")
+        else {
+            return false;
+        };
+        match row_of(alloc, text.as_str()) {
+            Ok(row) if is_right(alloc, state, &row, way) => {}
+            _ => return false,
+        }
+    }
+    true
+}
+
+/// The first wrong row where all jobs are open, if there is one.
+fn wrong_in_full(alloc: Global, way: Way) -> Option<&'static str> {
+    let (Some(mut state), Ok(rows)) = (state_of(alloc, alloc, "{line}"), rows_of(alloc, FULL))
+    else {
+        return Some("no state");
+    };
+    if !opens_all(alloc, &mut state, way) {
+        return Some("opened");
+    }
+    wrong_row(alloc, &mut state, &rows, way)
+}
+
+#[test]
+fn full(rt: HostRuntime) {
+    for way in [WHOLE, BYTES, Way { cut: 50, step: 7 }] {
+        assert_eq!(rt; wrong_in_full(rt.alloc(), way), None, "{}", way.step);
+    }
+}
