@@ -1,4 +1,5 @@
 //! The arguments of a command line, and what they ask for.
+ghost use Rattle.std.specs.Prelude.{◌≤◌, IfOk, vec_len};
 
 // How a help ends, behind its examples.
 macro_rules! help_end {
@@ -20,15 +21,17 @@ mod assemble;
 mod disassemble;
 mod geocoder;
 mod run;
+mod serve;
 mod trace;
 mod verify;
 
 use crate::fault::ArgumentsFault;
 use clap::{ArgMatches, Command};
 use commands::Request;
+pub use serve::Serve;
 use std::alloc::{AllocError, Global};
 
-/// Reads the arguments after the program's name.
+/// Reads the arguments after the program's name, of a command over files.
 pub fn read_arguments<'a>(
     alloc: Global,
     arguments: &'a [&'a str],
@@ -37,6 +40,20 @@ pub fn read_arguments<'a>(
     match matches.subcommand() {
         Some((name, matches)) => request(alloc, name, matches),
         None => Err(ArgumentsFault::Missing("COMMAND")),
+    }
+}
+
+/// Reads the arguments after the program's name, of `serve`.
+pub fn read_serve<'a>(
+    alloc: Global,
+    arguments: &'a [&'a str],
+) -> Result<Serve<'a>, ArgumentsFault<'a>>
+    ensures { IfOk result (λ serve. vec_len serve.codes ≤ 100_000) }
+{
+    let matches = program_command(alloc)?.try_get_matches_from(arguments)?;
+    match matches.subcommand() {
+        Some(("serve", matches)) => serve::request(alloc, matches),
+        _ => Err(ArgumentsFault::Missing("serve")),
     }
 }
 
@@ -53,6 +70,7 @@ fn request<'a>(
         "verify" => Ok(Request::Verify(verify::request(matches)?)),
         "asm" => Ok(Request::Assemble(assemble::request(matches)?)),
         "dis" => Ok(Request::Disassemble(disassemble::request(matches)?)),
+        "serve" => Err(ArgumentsFault::Serve),
         _ => Err(ArgumentsFault::Missing("COMMAND")),
     }
 }
@@ -62,7 +80,7 @@ fn program_command<'a>(alloc: Global) -> Result<Command<'a>, AllocError> {
     Command::new(alloc, "extractd")
         .bin_name("extractd")?
         .about(
-            "Extracts the TIGER/Line street segments that a BPF program chooses, finds house numbers, and verifies and converts programs",
+            "Extracts the TIGER/Line street segments that a BPF program chooses, finds house numbers, verifies and converts programs, and does so over HTTP",
         )
         .version("0.1.0")
         .after_help(help_end!(
@@ -72,7 +90,8 @@ fn program_command<'a>(alloc: Global) -> Result<Command<'a>, AllocError> {
   extractd geocode --data tiger --number 151 --name main --zip 36067 01001
   extractd verify --program street.bpf
   extractd asm --source street.s > street.bpf
-  extractd dis --program street.bpf"
+  extractd dis --program street.bpf
+  extractd serve --data tiger --port 8080 01001"
         ))
         .no_binary_name(true)
         .disable_help_subcommand(true)
@@ -82,5 +101,6 @@ fn program_command<'a>(alloc: Global) -> Result<Command<'a>, AllocError> {
         .subcommand(geocoder::command(alloc)?)?
         .subcommand(verify::command(alloc)?)?
         .subcommand(assemble::command(alloc)?)?
-        .subcommand(disassemble::command(alloc)?)
+        .subcommand(disassemble::command(alloc)?)?
+        .subcommand(serve::command(alloc)?)
 }

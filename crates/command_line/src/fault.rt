@@ -31,6 +31,10 @@ pub enum ArgumentsFault<'a> {
     },
     /// This name isn't 1 to 30 bytes.
     Name(&'a str),
+    /// This port isn't 1 to 65535.
+    Port(&'a str),
+    /// `serve`, which is no command over files.
+    Serve,
     Memory,
 }
 
@@ -76,6 +80,13 @@ impl ArgumentsFault<'_> {
                     "error: --name is 1 to {NAME_LENGTH} bytes, and \"{name}\" isn't\n"
                 )
             }
+            ArgumentsFault::Port(text) => {
+                write!(
+                    errors,
+                    "error: --port is 1 to 65535, and \"{text}\" isn't\n"
+                )
+            }
+            ArgumentsFault::Serve => write!(errors, "error: serve wants a socket\n"),
             ArgumentsFault::Memory => {
                 Failure::memory().report(errors);
                 return;

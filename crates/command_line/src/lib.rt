@@ -6,5 +6,6 @@ mod dispatch;
 mod fault;
 mod options;
 
+pub use arguments::{Serve, read_serve};
 pub use dispatch::command;
 pub use fault::ArgumentsFault;

@@ -1,4 +1,6 @@
 //! Options and other arguments that several commands take.
+ghost use Rattle.std.specs.Prelude.{◌≤◌, IfOk, vec_len};
+
 use crate::fault::ArgumentsFault;
 use clap::{Arg, ArgAction, ArgMatches};
 use std::alloc::Global;
@@ -35,6 +37,16 @@ pub fn code<'a>(matches: &ArgMatches<'a>) -> Result<&'a str, ArgumentsFault<'a>>
     five_digits(value(matches, "code")?)
 }
 
+/// The arguments `CODE`, counties, of which one has to be given.
+pub fn counties_option<'a>(alloc: Global) -> Arg<'a> {
+    Arg::new(alloc, "code")
+        .value_name("CODE")
+        .help("The counties, five digits each")
+        .required(true)
+        .num_args(1..)
+        .action(ArgAction::Append)
+}
+
 /// As many counties are taken at most.
 pub const MOST_CODES: usize = 100000;
 
@@ -42,7 +54,9 @@ pub const MOST_CODES: usize = 100000;
 pub fn codes<'a>(
     alloc: Global,
     matches: &ArgMatches<'a>,
-) -> Result<Vec<&'a str>, ArgumentsFault<'a>> {
+) -> Result<Vec<&'a str>, ArgumentsFault<'a>>
+    ensures { IfOk result (λ codes. vec_len codes ≤ MOST_CODES) }
+{
     let given = matches.get_strs("code").unwrap_or(&[]);
     if given.is_empty() {
         return Err(ArgumentsFault::Missing("CODE"));
@@ -80,6 +94,15 @@ pub fn number<'a>(
         return Err(fault);
     }
     text.parse().map_err(|_| fault)
+}
+
+/// The port: 1 to 65535.
+pub fn port<'a>(matches: &ArgMatches<'a>) -> Result<u16, ArgumentsFault<'a>> {
+    let text = value(matches, "port")?;
+    match text.parse() {
+        Ok(port) if port > 0 && are_digits(text) => Ok(port),
+        _ => Err(ArgumentsFault::Port(text)),
+    }
 }
 
 fn are_digits(text: &str) -> bool {

@@ -1,7 +1,9 @@
 //! Arguments that ask for nothing: usage faults, and calls for help.
 use super::fixtures::{cell, run};
+use command_line::read_serve;
 use std::alloc::{AllocError, Global};
 use std::test::Fail;
+use tl_fields::Counting;
 
 // The command, how the text for the user begins, and what it has somewhere in it: the program's name in a usage line, its version, an example of each
 // command.
@@ -59,7 +61,11 @@ extractd geocode --data d --name Main 01001 | error:
 extractd geocode --number 1 --name Main 01001 | error:
 extractd geocode --data d --number 1 --number 1 --name Main 01001 | error:
 extractd geocode --data d --number 1 --name Main --program p.bpf 01001 | error:
-extractd serve --data d --port 8080 01001 | error:
+extractd serve --data d --port 8080 01001 | error: serve wants a socket
+extractd serve --data d --port 8080 | error: the following required arguments were not provided:
+extractd serve --help | Answers requests
+extractd --help | | extractd serve --data tiger --port 8080 01001
+extractd serve | | Usage: extractd serve --data <DIR> --port <P> <CODE>...
 extractd help | error:
 extractd --help | Extracts the TIGER/Line street segments
 extractd run --help | Writes the rows
@@ -116,6 +122,51 @@ fn is_usage(alloc: Global, row: &str) -> Result<bool, AllocError> {
 fn usage(rt: HostRuntime) -> Result<(), Fail> {
     for row in TEXTS.trim().lines() {
         assert!(rt; is_usage(rt.alloc(), row)?, "{row}");
+    }
+    Ok(())
+}
+
+// What stands behind `serve`, and the status and the text of the fault, or the port and how many counties are asked for.
+const SERVES: &str = r#"
+--data d --port 8080 01001 | 8080 | 1
+--data d --port 1 01001 01003 01001 | 1 | 3
+--port 65535 01001 01003 --data d | 65535 | 2
+--data d --port 0 01001 | 2 | error: --port is 1 to 65535, and "0" isn't
+--data d --port 65536 01001 | 2 | error: --port is 1 to 65535, and "65536" isn't
+--data d --port +80 01001 | 2 | error: --port is 1 to 65535, and "+80" isn't
+--data d --port http 01001 | 2 | error: --port is 1 to 65535, and "http" isn't
+--data d --port 8080 0100 | 2 | error: CODE is five digits, and "0100" isn't
+"#;
+
+/// Whether the words of a row ask for what it says.
+fn is_serve(alloc: Global, row: &str) -> Result<bool, AllocError> {
+    let mut words = Vec::new(alloc);
+    words.push("serve")?;
+    for word in cell(row, 0).split_whitespace() {
+        words.push(word)?;
+    }
+    match read_serve(alloc, words.as_slice()) {
+        Ok(serve) => {
+            Ok(
+                serve.data == "d"
+                    && cell(row, 1).parse() == Ok(serve.port)
+                    && cell(row, 2).parse() == Ok(serve.codes.len()),
+            )
+        }
+        Err(fault) => {
+            let mut said = Counting::new(Vec::new(alloc));
+            fault.report(&mut said);
+            let said = said.into_inner();
+            let said = str::from_utf8(said.as_slice()).unwrap_or("");
+            Ok(cell(row, 1).parse() == Ok(fault.status()) && said.trim() == cell(row, 2))
+        }
+    }
+}
+
+#[test]
+fn serves(rt: HostRuntime) -> Result<(), Fail> {
+    for row in SERVES.trim().lines() {
+        assert!(rt; is_serve(rt.alloc(), row)?, "{row}");
     }
     Ok(())
 }

@@ -1,8 +1,11 @@
 //! Extracts of the street segments that a BPF program chooses, places of house numbers, and programs verified and as text: the program.
 #![tactic(auto)]
 
+mod serving;
+
 use command_line::{ArgumentsFault, command};
 use commands::{Failure, OUT_OF_MEMORY, SystemFiles};
+use serving::serve;
 use std::io::BufWriter;
 use std::process::ExitCode;
 use std::{env, io};
@@ -44,6 +47,9 @@ fn answer<E: CountedWrite>(rt: &HostRuntime, given: &[String], errors: &mut E) -
         .iter()
         .map(|argument| argument.as_str())
         .collect(rt.alloc())?;
+    if let Some(&"serve") = arguments.first() {
+        return Ok(serve(rt, arguments.as_slice(), errors));
+    }
     let out = BufWriter::with_capacity(rt.alloc(), OUTPUT_BUFFER, io::writer(rt))?;
     Ok(command(
         rt.alloc(),

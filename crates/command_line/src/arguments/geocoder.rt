@@ -1,7 +1,7 @@
 //! The arguments of `geocode`.
 use crate::fault::ArgumentsFault;
-use crate::options::{codes, option, value};
-use clap::{Arg, ArgAction, ArgMatches, Command};
+use crate::options::{codes, counties_option, option, value};
+use clap::{ArgMatches, Command};
 use commands::Geocode;
 use geocode::{MOST_DIGITS, Query, QueryFault};
 use std::alloc::{AllocError, Global};
@@ -37,16 +37,6 @@ Example:
         )
         .required(false))?
         .arg(counties_option(alloc))
-}
-
-/// The arguments `CODE`, counties, of which one has to be given.
-fn counties_option<'a>(alloc: Global) -> Arg<'a> {
-    Arg::new(alloc, "code")
-        .value_name("CODE")
-        .help("The counties, five digits each")
-        .required(true)
-        .num_args(1..)
-        .action(ArgAction::Append)
 }
 
 /// What the arguments that were matched ask for.

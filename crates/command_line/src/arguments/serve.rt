@@ -1,0 +1,51 @@
+//! The arguments of `serve`.
+ghost use Rattle.std.specs.Prelude.{◌≤◌, IfOk, vec_len};
+
+use crate::fault::ArgumentsFault;
+use crate::options::{codes, counties_option, option, port, value};
+use clap::{ArgMatches, Command};
+use std::alloc::{AllocError, Global};
+
+/// What `serve` is asked for.
+#[derive(Drop)]
+pub struct Serve<'a> {
+    /// The folder of the county files.
+    pub data: &'a str,
+    /// The port, from 1 on.
+    pub port: u16,
+    /// The counties: five digits each, of the state and of the county in it.
+    pub codes: Vec<&'a str>,
+}
+
+pub fn command<'a>(alloc: Global) -> Result<Command<'a>, AllocError> {
+    Command::new(alloc, "serve")
+        .about("Answers requests over HTTP on 127.0.0.1, one connection after the other")
+        .after_help(help_end!(
+            "Output, once it listens:
+  listening 127.0.0.1:PORT
+
+It ends, with 3, only where it can't take a connection.
+
+Example:
+  extractd serve --data tiger --port 8080 01001"
+        ))
+        .arg(option(
+            alloc,
+            "data",
+            "DIR",
+            "The folder of the TIGER/Line 2006 files",
+        ))?
+        .arg(option(alloc, "port", "P", "The port, 1 to 65535"))?
+        .arg(counties_option(alloc))
+}
+
+/// What the arguments that were matched ask for.
+pub fn request<'a>(alloc: Global, matches: &ArgMatches<'a>) -> Result<Serve<'a>, ArgumentsFault<'a>>
+    ensures { IfOk result (λ serve. vec_len serve.codes ≤ 100_000) }
+{
+    Ok(Serve {
+        data: value(matches, "data")?,
+        port: port(matches)?,
+        codes: codes(alloc, matches)?,
+    })
+}

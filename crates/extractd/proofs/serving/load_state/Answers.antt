@@ -1,0 +1,10 @@
+-- There are as many counties as codes, and so no more than a state takes.
+use Rattle.std.proofs.Common.{◌≤◌, ◌∙◌, subst, sym}
+use Rattle.std.proofs.lemmas.List.{length-map}
+use Rattle.std.proofs.lemmas.Slice.Zip.{AllZip-long}
+use Rattle.extractd.proofs.serving.load_state.Goals as goal
+
+pub new-requires-in-Ok : goal.new-requires-in-Ok
+new-requires-in-Ok c =
+    let counted = AllZip-long _ _ _ c.in-Ok.ensures.ok ∙ length-map _ _ ∙ c.as_slice.ensures.len in
+    subst (λ n. n ≤ 100000) (sym counted) c.requires

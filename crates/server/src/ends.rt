@@ -1,0 +1,141 @@
+//! The two ends of a client's connection, whose calls wait no longer than the limits allow.
+ghost use Rattle.std.specs.Prelude.{◌≡◌, ◌+◌, ◌-◌, ◌^◌, min, IfOk, OnErr, OnOk, IsSome};
+ghost use Rattle.std.specs.Io.{WritesAtMost};
+ghost use Rattle.std.specs.Option.{option_map};
+ghost use Rattle.std.specs.Duration.{as_nanos, max_nanos};
+ghost use Rattle.server.specs.Limits.{reply_limit, wait};
+
+use crate::limits::{Limits, wait_left};
+use crate::stopwatch::Stopwatch;
+use std::io;
+use std::io::{ErrorKind, Read, Write};
+use std::net::TcpStream;
+use std::time::{Clock, Duration};
+
+/// What a client sends. A read is an error where its time is over, and doesn't touch the socket where it was over before.
+#[derive(Drop)]
+pub struct ClientReader<'a, C> {
+    stream: &'a TcpStream,
+    stopwatch: Stopwatch<'a, C>,
+    silence: Duration,
+    limit: Duration,
+    // The socket's timeout of reads, once it is set.
+    timeout: Option<Duration>,
+}
+
+impl<'a, C: Clock> ClientReader<'a, C> {
+    /// Waits so long in one read, and in all of them so long from the first one on.
+    pub fn new(stream: &'a TcpStream, clock: &'a C, silence: Duration, limit: Duration) -> Self {
+        ClientReader {
+            stream,
+            stopwatch: Stopwatch::new(clock),
+            silence,
+            limit,
+            timeout: None,
+        }
+    }
+
+    // While more than the silence is left the timeout stays the same, and each time that it is set costs a system call.
+    fn set_timeout(&mut self, passed: Duration) -> io::Result<()>
+        ensures waits { OnOk result (IsSome self.new.timeout) }
+        ensures rule { OnOk result (option_map as_nanos self.new.timeout ≡ wait (as_nanos self.old.silence) (as_nanos self.old.limit) (as_nanos passed)) }
+        ensures silence { self.new.silence ≡ self.old.silence }
+        ensures limit { self.new.limit ≡ self.old.limit }
+    {
+        let wait = wait_left(self.silence, self.limit, passed).ok_or(timed_out())?;
+        if self.timeout != Some(wait) {
+            self.stream.set_read_timeout(Some(wait))?;
+            self.timeout = Some(wait);
+        }
+        Ok(())
+    }
+}
+
+impl<C: Clock> Read for ClientReader<'_, C> {
+    fn read(&mut self, buf: &mut [u8]) -> io::Result<usize> {
+        for _ in 0..u64::MAX {
+            let passed = self.stopwatch.passed()?;
+            self.set_timeout(passed)?;
+            match self.stream.read(buf) {
+                Err(error) if error.kind() == ErrorKind::Interrupted => {}
+                Err(error) if error.kind() == ErrorKind::WouldBlock => return Err(timed_out()),
+                result => return result,
+            }
+        }
+        Err(timed_out())
+    }
+}
+
+/// What a client takes. A write is an error where its time is over, and doesn't touch the socket where it was over before.
+#[derive(Drop)]
+pub struct ClientWriter<'a, C> {
+    stream: &'a TcpStream,
+    stopwatch: Stopwatch<'a, C>,
+    limits: Limits,
+    written: u64,
+}
+
+impl<'a, C: Clock> ClientWriter<'a, C> {
+    pub fn new(stream: &'a TcpStream, clock: &'a C, limits: Limits) -> Self {
+        ClientWriter {
+            stream,
+            stopwatch: Stopwatch::new(clock),
+            limits,
+            written: 0,
+        }
+    }
+
+    // It grows with the reply, of which no more is known than what was written and what is to be written now.
+    fn limit(&self, unwritten: usize) -> Duration
+        ensures { as_nanos result ≡ min (reply_limit (as_nanos self.now.limits.reply) (min (self.now.written + unwritten) (2 ^ 64 - 1))) max_nanos }
+    {
+        self.limits
+            .reply_limit(self.written.saturating_add(unwritten as u64))
+    }
+
+    fn set_timeout(&mut self, unwritten: usize) -> io::Result<()>
+        ensures written { self.new.written ≡ self.old.written }
+        ensures limits { self.new.limits ≡ self.old.limits }
+    {
+        let limit = self.limit(unwritten);
+        let passed = self.stopwatch.passed()?;
+        let wait = wait_left(limit, limit, passed).ok_or(timed_out())?;
+        self.stream.set_write_timeout(Some(wait))
+    }
+
+    fn write_in_time(&mut self, buf: &[u8]) -> io::Result<usize>
+        ensures bound { WritesAtMost result buf.now }
+        ensures counted { IfOk result (λ count. self.new.written ≡ min (self.old.written + count) (2 ^ 64 - 1)) }
+        ensures uncounted { OnErr result (self.new.written ≡ self.old.written) }
+        ensures limits { self.new.limits ≡ self.old.limits }
+    {
+        for _ in 0..u64::MAX {
+            self.set_timeout(buf.len())?;
+            match self.stream.write(buf) {
+                Ok(count) => {
+                    self.written = self.written.saturating_add(count as u64);
+                    return Ok(count);
+                }
+                Err(error) if error.kind() == ErrorKind::Interrupted => {}
+                Err(error) if error.kind() == ErrorKind::WouldBlock => return Err(timed_out()),
+                Err(error) => return Err(error),
+            }
+        }
+        Err(timed_out())
+    }
+}
+
+impl<C: Clock> Write for ClientWriter<'_, C> {
+    fn write(&mut self, buf: &[u8]) -> io::Result<usize> {
+        self.write_in_time(buf)
+    }
+
+    /// A socket keeps nothing back.
+    fn flush(&mut self) -> io::Result<()> {
+        Ok(())
+    }
+}
+
+fn timed_out() -> io::Error {
+    io::Error::from(ErrorKind::TimedOut)
+}

@@ -1,0 +1,24 @@
+//! The service of the program: requests over HTTP, and the turns of its jobs.
+use crate::service::{Close, Service};
+use std::alloc::Allocator;
+use tl_fields::{CountedRead, CountedWrite};
+use wire::{Extent, State, serve_request};
+
+impl<A: Allocator + Copy> Service for State<A> {
+    ghost use Rattle.server.specs.Service.{HasServed, HasTurned};
+
+    ghost serves = { HasServed };
+
+    ghost turns = { HasTurned };
+
+    fn serve<R: CountedRead, W: CountedWrite>(&mut self, input: &mut R, out: &mut W) -> Close {
+        match serve_request(self, input, out) {
+            Ok(Extent::Part) => Close::Lingering,
+            Ok(Extent::Whole) | Err(_) => Close::AtOnce,
+        }
+    }
+
+    fn turn(&mut self) {
+        let _reply = State::turn(self);
+    }
+}

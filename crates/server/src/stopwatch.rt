@@ -1,0 +1,23 @@
+//! Time that passes.
+use std::io;
+use std::time::{Clock, Duration, Instant};
+
+/// Tells the time since it was first asked.
+#[derive(Drop)]
+pub struct Stopwatch<'a, C> {
+    clock: &'a C,
+    start: Option<Instant>,
+}
+
+impl<'a, C: Clock> Stopwatch<'a, C> {
+    pub fn new(clock: &'a C) -> Self {
+        Stopwatch { clock, start: None }
+    }
+
+    /// The time since the first call that could read the clock.
+    pub fn passed(&mut self) -> io::Result<Duration> {
+        let now = Instant::now(self.clock)?;
+        let start = *self.start.get_or_insert(now);
+        Ok(now.duration_since(start))
+    }
+}

@@ -1,0 +1,88 @@
+//! What becomes of clients, by the system's clock.
+use crate::fixtures::{
+    Exchange, Exchanges, cell, client_that, name_of, number, receive, short_limits,
+};
+use server::{Close, serve_next};
+use std::io;
+use std::net::{TcpListener, TcpStream};
+use std::test::Fail;
+
+// How many bytes a client sends, and what it does then; of how many bytes request and reply are, and how the service has it closed; how many the
+// service read and wrote, and its fault; how many the client got, and what it ended with.
+const CLIENTS: &str = "\
+10; stays; 10; 50; at once; 10; 50; none; 50; none
+10; ends; 10; 50; at once; 10; 50; none; 50; none
+0; leaves; 10; 50; at once; 0; 0; end; 0; none
+0; ends; 10; 50; at once; 0; 0; end; 0; none
+5; ends; 10; 50; at once; 5; 0; end; 0; none
+0; stays; 10; 50; at once; 0; 0; late; 0; none
+5; stays; 10; 50; at once; 5; 0; late; 0; none
+11; stays; 10; 50; at once; 10; 50; none; 50; none
+300000; stays; 10; 50; at once; 10; 50; none; 50; none
+300000; ends; 10; 50; at once; 10; 50; none; 50; none
+300000; ends; 10; 50000; at once; 10; 50000; none; 50000; none
+10; stays; 5; 50; lingering; 5; 50; none; 50; none
+5; stays; 5; 50; lingering; 5; 50; none; 50; none
+5; ends; 5; 50; lingering; 5; 50; none; 50; none
+300000; leaves; 10; 50; at once; 10; 50; none; 0; none";
+
+fn exchange_of(row: &str) -> Exchange {
+    Exchange {
+        request: number(row, 2),
+        per_read: 4096,
+        reply: number(row, 3),
+        per_write: 4096,
+        close: match cell(row, 4) {
+            "lingering" => Close::Lingering,
+            _ => Close::AtOnce,
+        },
+    }
+}
+
+/// Whether the client of a row fares as the row says, and the service.
+fn is_right(rt: &HostRuntime, row: &str) -> io::Result<bool> {
+    let listener = TcpListener::bind(rt, "127.0.0.1:0")?;
+    let client = TcpStream::connect(rt, listener.local_addr()?)?;
+    let client = client_that(client, number(row, 0), cell(row, 1))?;
+    let mut service = Exchanges::new(exchange_of(row), &[b'r'; 4096]);
+    serve_next(&listener, rt, &short_limits(), &mut service)?;
+    let (received, fault) = match client {
+        Some(client) => receive(&client),
+        None => (0, None),
+    };
+    Ok(
+        service.read == number(row, 5)
+            && service.written == number(row, 6)
+            && name_of(service.fault) == cell(row, 7)
+            && received == number(row, 8)
+            && name_of(fault) == cell(row, 9)
+            && service.served == 1
+            && service.turns == 1,
+    )
+}
+
+#[test]
+fn clients(rt: HostRuntime) -> Result<(), Fail> {
+    for row in CLIENTS.lines() {
+        assert!(rt; is_right(&rt, row)?, "{row}");
+    }
+    Ok(())
+}
+
+/// A client that has left before its reply is a fault of the write. Nothing else comes of it, no signal either: the next client is served.
+#[test]
+fn left(rt: HostRuntime) -> Result<(), Fail> {
+    let listener = TcpListener::bind(&rt, "127.0.0.1:0")?;
+    let address = listener.local_addr()?;
+    let exchange = exchange_of("10; leaves; 10; 1000000; at once");
+    let mut service = Exchanges::new(exchange, &[b'r'; 4096]);
+    let _none = client_that(TcpStream::connect(&rt, address)?, 10, "leaves")?;
+    serve_next(&listener, &rt, &short_limits(), &mut service)?;
+    assert_eq!(rt; name_of(service.fault), "gone");
+    let client = client_that(TcpStream::connect(&rt, address)?, 9, "ends")?;
+    serve_next(&listener, &rt, &short_limits(), &mut service)?;
+    assert_eq!(rt; client.map(|client| receive(&client)), Some((0, None)));
+    assert_eq!(rt; name_of(service.fault), "end");
+    assert_eq!(rt; (service.served, service.turns), (2, 2));
+    Ok(())
+}
