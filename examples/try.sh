@@ -9,6 +9,10 @@
 # - A block ```asm that a block ```hex follows is a program and its words: `asm` makes these of it, and of what `dis` writes of them.
 # - A block ```asm that a block ```verdict follows is a program and what `verify` says of it. In a block ```verdicts each line is a program,
 #   with `|` between its lines, and behind `;` what `verify` says of it.
+# - A block ```http FOLDER is what a terminal shows beside a server that was just started over the county in FOLDER. It stands at port 8080 there, and
+#   at a free one here. Words behind the folder name further commands. What curl shows of a head is compared without its CRs.
+# - A row of a table with a status, its phrase and a text is a reply. A row with a request in its first cell, which ends a line by `\n`, and a
+#   status in its second is sent as it stands, and the whole reply has to be that of the status, byte for byte.
 # - In a block ```answers each line is the beginning of a program, and behind `;` is what r0 holds at its end, on the segment of examples/one.
 # - A row of a table with bytes in its first cell and a refusal in its second is a program that `verify` and `run` refuse so; one with a
 #   place, an instruction and its bytes is a program of one instruction, and is tried as above.
@@ -16,7 +20,8 @@
 # Then the program over files and outputs that are missing, faulty or full, and the outcomes of a trace: each text of an error has to stand
 # in docs/refusals.md.
 #
-# Prints what failed, and ends with 0 where nothing did, else with 1. It needs bash and coreutils, and takes less than a minute.
+# Prints what failed, and ends with 0 where nothing did, else with 1. It needs bash and coreutils, and takes less than a minute. The blocks ```http
+# need curl.
 
 set -u
 export LC_ALL=C
@@ -34,7 +39,7 @@ fail() { failed=$((failed + 1)); printf 'FAILED: '; printf '%s\n' "$@"; }
 skip() { printf 'left out: %s\n' "$1"; }
 
 scratch=$(mktemp -d) || exit 1
-trap 'chmod -R u+rwx "$scratch"; rm -rf "$scratch"' EXIT
+trap 'stop_server; chmod -R u+rwx "$scratch"; rm -rf "$scratch"' EXIT
 chmod 755 "$scratch"
 mkdir "$scratch/bin" "$scratch/home"
 cp "$program" "$scratch/bin/extractd"
@@ -45,6 +50,33 @@ case "$1 ${2-}" in "try --" | "run --") shift 2 && exec extractd "$@" ;; esac
 END
 chmod 755 "$scratch/bin/extractd" "$scratch/bin/rt"
 export PATH="$scratch/bin:$PATH" HOME="$scratch/home"
+# On a terminal curl shows no progress either.
+echo silent > "$scratch/home/.curlrc"
+
+server="" port=""
+stop_server() {
+    [ -z "$server" ] && return
+    kill "$server" 2> /dev/null
+    wait "$server" 2> /dev/null
+    server=""
+}
+
+# start_server FOLDER: serves its county at a free port.
+start_server() {
+    for _ in {1..20}; do
+        port=$((10000 + RANDOM % 20000))
+        : > "$scratch/said"
+        extractd serve --data "$1" --port $port 01001 > "$scratch/said" 2> "$scratch/said.err" < /dev/null &
+        server=$!
+        for _ in {1..100}; do
+            [ "$(cat "$scratch/said")" = "listening 127.0.0.1:$port" ] && return
+            kill -0 $server 2> /dev/null || break
+            sleep 0.1
+        done
+        stop_server
+    done
+    return 1
+}
 
 # The documents' commands run in a folder that looks as a clone does once it was built.
 clone() {
@@ -53,7 +85,7 @@ clone() {
     cp "$program" "$1/crates/extractd/out/extractd"
 }
 
-# try_console NAME NEEDED TEXT
+# try_console NAME NEEDED TEXT [DROPPED]: DROPPED is a character that isn't shown.
 try_console() {
     local needed line command="" shown="" script=$'last=0\n' wrote
     for needed in $2; do
@@ -71,6 +103,7 @@ try_console() {
     done <<< "$3"
     add
     wrote=$(timeout 60 bash -c "$script" 2>&1 < /dev/null)
+    [ -n "${4-}" ] && wrote=${wrote//$4/}
     if [ "$wrote" = "$3" ]; then pass; else fail "$1 shows" "$3" "and it is" "$wrote"; fi
 }
 
@@ -113,6 +146,27 @@ try_answers() {
     done <<< "$2"
 }
 
+# try_http NAME FOLDER_AND_NEEDED TEXT
+try_http() {
+    local folder needed
+    read -r folder needed <<< "$2"
+    stop_server
+    if ! start_server "$folder"; then fail "$1: no server over $folder" "$(cat "$scratch/said.err")"; return; fi
+    try_console "$1" "curl $needed" "${3//127.0.0.1:8080/127.0.0.1:$port}" $'\r'
+    stop_server
+}
+
+# try_request NAME BYTES STATUS ALLOW
+try_request() {
+    local wanted wrote
+    if [ -z "$server" ] && ! start_server examples/one; then fail "$1: no server" "$(cat "$scratch/said.err")"; return; fi
+    wanted="HTTP/1.1 $3 ${phrases[$3]-}\r\nContent-Type: text/plain\r\nContent-Length: $((${#bodies[$3]} + 1))\r\nConnection: close\r\n"
+    wanted+="${4:+$4\r\n}\r\n${bodies[$3]}\n."
+    # What is left of a request may be refused, as the server reads no further than it needs.
+    wrote=$(timeout 30 bash -c 'exec 3<> "/dev/tcp/127.0.0.1/$1" && printf %b "$2" >&3 2> /dev/null; cat <&3; echo .' - $port "$2")
+    if [ "$wrote" = "$(printf %b "$wanted")" ]; then pass; else fail "$1 shows" "$wanted" "for" "$2" "and it is" "$wrote"; fi
+}
+
 # try_refusal NAME BYTES LINE
 try_refusal() {
     local byte command wrote bytes=""
@@ -128,6 +182,8 @@ try_refusal() {
 try_document() {
     local line number=0 kind="" needed="" text="" asm="" begin=0 cell
     local refusal='^\| ((`[0-9a-f ]+`(, )?)+) \| `(refused [^`]*)` \|$' instruction='^\| [0-9]+ \| `([^`]+)` \| `([0-9a-f ]+)` \|$'
+    local reply='^\| [0-9]+ \| ([45][0-9][0-9]) ([A-Z][A-Za-z ]+) \| `([^`]+)` \|' request='^\| `([^`]+\\n)` \| ([45][0-9][0-9])(, `(Allow: [A-Z, ]+)`)? \|'
+    local -A phrases=() bodies=()
     clone "$scratch/$1"
     cd "$scratch/$1" || exit 1
     while IFS= read -r line; do
@@ -141,11 +197,16 @@ try_document() {
                 try_refusal "$1, line $number" "$cell" "${BASH_REMATCH[4]}"
             elif [[ $line =~ $instruction ]]; then
                 try_conversion "$1, line $number" "${BASH_REMATCH[1]}" "${BASH_REMATCH[2]}"
+            elif [[ $line =~ $reply ]]; then
+                phrases[${BASH_REMATCH[1]}]=${BASH_REMATCH[2]} bodies[${BASH_REMATCH[1]}]=${BASH_REMATCH[3]}
+            elif [[ $line =~ $request ]]; then
+                try_request "$1, line $number" "${BASH_REMATCH[1]}" "${BASH_REMATCH[2]}" "${BASH_REMATCH[4]}"
             fi
         elif [ "$line" = '```' ]; then
             text=${text%$'\n'}
             case $kind in
             console) try_console "$1, line $begin" "$needed" "$text" ;;
+            http) try_http "$1, line $begin" "$needed" "$text" ;;
             asm) asm=$text ;;
             hex) try_conversion "$1, line $begin" "$asm" "$text" ;;
             verdict) try_verdict "$1, line $begin" "$asm" "$text" ;;
@@ -157,6 +218,7 @@ try_document() {
             text+=$line$'\n'
         fi
     done < "$top/$1"
+    stop_server
     cd "$top" || exit 1
 }
 
@@ -399,7 +461,7 @@ dis --program $'\377'|error: an argument isn't UTF-8|
 --version|extractd 0.1.0|
 END
     try_case 2 0 "*Usage: extractd <COMMAND>*Examples:*Exit status:*extractd 0.1.0" 'extractd --help'
-    for command in run trace geocode verify asm dis; do
+    for command in run trace geocode verify asm dis serve; do
         try_case 2 0 "*Usage: extractd $command *Example:*extractd $command *Exit status:*extractd 0.1.0" "extractd $command --help"
     done
 

@@ -1,0 +1,264 @@
+#!/usr/bin/env bash
+# Tries what lies beside it with a built program: examples/server/try.sh PATH_TO_extractd
+#
+# It needs bash, coreutils and curl. What else it tries needs, and is left out where that isn't there:
+# - nginx.conf: nginx (1.19.5 or later) and openssl, which makes a certificate that is good for a day;
+# - extractd.service: systemd-analyze, of systemd 249 or later;
+# - ../job.py: python3 (3.8 or later).
+#
+# It serves the example county at a free port, and asks each route, with status and body compared: directly, and through nginx where it's there. Then what
+# nginx is there for: a body in chunks, many header lines, a client that sends slowly, several clients at once. What it started it ends, and its
+# folder, in that of temporary files, is removed.
+#
+# Prints what failed, then how much was tried, and ends with 0 where nothing failed, else with 1. It takes less than a minute.
+
+set -u
+export LC_ALL=C
+
+if [ $# -ne 1 ] || [ ! -x "$1" ] || [ -d "$1" ]; then
+    echo "usage: ${0##*/} PATH_TO_extractd" >&2
+    exit 1
+fi
+program=$(realpath "$1")
+here=$(realpath "$(dirname "$0")")
+examples=$(dirname "$here")
+tried=0 failed=0
+
+pass() { tried=$((tried + 1)); }
+fail() { failed=$((failed + 1)); printf 'FAILED: '; printf '%s\n' "$@"; }
+skip() { printf 'left out: %s\n' "$1"; }
+
+finish() {
+    echo "$tried passed, $failed failed"
+    [ $failed -eq 0 ]
+    exit
+}
+
+scratch=$(mktemp -d) || exit 1
+started=()
+# end: ends what was started last.
+end() {
+    kill "${started[-1]}" 2> /dev/null
+    wait "${started[-1]}" 2> /dev/null
+    unset 'started[-1]'
+}
+trap 'while [ ${#started[@]} -gt 0 ]; do end; done; rm -rf "$scratch"' EXIT
+trap 'exit 1' INT TERM HUP
+# nginx's worker isn't root, also where this script is.
+chmod 755 "$scratch"
+cd "$scratch" || exit 1
+# No settings of the user's.
+export HOME=$scratch
+
+if ! command -v curl > /dev/null; then
+    fail 'there is no curl here'
+    finish
+fi
+
+# start FOLDER: serves its county at a free port, which is in `port` then.
+start() {
+    local pid
+    for _ in {1..20}; do
+        port=$((10000 + RANDOM % 20000))
+        : > said
+        "$program" serve --data "$1" --port $port 01001 > said 2> said.err < /dev/null &
+        pid=$!
+        started+=("$pid")
+        for _ in {1..100}; do
+            [ "$(cat said)" = "listening 127.0.0.1:$port" ] && return
+            kill -0 "$pid" 2> /dev/null || break
+            sleep 0.1
+        done
+        end
+    done
+    return 1
+}
+
+# ask NAME STATUS BODY CURL-ARGUMENTS: one request; BODY is a file.
+ask() {
+    local name=$1 status=$2 body=$3 got
+    shift 3
+    rm -f got
+    got=$(curl -k -s -m 60 -o got -w '%{http_code}' "$@")
+    if [ "$got" = "$status" ] && cmp -s "$body" got; then pass; else
+        fail "$name" "should be $status and: $(head -c 300 "$body" | tr '\0' '?')" "and is $got and: $(head -c 300 got 2> /dev/null | tr '\0' '?')"
+    fi
+}
+
+# says NAME STATUS TEXT CURL-ARGUMENTS: the same, where the body is a line.
+says() {
+    local name=$1 status=$2
+    printf '%s\n' "$3" > wanted
+    shift 3
+    ask "$name" "$status" wanted "$@"
+}
+
+# try_routes URL: each route, and each status.
+try_routes() {
+    local url=$1 id
+    says "$1: verify" 200 accepted --data-binary @all.bpf "$url/verify"
+    says "$1: verify refuses" 422 'refused 40 place 0 ReadsNothing(0)' --data-binary @bare.bpf "$url/verify"
+    says "$1: verify of nothing" 422 'refused 10 Empty' --data-binary '' "$url/verify"
+    ask "$1: assemble" 200 not_water.bpf --data-binary @not_water.s "$url/assemble"
+    says "$1: assemble refuses" 422 'refused 21 line 1 UnknownMnemonic' --data-binary 'frob r0' "$url/assemble"
+    says "$1: assemble of no text" 400 'bad request' --data-binary $'\377' "$url/assemble"
+    ask "$1: disassemble" 200 not_water.dis --data-binary @not_water.bpf "$url/disassemble"
+    says "$1: disassemble refuses" 422 'refused 11 NotWhole' --data-binary 1234567 "$url/disassemble"
+    ask "$1: extract" 200 rows --data-binary @all.bpf "$url/extract"
+    says "$1: extract refuses" 422 'refused 40 place 0 ReadsNothing(0)' --data-binary @bare.bpf "$url/extract"
+    ask "$1: geocode" 200 hits "$url/geocode?number=751&name=main"
+    ask "$1: geocode by ZIP Code" 200 hits.zip "$url/geocode?number=751&name=ma%69n&zip=36067"
+    ask "$1: geocode finds nothing" 200 /dev/null "$url/geocode?number=751&name=Maine"
+    says "$1: geocode without a name" 400 'bad request' "$url/geocode?number=751"
+    says "$1: no route" 404 'not found' "$url/%76erify"
+    says "$1: another method" 405 'method not allowed' "$url/verify"
+    if curl -k -s -m 60 -D - -o /dev/null -X PUT "$url/jobs/x" | tr -d '\r' | grep -q -i '^allow: GET, DELETE$'; then pass; else
+        fail "$1: the methods of a job aren't named"
+    fi
+    says "$1: no length" 411 'length required' -X POST "$url/verify"
+    says "$1: a body too long" 413 'too large' -H 'Expect:' --data-binary @long "$url/verify"
+    says "$1: a body as long as may be" 422 'refused 12 TooLong' -H 'Expect:' --data-binary @longest "$url/verify"
+
+    says "$1: a refused job" 422 'refused 40 place 0 ReadsNothing(0)' --data-binary @bare.bpf "$url/jobs"
+    id=$(curl -k -s -m 60 --data-binary @all.bpf "$url/jobs")
+    if [[ $id =~ ^[0-9]+$ ]]; then pass; else fail "$1: a job's id is $id"; fi
+    # A turn behind each request, and two are needed.
+    says "$1: no job" 404 'not found' "$url/jobs/0"
+    says "$1: no job" 404 'not found' "$url/jobs/x"
+    { echo 400 400; cat rows; } > whole
+    ask "$1: a job's rows" 200 whole "$url/jobs/$id"
+    ask "$1: a job's rows, by another spelling" 200 whole "$url/jobs/0$id"
+    says "$1: a job is removed" 200 dropped -X DELETE "$url/jobs/$id"
+    says "$1: a job is gone" 404 'not found' "$url/jobs/$id"
+}
+
+# try_job NAME ARGUMENTS: the client, at a server.
+try_job() {
+    local name=$1 status id
+    shift
+    rm -f job.rows
+    python3 "$examples/job.py" "$@" all.bpf > job.rows 2> job.err
+    status=$?
+    if [ $status -eq 0 ] && cmp -s rows job.rows && [ ! -s job.err ]; then pass; else fail "$name: job.py" "status $status: $(cat job.err)"; fi
+    rm -f job.rows
+    python3 "$examples/job.py" "$@" --output job.rows all.bpf 2> job.err
+    status=$?
+    if [ $status -eq 0 ] && cmp -s rows job.rows && [ ! -s job.err ]; then pass; else fail "$name: job.py into a file" "status $status: $(cat job.err)"; fi
+    rm -f job.rows
+    python3 "$examples/job.py" "$@" --output job.rows bare.bpf 2> job.err
+    status=$?
+    if [ "$status: $(cat job.err)" = '1: refused 40 place 0 ReadsNothing(0)' ] && [ ! -e job.rows ]; then pass; else
+        fail "$name: job.py of a refused program" "status $status: $(cat job.err)"
+    fi
+    python3 "$examples/job.py" "$@" all.bpf 2> job.err | head -n 1 > job.rows
+    if [ "$(cat job.rows)" = "$(head -n 1 rows)" ]; then pass; else fail "$name: job.py into a pipe" "$(cat job.err)"; fi
+    # None of these jobs is left.
+    id=$(curl -k -s -m 60 --data-binary @all.bpf "$url/jobs")
+    says "$name: a job is removed" 200 dropped -X DELETE "$url/jobs/$id"
+    for ((id = id - 1; id > 0; id--)); do
+        says "$name: job $id is gone" 404 'not found' "$url/jobs/$id"
+    done
+}
+
+# try_proxy: what nginx is there for.
+try_proxy() {
+    local client lines=()
+    says 'a body in chunks gets a length' 200 accepted -H 'Transfer-Encoding: chunked' --data-binary @all.bpf "$url/verify"
+    for client in {1..70}; do lines+=(-H "X-Line-$client: $(printf '%0100d' "$client")"); done
+    says 'many header lines are left out' 200 accepted "${lines[@]}" --data-binary @all.bpf "$url/verify"
+    # It has sent the first half of its body, and then waits.
+    mkfifo half
+    curl -k -s -m 60 -X POST -T - "$url/verify" < half > slow &
+    started+=("$!")
+    exec 9> half
+    head -c 8 all.bpf >&9
+    sleep 1
+    says 'a slow client keeps nobody waiting' 200 accepted -m 5 --data-binary @all.bpf "$url/verify"
+    tail -c 8 all.bpf >&9
+    exec 9>&-
+    wait "${started[-1]}"
+    end
+    if [ "$(cat slow)" = accepted ]; then pass; else fail 'a slow client is served' "$(cat slow)"; fi
+    for client in {1..8}; do
+        curl -k -s -m 60 --data-binary @all.bpf -o "rows.$client" "$url/extract" &
+        started+=("$!")
+    done
+    for client in {1..8}; do
+        wait "${started[-1]}"
+        end
+    done
+    for client in {1..8}; do
+        if cmp -s rows "rows.$client"; then pass; else fail "client $client of 8 at once"; fi
+    done
+}
+
+cp "$examples/all.bpf" "$examples/not_water.bpf" "$examples/not_water.s" .
+tail -c 8 all.bpf > bare.bpf
+head -c 1048577 /dev/zero > long
+head -c 1048576 /dev/zero > longest
+"$program" dis --program not_water.bpf > not_water.dis
+"$program" run --program all.bpf --data "$examples" 01001 > rows
+"$program" geocode --data "$examples" --number 751 --name main 01001 > hits
+"$program" geocode --data "$examples" --number 751 --name main --zip 36067 01001 > hits.zip
+if [ "$(wc -c < rows)" != 92400 ]; then fail "$program doesn't write the example county's rows"; finish; fi
+
+if ! start "$examples"; then
+    fail "$program doesn't serve the example county: $(cat said.err)"
+    finish
+fi
+url=http://127.0.0.1:$port
+try_routes "$url"
+if command -v python3 > /dev/null; then try_job "$url" --server "$url"; else skip 'job.py (there is no python3 here)'; fi
+
+if ! command -v nginx > /dev/null; then
+    skip 'nginx.conf (there is no nginx here); the server was tried without it'
+elif ! command -v openssl > /dev/null; then
+    skip 'nginx.conf (there is no openssl here, for a certificate); the server was tried without it'
+else
+    mkdir proxy
+    chmod 755 proxy
+    openssl req -x509 -newkey ec -pkeyopt ec_paramgen_curve:prime256v1 -nodes -keyout proxy/server.key -out proxy/server.crt -days 1 \
+        -subj /CN=localhost -addext 'subjectAltName=DNS:localhost,IP:127.0.0.1' 2> openssl.err || fail "openssl: $(cat openssl.err)"
+    cp "$here/nginx.conf" proxy
+    if nginx -t -q -e stderr -p "$PWD/proxy" -c nginx.conf 2> nginx.err && [ ! -s nginx.err ]; then pass; else fail "nginx -t: $(cat nginx.err)"; fi
+    for _ in {1..20}; do
+        tls=$((30000 + RANDOM % 2000))
+        sed -e "s/127\.0\.0\.1:8080/127.0.0.1:$port/" -e "s/listen 8443 /listen 127.0.0.1:$tls /" "$here/nginx.conf" > proxy/nginx.conf
+        nginx -e stderr -p "$PWD/proxy" -c nginx.conf -g 'daemon off;' 2> nginx.err < /dev/null &
+        nginx=$!
+        started+=("$nginx")
+        url=
+        for _ in {1..100}; do
+            kill -0 "$nginx" 2> /dev/null || break
+            if curl -k -s -o /dev/null "https://127.0.0.1:$tls/"; then url=https://127.0.0.1:$tls; break 2; fi
+            sleep 0.1
+        done
+        end
+    done
+    if [ -z "$url" ]; then fail "nginx doesn't start: $(cat nginx.err proxy/error.log 2> /dev/null)"; finish; fi
+    try_routes "$url"
+    try_proxy
+    if command -v python3 > /dev/null; then
+        try_job "$url" --server "$url" --insecure
+        try_job "$url" --server "$url" --ca proxy/server.crt
+        python3 "$examples/job.py" --server "$url" all.bpf > job.rows 2> job.err
+        if [ $? = 3 ] && [ ! -s job.rows ]; then pass; else fail "job.py trusts a certificate that nobody vouches for"; fi
+    fi
+fi
+
+if ! command -v systemd-analyze > /dev/null; then
+    skip 'extractd.service (there is no systemd-analyze here)'
+else
+    mkdir unit
+    # A word of a unit's command line may be anywhere but with a blank in it.
+    ln -s "$program" unit/extractd
+    sed "s|^ExecStart=/usr/local/bin/extractd |ExecStart=$PWD/unit/extractd |" "$here/extractd.service" > unit/extractd.service
+    # A line that it doesn't know is said, and no fault.
+    if systemd-analyze verify --man=no "$PWD/unit/extractd.service" > unit/said 2>&1 && [ ! -s unit/said ]; then pass; else
+        fail "systemd-analyze verify: $(cat unit/said)"
+    fi
+    if systemd-analyze security --offline=true --threshold=20 --no-pager "$PWD/unit/extractd.service" > unit/said 2>&1; then pass; else
+        fail "systemd-analyze security: $(tail -n 1 unit/said)"
+    fi
+fi
+finish
