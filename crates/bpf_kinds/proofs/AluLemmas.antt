@@ -16,7 +16,7 @@ use Rattle.bpf_kinds.proofs.ExactLemmas.{operation-fits}
 use Rattle.bpf_kinds.proofs.ShiftLemmas.{arithmetic_shift_of-holds}
 use Rattle.bpf_kinds.proofs.OperationLemmas.{sum_of-holds, difference_of-holds, product_of-holds, quotient_of-holds, remainder_of-holds, and-holds, or-holds, exclusive_or-holds, left_shift_of-holds, right_shift_of-holds}
 
-some_bits : (width : Width) → 0 < bits (operand_bits width)
+pub some_bits : (width : Width) → 0 < bits (operand_bits width)
 some_bits Bits32 = lit< tt
 some_bits Bits64 = lit< tt
 

@@ -6,6 +6,8 @@ pub mod ShiftLemmas
 pub mod ExactLemmas
 pub mod AluLemmas
 pub mod ResultLemmas
+mod RiseLemmas
+pub mod ResultsRise
 mod TestLemmas
 pub mod NarrowingLaws
 mod MovingLemmas

@@ -34,25 +34,25 @@ admits_held x n held = record { above = held.above; below = held.below }
 proper_since : {limit : ℕ} (x : Interval) (n : ℕ) → limit ≤ 2 ^ 64 → Holds limit x n → IsProper x
 proper_since x n wide held = record { ordered = omega arith; fits = omega arith }
 
--- the lower end of a proper interval
-least : (x : Interval) → IsProper x → Admits x x.low
-least x proper = record { above = omega arith; below = proper.ordered }
+-- the lower end of an interval that isn't empty
+pub least : (x : Interval) → x.low ≤ x.high → Admits x x.low
+least x ordered = record { above = omega arith; below = ordered }
 
-proper-holds : (x : Interval) (n : ℕ) → IsProper x → Admits x n → Holds (2 ^ 64) x n
-proper-holds x n proper held = record { above = held.above; below = held.below; fits = proper.fits }
+admitted-holds : (x : Interval) (n : ℕ) → Admits x n → Holds (suc x.high) x n
+admitted-holds x n held = record { above = held.above; below = held.below; fits = omega arith }
 
 -- low bits
 
 pub cut-admits : (w : Bits) (x : Interval) (n : ℕ) → IsProper x → Admits x n → Admits (cut w x) (low_bits w n)
 cut-admits w x n proper held = admits_held (cut w x) (low_bits w n) (cut-holds w x n held)
 
-operands_wide : (width : Width) → 2 ^ bits (operand_bits width) ≤ 2 ^ 64
+pub operands_wide : (width : Width) → 2 ^ bits (operand_bits width) ≤ 2 ^ 64
 operands_wide width.Bits32 = lit≤ tt
 operands_wide width.Bits64 = lit≤ tt
 
 -- operations
 
-alu-holds : (operation : Operation) (width : Width) (x y : Interval) (m n : ℕ) → Admits x m → Admits y n → Holds (2 ^ bits (operand_bits width)) (alu operation width x y) (result_of operation width m n)
+pub alu-holds : (operation : Operation) (width : Width) (x y : Interval) (m n : ℕ) → Admits x m → Admits y n → Holds (2 ^ bits (operand_bits width)) (alu operation width x y) (result_of operation width m n)
 alu-holds operation width x y m n left right =
     let w = operand_bits width in
     result_on-holds operation width (cut w x) (cut w y) (low_bits w m) (low_bits w n) (cut-holds w x m left) (cut-holds w y n right)
@@ -62,11 +62,11 @@ alu-admits operation width x y m n x_proper y_proper left right = admits_held _ 
 
 pub alu-proper : (operation : Operation) (width : Width) (x y : Interval) → IsProper x → IsProper y → IsProper (alu operation width x y)
 alu-proper operation width x y x_proper y_proper =
-    proper_since _ _ (operands_wide width) (alu-holds operation width x y x.low y.low (least x x_proper) (least y y_proper))
+    proper_since _ _ (operands_wide width) (alu-holds operation width x y x.low y.low (least x x_proper.ordered) (least y y_proper.ordered))
 
 -- negation
 
-negate-holds : (width : Width) (x : Interval) (n : ℕ) → Admits x n → Holds (2 ^ bits (operand_bits width)) (negate width x) (arithmetic.negate width n)
+pub negate-holds : (width : Width) (x : Interval) (n : ℕ) → Admits x n → Holds (2 ^ bits (operand_bits width)) (negate width x) (arithmetic.negate width n)
 negate-holds width x n held =
     let w = operand_bits width in
     let limit = 2 ^ bits w in
@@ -80,11 +80,11 @@ pub negate-admits : (width : Width) (x : Interval) (n : ℕ) → IsProper x → 
 negate-admits width x n proper held = admits_held _ _ (negate-holds width x n held)
 
 pub negate-proper : (width : Width) (x : Interval) → IsProper x → IsProper (negate width x)
-negate-proper width x proper = proper_since _ _ (operands_wide width) (negate-holds width x x.low (least x proper))
+negate-proper width x proper = proper_since _ _ (operands_wide width) (negate-holds width x x.low (least x proper.ordered))
 
 -- sign extension
 
-extension-is : (extension : SignExtension) (n : ℕ) → extension_of extension n ≡ sign_extension (source_bits extension) (target_bits extension) n
+pub extension-is : (extension : SignExtension) (n : ℕ) → extension_of extension n ≡ sign_extension (source_bits extension) (target_bits extension) n
 extension-is Bits8To32 n = refl
 extension-is Bits16To32 n = refl
 extension-is Bits8To64 n = refl
@@ -98,7 +98,7 @@ low-again Bits8To64 n = mod-mod-pow n 56 8
 low-again Bits16To64 n = mod-mod-pow n 48 16
 low-again Bits32To64 n = mod-mod-pow n 32 32
 
-wider : (extension : SignExtension) → 2 ^ bits (source_bits extension) ≤ 2 ^ bits (target_bits extension)
+pub wider : (extension : SignExtension) → 2 ^ bits (source_bits extension) ≤ 2 ^ bits (target_bits extension)
 wider Bits8To32 = lit≤ tt
 wider Bits16To32 = lit≤ tt
 wider Bits8To64 = lit≤ tt
@@ -130,7 +130,7 @@ cast-fits from to n below wide =
           omega arith
     ]
 
-extend_low-holds : (extension : SignExtension) (low : Interval) (n : ℕ) → Holds (2 ^ bits (source_bits extension)) low n → Holds (2 ^ bits (target_bits extension)) (extend_low (source_bits extension) (target_bits extension) low) (cast_unsigned (target_bits extension) (cast_signed (source_bits extension) n))
+pub extend_low-holds : (extension : SignExtension) (low : Interval) (n : ℕ) → Holds (2 ^ bits (source_bits extension)) low n → Holds (2 ^ bits (target_bits extension)) (extend_low (source_bits extension) (target_bits extension) low) (cast_unsigned (target_bits extension) (cast_signed (source_bits extension) n))
 extend_low-holds extension low n held =
     let from = source_bits extension in
     let to = target_bits extension in
@@ -142,7 +142,7 @@ extend_low-holds extension low n held =
     record { above = omega arith; below = omega arith; fits = omega arith })
     (λ some_negative. full-holds to _ (cast-fits from to n (omega arith) wide))
 
-extend-holds : (extension : SignExtension) (x : Interval) (n : ℕ) → Admits x n → Holds (2 ^ bits (target_bits extension)) (extend extension x) (extension_of extension n)
+pub extend-holds : (extension : SignExtension) (x : Interval) (n : ℕ) → Admits x n → Holds (2 ^ bits (target_bits extension)) (extend extension x) (extension_of extension n)
 extend-holds extension x n held =
     let from = source_bits extension in
     let to = target_bits extension in
@@ -166,7 +166,7 @@ pub extend-admits : (extension : SignExtension) (x : Interval) (n : ℕ) → IsP
 extend-admits extension x n proper held = admits_held _ _ (extend-holds extension x n held)
 
 pub extend-proper : (extension : SignExtension) (x : Interval) → IsProper x → IsProper (extend extension x)
-extend-proper extension x proper = proper_since _ _ (targets_wide extension) (extend-holds extension x x.low (least x proper))
+extend-proper extension x proper = proper_since _ _ (targets_wide extension) (extend-holds extension x x.low (least x proper.ordered))
 
 -- byte swaps
 
@@ -180,31 +180,31 @@ swap_bytes-fits Bits16 n = omega arith
 swap_bytes-fits Bits32 n = omega arith
 swap_bytes-fits Bits64 n = omega arith
 
-swap-fits : (order : ByteOrder) (width : SwapWidth) (n : ℕ) → arithmetic.byte_swap order width n < 2 ^ bits (swap_bits width)
+pub swap-fits : (order : ByteOrder) (width : SwapWidth) (n : ℕ) → arithmetic.byte_swap order width n < 2 ^ bits (swap_bits width)
 swap-fits LittleEndian width n = mod-lt n (pow_pos (bits (swap_bits width)))
 swap-fits BigEndian width n = swap_bytes-fits width _
 swap-fits Swapped width n = swap_bytes-fits width _
 
-reversal-holds : (order : ByteOrder) (width : SwapWidth) (x : Interval) (n : ℕ) → IsProper x → Admits x n → Holds (2 ^ bits (swap_bits width)) (reversal order width x) (arithmetic.byte_swap order width n)
-reversal-holds order width x n proper held =
+reversal-holds : (order : ByteOrder) (width : SwapWidth) (x : Interval) (n : ℕ) → Admits x n → Holds (2 ^ bits (swap_bits width)) (reversal order width x) (arithmetic.byte_swap order width n)
+reversal-holds order width x n held =
     let limit = 2 ^ bits (swap_bits width) in
     let result = arithmetic.byte_swap order width n in
     let below = swap-fits order width n in
     let P : ℕ → Type 0 = λ k. Holds limit (single (arithmetic.byte_swap order width k)) result in
-    if_single-holds x _ _ n limit result (proper-holds x n proper held)
+    if_single-holds x _ _ n limit result (admitted-holds x n held)
     (λ same. subst P same (single-holds limit result below))
     (full-holds (swap_bits width) result below)
 
-byte_swap-holds : (order : ByteOrder) (width : SwapWidth) (x : Interval) (n : ℕ) → IsProper x → Admits x n → Holds (2 ^ bits (swap_bits width)) (byte_swap order width x) (arithmetic.byte_swap order width n)
-byte_swap-holds LittleEndian width x n proper held = cut-holds (swap_bits width) x n held
-byte_swap-holds BigEndian width x n proper held = reversal-holds BigEndian width x n proper held
-byte_swap-holds Swapped width x n proper held = reversal-holds Swapped width x n proper held
+pub byte_swap-holds : (order : ByteOrder) (width : SwapWidth) (x : Interval) (n : ℕ) → Admits x n → Holds (2 ^ bits (swap_bits width)) (byte_swap order width x) (arithmetic.byte_swap order width n)
+byte_swap-holds LittleEndian width x n held = cut-holds (swap_bits width) x n held
+byte_swap-holds BigEndian width x n held = reversal-holds BigEndian width x n held
+byte_swap-holds Swapped width x n held = reversal-holds Swapped width x n held
 
 pub byte_swap-admits : (order : ByteOrder) (width : SwapWidth) (x : Interval) (n : ℕ) → IsProper x → Admits x n → Admits (byte_swap order width x) (arithmetic.byte_swap order width n)
-byte_swap-admits order width x n proper held = admits_held _ _ (byte_swap-holds order width x n proper held)
+byte_swap-admits order width x n proper held = admits_held _ _ (byte_swap-holds order width x n held)
 
 pub byte_swap-proper : (order : ByteOrder) (width : SwapWidth) (x : Interval) → IsProper x → IsProper (byte_swap order width x)
-byte_swap-proper order width x proper = proper_since _ _ (swaps_wide width) (byte_swap-holds order width x x.low proper (least x proper))
+byte_swap-proper order width x proper = proper_since _ _ (swaps_wide width) (byte_swap-holds order width x x.low (least x proper.ordered))
 
 -- loads
 

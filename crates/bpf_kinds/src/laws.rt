@@ -11,7 +11,7 @@ ghost use Rattle.bpf_insn.specs.declared.instruction.Operation.{Operation};
 ghost use Rattle.bpf_insn.specs.declared.instruction.SignExtension.{SignExtension};
 ghost use Rattle.bpf_insn.specs.declared.instruction.SwapWidth.{SwapWidth};
 ghost use Rattle.bpf_insn.specs.declared.instruction.Width.{Width};
-ghost use Rattle.bpf_kinds.specs.Interval.{IsProper, Admits, cut};
+ghost use Rattle.bpf_kinds.specs.Interval.{IsProper, Admits, IsWithin, cut};
 ghost use Rattle.bpf_kinds.specs.Results.{alu, negate, extend, byte_swap, load, wide_number, immediate_operand};
 ghost use Rattle.bpf_kinds.specs.declared.interval.Interval.{Interval};
 
@@ -47,6 +47,19 @@ pub fn results_are_proper()
     ensures wide_number { (immediate next_immediate : ℤ) → FitsSigned w32 immediate → FitsSigned w32 next_immediate
         → IsProper (wide_number immediate next_immediate) }
     ensures immediate_operand { (immediate : ℤ) → FitsSigned w32 immediate → IsProper (immediate_operand immediate) }
+{}
+
+/// What an instruction gives of intervals lies within what it gives of wider ones.
+pub fn results_rise()
+    ensures low_bits { (w : Bits) (x a : Interval) → IsProper x → IsProper a → IsWithin x a → IsWithin (cut w x) (cut w a) }
+    ensures alu { (operation : Operation) (width : Width) (x y a b : Interval) → IsProper x → IsProper y → IsProper a
+        → IsProper b → IsWithin x a → IsWithin y b → IsWithin (alu operation width x y) (alu operation width a b) }
+    ensures negate { (width : Width) (x a : Interval) → IsProper x → IsProper a → IsWithin x a
+        → IsWithin (negate width x) (negate width a) }
+    ensures extend { (extension : SignExtension) (x a : Interval) → IsProper x → IsProper a → IsWithin x a
+        → IsWithin (extend extension x) (extend extension a) }
+    ensures byte_swap { (order : ByteOrder) (width : SwapWidth) (x a : Interval) → IsProper x → IsProper a → IsWithin x a
+        → IsWithin (byte_swap order width x) (byte_swap order width a) }
 {}
 
 /// What one of two values admits, the least value that both lie within admits.
