@@ -10,5 +10,7 @@ mod RiseLemmas
 pub mod ResultsRise
 mod TestLemmas
 pub mod NarrowingLaws
+pub mod NarrowingRises
 mod MovingLemmas
 pub mod MovingLaws
+pub mod MovingRises

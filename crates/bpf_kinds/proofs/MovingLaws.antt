@@ -14,10 +14,10 @@ use Rattle.bpf_kinds.specs.declared.offsets.Offsets.{Offsets}
 
 -- offsets
 
-is_offset-between : (z : ℤ) → negsuc 32767 ≤ℤ z → z ≤ℤ pos 32767 → is_offset z ≡ true
+pub is_offset-between : (z : ℤ) → negsuc 32767 ≤ℤ z → z ≤ℤ pos 32767 → is_offset z ≡ true
 is_offset-between z above below = grind (arith, ints)
 
-offset_ends : (z : ℤ) → is_offset z ≡ true → (negsuc 32767 ≤ℤ z) × (z ≤ℤ pos 32767)
+pub offset_ends : (z : ℤ) → is_offset z ≡ true → (negsuc 32767 ≤ℤ z) × (z ≤ℤ pos 32767)
 offset_ends z is =
     let ends = both _ _ is in
     let above : int_le (negsuc 32767) z ≡ true = ends.0 in
@@ -73,6 +73,13 @@ near-admits x distances n proper is admits =
     let within : Admits (between (cast_signed w64 x.low) (cast_signed w64 x.high)) (cast_signed w64 n) =
     record { above = here.above; below = here.below } in
     (is_offset-between _ here.least here.greatest, subst (λ (d : Offsets). Admits d (cast_signed w64 n)) parts.1 within)
+
+-- Near distances have the numbers' order. An immediate is any number in definitions, so these laws ask for no bound.
+pub near_above : (low n high : ℕ) → low ≤ n → n ≤ high → (nat_lt high (2 ^ 15) || nat_le (2 ^ 64 - 2 ^ 15) low) ≡ true → cast_signed w64 low ≤ℤ cast_signed w64 n
+near_above low n high above below near = grind (arith, ints, nat_tests)
+
+pub near_below : (low n high : ℕ) → low ≤ n → n ≤ high → (nat_lt high (2 ^ 15) || nat_le (2 ^ 64 - 2 ^ 15) low) ≡ true → cast_signed w64 n ≤ℤ cast_signed w64 high
+near_below low n high above below near = grind (arith, ints, nat_tests)
 
 -- moves
 

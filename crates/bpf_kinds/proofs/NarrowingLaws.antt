@@ -95,7 +95,7 @@ stand_plain condition width x y m n taken left right answer plain =
 abbrev Keeps : Option Narrowed → ℕ → ℕ → Type 0
 Keeps narrower m n = (both : Narrowed) × (narrower ≡ Some both) × Admits both.left m × Admits both.right n
 
-some_of : (a b : Bool) (both : Narrowed) → a ≡ true → b ≡ true → (if a && b then Some both else None) ≡ Some both
+pub some_of : (a b : Bool) (both : Narrowed) → a ≡ true → b ≡ true → (if a && b then Some both else None) ≡ Some both
 some_of a b both first second = rw (first, second) refl
 
 le_test : (x : Interval) (n : ℕ) → Admits x n → nat_le x.low x.high ≡ true
@@ -146,7 +146,7 @@ edge_of true false is = cc
 edge_of false true is = cc
 edge_of false false is = refl
 
-decided : (single edge : Bool) (both : Narrowed) → (single ≡ true → edge ≡ true) → (if single then (if edge then Some both else None) else Some both) ≡ Some both
+pub decided : (single edge : Bool) (both : Narrowed) → (single ≡ true → edge ≡ true) → (if single then (if edge then Some both else None) else Some both) ≡ Some both
 decided true edge both met = rw (met refl) refl
 decided false edge both met = refl
 
@@ -213,7 +213,7 @@ at_least-within x n = record { low = omega arith; high = omega arith }
 at_most-within : (x : Interval) (n : ℕ) → IsWithin (at_most x n) x
 at_most-within x n = record { low = omega arith; high = omega arith }
 
-without-within : (x y : Interval) → IsWithin (without x y) x
+pub without-within : (x y : Interval) → IsWithin (without x y) x
 without-within x y = within_if (is_single y) _ x x (record { low = low_moved x.low y.low; high = high_moved x.high y.low }) (itself-within x)
 
 narrow-within : (relation : Relation) (x y : Interval) (both : Narrowed) → narrow relation x y ≡ Some both → Narrows both x y

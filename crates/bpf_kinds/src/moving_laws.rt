@@ -3,7 +3,7 @@ ghost use Rattle.std.specs.Prelude.{◌≡◌, ◌+ℤ◌, ◌-ℤ◌, ℕ, ℤ,
 ghost use Rattle.std.specs.Int.{w64, cast_signed};
 ghost use Rattle.bpf_insn.specs.Pointer.{is_offset};
 ghost use Rattle.bpf_kinds.specs.Interval as interval;
-ghost use Rattle.bpf_kinds.specs.Offsets.{IsProper, Admits};
+ghost use Rattle.bpf_kinds.specs.Offsets.{IsProper, Admits, IsWithin};
 ghost use Rattle.bpf_kinds.specs.Moving.{near_distances, move_by, move_back_by};
 ghost use Rattle.bpf_kinds.specs.declared.interval.Interval.{Interval};
 ghost use Rattle.bpf_kinds.specs.declared.offsets.Offsets.{Offsets};
@@ -33,4 +33,18 @@ pub fn move_back_by_admits()
     ensures admits { (x distances moved : Offsets) (offset distance : ℤ)
         → move_back_by x distances ≡ Some moved → Admits x offset → Admits distances distance
         → IsTrue (is_offset (offset -ℤ distance)) × Admits moved (offset -ℤ distance) }
+{}
+
+/// Where moves lead grows with what is known: distances within near ones are near, and a move by lower distances from lower offsets
+/// leads to lower ones, and isn't refused where one by higher distances from higher offsets isn't.
+pub fn moves_rise()
+    ensures near { (x a : Interval) (distances : Offsets)
+        → interval.IsProper x → interval.IsWithin x a → near_distances a ≡ Some distances
+        → (nearer : Offsets) × (near_distances x ≡ Some nearer) × IsWithin nearer distances }
+    ensures move_by { (x d a e moved : Offsets)
+        → IsProper x → IsProper d → IsWithin x a → IsWithin d e → move_by a e ≡ Some moved
+        → (nearer : Offsets) × (move_by x d ≡ Some nearer) × IsWithin nearer moved }
+    ensures move_back_by { (x d a e moved : Offsets)
+        → IsProper x → IsProper d → IsWithin x a → IsWithin d e → move_back_by a e ≡ Some moved
+        → (nearer : Offsets) × (move_back_by x d ≡ Some nearer) × IsWithin nearer moved }
 {}

@@ -21,3 +21,11 @@ pub fn refine_within()
         → IsProper x → IsProper y → refine condition width x y taken ≡ Some both
         → IsProper both.left × IsProper both.right × IsWithin both.left x × IsWithin both.right y }
 {}
+
+/// What narrowing leaves grows with what is known: lower intervals leave lower ones, and reach no edge that higher ones don't.
+pub fn refine_rises()
+    ensures { (condition : Condition) (width : Width) (x y a b : Interval) (taken : Bool) (both : Narrowed)
+        → IsProper x → IsProper y → IsWithin x a → IsWithin y b → refine condition width x y taken ≡ Some both
+        → (wider : Narrowed) × (refine condition width a b taken ≡ Some wider)
+        × IsWithin both.left wider.left × IsWithin both.right wider.right }
+{}
