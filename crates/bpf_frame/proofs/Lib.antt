@@ -2,3 +2,4 @@ pub mod LaneLemmas
 pub mod MarkLemmas
 pub mod RangeLemmas
 pub mod ReadLemmas
+pub mod RiseLemmas

@@ -1,10 +1,10 @@
 -- The test of a run of marks tells whether each of its bytes has its mark.
-use Rattle.std.proofs.Common.{◌≡◌, ◌↔◌, ℕ, zero, suc, ◌+◌, ◌-◌, ◌<◌, ◌≤◌, Bool, true, false, List, [], ◌∷◌, length, get_or, take, drop, refl, ◌∙◌, sym, ap, arith, rules}
+use Rattle.std.proofs.Common.{◌≡◌, ◌↔◌, ℕ, zero, suc, ◌+◌, ◌-◌, ◌<◌, ◌≤◌, min, Bool, true, false, List, [], ◌∷◌, length, get_or, take, drop, refl, ◌∙◌, sym, ap, arith}
 use Rattle.std.specs.Prelude.{IsTrue}
 use Rattle.std.specs.List.{list_all}
 use Rattle.std.proofs.lemmas.Bool.{and_parts, and_from}
-use Rattle.std.proofs.lemmas.List.{places, get_or-take, get_or-drop}
-use Rattle.bpf_frame.specs.FrameMap.{AllWritten, all_written}
+use Rattle.std.proofs.lemmas.List.{length-take, length-drop, get_or-take, get_or-drop}
+use Rattle.bpf_frame.specs.FrameMap.{IsMarked, AllWritten, all_written}
 
 -- where all marks are there, each is, and the other way round
 each_from_all : (marks : List Bool) → IsTrue (list_all (λ mark. mark) marks) → (at : ℕ) → at < length marks → get_or marks at false ≡ true
@@ -16,21 +16,31 @@ all_from_each : (marks : List Bool) → ((at : ℕ) → at < length marks → ge
 all_from_each [] each = refl
 all_from_each (mark ∷ marks) each = and_from _ _ (each 0 (omega arith)) (all_from_each marks (λ at within. each (suc at) (omega arith)))
 
-length-part : (marks : List Bool) (from k : ℕ) → from + k ≤ length marks → length (take k (drop from marks)) ≡ k
-length-part marks from k within = search (rules, places)
+length-part : (marks : List Bool) (from k : ℕ) → length (take k (drop from marks)) ≡ min k (length marks - from)
+length-part marks from k = length-take k (drop from marks) ∙ ap (min k) (length-drop from marks)
 
 get_or-part : (marks : List Bool) (from k at : ℕ) → at < k → get_or (take k (drop from marks)) at false ≡ get_or marks (from + at) false
 get_or-part marks from k at within = get_or-take k (drop from marks) at false within ∙ get_or-drop from marks at false
 
+-- the test of the bytes from one to another tells of each that is in the frame, and looks at no others
+pub written_at : (marks : List Bool) (from to at : ℕ) → from ≤ at → at ≤ to → at < length marks → IsTrue (all_written marks from to) → IsMarked marks at
+written_at marks from to at above below within all =
+    let k : ℕ = to + 1 - from in
+    let same : at ≡ from + (at - from) = omega arith in
+    ap (λ (n : ℕ). get_or marks n false) same
+    ∙ sym (get_or-part marks from k (at - from) (omega arith))
+    ∙ each_from_all (take k (drop from marks)) all (at - from) (omega (arith, length-part marks from k))
+
+pub written_from : (marks : List Bool) (from to : ℕ) → ((at : ℕ) → from ≤ at → at ≤ to → at < length marks → IsMarked marks at) → IsTrue (all_written marks from to)
+written_from marks from to each =
+    let k : ℕ = to + 1 - from in
+    let long = length-part marks from k in
+    all_from_each (take k (drop from marks))
+    (λ at short. get_or-part marks from k at (omega arith) ∙ each (from + at) (omega arith) (omega arith) (omega arith))
+
 -- the test of the bytes from one to another tells whether each has its mark
 pub all_written_is : (marks : List Bool) (from to : ℕ) → from ≤ to → to < length marks → IsTrue (all_written marks from to) ↔ AllWritten marks from to
-all_written_is marks from to ordered within =
-    let k : ℕ = to + 1 - from in
-    let part : List Bool = take k (drop from marks) in
-    let long : length part ≡ k = length-part marks from k (omega arith) in (
-      (λ all at above below.
-          ap (λ (n : ℕ). get_or marks n false) (let same : at ≡ from + (at - from) = omega arith in same)
-          ∙ sym (get_or-part marks from k (at - from) (omega arith))
-          ∙ each_from_all part all (at - from) (omega arith)),
-      (λ all. all_from_each part (λ at short. get_or-part marks from k at (omega arith) ∙ all (from + at) (omega arith) (omega arith))),
-    )
+all_written_is marks from to ordered within = (
+  (λ all at above below. written_at marks from to at above below (omega arith) all),
+  (λ all. written_from marks from to (λ at above below _. all at above below)),
+)

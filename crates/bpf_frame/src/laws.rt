@@ -37,3 +37,11 @@ pub fn marks_go_upwards()
     ensures all_written { (map other : Contents) (from to : ℕ) → IsWithin map other → AllWritten other.marks from to
         → AllWritten map.marks from to }
 {}
+
+/// What says more has each part of a range written that the other has written, and says more once as many bytes are marked or more.
+pub fn marks_rise()
+    ensures all_written { (x a : Contents) (from to low high : ℕ) → IsProper x → IsProper a → IsWithin x a → low ≤ from → to ≤ high
+        → IsTrue (all_written a.marks low high) → IsTrue (all_written x.marks from to) }
+    ensures mark { (x a : Contents) (from len less : ℕ) → IsProper x → IsProper a → from + len ≤ FRAME_LENGTH → less ≤ len → IsWithin x a
+        → IsWithin (record { marks = mark x.marks from len }) (record { marks = mark a.marks from less }) }
+{}
