@@ -50,6 +50,9 @@ cut_rises w x a ordered within =
     let as_unknown : (a.low / limit == a.high / limit) ≡ false = grind (arith, nat_tests) in
     full_within w _ _ as_unknown)
 
+pub cut_ordered : (w : Bits) (x : Interval) → x.low ≤ x.high → (cut w x).low ≤ (cut w x).high
+cut_ordered w x ordered = ordered_held _ _ (cut-holds w x x.low (least x ordered))
+
 cut_covers : (w : Bits) (x a : Interval) → x.low ≤ x.high → IsWithin x a → Covers (2 ^ bits w) (cut w a) (cut w x)
 cut_covers w x a ordered within =
     let narrow = cut-holds w x x.low (least x ordered) in

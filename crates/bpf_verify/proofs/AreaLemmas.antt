@@ -136,7 +136,7 @@ pub areas_hold : (code : List Insn) (areas : List (Option Area)) → IsForward c
 areas_hold code areas forward accepted = record {
   count = ap length accepted.are ∙ length-areas_from accepted.annotation 0 code;
   bases = λ segment is_segment run is_run state end index insn base at stands is.
-      let verified : IsVerified code segment accepted.annotation = record { forward = forward; good = accepted.good; is_segment = is_segment } in
+      let verified : IsVerified code segment accepted.annotation = record { forward = forward; good = accepted.is_least.good; is_segment = is_segment } in
       let place : get_or areas index None ≡ area_of (accepted.annotation state.place) insn =
       ap (λ (areas : List (Option Area)). get_or areas index None) accepted.are ∙ area_at accepted.annotation 0 code state.place index insn at stands
       ∙ ap (λ (p : ℕ). area_of (accepted.annotation p) insn) (omega arith) in

@@ -13,4 +13,10 @@ pub mod SoundSteps
 pub mod SoundRuns
 pub mod AreaLemmas
 pub mod StateLaws
+pub mod RiseChecks
+pub mod RiseMemory
+pub mod RiseCalls
+pub mod RiseComparison
+pub mod RiseInstructions
 pub mod PassLemmas
+pub mod VerdictLemmas

@@ -1,5 +1,5 @@
 -- The pass: what it keeps is an annotation that is good up to where it has come.
-use Rattle.std.proofs.Common.{◌≡◌, ℕ, ℤ, pos, zero, suc, ◌+◌, ◌-◌, ◌+ℤ◌, ◌<◌, ◌≤◌, List, [], ◌∷◌, ◌++◌, length, map, replicate, get_or, slice_set, Option, Some, None, option_map, IfSome, IsSome, nat_le, true, false, if◌then◌else◌, refl, sym, ap, ◌∙◌, subst, arith, rules, inl, inr}
+use Rattle.std.proofs.Common.{◌≡◌, ℕ, ℤ, pos, zero, suc, ◌+◌, ◌-◌, ◌+ℤ◌, ◌<◌, ◌≤◌, List, [], ◌∷◌, ◌++◌, length, map, replicate, get_or, slice_set, Option, Some, None, option_map, IfSome, IsSome, Result, Ok, Err, nat_le, true, false, if◌then◌else◌, refl, sym, ap, ◌∙◌, subst, arith, rules, inl, inr}
 use Rattle.std.proofs.lemmas.Bool.{cases_lt}
 use Rattle.std.proofs.lemmas.Bool.Decides.{nat_tests}
 use Rattle.std.proofs.lemmas.Int.{ints}
@@ -22,14 +22,16 @@ use Rattle.bpf_kinds.specs.Offsets as offsets
 use Rattle.bpf_kinds.specs.declared.kind.Kind.{Kind}
 use Rattle.bpf_kinds.specs.declared.kind.Kind.TheVariants.{Nothing}
 use Rattle.bpf_insn.specs.declared.value.Area.{Area}
-use Rattle.bpf_verify.specs.Annotation.{Annotation, PassesAt, IsGoodUpTo, IsAccepted, IsRefusedAt, IsVerifyFault, area_of, areas_from}
+use Rattle.bpf_verify.specs.Annotation.{Annotation, PassesAt, IsGoodUpTo, IsLeastUpTo, Fails, IsAccepted, IsRefusedAt, IsVerifyFault, area_of, areas_from}
 use Rattle.bpf_verify.specs.Pass.{state_of, annotation_of, AreProper, first, taken, joined, joined_if, propagated, Visits, IsVisitFault}
-use Rattle.bpf_verify.specs.State.{AbstractState, Unreached, Reached, entry, join, IsProper, IsProperKnown, IsWithin}
+use Rattle.bpf_meaning.specs.declared.cause.Cause.{Cause}
+use Rattle.bpf_verify.specs.State.{AbstractState, Unreached, Reached, Edges, AreEdgesWithin, entry, join, IsProper, IsProperKnown, IsWithin}
 use Rattle.bpf_verify.specs.Transfer.{transfer}
 use Rattle.bpf_verify.specs.declared.fault.VerifyFault.{VerifyFault}
 use Rattle.bpf_verify.specs.declared.fault.VerifyFault.TheVariants.{Refused, Memory}
 use Rattle.bpf_verify.specs.declared.state.Known.{Known}
 use Rattle.bpf_verify.proofs.AreaLemmas.{areas_from-more, areas_from-same, length-areas_from}
+use Rattle.bpf_verify.proofs.RiseInstructions.{upward}
 use Rattle.bpf_verify.proofs.StateLaws as laws
 use Rattle.bpf_verify.proofs.StateLaws.{set_each}
 
@@ -68,10 +70,11 @@ record Takes (before after : List AbstractState) (place : Option ℕ) (state : A
   proper : AreProper after
   more : (other : ℕ) → IsWithin (annotation_of before other) (annotation_of after other)
   holds : (to : ℕ) → place ≡ Some to → to < length before → IsWithin state (annotation_of after to)
+  least : (bound : AbstractState) (other : ℕ) → IsWithin (annotation_of before other) bound → (place ≡ Some other → IsWithin state bound) → IsWithin (annotation_of after other) bound
 
 joined_takes : (states : List AbstractState) (place : Option ℕ) (state : AbstractState) → AreProper states → IsProper state → Takes states (joined_if states place state) place state
 joined_takes states None state proper proper-state =
-    record { count = refl; proper = proper; more = λ other. laws.reflexive (annotation_of states other); holds = λ to is. absurd (none-some to is) }
+    record { count = refl; proper = proper; more = λ other. laws.reflexive (annotation_of states other); holds = λ to is. absurd (none-some to is); least = λ bound other below lower. below }
 joined_takes states (Some place) state proper proper-state = let both : AbstractState = join (annotation_of states place) state in record {
   count = length-set states place both;
   proper = written_proper states place both proper (laws.join_is_proper (annotation_of states place) state (proper place) proper-state);
@@ -81,23 +84,33 @@ joined_takes states (Some place) state proper proper-state = let both : Abstract
       let same : place ≡ to = cc in
       subst (λ (p : ℕ). IsWithin state (annotation_of (slice_set states place both) p)) same
       (subst (IsWithin state) (sym (get_or-set_same states place both Unreached (omega arith))) (laws.right_is_within_join (annotation_of states place) state (proper place) proper-state));
+  least = λ bound other below lower. set_each (λ at (kept : AbstractState). at ≡ other → IsWithin kept bound) Unreached states place both
+      (λ same. laws.join_is_least (annotation_of states place) state bound (proper place) proper-state (subst (λ (at : ℕ). IsWithin (annotation_of states at) bound) (sym same) below) (lower (ap Some same)))
+      (λ at same. subst (λ (at : ℕ). IsWithin (annotation_of states at) bound) (sym same) below) other refl;
 }
 
 -- as the pass goes on
 
--- an annotation is good up to the place behind the instructions that were passed, from there on it is what is kept, and the areas that were
--- found are those of these instructions
+-- an annotation is good up to the place behind the instructions that were passed, and lies below every other that is; from there on it is
+-- what is kept, and the areas that were found are those of these instructions
 pub record IsOnItsWay (code passed : List Insn) (place : ℕ) (states : List AbstractState) (areas : List (Option Area)) : Type 0 where
   pub at : place ≡ word_count passed
   pub count : length states ≡ word_count code + 1
   pub proper : AreProper states
   pub annotation : Annotation
   pub good : IsGoodUpTo code place annotation
+  pub least : (other : Annotation) → IsGoodUpTo code place other → (at : ℕ) → IsWithin (annotation at) (other at)
   pub kept : (other : ℕ) → place ≤ other → annotation other ≡ annotation_of states other
   pub found : areas ≡ areas_from annotation 0 passed
 
 pub length-found : {code passed : List Insn} {place : ℕ} {states : List AbstractState} {areas : List (Option Area)} → IsOnItsWay code passed place states areas → length areas ≡ length passed
 length-found {passed = passed} way = ap length way.found ∙ length-areas_from way.annotation 0 passed
+
+same_edges : (x y : Edges) (found : Result Edges Cause) → found ≡ Ok x → found ≡ Ok y → x ≡ y
+same_edges x y found one other = cc
+
+pub not_both : (edges : Edges) (cause : Cause) (found : Result Edges Cause) → found ≡ Ok edges → found ≡ Err cause → ⊥
+not_both edges cause found passes fails = cc
 
 -- what passed passes still where other states grow
 passes_more : (old new : Annotation) (place : ℕ) (insn : Insn) → new place ≡ old place → ((at : ℕ) → IsWithin (old at) (new at)) → PassesAt old place insn → PassesAt new place insn
@@ -128,6 +141,15 @@ target_is place to (Some found) distance (Some by) same is leads =
     let there : pos found ≡ target_of place by = cc in
     let at : pos found ≡ pos to = there ∙ ap (target_of place) by_distance ∙ leads in
     let equal : found ≡ to = cc in ap Some equal
+
+-- and the jump of which it is
+jump_of : (place to : ℕ) (target : Option ℕ) (jump : Option ℤ) → option_map pos target ≡ option_map (target_of place) jump → target ≡ Some to → (distance : ℤ) × (jump ≡ Some distance) × (pos (place + 1) +ℤ distance ≡ pos to)
+jump_of place to None jump same is = absurd (none-some to is)
+jump_of place to (Some found) None same is = absurd (let no : ⊥ = cc in no)
+jump_of place to (Some found) (Some distance) same is =
+    let here : found ≡ to = cc in
+    let there : pos found ≡ target_of place distance = cc in
+    (distance, refl, sym there ∙ ap pos here)
 
 module _ (code passed : List Insn) (place : ℕ) (insn : Insn) (before after : List AbstractState) (areas : List (Option Area)) (forward : IsForward code) (stands : instruction_at code place ≡ Some insn) (way : IsOnItsWay code passed place before areas) (visits : Visits place insn before after) where
   abbrev next : ℕ
@@ -222,6 +244,46 @@ module _ (code passed : List Insn) (place : ℕ) (insn : Insn) (before after : L
       ∙ ap (λ (area : Option Area). areas_from annotation 0 passed ++ area ∷ []) (sym area_here)
       ∙ sym (areas_from-more annotation 0 passed insn)
 
+  -- Below every other annotation that is good so far: its state here is above ours, so are its edges, and what is kept where they lead stays
+  -- below it.
+  module _ (other : Annotation) (good : IsGoodUpTo code next other) where
+    good_before : IsGoodUpTo code place other
+    good_before = record { proper = good.proper; entry = good.entry; passes = λ earlier found before is. good.passes earlier found (let long = length-spelling_positive insn in omega arith) is }
+
+    passes : PassesAt other place insn
+    passes = good.passes place insn (let long = length-spelling_positive insn in omega arith) stands
+
+    here_below : IsWithin (annotation_of before place) (other place)
+    here_below = subst (λ (s : AbstractState). IsWithin s (other place)) (way.kept place (omega arith)) (way.least other good_before place)
+
+    edges_below : AreEdgesWithin visits.edges passes.edges
+    edges_below =
+        let lower = upward insn (annotation_of before place) (other place) passes.edges (way.proper place) (good.proper place) here_below passes.passes in
+        subst (λ (edges : Edges). AreEdgesWithin edges passes.edges) (same_edges lower.0 visits.edges (transfer (annotation_of before place) insn) lower.1 visits.passes) lower.2
+
+    left_below : (at : ℕ) → place < at → IsWithin (annotation_of left at) (other at)
+    left_below at past =
+        subst (λ (s : AbstractState). IsWithin s (other at)) (way.kept at (omega arith) ∙ sym (get_or-set_other before place at Unreached Unreached (λ same. absurd (omega arith)))) (way.least other good_before at)
+
+    target_below : (at : ℕ) → visits.target ≡ Some at → IsWithin visits.edges.target (other at)
+    target_below at is =
+        let jump = jump_of place at visits.target (jump_distance insn) visits.leads is in
+        laws.transitive visits.edges.target passes.edges.target (other at) edges_below.target (passes.target jump.0 at jump.1 jump.2)
+
+    next_below : (at : ℕ) → Some next ≡ Some at → IsWithin visits.edges.next (other at)
+    next_below at is =
+        let same : next ≡ at = cc in
+        subst (λ (p : ℕ). IsWithin visits.edges.next (other p)) same (laws.transitive visits.edges.next passes.edges.next (other next) edges_below.next passes.next)
+
+    least_behind : (at : ℕ) → place < at → IsWithin (annotation_of (propagated left next visits.target visits.edges) at) (other at)
+    least_behind at past = second_edge.least (other at) at (first_edge.least (other at) at (left_below at past) (target_below at)) (next_below at)
+
+    least_here : (at : ℕ) → IsWithin (annotation at) (other at)
+    least_here at = elim (cases_lt place at) as (λ _. IsWithin (annotation at) (other at)) [
+      | inl past ↦ subst (λ (s : AbstractState). IsWithin s (other at)) (sym (behind-new way.annotation (annotation_of after) place at past ∙ ap (λ (states : List AbstractState). annotation_of states at) visits.states)) (least_behind at past)
+      | inr up ↦ subst (λ (s : AbstractState). IsWithin s (other at)) (sym (behind-old way.annotation (annotation_of after) place at up)) (way.least other good_before at)
+    ]
+
   -- one instruction more
   pub goes_on : IsOnItsWay code (passed ++ insn ∷ []) (place + length (spelling insn)) after (areas ++ area_of (annotation_of before place) insn ∷ [])
   goes_on = record {
@@ -234,9 +296,20 @@ module _ (code passed : List Insn) (place : ℕ) (insn : Insn) (before after : L
       entry = laws.transitive (Reached entry) (way.annotation 0) (annotation 0) way.good.entry (more 0);
       passes = passes_up_to;
     };
+    least = least_here;
     kept = λ other past. let long = length-spelling_positive insn in behind-new way.annotation (annotation_of after) place other (omega arith);
     found = found_more;
   }
+
+-- A check that fails in a state fails in every state above: where none fails, none fails below.
+fails_above : (insn : Insn) (lower higher : AbstractState) (cause : Cause) → IsProper lower → IsProper higher → IsWithin lower higher → transfer lower insn ≡ Err cause → Fails higher insn
+fails_above insn lower higher cause proper above within fails = by_result (transfer higher insn) refl
+  where
+    by_result : (found : Result Edges Cause) → transfer higher insn ≡ found → (why : Cause) × (transfer higher insn ≡ Err why)
+    by_result (Err why) found = (why, found)
+    by_result (Ok edges) found =
+        let passes = upward insn lower higher edges proper above within found in
+        absurd (not_both passes.0 cause (transfer lower insn) passes.1 fails)
 
 -- a visit that is refused
 pub refuses : (code passed : List Insn) (place : ℕ) (insn : Insn) (states : List AbstractState) (areas : List (Option Area)) (fault : VerifyFault) → instruction_at code place ≡ Some insn → IsOnItsWay code passed place states areas → IsVisitFault states place insn fault → IsVerifyFault code fault
@@ -245,11 +318,15 @@ refuses code passed place insn states areas (Refused at cause) stands way fault 
     subst (λ (p : ℕ). IsRefusedAt code p cause) (sym fault.0)
     (record {
       annotation = way.annotation;
-      good = way.good;
+      is_least = record { good = way.good; least = λ other good at before. way.least other good at };
       insn = insn;
       stands = stands;
-      fails = ap (λ (state : AbstractState). transfer state insn) (way.kept place (omega arith)) ∙ fault.1;
+      fails = here;
+      always = λ other good. fails_above insn (way.annotation place) (other place) cause (way.good.proper place) (good.proper place) (way.least other good place) here;
     })
+  where
+    here : transfer (way.annotation place) insn ≡ Err cause
+    here = ap (λ (state : AbstractState). transfer state insn) (way.kept place (omega arith)) ∙ fault.1
 
 -- where the edges lead there are places
 pub next_is_a_place : (code : List Insn) (place : ℕ) (insn : Insn) (before : List AbstractState) (words : ℕ) → instruction_at code place ≡ Some insn → length before ≡ word_count code + 1 → words ≡ length (spelling insn) → place + words < length (taken before place)
@@ -287,9 +364,19 @@ unreached_proper zero place = tt
 unreached_proper (suc count) zero = tt
 unreached_proper (suc count) (suc place) = unreached_proper count place
 
+unreached_least : (count place : ℕ) (state : AbstractState) → IsWithin (annotation_of (replicate count Unreached) place) state
+unreached_least zero place state = tt
+unreached_least (suc count) zero state = tt
+unreached_least (suc count) (suc place) state = unreached_least count place state
+
 pub first_are_proper : (places : ℕ) → AreProper (first places)
 first_are_proper places zero = entry_is_proper
 first_are_proper places (suc place) = unreached_proper (places - 1) place
+
+-- at first nothing but place 0 is reached
+first_are_least : (places : ℕ) (other : Annotation) → IsWithin (Reached entry) (other 0) → (at : ℕ) → IsWithin (annotation_of (first places) at) (other at)
+first_are_least places other entered zero = entered
+first_are_least places other entered (suc at) = unreached_least (places - 1) at (other (suc at))
 
 pub starts : (code : List Insn) (states : List AbstractState) → states ≡ first (word_count code + 1) → IsOnItsWay code [] 0 states []
 starts code states is = subst (λ (states : List AbstractState). IsOnItsWay code [] 0 states []) (sym is) (record {
@@ -302,6 +389,7 @@ starts code states is = subst (λ (states : List AbstractState). IsOnItsWay code
     entry = laws.reflexive (Reached entry);
     passes = λ place insn before stands. absurd (omega arith);
   };
+  least = λ other good. first_are_least (word_count code + 1) other good.entry;
   kept = λ other past. refl;
   found = refl;
 })
@@ -311,6 +399,6 @@ starts code states is = subst (λ (states : List AbstractState). IsOnItsWay code
 pub accepts : (code passed : List Insn) (place : ℕ) (states : List AbstractState) (areas : List (Option Area)) → passed ≡ code → IsOnItsWay code passed place states areas → IsAccepted code areas
 accepts code passed place states areas all way = record {
   annotation = way.annotation;
-  good = subst (λ (p : ℕ). IsGoodUpTo code p way.annotation) (way.at ∙ ap word_count all) way.good;
+  is_least = subst (λ (p : ℕ). IsLeastUpTo code p way.annotation) (way.at ∙ ap word_count all) (record { good = way.good; least = λ other good at before. way.least other good at });
   are = way.found ∙ ap (areas_from way.annotation 0) all;
 }

@@ -1,5 +1,5 @@
 -- Arithmetic on kinds is sound.
-use Rattle.std.proofs.Common.{◌≡◌, ℕ, ◌/◌, ◌%◌, ◌^◌, ◌<◌, ◌≤◌, ◌-◌, ◌==◌, ◌||◌, nat_lt, nat_le, ℤ, ◌≤ℤ◌, Bool, true, false, Option, Some, None, Ok, IsTrue, if◌then◌else◌, refl, subst, arith}
+use Rattle.std.proofs.Common.{◌≡◌, ℕ, ◌/◌, ◌%◌, ◌^◌, ◌<◌, ◌≤◌, ◌-◌, ◌==◌, ◌||◌, nat_lt, nat_le, ℤ, Bool, true, false, Option, Some, None, Ok, IsTrue, if◌then◌else◌, refl, subst, arith}
 use Rattle.std.proofs.lemmas.Bool.Decides.{nat_tests}
 use Rattle.std.proofs.Math.Nat.{mod-lt}
 use Rattle.std.proofs.lemmas.Nat.{pow_pos}
@@ -21,7 +21,7 @@ use Rattle.bpf_kinds.specs.Kind as kind
 use Rattle.bpf_kinds.specs.declared.kind.Kind.{Kind}
 use Rattle.bpf_kinds.specs.declared.kind.Kind.TheVariants.{Number, Record, Frame, Nothing}
 use Rattle.bpf_kinds.specs.declared.offsets.Offsets.{Offsets}
-use Rattle.bpf_kinds.proofs.MovingLaws.{move_by-admits, move_back_by-admits}
+use Rattle.bpf_kinds.proofs.MovingLaws.{near_above, near_below, move_by-admits, move_back_by-admits}
 use Rattle.bpf_kinds.proofs.ResultLemmas.{alu-admits}
 use Rattle.bpf_meaning.specs.Effect as effect
 use Rattle.bpf_meaning.specs.Effect.{◌>>=◌, offset_or, tagged_value, value_tags}
@@ -82,12 +82,6 @@ alu_sound operation width x y m n left right =
 
 near_offset : (low n high : ℕ) → low ≤ n → n ≤ high → (nat_lt high (2 ^ 15) || nat_le (2 ^ 64 - 2 ^ 15) low) ≡ true → IsTrue (is_offset (cast_signed w64 n))
 near_offset low n high above below near = grind (arith, ints, nat_tests)
-
-near_above : (low n high : ℕ) → low ≤ n → n ≤ high → (nat_lt high (2 ^ 15) || nat_le (2 ^ 64 - 2 ^ 15) low) ≡ true → cast_signed w64 low ≤ℤ cast_signed w64 n
-near_above low n high above below near = grind (arith, ints, nat_tests)
-
-near_below : (low n high : ℕ) → low ≤ n → n ≤ high → (nat_lt high (2 ^ 15) || nat_le (2 ^ 64 - 2 ^ 15) low) ≡ true → cast_signed w64 n ≤ℤ cast_signed w64 high
-near_below low n high above below near = grind (arith, ints, nat_tests)
 
 -- A number by which pointers may be moved. Near ends have near numbers between them.
 near_sound : (x : Interval) (n : ℕ) → Admits x n → Sound offsets.Admits (or_cause PointerArithmetic (near_distances x)) (effect.near_distance n)

@@ -1,6 +1,6 @@
 -- Annotations of a code: an abstract state for each place. Forward codes with one that is good to its end are those that are accepted, which
 -- is this project's own rule.
-use Rattle.std.specs.Prelude.{◌≡◌, ℕ, ℤ, pos, ◌+◌, ◌+ℤ◌, ◌<◌, List, [], ◌∷◌, length, Option, Some, None, option_and_then, Ok, Err}
+use Rattle.std.specs.Prelude.{◌≡◌, ℕ, ℤ, pos, ◌+◌, ◌+ℤ◌, ◌<◌, ◌≤◌, List, [], ◌∷◌, length, Option, Some, None, option_and_then, Ok, Err}
 use Rattle.bpf_insn.specs.Code.{instruction_at, spelling, word_count}
 use Rattle.bpf_insn.specs.Jump.{jump_distance}
 use Rattle.bpf_insn.specs.declared.instruction.Insn.{Insn}
@@ -58,19 +58,30 @@ areas_from annotation place [] = []
 areas_from annotation place (insn ∷ code) =
     area_of (annotation place) insn ∷ areas_from annotation (place + length (spelling insn)) code
 
--- a code is accepted with these areas: it has an annotation that is good to its end, and they are those of the bases by this annotation
+-- an annotation is good up to a place and is the least: up to there each of its states lies within that of every other that is good so far
+pub record IsLeastUpTo (code : List Insn) (end : ℕ) (annotation : Annotation) : Type 0 where
+  pub good : IsGoodUpTo code end annotation
+  pub least : (other : Annotation) → IsGoodUpTo code end other → (place : ℕ) → place ≤ end → IsWithin (annotation place) (other place)
+
+-- a code is accepted with these areas: it has an annotation that is good to its end, and they are those of the bases by the least one
 pub record IsAccepted (code : List Insn) (areas : List (Option Area)) : Type 0 where
   pub annotation : Annotation
-  pub good : IsGood code annotation
+  pub is_least : IsLeastUpTo code (word_count code) annotation
   pub are : areas ≡ areas_from annotation 0 code
 
--- an annotation is good up to the instruction at a place, and there this check is the first that fails
+-- some check of an instruction fails in a state
+abbrev pub Fails : AbstractState → Insn → Type 0
+Fails state insn = (cause : Cause) × (transfer state insn ≡ Err cause)
+
+-- A code is refused at a place with a cause: by the least of the annotations that are good up to there, this check of the instruction there
+-- is the first that fails; and by every other of them some check fails there too, so no annotation is good beyond.
 pub record IsRefusedAt (code : List Insn) (place : ℕ) (cause : Cause) : Type 0 where
   pub annotation : Annotation
-  pub good : IsGoodUpTo code place annotation
+  pub is_least : IsLeastUpTo code place annotation
   pub insn : Insn
   pub stands : instruction_at code place ≡ Some insn
   pub fails : transfer (annotation place) insn ≡ Err cause
+  pub always : (other : Annotation) → IsGoodUpTo code place other → Fails (other place) insn
 
 -- why a code is refused
 abbrev pub IsVerifyFault : List Insn → VerifyFault → Type 0

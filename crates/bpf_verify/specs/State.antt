@@ -92,3 +92,8 @@ join (Reached known) (Reached other) = Reached (join_known known other)
 pub record AreProperEdges (edges : Edges) : Type 0 where
   pub next : IsProper edges.next
   pub target : IsProper edges.target
+
+-- on both edges out of an instruction what is known lies within what else is known there
+pub record AreEdgesWithin (edges others : Edges) : Type 0 where
+  pub next : IsWithin edges.next others.next
+  pub target : IsWithin edges.target others.target

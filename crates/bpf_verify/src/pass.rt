@@ -6,6 +6,7 @@ ghost use Rattle.bpf_verify.specs.Annotation.{HasGoodAnnotation, IsAccepted, IsV
 ghost use Rattle.bpf_verify.specs.Pass.{IsVisitFault, LeadsWithin, Visits, annotation_of, joined_if, propagated};
 ghost use Rattle.bpf_verify.specs.State.{AreProperEdges, IsProper};
 ghost use Rattle.bpf_verify.specs.Transfer.{edges_to, on_edge};
+ghost use Rattle.bpf_verify.specs.declared.fault.VerifyFault.TheVariants.{Memory};
 
 use crate::ahead::StatesAhead;
 use crate::comparison::Comparison;
@@ -45,13 +46,15 @@ struct Visited {
 }
 
 /// Finds whether a code can be stuck on some segment, in one pass over its instructions in order: it refuses at the first that may be, by
-/// what is known before it. Its time grows with the instructions. It takes memory for a pointer a word of the code, for what is known at
+/// what is known before it. That is the most that can be known by the rules: no other annotation goes further. Its time grows with the instructions. It takes memory for a pointer a word of the code, for what is known at
 /// those places ahead that are reached, and for what is kept of each instruction.
 pub fn verify<A: Allocator + Copy>(alloc: A, flow: Flow<A>) -> Result<Verified<A>, VerifyFault>
     ensures ok { IfOk result (λ verified. (verified.code ≡ flow.code) × HasGoodAnnotation flow.code) }
     ensures areas { IfOk result (λ verified. IsAccepted flow.code verified.areas) }
     ensures safe { OnOk result (IsSafe flow.code) }
     ensures err { IfErr result (IsVerifyFault flow.code) }
+    // A code that has such an annotation is refused for want of memory alone.
+    ensures only { HasGoodAnnotation flow.code → IfErr result (λ fault. fault ≡ Memory) }
 {
     let areas = pass(alloc, &flow)?;
     Ok(Verified::of(alloc, flow, &areas)?)

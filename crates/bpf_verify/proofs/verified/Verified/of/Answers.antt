@@ -29,7 +29,7 @@ invariant_of-result g c =
     let same = c.into_code-code.ensures.value in
     let holds = areas_hold c.args.flow.code c.args.areas.now c.into_code-code.ensures.forward accepted in
     let made = are_made_of _ _ _ _ c.in_ok-entries.ensures (c.instructions.ensures.value ∙ same) holds.count in
-    let safe = good_is_safe c.args.flow.code c.into_code-code.ensures.forward (accepted.annotation, accepted.good) in (
+    let safe = good_is_safe c.args.flow.code c.into_code-code.ensures.forward (accepted.annotation, accepted.is_least.good) in (
       subst IsSafe (sym same) safe,
       subst (λ (code : List Insn). HasBaseAreas code (areas_in c.in_ok-entries.entries.items)) (sym same) (subst (HasBaseAreas c.args.flow.code) (sym made.bases) holds),
       made.instructions ∙ sym same,

@@ -1,0 +1,151 @@
+-- Calls of helper functions on what is known: what is lower passes the checks that what is higher passes, and is lower behind them.
+use Rattle.std.proofs.Common.{◌≡◌, ℕ, zero, suc, ◌+◌, pos, Bool, true, false, List, ◌∷◌, ◌++◌, drop, get_or, replicate, Some, Ok, Err, if◌then◌else◌, refl, sym, subst, arith}
+use Rattle.std.proofs.lemmas.Bool.Decides.{nat_tests}
+use Rattle.std.proofs.lemmas.Int.{ints}
+use Rattle.std.proofs.lemmas.List.{get_or-drop}
+use Rattle.bpf_insn.specs.declared.memory.TheConstants.{FRAME_LENGTH}
+use Rattle.bpf_kinds.specs.Kind as kind
+use Rattle.bpf_kinds.specs.Offsets as offsets
+use Rattle.bpf_kinds.specs.declared.interval.Interval.{Interval}
+use Rattle.bpf_kinds.specs.declared.kind.Kind.{Kind}
+use Rattle.bpf_kinds.specs.declared.kind.Kind.TheVariants.{Number, Record, Frame, Nothing}
+use Rattle.bpf_kinds.specs.declared.offsets.Offsets.{Offsets}
+use Rattle.bpf_helpers.specs.Helper.{signature}
+use Rattle.bpf_helpers.specs.declared.helper.Helper.{Helper}
+use Rattle.bpf_helpers.specs.declared.signature.Argument.{Argument}
+use Rattle.bpf_helpers.specs.declared.signature.Argument.TheVariants as argument
+use Rattle.bpf_helpers.specs.declared.signature.FrameUse.{FrameUse}
+use Rattle.bpf_helpers.specs.declared.signature.FrameUse.TheVariants as frame_use
+use Rattle.bpf_meaning.specs.Checks.{Sound}
+use Rattle.bpf_meaning.specs.declared.cause.Cause.TheVariants.{OutOfBounds, UnwrittenFrame, BadArgument}
+use Rattle.bpf_meaning.proofs.CheckLemmas.{then_sound, passes_if}
+use Rattle.bpf_verify.specs.State.{IsWithinKnown}
+use Rattle.bpf_verify.specs.Transfer.{are_allowed, argument_kind, argument_in, arguments_in, lie_within, lend_bytes, lend_read, lend_frame, all_marked, mark_bytes, call}
+use Rattle.bpf_verify.specs.declared.calls.LentBytes.{LentBytes}
+use Rattle.bpf_verify.specs.declared.state.Known.{Known}
+use Rattle.bpf_verify.proofs.RiseChecks.{IsLower, IsLowerInterval, AreLowerOffsets, IsBelow, read_lower}
+use Rattle.bpf_verify.proofs.RiseMemory.{ChangesBelow, lie_within_falls, all_marked_falls, mark_bytes_lower}
+use Rattle.bpf_verify.proofs.StateLaws.{kind_reflexive}
+
+-- arguments
+
+allowed_falls : (allowed x n : Interval) → IsLowerInterval x n → are_allowed allowed x ≡ true → are_allowed allowed n ≡ true
+allowed_falls allowed x n is within = let low = is.within.low in let high = is.within.high in grind (arith, nat_tests)
+
+number_lower : (number : ℕ) (allowed x n : Interval) → IsLowerInterval x n → Sound IsLower (argument_kind number (argument.Number allowed) (Number x)) (argument_kind number (argument.Number allowed) (Number n))
+number_lower number allowed x n is = by_test (are_allowed allowed x) refl
+  where
+    by_test : (within : Bool) → are_allowed allowed x ≡ within → Sound IsLower (if within then Ok (Number x) else Err (BadArgument number)) (argument_kind number (argument.Number allowed) (Number n))
+    by_test true within = passes_if IsLower (Ok (Number x)) (Ok (Number n)) (are_allowed allowed n) (BadArgument number) (allowed_falls allowed x n is within) is
+    by_test false without = tt
+
+argument_kind_lower : (number : ℕ) (wanted : Argument) (x n : Kind) → IsLower x n → Sound IsLower (argument_kind number wanted x) (argument_kind number wanted n)
+argument_kind_lower number argument.Unused x n is = tt
+argument_kind_lower number (argument.Number allowed) (Number x) (Number n) is = number_lower number allowed x n is
+argument_kind_lower number (argument.Number allowed) (Number x) (Record n) is = absurd is
+argument_kind_lower number (argument.Number allowed) (Number x) (Frame n) is = absurd is
+argument_kind_lower number (argument.Number allowed) (Number x) Nothing is = absurd is
+argument_kind_lower number (argument.Number allowed) (Record x) n is = tt
+argument_kind_lower number (argument.Number allowed) (Frame x) n is = tt
+argument_kind_lower number (argument.Number allowed) Nothing n is = tt
+argument_kind_lower number argument.Frame (Frame x) (Frame n) is = is
+argument_kind_lower number argument.Frame (Frame x) (Number n) is = absurd is
+argument_kind_lower number argument.Frame (Frame x) (Record n) is = absurd is
+argument_kind_lower number argument.Frame (Frame x) Nothing is = absurd is
+argument_kind_lower number argument.Frame (Number x) n is = tt
+argument_kind_lower number argument.Frame (Record x) n is = tt
+argument_kind_lower number argument.Frame Nothing n is = tt
+
+argument_in_lower : (higher lower : Known) → IsBelow higher lower → (number : ℕ) (wanted : Argument) → Sound IsLower (argument_in higher number wanted) (argument_in lower number wanted)
+argument_in_lower higher lower below number argument.Unused = tt
+argument_in_lower higher lower below number (argument.Number allowed) = then_sound IsLower IsLower _ _ _ _ (read_lower higher lower below number) (argument_kind_lower number (argument.Number allowed))
+argument_in_lower higher lower below number argument.Frame = then_sound IsLower IsLower _ _ _ _ (read_lower higher lower below number) (argument_kind_lower number argument.Frame)
+
+record AreArgumentsLower (higher lower : List Kind) : Type 0 where
+  second : IsLower (get_or higher 1 Nothing) (get_or lower 1 Nothing)
+  third : IsLower (get_or higher 2 Nothing) (get_or lower 2 Nothing)
+
+arguments_lower : (higher lower : Known) → IsBelow higher lower → (wanted : List Argument) → Sound AreArgumentsLower (arguments_in higher wanted) (arguments_in lower wanted)
+arguments_lower higher lower below wanted =
+    then_sound IsLower AreArgumentsLower _ _ _ _ (argument_in_lower higher lower below 1 (get_or wanted 0 argument.Unused)) (λ x a one.
+    then_sound IsLower AreArgumentsLower _ _ _ _ (argument_in_lower higher lower below 2 (get_or wanted 1 argument.Unused)) (λ y b two.
+    then_sound IsLower AreArgumentsLower _ _ _ _ (argument_in_lower higher lower below 3 (get_or wanted 2 argument.Unused)) (λ z c three.
+    record { second = two; third = three })))
+
+-- bytes of the frame
+
+record AreLentLower (higher lower : LentBytes) : Type 0 where
+  offsets : AreLowerOffsets higher.offsets lower.offsets
+  count : IsLowerInterval higher.count lower.count
+  within : lie_within higher.offsets (pos 0) higher.count.high FRAME_LENGTH ≡ true
+  inside : lie_within lower.offsets (pos 0) lower.count.high FRAME_LENGTH ≡ true
+
+lend_bytes_lower : (x y m n : Kind) → IsLower x m → IsLower y n → Sound AreLentLower (lend_bytes x y) (lend_bytes m n)
+lend_bytes_lower (Frame x) (Number y) (Frame m) (Number n) from count = by_test (lie_within x (pos 0) y.high FRAME_LENGTH) refl
+  where
+    by_test : (within : Bool) → lie_within x (pos 0) y.high FRAME_LENGTH ≡ within → Sound AreLentLower (if within then Ok (record { offsets = x; count = y }) else Err OutOfBounds) (lend_bytes (Frame m) (Number n))
+    by_test true within =
+        let inside = lie_within_falls x m (pos 0) y.high n.high FRAME_LENGTH from count.within.high within in
+        passes_if AreLentLower (Ok (record { offsets = x; count = y })) (Ok (record { offsets = m; count = n })) (lie_within m (pos 0) n.high FRAME_LENGTH) OutOfBounds inside
+        (record { offsets = from; count = count; within = within; inside = inside })
+    by_test false outside = tt
+lend_bytes_lower (Frame x) (Number y) (Frame m) (Record n) from count = absurd count
+lend_bytes_lower (Frame x) (Number y) (Frame m) (Frame n) from count = absurd count
+lend_bytes_lower (Frame x) (Number y) (Frame m) Nothing from count = absurd count
+lend_bytes_lower (Frame x) (Number y) (Number m) n from count = absurd from
+lend_bytes_lower (Frame x) (Number y) (Record m) n from count = absurd from
+lend_bytes_lower (Frame x) (Number y) Nothing n from count = absurd from
+lend_bytes_lower (Frame x) (Frame y) m n from count = tt
+lend_bytes_lower (Frame x) (Record y) m n from count = tt
+lend_bytes_lower (Frame x) Nothing m n from count = tt
+lend_bytes_lower (Number x) y m n from count = tt
+lend_bytes_lower (Record x) y m n from count = tt
+lend_bytes_lower Nothing y m n from count = tt
+
+written_lower : (higher lower : Known) → IsBelow higher lower → (x n : LentBytes) → AreLentLower x n → IsWithinKnown (mark_bytes lower n.offsets (pos 0) n.count.low) (mark_bytes higher x.offsets (pos 0) x.count.low)
+written_lower higher lower below x n are =
+    let least = are.count.within.low in let ordered = are.count.ordered in
+    mark_bytes_lower higher lower below x.offsets n.offsets (pos 0) n.count.low x.count.low are.offsets least
+    (lie_within_falls n.offsets n.offsets (pos 0) n.count.high n.count.low FRAME_LENGTH (record { within = offsets_reflexive n.offsets; ordered = are.offsets.ordered }) ordered are.inside)
+  where
+    offsets_reflexive : (x : Offsets) → offsets.IsWithin x x
+    offsets_reflexive x = record { low = omega (arith, ints); high = omega (arith, ints) }
+
+lend_read_lower : (higher lower : Known) → IsBelow higher lower → (x n : LentBytes) → AreLentLower x n → Sound ChangesBelow (lend_read higher x) (lend_read lower n)
+lend_read_lower higher lower below x n are = by_test (all_marked higher x.offsets (pos 0) x.count.high) refl
+  where
+    by_test : (marked : Bool) → all_marked higher x.offsets (pos 0) x.count.high ≡ marked → Sound ChangesBelow (if marked then Ok higher else Err UnwrittenFrame) (lend_read lower n)
+    by_test true marked =
+        passes_if ChangesBelow (Ok higher) (Ok lower) (all_marked lower n.offsets (pos 0) n.count.high) UnwrittenFrame
+        (all_marked_falls higher lower below x.offsets n.offsets (pos 0) x.count.high n.count.high are.offsets are.count.within.high are.within marked) below.within
+    by_test false unmarked = tt
+
+lend_frame_lower : (higher lower : Known) → IsBelow higher lower → (frame : FrameUse) (kinds others : List Kind) → AreArgumentsLower kinds others → Sound ChangesBelow (lend_frame higher frame kinds) (lend_frame lower frame others)
+lend_frame_lower higher lower below frame_use.Nothing kinds others are = below.within
+lend_frame_lower higher lower below frame_use.Writes kinds others are =
+    then_sound AreLentLower ChangesBelow _ _ _ _ (lend_bytes_lower (get_or kinds 1 Nothing) (get_or kinds 2 Nothing) (get_or others 1 Nothing) (get_or others 2 Nothing) are.second are.third)
+    (written_lower higher lower below)
+lend_frame_lower higher lower below frame_use.Reads kinds others are =
+    then_sound AreLentLower ChangesBelow _ _ _ _ (lend_bytes_lower (get_or kinds 1 Nothing) (get_or kinds 2 Nothing) (get_or others 1 Nothing) (get_or others 2 Nothing) are.second are.third)
+    (lend_read_lower higher lower below)
+
+-- calls
+
+registers_lower : (kinds others : List Kind) (answer : Interval) → ((register : ℕ) → kind.IsWithin (get_or others register Nothing) (get_or kinds register Nothing))
+    → (register : ℕ) → kind.IsWithin (get_or (Number answer ∷ replicate 5 Nothing ++ drop 6 others) register Nothing) (get_or (Number answer ∷ replicate 5 Nothing ++ drop 6 kinds) register Nothing)
+registers_lower kinds others answer all zero = kind_reflexive (Number answer)
+registers_lower kinds others answer all (suc zero) = tt
+registers_lower kinds others answer all (suc (suc zero)) = tt
+registers_lower kinds others answer all (suc (suc (suc zero))) = tt
+registers_lower kinds others answer all (suc (suc (suc (suc zero)))) = tt
+registers_lower kinds others answer all (suc (suc (suc (suc (suc zero))))) = tt
+registers_lower kinds others answer all (suc (suc (suc (suc (suc (suc register)))))) =
+    subst (λ (k : Kind). kind.IsWithin k (get_or (drop 6 kinds) register Nothing)) (sym (get_or-drop 6 others register Nothing))
+    (subst (kind.IsWithin (get_or others (6 + register) Nothing)) (sym (get_or-drop 6 kinds register Nothing)) (all (6 + register)))
+
+pub call_lower : (higher lower : Known) → IsBelow higher lower → (helper : Helper) → Sound ChangesBelow (call higher (Some helper)) (call lower (Some helper))
+call_lower higher lower below helper =
+    let answer = (signature helper).answer in
+    then_sound ChangesBelow ChangesBelow _ _ _ _
+    (then_sound AreArgumentsLower ChangesBelow _ _ _ _ (arguments_lower higher lower below (signature helper).arguments) (lend_frame_lower higher lower below (signature helper).frame))
+    (λ after behind within. record { registers = registers_lower after.registers behind.registers answer within.registers; frame = within.frame })

@@ -1,0 +1,66 @@
+-- Conditional jumps on what is known: what is lower has lower edges.
+use Rattle.std.proofs.Common.{◌≡◌, ℕ, Bool, true, false, length, Option, Some, None, if◌then◌else◌, refl, sym, ◌∙◌, subst}
+use Rattle.bpf_insn.specs.declared.instruction.Source.{Source}
+use Rattle.bpf_insn.specs.declared.instruction.Source.TheVariants.{Immediate, Register}
+use Rattle.std.proofs.lemmas.List.{length-set}
+use Rattle.bpf_kinds.specs.Interval as interval
+use Rattle.bpf_kinds.specs.Narrowing.{refine}
+use Rattle.bpf_kinds.specs.declared.interval.Interval.{Interval}
+use Rattle.bpf_kinds.specs.declared.kind.Kind.{Kind}
+use Rattle.bpf_kinds.specs.declared.kind.Kind.TheVariants.{Number, Record, Frame, Nothing}
+use Rattle.bpf_kinds.specs.declared.narrowing.Narrowed.{Narrowed}
+use Rattle.bpf_kinds.proofs.NarrowingRises.{refine_rises}
+use Rattle.bpf_meaning.specs.Checks.{Sound}
+use Rattle.bpf_verify.specs.State.{Edges, AreEdgesWithin, IsWithin, IsWithinKnown, with_kind}
+use Rattle.bpf_verify.specs.Transfer.{is_register, with_narrowed, narrowed, branch, on_edge, compare}
+use Rattle.bpf_verify.specs.declared.comparison.Comparison.{Comparison}
+use Rattle.bpf_verify.specs.declared.state.Known.{Known}
+use Rattle.bpf_verify.specs.declared.successors.Edge.TheVariants.{Unchanged}
+use Rattle.bpf_verify.proofs.RiseChecks.{IsLower, IsLowerInterval, IsBelow}
+use Rattle.bpf_verify.proofs.RiseMemory.{with_kind_lower}
+
+-- what is known on the edges
+abbrev pub EdgesBelow : Edges → Edges → Type 0
+EdgesBelow higher lower = AreEdgesWithin lower higher
+
+with_narrowed_lower : (higher lower : Known) (left : ℕ) (right : Source) (wider both : Narrowed) → length lower.registers ≡ length higher.registers → IsWithinKnown lower higher → interval.IsWithin both.left wider.left → interval.IsWithin both.right wider.right → IsWithinKnown (with_narrowed lower left right both) (with_narrowed higher left right wider)
+with_narrowed_lower higher lower left (Immediate immediate) wider both same within first second = with_kind_lower higher lower left (Number wider.left) (Number both.left) same within first
+with_narrowed_lower higher lower left (Register right) wider both same within first second =
+    with_kind_lower (with_kind higher left (Number wider.left)) (with_kind lower left (Number both.left)) right.number (Number wider.right) (Number both.right)
+    (length-set lower.registers left (Number both.left) ∙ same ∙ sym (length-set higher.registers left (Number wider.left)))
+    (with_kind_lower higher lower left (Number wider.left) (Number both.left) same within first) second
+
+branch_lower : (higher lower : Known) → IsBelow higher lower → (comparison : Comparison) (x y m n : Interval) → IsLowerInterval x m → IsLowerInterval y n → (taken : Bool) → IsWithin (on_edge lower comparison (branch comparison m n taken)) (on_edge higher comparison (branch comparison x y taken))
+branch_lower higher lower below comparison x y m n first second taken = by_test (is_register comparison.left.number comparison.right)
+  where
+    same : length lower.registers ≡ length higher.registers
+    same = below.proper.count ∙ sym below.proper_higher.count
+
+    by_refined : (found : Option Narrowed) → refine comparison.condition comparison.width m n taken ≡ found → IsWithin (on_edge lower comparison (narrowed found)) (on_edge higher comparison (narrowed (refine comparison.condition comparison.width x y taken)))
+    by_refined None found = tt
+    by_refined (Some both) found =
+        let there = refine_rises comparison.condition comparison.width m n x y taken both first.ordered second.ordered first.within second.within found in
+        subst (λ (refined : Option Narrowed). IsWithin (on_edge lower comparison (narrowed (Some both))) (on_edge higher comparison (narrowed refined))) (sym there.1)
+        (with_narrowed_lower higher lower comparison.left.number comparison.right there.0 both same below.within there.2 there.3)
+
+    by_test : (one : Bool) → IsWithin (on_edge lower comparison (if one then Unchanged else narrowed (refine comparison.condition comparison.width m n taken))) (on_edge higher comparison (if one then Unchanged else narrowed (refine comparison.condition comparison.width x y taken)))
+    by_test true = below.within
+    by_test false = by_refined (refine comparison.condition comparison.width m n taken) refl
+
+pub compare_lower : (higher lower : Known) → IsBelow higher lower → (comparison : Comparison) (x y m n : Kind) → IsLower x m → IsLower y n → Sound EdgesBelow (compare higher comparison x y) (compare lower comparison m n)
+compare_lower higher lower below comparison (Number x) (Number y) (Number m) (Number n) first second = record {
+  next = branch_lower higher lower below comparison x y m n first second false;
+  target = branch_lower higher lower below comparison x y m n first second true;
+}
+compare_lower higher lower below comparison (Number x) (Number y) (Number m) (Record n) first second = absurd second
+compare_lower higher lower below comparison (Number x) (Number y) (Number m) (Frame n) first second = absurd second
+compare_lower higher lower below comparison (Number x) (Number y) (Number m) Nothing first second = absurd second
+compare_lower higher lower below comparison (Number x) (Number y) (Record m) n first second = absurd first
+compare_lower higher lower below comparison (Number x) (Number y) (Frame m) n first second = absurd first
+compare_lower higher lower below comparison (Number x) (Number y) Nothing n first second = absurd first
+compare_lower higher lower below comparison (Number x) (Record y) m n first second = tt
+compare_lower higher lower below comparison (Number x) (Frame y) m n first second = tt
+compare_lower higher lower below comparison (Number x) Nothing m n first second = tt
+compare_lower higher lower below comparison (Record x) y m n first second = tt
+compare_lower higher lower below comparison (Frame x) y m n first second = tt
+compare_lower higher lower below comparison Nothing y m n first second = tt
