@@ -1,5 +1,5 @@
 -- A code has one verdict.
-use Rattle.std.proofs.Common.{◌≡◌, ℕ, ◌<◌, ◌≤◌, List, Option, Some, Result, Err, refl, sym, ap, ◌∙◌, subst, inl, inr, arith}
+use Rattle.std.proofs.Common.{◌≡◌, ◌≢◌, ℕ, ◌<◌, ◌≤◌, List, Option, Some, Result, Err, refl, sym, ap, ◌∙◌, subst, inl, inr, arith}
 use Rattle.std.proofs.lemmas.Bool.{cases_lt}
 use Rattle.bpf_insn.proofs.PlaceLemmas.{instruction_within}
 use Rattle.bpf_insn.specs.Code.{word_count}
@@ -76,3 +76,9 @@ one_list_of_areas code areas others accepted again =
 pub refused_for_memory : (code : List Insn) (fault : VerifyFault) → IsVerifyFault code fault → HasGoodAnnotation code → fault ≡ Memory
 refused_for_memory code Memory is accepted = refl
 refused_for_memory code (Refused place cause) is accepted = absurd (accepted_or_refused code place cause accepted is)
+
+-- want of memory aside, a code has one fault
+pub one_fault : (code : List Insn) (a b : VerifyFault) → IsVerifyFault code a → IsVerifyFault code b → a ≢ Memory → b ≢ Memory → a ≡ b
+one_fault code Memory b is also first second = absurd (first refl)
+one_fault code (Refused place cause) Memory is also first second = absurd (second refl)
+one_fault code (Refused place cause) (Refused other why) is also first second = let same = one_refusal code place other cause why is also in let at = same.0 in let by = same.1 in cc

@@ -3,6 +3,7 @@
 
 mod extractor;
 mod fault;
+pub mod laws;
 mod program;
 mod refusal;
 mod rows;

@@ -1,5 +1,6 @@
 //! Programs that are accepted: their bytes are a code that is safe to run.
-ghost use Rattle.std.specs.Prelude.{◌≡◌, IfOk, IfErr};
+ghost use Rattle.std.specs.Prelude.{◌≡◌, List, IfOk, IfErr};
+ghost use Rattle.bpf_insn.specs.declared.instruction.Insn.{Insn};
 ghost use Rattle.extract.specs.Program.{IsSafeProgram, IsProgramFault};
 ghost use Rattle.extract.specs.ProgramFault as program_fault;
 ghost use Rattle.extract.specs.ProgramFault.{of_code, of_flow, of_verify};
@@ -99,6 +100,8 @@ impl ProgramFault {
 pub fn accept<A: Allocator + Copy>(alloc: A, program: &[u8]) -> Result<Verified<A>, ProgramFault>
     ensures ok { IfOk result (λ verified. IsSafeProgram program.now verified.code) }
     ensures err { IfErr result (IsProgramFault program.now) }
+    // A program that may be accepted is refused for want of memory alone.
+    ensures only { (code : List Insn) → IsSafeProgram program.now code → IfErr result (λ fault. fault ≡ ProgramFault.Memory) }
 {
     let code = decode(alloc, program)?;
     let flow = Flow::of(code)?;

@@ -1,0 +1,14 @@
+//! What holds of the definitions themselves. The functions do nothing: each one's contract is the law.
+ghost use Rattle.std.specs.Prelude.{◌≡◌, ◌≢◌, ℕ, List};
+ghost use Rattle.bpf_insn.specs.declared.instruction.Insn.{Insn};
+ghost use Rattle.extract.specs.Program.{IsSafeProgram, IsProgramFault};
+ghost use Rattle.extract.specs.declared.program.ProgramFault.{ProgramFault};
+ghost use Rattle.extract.specs.declared.program.ProgramFault.TheVariants.{Memory};
+
+/// A program has one verdict, want of memory aside: one that is accepted has no fault, and any other has one.
+pub fn verdicts()
+    ensures accepted { (program : List ℕ) (code : List Insn) (fault : ProgramFault) → IsSafeProgram program code
+        → IsProgramFault program fault → fault ≡ Memory }
+    ensures refused { (program : List ℕ) (a b : ProgramFault) → IsProgramFault program a → IsProgramFault program b
+        → a ≢ Memory → b ≢ Memory → a ≡ b }
+{}
