@@ -1,5 +1,5 @@
 -- What calls of the helper functions answer, write and set.
-use Rattle.std.proofs.Common.{◌≡◌, ◌≢◌, ℕ, pos, option_map, ◌==◌, if◌then◌else◌, Bool, true, false, cond, ◌^◌, ◌<◌, ◌≤◌, zero, suc, List, [], ◌∷◌, All, length, get_or, take, drop, replicate, slice_index, slice_get, Option, Some, None, IfSome, refl, arith}
+use Rattle.std.proofs.Common.{◌≡◌, ◌≢◌, ℕ, pos, option_map, ◌==◌, if◌then◌else◌, Bool, true, false, cond, ◌^◌, ◌<◌, ◌≤◌, zero, suc, List, [], ◌∷◌, All, length, get_or, take, drop, replicate, slice_index, slice_get, Option, Some, None, IfSome, is_some, refl, ap, sym, ◌∙◌, subst, arith}
 use Rattle.std.specs.List.{find}
 use Rattle.std.proofs.lemmas.Bool.{eqb-true}
 use Rattle.std.proofs.lemmas.Grind.{common_steps}
@@ -13,16 +13,21 @@ use Rattle.tl_segments.specs.Range.{AreBytes, lies_on}
 use Rattle.tl_segments.specs.Segment.{Contents, IsSegment, names_of, ranges_of}
 use Rattle.tl_segments.specs.declared.range.RangeFields.{RangeFields}
 use Rattle.tl_segments.proofs.SegmentLemmas.{AreBytes-field_of}
-use Rattle.bpf_kinds.specs.Interval.{Admits, between}
-use Rattle.bpf_helpers.specs.Call.{LieWithin, Meets, MeetsSignature, call, first, second, third, written_length}
+use Rattle.bpf_kinds.specs.Interval.{Admits, between, single}
+use Rattle.bpf_kinds.specs.declared.interval.Interval.{Interval}
+use Rattle.bpf_helpers.specs.Call.{LieWithin, Meaning, Meets, MeetsSignature, call, does, first, meaning, second, shape_of, third, written_length}
+use Rattle.bpf_helpers.specs.Call.Meaning.{TellsRecord, TellsSegment, ComparesFrame, CopiesIntoFrame, SetsScore}
+use Rattle.bpf_helpers.specs.Shape.{frame_use}
 use Rattle.bpf_helpers.specs.Helper.{any, by_number, signature}
-use Rattle.bpf_helpers.specs.Meaning.{truth, bytes_at, or_zero, sides, first_bytes, coordinate_word}
+use Rattle.bpf_helpers.specs.Meaning.{truth, bytes_at, field_number, or_zero, sides, first_bytes, coordinate_word}
 use Rattle.bpf_helpers.specs.declared.fields.TheConstants.{FIELDS, COORDINATES}
 use Rattle.bpf_helpers.specs.declared.helper.Helper.{Helper}
 use Rattle.bpf_helpers.specs.declared.helper.Helper.TheVariants.{Field, Has, Names, Ranges, InRange, NameCopy, NameIs, Emit, Coord}
 use Rattle.bpf_helpers.specs.declared.helper.TheConstants.{HELPERS}
 use Rattle.bpf_helpers.specs.declared.signature.Argument.TheVariants.{Unused, Number, Frame}
 use Rattle.bpf_helpers.specs.declared.signature.FrameUse.TheVariants.{Nothing, Writes}
+use Rattle.bpf_helpers.specs.declared.signature.Shape.{Shape}
+use Rattle.bpf_helpers.specs.declared.signature.Shape.TheVariants as shape
 
 -- what is found is the first element or passes the test further on
 found-by : {X : Type 0} (p : X → Bool) (y : X) (ys : List X) (x : X) (b : Bool) → p y ≡ b → (find p ys ≡ Some x → p x ≡ true) → cond b (Some y) (find p ys) ≡ Some x → p x ≡ true
@@ -39,42 +44,40 @@ pub by_number-own : (number : ℕ) (helper : Helper) → by_number number ≡ So
 by_number-own number helper found =
     eqb-true (signature helper).number number (found-passes (λ helper. (signature helper).number == number) HELPERS helper found)
 
--- what a call that reads or writes the frame wants as its second argument, and as its third
-pub frame-pointer : (helper : Helper) → (signature helper).frame ≢ Nothing → get_or (signature helper).arguments 1 Unused ≡ Frame
-frame-pointer NameCopy uses = refl
-frame-pointer NameIs uses = refl
-frame-pointer Field uses = absurd (uses refl)
-frame-pointer Has uses = absurd (uses refl)
-frame-pointer Names uses = absurd (uses refl)
-frame-pointer Ranges uses = absurd (uses refl)
-frame-pointer InRange uses = absurd (uses refl)
-frame-pointer Emit uses = absurd (uses refl)
-frame-pointer Coord uses = absurd (uses refl)
+-- What holds of each row of the table: a clause for all others is checked of each of them.
 
-pub frame-length : (helper : Helper) → (signature helper).frame ≢ Nothing → get_or (signature helper).arguments 2 Unused ≡ Number (between 1 30)
-frame-length NameCopy uses = refl
-frame-length NameIs uses = refl
+-- a call that reads or writes the frame wants a pointer into it as its second argument, and as its third how many bytes
+
+pub frame-pointer : (helper : Helper) → frame_use (signature helper).shape ≢ Nothing → get_or (signature helper).arguments 1 Unused ≡ Frame
+frame-pointer Field uses = absurd (uses refl)
+frame-pointer otherwise uses = grind arith
+
+pub frame-length : (helper : Helper) → frame_use (signature helper).shape ≢ Nothing → get_or (signature helper).arguments 2 Unused ≡ Number (between 1 30)
 frame-length Field uses = absurd (uses refl)
-frame-length Has uses = absurd (uses refl)
-frame-length Names uses = absurd (uses refl)
-frame-length Ranges uses = absurd (uses refl)
-frame-length InRange uses = absurd (uses refl)
-frame-length Emit uses = absurd (uses refl)
-frame-length Coord uses = absurd (uses refl)
+frame-length otherwise uses = grind arith
+
+-- there are three arguments
+
+pub three-wanted : (helper : Helper) → get_or (signature helper).arguments 0 Unused ∷ get_or (signature helper).arguments 1 Unused ∷ get_or (signature helper).arguments 2 Unused ∷ [] ≡ (signature helper).arguments
+three-wanted Field = refl
+three-wanted otherwise = refl
 
 past-third : (helper : Helper) (at word : ℕ) → Meets (get_or (signature helper).arguments (suc (suc (suc at))) Unused) word
 past-third Field at word = tt
-past-third Has at word = tt
-past-third Names at word = tt
-past-third Ranges at word = tt
-past-third InRange at word = tt
-past-third NameCopy at word = tt
-past-third NameIs at word = tt
-past-third Emit at word = tt
-past-third Coord at word = tt
+past-third otherwise at word = tt
+
+-- the shape is that of what the helper function does
+pub shape-is : (helper : Helper) → shape_of (meaning helper) ≡ (signature helper).shape
+shape-is Field = refl
+shape-is otherwise = refl
+
+-- all answers are words
+below-any : (helper : Helper) → (signature helper).answer.high < 2 ^ 64
+below-any Field = omega arith
+below-any otherwise = omega arith
 
 -- three arguments meet a signature where each is what it wants and the frame's bytes lie within the frame
-pub MeetsSignature-three : (helper : Helper) (a b c : ℕ) → Meets (get_or (signature helper).arguments 0 Unused) a → Meets (get_or (signature helper).arguments 1 Unused) b → Meets (get_or (signature helper).arguments 2 Unused) c → LieWithin (signature helper).frame (a ∷ b ∷ c ∷ []) → MeetsSignature helper (a ∷ b ∷ c ∷ [])
+pub MeetsSignature-three : (helper : Helper) (a b c : ℕ) → Meets (get_or (signature helper).arguments 0 Unused) a → Meets (get_or (signature helper).arguments 1 Unused) b → Meets (get_or (signature helper).arguments 2 Unused) c → LieWithin (frame_use (signature helper).shape) (a ∷ b ∷ c ∷ []) → MeetsSignature helper (a ∷ b ∷ c ∷ [])
 MeetsSignature-three helper a b c meets_a meets_b meets_c within = record { count = refl; each = each; within = within }
   where
     each : (at : ℕ) → Meets (get_or (signature helper).arguments at Unused) (get_or (a ∷ b ∷ c ∷ []) at 0)
@@ -124,35 +127,6 @@ coordinate-fits : (field : List ℕ) → Admits any (coordinate_word (coordinate
 unfolding coordinate_of
 coordinate-fits field = signed-fits (trim field) (slice_index (trim field) 0 == 45) (slice_index (trim field) 0 == 43)
 
--- what a call answers is a number of the interval that the table has
-pub answer-admits : (helper : Helper) (segment : Contents) (arguments bytes : List ℕ) (score : ℕ) → IsSegment segment → MeetsSignature helper arguments → Admits (signature helper).answer (call helper segment arguments bytes score).answer
-answer-admits Field segment arguments bytes score is meets = number-digits (bytes_at segment (slice_get FIELDS (first arguments)))
-answer-admits Has segment arguments bytes score is meets = truth-bit _
-answer-admits Names segment arguments bytes score is meets = record { above = omega arith; below = is.few_names }
-answer-admits Ranges segment arguments bytes score is meets = let few = is.few_ranges in record { above = omega arith; below = omega arith }
-answer-admits InRange segment arguments bytes score is meets = sides-bits (second arguments) (slice_get (ranges_of segment) (first arguments))
-answer-admits NameCopy segment arguments bytes score is meets = truth-bit _
-answer-admits NameIs segment arguments bytes score is meets = truth-bit _
-answer-admits Emit segment arguments bytes score is meets = record { above = omega arith; below = omega arith }
-answer-admits Coord segment arguments bytes score is meets = coordinate-fits (bytes_at segment (slice_get COORDINATES (first arguments)))
-
-below-any : (helper : Helper) → (signature helper).answer.high < 2 ^ 64
-below-any Field = omega arith
-below-any Has = omega arith
-below-any Names = omega arith
-below-any Ranges = omega arith
-below-any InRange = omega arith
-below-any NameCopy = omega arith
-below-any NameIs = omega arith
-below-any Emit = omega arith
-below-any Coord = omega arith
-
--- and a word
-pub answer-fits : (helper : Helper) (segment : Contents) (arguments bytes : List ℕ) (score : ℕ) → IsSegment segment → MeetsSignature helper arguments → (call helper segment arguments bytes score).answer < 2 ^ 64
-answer-fits helper segment arguments bytes score is meets =
-    let admits = answer-admits helper segment arguments bytes score is meets in
-    omega (arith, admits.below, below-any helper)
-
 -- the names of a segment are 30 bytes each
 names-bytes : (segment : Contents) → IsSegment segment → All (AreBytes 30) (names_of segment)
 names-bytes segment is = All-cons (AreBytes 30) (field_of segment.bytes 20 49) segment.names (AreBytes-field_of segment.bytes 228 20 49 is.bytes (omega arith) (omega arith) (omega arith)) is.names
@@ -180,53 +154,87 @@ AreBytes-first : (count : ℕ) (name : Option (List ℕ)) → IfSome name (AreBy
 AreBytes-first count None are few = record { length = length-replicate count 32; bytes = replicate-bytes count }
 AreBytes-first count (Some name) are few = let long = are.length in record { length = grind (arith, common_steps); bytes = take-bytes count name are.bytes }
 
--- what a call writes are bytes, as many as its third argument says where it writes at all
-pub written-bytes : (helper : Helper) (segment : Contents) (arguments bytes : List ℕ) (score : ℕ) → IsSegment segment → MeetsSignature helper arguments → AreBytes (written_length (signature helper).frame arguments) (call helper segment arguments bytes score).written
-written-bytes Field segment arguments bytes score is meets = AreBytes-none
-written-bytes Has segment arguments bytes score is meets = AreBytes-none
-written-bytes Names segment arguments bytes score is meets = AreBytes-none
-written-bytes Ranges segment arguments bytes score is meets = AreBytes-none
-written-bytes InRange segment arguments bytes score is meets = AreBytes-none
-written-bytes NameCopy segment arguments bytes score is meets = AreBytes-first (third arguments) (slice_get (names_of segment) (first arguments)) (IfSome-slice_get (AreBytes 30) (names_of segment) (first arguments) (names-bytes segment is)) (meets.each 2).below
-written-bytes NameIs segment arguments bytes score is meets = AreBytes-none
-written-bytes Emit segment arguments bytes score is meets = AreBytes-none
-written-bytes Coord segment arguments bytes score is meets = AreBytes-none
+-- what the bounds of a meaning are: of its answer, of what it copies, and of the score that it sets
 
-pub written-length : (helper : Helper) (segment : Contents) (arguments bytes : List ℕ) (score : ℕ) → IsSegment segment → MeetsSignature helper arguments → length (call helper segment arguments bytes score).written ≡ written_length (signature helper).frame arguments
+abbrev IsBounded : Meaning → Interval → List ℕ → Type 0
+IsBounded (TellsRecord told) answer arguments = (segment : Contents) → IsSegment segment → Admits answer (told segment.bytes arguments)
+IsBounded (TellsSegment told) answer arguments = (segment : Contents) → IsSegment segment → Admits answer (told segment arguments)
+IsBounded (ComparesFrame equal) answer arguments = answer ≡ between 0 1
+IsBounded (CopiesIntoFrame copied) answer arguments = (answer ≡ between 0 1) × (third arguments ≤ 30) × ((segment : Contents) → IsSegment segment → IfSome (copied segment arguments) (AreBytes 30))
+IsBounded (SetsScore set) answer arguments = (answer ≡ single 0) × (set arguments < 2 ^ 64)
+
+is-bounded : (helper : Helper) (arguments : List ℕ) → MeetsSignature helper arguments → IsBounded (meaning helper) (signature helper).answer arguments
+is-bounded Field arguments meets = λ segment is. number-digits (bytes_at segment.bytes (slice_get FIELDS (first arguments)))
+is-bounded Has arguments meets = λ segment is. truth-bit (is_some (field_number segment.bytes (first arguments)))
+is-bounded Names arguments meets = λ segment is. record { above = omega arith; below = is.few_names }
+is-bounded Ranges arguments meets = λ segment is. let few = is.few_ranges in record { above = omega arith; below = omega arith }
+is-bounded InRange arguments meets = λ segment is. sides-bits (second arguments) (slice_get (ranges_of segment) (first arguments))
+is-bounded NameCopy arguments meets = record { 0 = refl; 1 = (meets.each 2).below; 2 = λ segment is. IfSome-slice_get (AreBytes 30) (names_of segment) (first arguments) (names-bytes segment is) }
+is-bounded NameIs arguments meets = refl
+is-bounded Emit arguments meets = record { 0 = refl; 1 = omega (arith, (meets.each 0).below) }
+is-bounded Coord arguments meets = λ segment is. coordinate-fits (bytes_at segment.bytes (slice_get COORDINATES (first arguments)))
+
+-- what a call answers is a number of the interval that the table has
+
+does-admits : (m : Meaning) (answer : Interval) (segment : Contents) (arguments bytes : List ℕ) (score : ℕ) → IsSegment segment → IsBounded m answer arguments → Admits answer (does m segment arguments bytes score).answer
+does-admits (TellsRecord told) answer segment arguments bytes score is bounded = bounded segment is
+does-admits (TellsSegment told) answer segment arguments bytes score is bounded = bounded segment is
+does-admits (ComparesFrame equal) answer segment arguments bytes score is bounded = rw bounded (truth-bit (equal segment arguments bytes))
+does-admits (CopiesIntoFrame copied) answer segment arguments bytes score is bounded = rw bounded.0 (truth-bit (is_some (copied segment arguments)))
+does-admits (SetsScore set) answer segment arguments bytes score is bounded = rw bounded.0 (record { above = omega arith; below = omega arith })
+
+pub answer-admits : (helper : Helper) (segment : Contents) (arguments bytes : List ℕ) (score : ℕ) → IsSegment segment → MeetsSignature helper arguments → Admits (signature helper).answer (call helper segment arguments bytes score).answer
+answer-admits helper segment arguments bytes score is meets =
+    does-admits (meaning helper) (signature helper).answer segment arguments bytes score is (is-bounded helper arguments meets)
+
+-- and a word
+pub answer-fits : (helper : Helper) (segment : Contents) (arguments bytes : List ℕ) (score : ℕ) → IsSegment segment → MeetsSignature helper arguments → (call helper segment arguments bytes score).answer < 2 ^ 64
+answer-fits helper segment arguments bytes score is meets =
+    let admits = answer-admits helper segment arguments bytes score is meets in
+    omega (arith, admits.below, below-any helper)
+
+-- what a call writes are bytes, as many as its third argument says where it writes at all
+
+does-bytes : (m : Meaning) (answer : Interval) (segment : Contents) (arguments bytes : List ℕ) (score : ℕ) → IsSegment segment → IsBounded m answer arguments → AreBytes (written_length (frame_use (shape_of m)) arguments) (does m segment arguments bytes score).written
+does-bytes (CopiesIntoFrame copied) answer segment arguments bytes score is bounded = AreBytes-first (third arguments) (copied segment arguments) (bounded.2 segment is) bounded.1
+does-bytes otherwise answer segment arguments bytes score is bounded = AreBytes-none
+
+pub written-bytes : (helper : Helper) (segment : Contents) (arguments bytes : List ℕ) (score : ℕ) → IsSegment segment → MeetsSignature helper arguments → AreBytes (written_length (frame_use (signature helper).shape) arguments) (call helper segment arguments bytes score).written
+written-bytes helper segment arguments bytes score is meets =
+    subst (λ (s : Shape). AreBytes (written_length (frame_use s) arguments) (call helper segment arguments bytes score).written) (shape-is helper)
+    (does-bytes (meaning helper) (signature helper).answer segment arguments bytes score is (is-bounded helper arguments meets))
+
+pub written-length : (helper : Helper) (segment : Contents) (arguments bytes : List ℕ) (score : ℕ) → IsSegment segment → MeetsSignature helper arguments → length (call helper segment arguments bytes score).written ≡ written_length (frame_use (signature helper).shape) arguments
 written-length helper segment arguments bytes score is meets = (written-bytes helper segment arguments bytes score is meets).length
 
 -- and else nothing
-pub written-nothing : (helper : Helper) (segment : Contents) (arguments bytes : List ℕ) (score : ℕ) → (signature helper).frame ≢ Writes → (call helper segment arguments bytes score).written ≡ []
-written-nothing Field segment arguments bytes score not = refl
-written-nothing Has segment arguments bytes score not = refl
-written-nothing Names segment arguments bytes score not = refl
-written-nothing Ranges segment arguments bytes score not = refl
-written-nothing InRange segment arguments bytes score not = refl
-written-nothing NameCopy segment arguments bytes score not = absurd (not refl)
-written-nothing NameIs segment arguments bytes score not = refl
-written-nothing Emit segment arguments bytes score not = refl
-written-nothing Coord segment arguments bytes score not = refl
+
+does-write-nothing : (m : Meaning) (segment : Contents) (arguments bytes : List ℕ) (score : ℕ) → frame_use (shape_of m) ≢ Writes → (does m segment arguments bytes score).written ≡ []
+does-write-nothing (CopiesIntoFrame copied) segment arguments bytes score not = absurd (not refl)
+does-write-nothing otherwise segment arguments bytes score not = refl
+
+pub written-nothing : (helper : Helper) (segment : Contents) (arguments bytes : List ℕ) (score : ℕ) → frame_use (signature helper).shape ≢ Writes → (call helper segment arguments bytes score).written ≡ []
+written-nothing helper segment arguments bytes score not =
+    does-write-nothing (meaning helper) segment arguments bytes score (λ writes. not (ap frame_use (sym (shape-is helper)) ∙ writes))
 
 -- the score stays, but for the one call that sets it
+
+does-keep-score : (m : Meaning) (segment : Contents) (arguments bytes : List ℕ) (score : ℕ) → shape_of m ≢ shape.SetsScore → (does m segment arguments bytes score).score ≡ score
+does-keep-score (SetsScore set) segment arguments bytes score not = absurd (not refl)
+does-keep-score otherwise segment arguments bytes score not = refl
+
+sets-score : (helper : Helper) → shape_of (meaning helper) ≡ shape.SetsScore → helper ≡ Emit
+sets-score Emit is = refl
+sets-score otherwise is = cc
+
 pub score-stays : (helper : Helper) (segment : Contents) (arguments bytes : List ℕ) (score : ℕ) → helper ≢ Emit → (call helper segment arguments bytes score).score ≡ score
-score-stays Field segment arguments bytes score not = refl
-score-stays Has segment arguments bytes score not = refl
-score-stays Names segment arguments bytes score not = refl
-score-stays Ranges segment arguments bytes score not = refl
-score-stays InRange segment arguments bytes score not = refl
-score-stays NameCopy segment arguments bytes score not = refl
-score-stays NameIs segment arguments bytes score not = refl
-score-stays Emit segment arguments bytes score not = absurd (not refl)
-score-stays Coord segment arguments bytes score not = refl
+score-stays helper segment arguments bytes score not = does-keep-score (meaning helper) segment arguments bytes score (λ is. not (sets-score helper is))
 
 -- and is a word
+
+does-fit : (m : Meaning) (answer : Interval) (segment : Contents) (arguments bytes : List ℕ) (score : ℕ) → IsBounded m answer arguments → score < 2 ^ 64 → (does m segment arguments bytes score).score < 2 ^ 64
+does-fit (SetsScore set) answer segment arguments bytes score bounded fits = bounded.1
+does-fit otherwise answer segment arguments bytes score bounded fits = fits
+
 pub score-fits : (helper : Helper) (segment : Contents) (arguments bytes : List ℕ) (score : ℕ) → MeetsSignature helper arguments → score < 2 ^ 64 → (call helper segment arguments bytes score).score < 2 ^ 64
-score-fits Field segment arguments bytes score meets fits = fits
-score-fits Has segment arguments bytes score meets fits = fits
-score-fits Names segment arguments bytes score meets fits = fits
-score-fits Ranges segment arguments bytes score meets fits = fits
-score-fits InRange segment arguments bytes score meets fits = fits
-score-fits NameCopy segment arguments bytes score meets fits = fits
-score-fits NameIs segment arguments bytes score meets fits = fits
-score-fits Emit segment arguments bytes score meets fits = omega (arith, (meets.each 0).below)
-score-fits Coord segment arguments bytes score meets fits = fits
+score-fits helper segment arguments bytes score meets = does-fit (meaning helper) (signature helper).answer segment arguments bytes score (is-bounded helper arguments meets)

@@ -10,6 +10,9 @@ use Rattle.bpf_helpers.specs.Meaning.{first_bytes}
 pub write-nothing : {A : Type 0} (memory : List A) (at : ℕ) → write memory at [] ≡ memory
 write-nothing memory at = grind (arith, common_steps)
 
+pub none_written : (memory bytes : List ℕ) (at : ℕ) → bytes ≡ [] → write memory at bytes ≡ memory
+none_written memory bytes at none = rw none (write-nothing memory at)
+
 -- memory keeps its length
 pub length-write : {A : Type 0} (memory bytes : List A) (at : ℕ) → at + length bytes ≤ length memory → length (write memory at bytes) ≡ length memory
 length-write memory bytes at within = grind (arith, common_steps)

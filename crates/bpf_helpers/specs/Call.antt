@@ -1,9 +1,10 @@
 -- Calls of helper functions: what their arguments must be, and what they leave behind. Arguments are words; a pointer into the frame is its offset.
-use Rattle.std.specs.Prelude.{◌≡◌, ℕ, ◌+◌, ◌≤◌, List, [], ◌++◌, length, take, drop, slice_get, get_or, is_some}
+use Rattle.std.specs.Prelude.{◌≡◌, ℕ, ◌+◌, ◌≤◌, Bool, List, [], ◌++◌, Option, length, take, drop, slice_get, get_or, is_some}
 use Rattle.tl_segments.specs.Segment.{Contents, names_of, ranges_of}
 use Rattle.bpf_insn.specs.declared.memory.TheConstants.{FRAME_LENGTH}
 use Rattle.bpf_kinds.specs.Interval.{Admits}
 use Rattle.bpf_helpers.specs.Helper.{signature}
+use Rattle.bpf_helpers.specs.Shape.{frame_use}
 use Rattle.bpf_helpers.specs.Meaning.{truth, field_number, or_zero, sides, is_name, first_bytes, coordinate}
 use Rattle.bpf_helpers.specs.declared.helper.Helper.{Helper}
 use Rattle.bpf_helpers.specs.declared.helper.Helper.TheVariants.{Field, Has, Names, Ranges, InRange, NameCopy, NameIs, Emit, Coord}
@@ -11,6 +12,8 @@ use Rattle.bpf_helpers.specs.declared.signature.Argument.{Argument}
 use Rattle.bpf_helpers.specs.declared.signature.Argument.TheVariants.{Unused, Number, Frame}
 use Rattle.bpf_helpers.specs.declared.signature.FrameUse.{FrameUse}
 use Rattle.bpf_helpers.specs.declared.signature.FrameUse.TheVariants.{Nothing, Writes, Reads}
+use Rattle.bpf_helpers.specs.declared.signature.Shape.{Shape}
+use Rattle.bpf_helpers.specs.declared.signature.Shape.TheVariants as shape
 
 -- the arguments by their order, in registers 1 to 3
 abbrev pub first : List ℕ → ℕ
@@ -38,7 +41,7 @@ LieWithin Reads arguments = second arguments + third arguments ≤ FRAME_LENGTH
 pub record MeetsSignature (helper : Helper) (arguments : List ℕ) : Type 0 where
   pub count : length arguments ≡ 3
   pub each : (at : ℕ) → Meets (get_or (signature helper).arguments at Unused) (get_or arguments at 0)
-  pub within : LieWithin (signature helper).frame arguments
+  pub within : LieWithin (frame_use (signature helper).shape) arguments
 
 -- the bytes of the frame that a call reads
 abbrev pub bytes_read : {A : Type 0} → FrameUse → List ℕ → List A → List A
@@ -64,18 +67,46 @@ pub record Called : Type 0 where
 abbrev pub answers : ℕ → ℕ → Called
 answers score answer = record { answer = answer; written = []; score = score }
 
--- what a call with these arguments does on a segment, where it reads these bytes of the frame and the score is this one
-abbrev pub call : Helper → Contents → List ℕ → List ℕ → ℕ → Called
-call Field segment arguments bytes score = answers score (or_zero (field_number segment (first arguments)))
-call Has segment arguments bytes score = answers score (truth (is_some (field_number segment (first arguments))))
-call Names segment arguments bytes score = answers score (length segment.names)
-call Ranges segment arguments bytes score = answers score (length (ranges_of segment))
-call InRange segment arguments bytes score = answers score (sides (second arguments) (slice_get (ranges_of segment) (first arguments)))
-call NameCopy segment arguments bytes score = record {
-  answer = truth (is_some (slice_get (names_of segment) (first arguments)));
-  written = first_bytes (third arguments) (slice_get (names_of segment) (first arguments));
+-- What a helper function does, by its shape: what it tells of the record's bytes or of the segment, with its arguments; whether what it compares
+-- equals bytes of the frame; what it copies, if that is there; the score that it sets.
+pub data Meaning : Type 0 where
+  TellsRecord : (told : List ℕ → List ℕ → ℕ) → Meaning
+  TellsSegment : (told : Contents → List ℕ → ℕ) → Meaning
+  ComparesFrame : (equal : Contents → List ℕ → List ℕ → Bool) → Meaning
+  CopiesIntoFrame : (copied : Contents → List ℕ → Option (List ℕ)) → Meaning
+  SetsScore : (set : List ℕ → ℕ) → Meaning
+
+abbrev pub shape_of : Meaning → Shape
+shape_of (TellsRecord told) = shape.TellsRecord
+shape_of (TellsSegment told) = shape.TellsSegment
+shape_of (ComparesFrame equal) = shape.ComparesFrame
+shape_of (CopiesIntoFrame copied) = shape.CopiesIntoFrame
+shape_of (SetsScore set) = shape.SetsScore
+
+-- what each of them does
+abbrev pub meaning : Helper → Meaning
+meaning Field = TellsRecord (λ line arguments. or_zero (field_number line (first arguments)))
+meaning Has = TellsRecord (λ line arguments. truth (is_some (field_number line (first arguments))))
+meaning Names = TellsSegment (λ segment arguments. length segment.names)
+meaning Ranges = TellsSegment (λ segment arguments. length (ranges_of segment))
+meaning InRange = TellsSegment (λ segment arguments. sides (second arguments) (slice_get (ranges_of segment) (first arguments)))
+meaning NameCopy = CopiesIntoFrame (λ segment arguments. slice_get (names_of segment) (first arguments))
+meaning NameIs = ComparesFrame (λ segment arguments bytes. is_name bytes (slice_get (names_of segment) (first arguments)))
+meaning Emit = SetsScore (λ arguments. first arguments)
+meaning Coord = TellsRecord (λ line arguments. coordinate line (first arguments))
+
+-- what a call leaves behind, by what the helper function does
+abbrev pub does : Meaning → Contents → List ℕ → List ℕ → ℕ → Called
+does (TellsRecord told) segment arguments bytes score = answers score (told segment.bytes arguments)
+does (TellsSegment told) segment arguments bytes score = answers score (told segment arguments)
+does (ComparesFrame equal) segment arguments bytes score = answers score (truth (equal segment arguments bytes))
+does (CopiesIntoFrame copied) segment arguments bytes score = record {
+  answer = truth (is_some (copied segment arguments));
+  written = first_bytes (third arguments) (copied segment arguments);
   score = score;
 }
-call NameIs segment arguments bytes score = answers score (truth (is_name bytes (slice_get (names_of segment) (first arguments))))
-call Emit segment arguments bytes score = answers (first arguments) 0
-call Coord segment arguments bytes score = answers score (coordinate segment (first arguments))
+does (SetsScore set) segment arguments bytes score = answers (set arguments) 0
+
+-- what a call with these arguments leaves behind on a segment, where it reads these bytes of the frame and the score is this one
+abbrev pub call : Helper → Contents → List ℕ → List ℕ → ℕ → Called
+call helper segment arguments bytes score = does (meaning helper) segment arguments bytes score

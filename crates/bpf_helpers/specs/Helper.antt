@@ -1,14 +1,15 @@
 -- The helper functions' table of prototypes: which there are is this project's own (RFC 9669, section 4.3.1, leaves it to the platform).
-use Rattle.std.specs.Prelude.{ℕ, ◌-◌, ◌^◌, ◌==◌, Bool, true, false, List, [], ◌∷◌, Option, codes}
+use Rattle.std.specs.Prelude.{ℕ, ◌-◌, ◌^◌, ◌==◌, Bool, List, [], ◌∷◌, Option, codes}
 use Rattle.std.specs.List.{find}
 use Rattle.bpf_kinds.specs.Interval.{between, single}
 use Rattle.bpf_kinds.specs.declared.interval.Interval.{Interval}
+use Rattle.bpf_helpers.specs.Shape as shape
 use Rattle.bpf_helpers.specs.declared.helper.Helper.{Helper}
 use Rattle.bpf_helpers.specs.declared.helper.Helper.TheVariants.{Field, Has, Names, Ranges, InRange, NameCopy, NameIs, Emit, Coord}
 use Rattle.bpf_helpers.specs.declared.helper.TheConstants.{HELPERS}
 use Rattle.bpf_helpers.specs.declared.signature.Argument.{Argument}
 use Rattle.bpf_helpers.specs.declared.signature.Argument.TheVariants.{Unused, Number, Frame}
-use Rattle.bpf_helpers.specs.declared.signature.FrameUse.TheVariants.{Nothing, Writes, Reads}
+use Rattle.bpf_helpers.specs.declared.signature.Shape.TheVariants.{TellsRecord, TellsSegment, ComparesFrame, CopiesIntoFrame, SetsScore}
 use Rattle.bpf_helpers.specs.declared.signature.Signature.{Signature}
 
 -- any number of 64 bits
@@ -31,15 +32,15 @@ name_and_bytes = Number any ∷ Frame ∷ Number (between 1 30) ∷ []
 
 -- the table of prototypes
 abbrev pub signature : Helper → Signature
-signature Field = record { number = 1; arguments = one (between 0 16); frame = Nothing; answer = between 0 99999999999 }
-signature Has = record { number = 2; arguments = one (between 0 16); frame = Nothing; answer = between 0 1 }
-signature Names = record { number = 3; arguments = none; frame = Nothing; answer = between 0 5000 }
-signature Ranges = record { number = 4; arguments = none; frame = Nothing; answer = between 1 1001 }
-signature InRange = record { number = 5; arguments = two any any; frame = Nothing; answer = between 0 3 }
-signature NameCopy = record { number = 6; arguments = name_and_bytes; frame = Writes; answer = between 0 1 }
-signature NameIs = record { number = 7; arguments = name_and_bytes; frame = Reads; answer = between 0 1 }
-signature Emit = record { number = 8; arguments = one any; frame = Nothing; answer = single 0 }
-signature Coord = record { number = 9; arguments = one (between 0 3); frame = Nothing; answer = any }
+signature Field = record { number = 1; arguments = one (between 0 16); shape = TellsRecord; answer = between 0 99999999999 }
+signature Has = record { number = 2; arguments = one (between 0 16); shape = TellsRecord; answer = between 0 1 }
+signature Names = record { number = 3; arguments = none; shape = TellsSegment; answer = between 0 5000 }
+signature Ranges = record { number = 4; arguments = none; shape = TellsSegment; answer = between 1 1001 }
+signature InRange = record { number = 5; arguments = two any any; shape = TellsSegment; answer = between 0 3 }
+signature NameCopy = record { number = 6; arguments = name_and_bytes; shape = CopiesIntoFrame; answer = between 0 1 }
+signature NameIs = record { number = 7; arguments = name_and_bytes; shape = ComparesFrame; answer = between 0 1 }
+signature Emit = record { number = 8; arguments = one any; shape = SetsScore; answer = single 0 }
+signature Coord = record { number = 9; arguments = one (between 0 3); shape = TellsRecord; answer = any }
 
 -- the helper function that a number stands for, if there is one
 abbrev pub by_number : ℕ → Option Helper
@@ -47,15 +48,7 @@ by_number number = find (λ helper. (signature helper).number == number) HELPERS
 
 -- whether a call reads nothing of a segment but its type 1 record
 abbrev pub reads_record_alone : Helper → Bool
-reads_record_alone Field = true
-reads_record_alone Has = true
-reads_record_alone Names = false
-reads_record_alone Ranges = false
-reads_record_alone InRange = false
-reads_record_alone NameCopy = false
-reads_record_alone NameIs = false
-reads_record_alone Emit = true
-reads_record_alone Coord = true
+reads_record_alone helper = shape.reads_record_alone (signature helper).shape
 
 -- its name, as the documents give it
 abbrev pub name : Helper → List ℕ

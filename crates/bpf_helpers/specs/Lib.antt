@@ -1,3 +1,4 @@
+pub mod Shape
 pub mod Helper
 pub mod Meaning
 pub mod Call

@@ -8,7 +8,6 @@ use Rattle.tl_records.specs.Layout.{field_at}
 use Rattle.tl_records.specs.declared.layout.Places.{Places}
 use Rattle.tl_segments.specs.Name.{name_equals}
 use Rattle.tl_segments.specs.Range.{lies_on}
-use Rattle.tl_segments.specs.Segment.{Contents}
 use Rattle.tl_segments.specs.declared.range.RangeFields.{RangeFields}
 use Rattle.bpf_helpers.specs.declared.fields.TheConstants.{FIELDS, COORDINATES}
 
@@ -22,13 +21,13 @@ abbrev pub places : ℕ → ℕ → Places
 places first last = record { 0 = first; 1 = last }
 
 -- the bytes of a record at some places; where there are none, no bytes
-abbrev pub bytes_at : Contents → Option Places → List ℕ
-bytes_at segment None = []
-bytes_at segment (Some places) = field_at places segment.bytes
+abbrev pub bytes_at : List ℕ → Option Places → List ℕ
+bytes_at line None = []
+bytes_at line (Some places) = field_at places line
 
 -- the number of the field with an id, if it has one
-abbrev pub field_number : Contents → ℕ → Option ℕ
-field_number segment id = number_of (bytes_at segment (slice_get FIELDS id))
+abbrev pub field_number : List ℕ → ℕ → Option ℕ
+field_number line id = number_of (bytes_at line (slice_get FIELDS id))
 
 abbrev pub or_zero : Option ℕ → ℕ
 or_zero None = 0
@@ -55,5 +54,5 @@ coordinate_word None = 0
 coordinate_word (Some millionths) = cast_unsigned w64 millionths
 
 -- a coordinate of the segment's ends: 0 and 1 are where it begins, longitude and latitude, 2 and 3 where it ends
-abbrev pub coordinate : Contents → ℕ → ℕ
-coordinate segment which = coordinate_word (coordinate_of (bytes_at segment (slice_get COORDINATES which)))
+abbrev pub coordinate : List ℕ → ℕ → ℕ
+coordinate line which = coordinate_word (coordinate_of (bytes_at line (slice_get COORDINATES which)))

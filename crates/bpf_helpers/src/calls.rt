@@ -2,6 +2,7 @@
 ghost use Rattle.std.specs.Prelude.{◌≡◌, ◌≤◌, is_some, length, slice_get};
 ghost use Rattle.bpf_kinds.specs.Interval.{Admits};
 ghost use Rattle.bpf_helpers.specs.Call.{MeetsSignature, bytes_read, call, second, write};
+ghost use Rattle.bpf_helpers.specs.Shape.{frame_use};
 ghost use Rattle.bpf_helpers.specs.Helper.{signature};
 ghost use Rattle.bpf_helpers.specs.Meaning.{first_bytes, is_name, sides};
 ghost use Rattle.tl_segments.specs.Segment.{names_of, ranges_of};
@@ -15,6 +16,7 @@ use tl_segments::{NAME_LENGTH, Segment, lies_on, name_equals};
 /// What a helper function makes of its arguments, which a caller has checked by its signature. The arguments are words: a pointer into the
 /// frame is its offset. A call that copies a name writes the frame, and one that sets the score writes that; all others leave both as they
 /// were.
+#[tactic(auto, using(crate::proofs::WriteLemmas::none_written))]
 pub fn call<A: Allocator>(
     helper: Helper,
     arguments: [u64; 3],
@@ -23,10 +25,10 @@ pub fn call<A: Allocator>(
     score: &mut u64,
 ) -> u64
     requires { MeetsSignature helper arguments }
-    ensures answer { result ≡ (call helper segment.now arguments (bytes_read (signature helper).frame arguments frame.old) score.old).answer }
+    ensures answer { result ≡ (call helper segment.now arguments (bytes_read (frame_use (signature helper).shape) arguments frame.old) score.old).answer }
     ensures frame { frame.new ≡ write frame.old (second arguments)
-        (call helper segment.now arguments (bytes_read (signature helper).frame arguments frame.old) score.old).written }
-    ensures score { score.new ≡ (call helper segment.now arguments (bytes_read (signature helper).frame arguments frame.old) score.old).score }
+        (call helper segment.now arguments (bytes_read (frame_use (signature helper).shape) arguments frame.old) score.old).written }
+    ensures score { score.new ≡ (call helper segment.now arguments (bytes_read (frame_use (signature helper).shape) arguments frame.old) score.old).score }
     ensures interval { Admits (signature helper).answer result }
 {
     let [first, second, third] = arguments;

@@ -36,7 +36,7 @@ pub(crate) const COORDINATES: [Places; 4] = [Rt1::FRLONG, Rt1::FRLAT, Rt1::TOLON
 /// The number of the field with an id, if it has one.
 #[inline]
 pub(crate) fn field_number<A: Allocator>(segment: &Segment<A>, id: u64) -> Option<u64>
-    ensures value { result ≡ field_number segment.now id }
+    ensures value { result ≡ field_number segment.now.bytes id }
     ensures small { IfSome result (λ n. n < 10 ^ 11) }
 {
     number(bytes_at(segment, FIELDS.get(id as usize).copied()))
@@ -45,7 +45,7 @@ pub(crate) fn field_number<A: Allocator>(segment: &Segment<A>, id: u64) -> Optio
 /// A coordinate of the segment's ends in two's complement, 0 where there is none.
 #[inline]
 pub(crate) fn coordinate<A: Allocator>(segment: &Segment<A>, which: u64) -> u64
-    ensures { result ≡ coordinate segment.now which }
+    ensures { result ≡ coordinate segment.now.bytes which }
 {
     let bytes = bytes_at(segment, COORDINATES.get(which as usize).copied());
     match tl_fields::coordinate(bytes) {
@@ -58,7 +58,7 @@ pub(crate) fn coordinate<A: Allocator>(segment: &Segment<A>, which: u64) -> u64
 #[inline]
 fn bytes_at<A: Allocator>(segment: &Segment<A>, places: Option<Places>) -> &[u8]
     requires { IfSome places (λ p. IsWithin p RECORD_LENGTH) }
-    ensures { result.now ≡ bytes_at segment.now places }
+    ensures { result.now ≡ bytes_at segment.now.bytes places }
 {
     match places {
         Some(places) => field(segment.bytes(), places.0, places.1),

@@ -3,7 +3,7 @@ ghost use Rattle.std.specs.Prelude.{◌≡◌};
 ghost use Rattle.bpf_helpers.specs.Helper.{by_number, name, one, reads_record_alone, signature, two};
 ghost use Rattle.bpf_kinds.specs.Interval.{between};
 
-use crate::signature::{Argument, FrameUse, Signature};
+use crate::signature::{Argument, Shape, Signature};
 use bpf_kinds::Interval;
 
 /// A helper function.
@@ -96,11 +96,7 @@ impl Helper {
     pub fn reads_record_alone(self) -> bool
         ensures { result ≡ reads_record_alone self }
     {
-        match self {
-            Helper::Field | Helper::Has | Helper::Emit | Helper::Coord => true,
-            Helper::Names | Helper::Ranges | Helper::InRange | Helper::NameCopy | Helper::NameIs =>
-                false,
-        }
+        self.signature().shape.reads_record_alone()
     }
 
     /// Its row of the table of prototypes.
@@ -108,15 +104,15 @@ impl Helper {
         ensures { result ≡ signature self }
     {
         match self {
-            Helper::Field => row(1, one(IDS), FrameUse::Nothing, 0, 99_999_999_999),
-            Helper::Has => row(2, one(IDS), FrameUse::Nothing, 0, 1),
-            Helper::Names => row(3, NONE, FrameUse::Nothing, 0, 5000),
-            Helper::Ranges => row(4, NONE, FrameUse::Nothing, 1, 1001),
-            Helper::InRange => row(5, two(ANY, ANY), FrameUse::Nothing, 0, 3),
-            Helper::NameCopy => row(6, NAME_AND_BYTES, FrameUse::Writes, 0, 1),
-            Helper::NameIs => row(7, NAME_AND_BYTES, FrameUse::Reads, 0, 1),
-            Helper::Emit => row(8, one(ANY), FrameUse::Nothing, 0, 0),
-            Helper::Coord => row(9, one(ENDS), FrameUse::Nothing, 0, u64::MAX),
+            Helper::Field => row(1, one(IDS), Shape::TellsRecord, 0, 99_999_999_999),
+            Helper::Has => row(2, one(IDS), Shape::TellsRecord, 0, 1),
+            Helper::Names => row(3, NONE, Shape::TellsSegment, 0, 5000),
+            Helper::Ranges => row(4, NONE, Shape::TellsSegment, 1, 1001),
+            Helper::InRange => row(5, two(ANY, ANY), Shape::TellsSegment, 0, 3),
+            Helper::NameCopy => row(6, NAME_AND_BYTES, Shape::CopiesIntoFrame, 0, 1),
+            Helper::NameIs => row(7, NAME_AND_BYTES, Shape::ComparesFrame, 0, 1),
+            Helper::Emit => row(8, one(ANY), Shape::SetsScore, 0, 0),
+            Helper::Coord => row(9, one(ENDS), Shape::TellsRecord, 0, u64::MAX),
         }
     }
 }
@@ -133,13 +129,13 @@ fn two(x: Interval, y: Interval) -> [Argument; 3]
     [Argument::Number(x), Argument::Number(y), Argument::Unused]
 }
 
-fn row(number: u32, arguments: [Argument; 3], frame: FrameUse, low: u64, high: u64) -> Signature
-    ensures { result ≡ record { number = number; arguments = arguments; frame = frame; answer = between low high } }
+fn row(number: u32, arguments: [Argument; 3], shape: Shape, low: u64, high: u64) -> Signature
+    ensures { result ≡ record { number = number; arguments = arguments; shape = shape; answer = between low high } }
 {
     Signature {
         number,
         arguments,
-        frame,
+        shape,
         answer: Interval { low, high },
     }
 }

@@ -1,6 +1,7 @@
 //! Laws over the definitions, as contracts of functions that do nothing.
 ghost use Rattle.std.specs.Prelude.{◌≡◌, ◌≢◌, ℕ, ◌+◌, ◌-◌, ◌^◌, ◌<◌, ◌≤◌, List, [], length, get_or, slice_get, slice_index, codes, IsTrue, Some, None};
-ghost use Rattle.bpf_helpers.specs.Call.{MeetsSignature, call, first, write, written_length};
+ghost use Rattle.bpf_helpers.specs.Call.{MeetsSignature, call, first, meaning, shape_of, write, written_length};
+ghost use Rattle.bpf_helpers.specs.Shape.{frame_use};
 ghost use Rattle.bpf_helpers.specs.Helper.{by_number, reads_record_alone, signature};
 ghost use Rattle.bpf_helpers.specs.Meaning.{places};
 ghost use Rattle.bpf_helpers.specs.declared.helper.Helper.{Helper};
@@ -77,11 +78,16 @@ pub fn bounds()
     ensures greatest_number { number_of (codes "99999999999") ≡ Some (signature Field).answer.high }
 {}
 
+/// The shape in the table of prototypes is that of what the helper function does.
+pub fn shapes()
+    ensures { (helper : Helper) → (signature helper).shape ≡ shape_of (meaning helper) }
+{}
+
 /// A call that does something with the frame wants, as its second and third argument, a pointer into the frame and a length of 1 to 30 bytes.
 pub fn frame_uses()
-    ensures pointer { (helper : Helper) → (signature helper).frame ≢ Nothing
+    ensures pointer { (helper : Helper) → frame_use (signature helper).shape ≢ Nothing
         → get_or (signature helper).arguments 1 Unused ≡ Frame }
-    ensures length { (helper : Helper) → (signature helper).frame ≢ Nothing
+    ensures length { (helper : Helper) → frame_use (signature helper).shape ≢ Nothing
         → get_or (signature helper).arguments 2 Unused ≡ Number (between 1 NAME_LENGTH) }
 {}
 
@@ -97,10 +103,10 @@ pub fn answers()
 pub fn written_bytes()
     ensures length { (helper : Helper) (segment : Contents) (arguments bytes : List ℕ) (score : ℕ) → IsSegment segment
         → MeetsSignature helper arguments
-        → length (call helper segment arguments bytes score).written ≡ written_length (signature helper).frame arguments }
+        → length (call helper segment arguments bytes score).written ≡ written_length (frame_use (signature helper).shape) arguments }
     ensures bytes { (helper : Helper) (segment : Contents) (arguments bytes : List ℕ) (score i : ℕ) → IsSegment segment
         → MeetsSignature helper arguments → slice_index (call helper segment arguments bytes score).written i < 2 ^ 8 }
-    ensures none { (helper : Helper) (segment : Contents) (arguments bytes : List ℕ) (score : ℕ) → (signature helper).frame ≢ Writes
+    ensures none { (helper : Helper) (segment : Contents) (arguments bytes : List ℕ) (score : ℕ) → frame_use (signature helper).shape ≢ Writes
         → (call helper segment arguments bytes score).written ≡ [] }
 {}
 

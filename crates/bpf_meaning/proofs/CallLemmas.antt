@@ -12,17 +12,19 @@ use Rattle.bpf_insn.specs.declared.memory.TheConstants.{FRAME_LENGTH}
 use Rattle.bpf_kinds.specs.Interval.{Admits}
 use Rattle.bpf_kinds.specs.declared.interval.Interval.{Interval}
 use Rattle.tl_segments.specs.Segment.{Contents, IsSegment, names_of}
-use Rattle.bpf_helpers.specs.Call.{Meets, LieWithin, bytes_read, call, first, second, third, write}
+use Rattle.bpf_helpers.specs.Call.{Meaning, Meets, LieWithin, bytes_read, call, does, meaning, second, shape_of, third, write}
+use Rattle.bpf_helpers.specs.Call.Meaning.{CopiesIntoFrame}
 use Rattle.bpf_helpers.specs.Meaning.{first_bytes}
 use Rattle.bpf_helpers.specs.Helper.{signature}
-use Rattle.bpf_helpers.proofs.CallLemmas.{written-bytes}
+use Rattle.bpf_helpers.specs.Shape.{frame_use}
+use Rattle.bpf_helpers.proofs.CallLemmas.{shape-is, three-wanted, written-bytes}
 use Rattle.bpf_helpers.proofs.WriteLemmas.{length-write, write-nothing}
 use Rattle.bpf_helpers.specs.declared.helper.Helper.{Helper}
-use Rattle.bpf_helpers.specs.declared.helper.Helper.TheVariants as helper
 use Rattle.bpf_helpers.specs.declared.signature.Argument.{Argument}
 use Rattle.bpf_helpers.specs.declared.signature.Argument.TheVariants as argument
 use Rattle.bpf_helpers.specs.declared.signature.FrameUse.{FrameUse}
 use Rattle.bpf_helpers.specs.declared.signature.FrameUse.TheVariants as frame_use
+use Rattle.bpf_helpers.specs.declared.signature.Shape.{Shape}
 use Rattle.bpf_meaning.specs.Memory.{FrameByte, Byte, all_written, written_bytes}
 use Rattle.bpf_meaning.specs.Effect.{read, argument_in, argument_word, arguments_in, is_allowed, lend_bytes, lend_frame, lend_written, lie_within, call_change, call_helper, CanBeMade, CanBeCalled, ◌>>=◌}
 use Rattle.bpf_meaning.specs.Step.{called}
@@ -138,31 +140,20 @@ frame_lent state wanted frame_use.Reads arguments met =
 abbrev wanted : Helper → ℕ → Argument
 wanted helper at = get_or (signature helper).arguments at argument.Unused
 
-three_wanted : (helper : Helper) → wanted helper 0 ∷ wanted helper 1 ∷ wanted helper 2 ∷ [] ≡ (signature helper).arguments
-three_wanted helper.Field = refl
-three_wanted helper.Has = refl
-three_wanted helper.Names = refl
-three_wanted helper.Ranges = refl
-three_wanted helper.InRange = refl
-three_wanted helper.NameCopy = refl
-three_wanted helper.NameIs = refl
-three_wanted helper.Emit = refl
-three_wanted helper.Coord = refl
-
 prototype_met : (state : State) (helper : Helper) → IfPasses (AreMet (signature helper).arguments) (arguments_in state (signature helper).arguments)
 prototype_met state helper =
-    subst (λ (all : List Argument). IfPasses (AreMet all) (arguments_in state all)) (three_wanted helper)
+    subst (λ (all : List Argument). IfPasses (AreMet all) (arguments_in state all)) (three-wanted helper)
     (arguments_met state (wanted helper 0) (wanted helper 1) (wanted helper 2))
 
-can_be_called : (state : State) (helper : Helper) (arguments : List ℕ) → IsLent state (signature helper).arguments (signature helper).frame arguments → CanBeCalled state helper arguments
+can_be_called : (state : State) (helper : Helper) (arguments : List ℕ) → IsLent state (signature helper).arguments (frame_use (signature helper).shape) arguments → CanBeCalled state helper arguments
 can_be_called state helper arguments lent = record { meets = record { count = lent.met.count; each = lent.met.each; within = lent.within }; written = lent.written }
 
 call_can_be_made : (state : State) (helper : Helper) → IfPasses (CanBeMade state) (call_helper state helper)
 call_can_be_made state helper =
-    then_keeps (IsLent state (signature helper).arguments (signature helper).frame) (CanBeMade state)
-    (arguments_in state (signature helper).arguments >>= lend_frame state (signature helper).frame) _
+    then_keeps (IsLent state (signature helper).arguments (frame_use (signature helper).shape)) (CanBeMade state)
+    (arguments_in state (signature helper).arguments >>= lend_frame state (frame_use (signature helper).shape)) _
     (then_keeps (AreMet (signature helper).arguments) _ (arguments_in state (signature helper).arguments) _ (prototype_met state helper)
-    (frame_lent state (signature helper).arguments (signature helper).frame))
+    (frame_lent state (signature helper).arguments (frame_use (signature helper).shape)))
     (can_be_called state helper)
 
 pub called_can_be_made : (state : State) (found : Option Helper) → IfPasses (CanBeMade state) (call_change state found)
@@ -175,17 +166,13 @@ short_bytes : (count : ℕ) (name : Option (List ℕ)) → length (first_bytes c
 short_bytes count None = let long : length (first_bytes count None) ≡ count = length-replicate count 32 in omega arith
 short_bytes count (Some name) = omega (arith, length-take count name)
 
-written_inside : (segment : Contents) (helper : Helper) (arguments bytes : List ℕ) (score : ℕ) → LieWithin (signature helper).frame arguments → ((call helper segment arguments bytes score).written ≡ []) ⊎ (second arguments + length (call helper segment arguments bytes score).written ≤ FRAME_LENGTH)
-written_inside segment helper.Field arguments bytes score within = inl refl
-written_inside segment helper.Has arguments bytes score within = inl refl
-written_inside segment helper.Names arguments bytes score within = inl refl
-written_inside segment helper.Ranges arguments bytes score within = inl refl
-written_inside segment helper.InRange arguments bytes score within = inl refl
-written_inside segment helper.NameCopy arguments bytes score within =
-    inr (let short = short_bytes (third arguments) (slice_get (names_of segment) (first arguments)) in omega arith)
-written_inside segment helper.NameIs arguments bytes score within = inl refl
-written_inside segment helper.Emit arguments bytes score within = inl refl
-written_inside segment helper.Coord arguments bytes score within = inl refl
+does_inside : (m : Meaning) (segment : Contents) (arguments bytes : List ℕ) (score : ℕ) → LieWithin (frame_use (shape_of m)) arguments → ((does m segment arguments bytes score).written ≡ []) ⊎ (second arguments + length (does m segment arguments bytes score).written ≤ FRAME_LENGTH)
+does_inside (CopiesIntoFrame copied) segment arguments bytes score within = inr (let short = short_bytes (third arguments) (copied segment arguments) in omega arith)
+does_inside otherwise segment arguments bytes score within = inl refl
+
+written_inside : (segment : Contents) (helper : Helper) (arguments bytes : List ℕ) (score : ℕ) → LieWithin (frame_use (signature helper).shape) arguments → ((call helper segment arguments bytes score).written ≡ []) ⊎ (second arguments + length (call helper segment arguments bytes score).written ≤ FRAME_LENGTH)
+written_inside segment helper arguments bytes score within =
+    does_inside (meaning helper) segment arguments bytes score (subst (λ (s : Shape). LieWithin (frame_use s) arguments) (sym (shape-is helper)) within)
 
 -- the frame after a call
 abbrev pub frame_after : Contents → State → Helper → List ℕ → List FrameByte
@@ -194,7 +181,7 @@ frame_after segment state helper arguments = write state.frame.bytes (second arg
 -- a frame after a call has a fact that the one before has, if it keeps it where bytes are written within it
 after_call : (P : List FrameByte → Type 0) (segment : Contents) (state : State) (helper : Helper) (arguments : List ℕ) → CanBeCalled state helper arguments → length state.frame.bytes ≡ FRAME_LENGTH → P state.frame.bytes → ((at : ℕ) (bytes : List ℕ) → at + length bytes ≤ length state.frame.bytes → P (write state.frame.bytes at (map Byte bytes))) → P (frame_after segment state helper arguments)
 after_call P segment state helper arguments can long before within =
-    elim (written_inside segment helper arguments (written_bytes (bytes_read (signature helper).frame arguments state.frame.bytes)) state.score can.meets.within) [
+    elim (written_inside segment helper arguments (written_bytes (bytes_read (frame_use (signature helper).shape) arguments state.frame.bytes)) state.score can.meets.within) [
       | inl none ↦
           subst (λ (bytes : List ℕ). P (write state.frame.bytes (second arguments) (map Byte bytes))) (sym none)
           (subst P (sym (write-nothing state.frame.bytes (second arguments))) before)
@@ -209,6 +196,6 @@ length-frame_after segment state helper arguments can long =
 -- where it held bytes, it does after a call
 pub bytes-frame_after : (segment : Contents) (state : State) (helper : Helper) (arguments : List ℕ) → IsSegment segment → CanBeCalled state helper arguments → HoldBytes state.frame.bytes → HoldBytes (frame_after segment state helper arguments)
 bytes-frame_after segment state helper arguments is can all =
-    let read = bytes_read (signature helper).frame arguments state.frame.bytes in
+    let read = bytes_read (frame_use (signature helper).shape) arguments state.frame.bytes in
     bytes-write state.frame.bytes (second arguments) (map Byte (called segment state helper arguments).written) all
     (bytes-map (called segment state helper arguments).written (written-bytes helper segment arguments (written_bytes read) state.score is can.meets).bytes)

@@ -11,6 +11,7 @@ use Rattle.tl_segments.specs.Segment.{Contents}
 use Rattle.bpf_helpers.specs.Call.{bytes_read, second}
 use Rattle.bpf_helpers.specs.Helper as helper
 use Rattle.bpf_helpers.specs.Helper.{by_number, signature}
+use Rattle.bpf_helpers.specs.Shape.{frame_use}
 use Rattle.bpf_helpers.specs.declared.helper.Helper.{Helper}
 use Rattle.bpf_helpers.proofs.RecordLemmas.{calls_alike}
 use Rattle.bpf_meaning.specs.Memory.{written_bytes}
@@ -65,7 +66,7 @@ stores_of_record from size number = by_test (lie_within from (store_length size)
 call_of_record : (state : State) (found : Option Helper) → IsTrue (call_reads_record_alone found) → IfPasses IsOfRecord (call_change state found)
 call_of_record state None alone = tt
 call_of_record state (Some called) alone =
-    then_passes IsOfRecord (arguments_in state (signature called).arguments >>= lend_frame state (signature called).frame)
+    then_passes IsOfRecord (arguments_in state (signature called).arguments >>= lend_frame state (frame_use (signature called).shape))
     (λ arguments. Ok (CallHelper called arguments)) (λ arguments. alone)
 
 changes_of_record : (state : State) (insn : Insn) → IsTrue (instruction_reads_record_alone insn) → AreSuch state insn IsOfRecord
@@ -89,7 +90,7 @@ changes_alike segment other state (SetRegister register value) is same = refl
 changes_alike segment other state (StoreBytes at size number) is same = refl
 changes_alike segment other state (CallHelper called arguments) is same =
     ap (state_after state (second arguments))
-    (calls_alike called segment other arguments (written_bytes (bytes_read (signature called).frame arguments state.frame.bytes)) state.score is same)
+    (calls_alike called segment other arguments (written_bytes (bytes_read (frame_use (signature called).shape) arguments state.frame.bytes)) state.score is same)
 
 applied_alike : (segment other : Contents) (state : State) (result : Result Effect Cause) → IfPasses (GoesOnWith IsOfRecord) result → segment.bytes ≡ other.bytes → next_of segment state result ≡ next_of other state result
 applied_alike segment other state (Ok (GoOn change place)) is same =

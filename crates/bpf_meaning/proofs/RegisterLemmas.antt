@@ -9,6 +9,7 @@ use Rattle.bpf_insn.specs.declared.value.Value.{Value}
 use Rattle.bpf_insn.specs.declared.value.Value.TheVariants.{Empty}
 use Rattle.tl_segments.specs.Segment.{Contents}
 use Rattle.bpf_helpers.specs.Helper.{by_number, signature}
+use Rattle.bpf_helpers.specs.Shape.{frame_use}
 use Rattle.bpf_helpers.specs.declared.helper.Helper.{Helper}
 use Rattle.bpf_meaning.specs.State.{register_value}
 use Rattle.bpf_meaning.specs.Effect.{arguments_in, call_change, effect, effect_of, lend_frame, ◌>>=◌}
@@ -57,7 +58,7 @@ IsCall (CallHelper helper arguments) = Unit {0}
 change_is_call : (state : State) (found : Option Helper) → IfPasses IsCall (call_change state found)
 change_is_call state None = tt
 change_is_call state (Some helper) =
-    then_passes IsCall (arguments_in state (signature helper).arguments >>= lend_frame state (signature helper).frame)
+    then_passes IsCall (arguments_in state (signature helper).arguments >>= lend_frame state (frame_use (signature helper).shape))
     (λ arguments. Ok (CallHelper helper arguments)) (λ arguments. tt)
 
 applies_call : (segment : Contents) (state : State) (result : Result Effect Cause) → IfPasses (GoesOnWith IsCall) result → IfRunning (IsAfterCall state) (next_of segment state result)

@@ -7,6 +7,7 @@ use Rattle.bpf_insn.specs.declared.value.Value.{Value}
 use Rattle.bpf_insn.specs.declared.value.Value.TheVariants.{Empty, Number}
 use Rattle.bpf_helpers.specs.Call.{Called, bytes_read, call, second, write}
 use Rattle.bpf_helpers.specs.Helper.{signature}
+use Rattle.bpf_helpers.specs.Shape.{frame_use}
 use Rattle.bpf_helpers.specs.declared.helper.Helper.{Helper}
 use Rattle.bpf_meaning.specs.Memory.{Byte, store, written_bytes}
 use Rattle.bpf_meaning.specs.Effect.{effect}
@@ -40,7 +41,7 @@ state_after state at called = record state {
 -- what a call does on the segment, with what it reads of the frame
 abbrev pub called : Contents → State → Helper → List ℕ → Called
 called segment state helper arguments =
-    call helper segment arguments (written_bytes (bytes_read (signature helper).frame arguments state.frame.bytes)) state.score
+    call helper segment arguments (written_bytes (bytes_read (frame_use (signature helper).shape) arguments state.frame.bytes)) state.score
 
 -- the state with a change
 abbrev pub carry_out : Contents → State → Change → State

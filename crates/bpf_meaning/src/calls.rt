@@ -27,7 +27,7 @@ fn call_helper(state: &State, helper: Helper) -> Result<Change, Cause>
 {
     let signature = helper.signature();
     let arguments = arguments_in(state, signature.arguments)?;
-    let arguments = lend_frame(state, signature.frame, arguments)?;
+    let arguments = lend_frame(state, signature.shape.frame_use(), arguments)?;
     Ok(Change::CallHelper { helper, arguments })
 }
 

@@ -2,6 +2,7 @@
 ghost use Rattle.std.specs.Prelude.{◌≡◌, ◌+◌, ◌≤◌, IsTrue, length, map, take, drop, replicate};
 ghost use Rattle.bpf_helpers.specs.Call.{MeetsSignature, bytes_read, call, second, write};
 ghost use Rattle.bpf_helpers.specs.Helper.{signature};
+ghost use Rattle.bpf_helpers.specs.Shape.{frame_use};
 ghost use Rattle.bpf_meaning.specs.Memory.{Byte, Unwritten, all_written, number_of, store, written_bytes};
 
 use crate::memory::little_endian;
@@ -86,18 +87,18 @@ impl Frame {
         score: &mut u64,
     ) -> u64
         requires meets { MeetsSignature helper arguments }
-        requires written { IsTrue (all_written (bytes_read (signature helper).frame arguments self.old.bytes)) }
+        requires written { IsTrue (all_written (bytes_read (frame_use (signature helper).shape) arguments self.old.bytes)) }
         ensures answer { result ≡ (call helper segment.now arguments
-            (written_bytes (bytes_read (signature helper).frame arguments self.old.bytes)) score.old).answer }
+            (written_bytes (bytes_read (frame_use (signature helper).shape) arguments self.old.bytes)) score.old).answer }
         ensures frame { self.new ≡ record self.old {
           bytes = write self.old.bytes (second arguments) (map Byte (call helper segment.now arguments
-              (written_bytes (bytes_read (signature helper).frame arguments self.old.bytes)) score.old).written);
+              (written_bytes (bytes_read (frame_use (signature helper).shape) arguments self.old.bytes)) score.old).written);
         } }
         ensures score { score.new ≡ (call helper segment.now arguments
-            (written_bytes (bytes_read (signature helper).frame arguments self.old.bytes)) score.old).score }
+            (written_bytes (bytes_read (frame_use (signature helper).shape) arguments self.old.bytes)) score.old).score }
     {
         let answer = call(helper, arguments, segment, &mut self.bytes, score);
-        if let FrameUse::Writes = helper.signature().frame {
+        if let FrameUse::Writes = helper.signature().shape.frame_use() {
             // Not read: that its names are whole tells how many bytes were written.
             let _bytes = segment.bytes();
             let [_, at, count] = arguments;

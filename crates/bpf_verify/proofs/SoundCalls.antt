@@ -19,6 +19,7 @@ use Rattle.bpf_kinds.specs.declared.kind.Kind.TheVariants.{Number, Record, Frame
 use Rattle.bpf_kinds.specs.declared.offsets.Offsets.{Offsets}
 use Rattle.bpf_helpers.specs.Call.{MeetsSignature, bytes_read, second, third, write, written_length}
 use Rattle.bpf_helpers.specs.Helper.{signature}
+use Rattle.bpf_helpers.specs.Shape.{frame_use}
 use Rattle.bpf_helpers.specs.declared.helper.Helper.{Helper}
 use Rattle.bpf_helpers.specs.declared.signature.Argument.{Argument}
 use Rattle.bpf_helpers.specs.declared.signature.Argument.TheVariants as argument
@@ -228,17 +229,17 @@ registers_admit kinds values x n admits all (suc (suc (suc (suc (suc (suc regist
     subst (λ (k : Kind). kind.Admits k (get_or (drop 6 values) register value.Empty)) (sym (get_or-drop 6 kinds register Nothing))
     (subst (kind.Admits (get_or kinds (6 + register) Nothing)) (sym (get_or-drop 6 values register value.Empty)) (all (6 + register)))
 
-call_admits : (segment : Contents) (state : State) (helper : Helper) (after : Known) (words : List ℕ) → IsSegment segment → MeetsSignature helper words → IsLent state (signature helper).frame after words → Stores segment state (state_after (signature helper).answer after) (CallHelper helper words)
+call_admits : (segment : Contents) (state : State) (helper : Helper) (after : Known) (words : List ℕ) → IsSegment segment → MeetsSignature helper words → IsLent state (frame_use (signature helper).shape) after words → Stores segment state (state_after (signature helper).answer after) (CallHelper helper words)
 call_admits segment state helper after words is_segment meets lent =
     let called = step.called segment state helper words in
-    let bytes = written_bytes (bytes_read (signature helper).frame words state.frame.bytes) in
+    let bytes = written_bytes (bytes_read (frame_use (signature helper).shape) words state.frame.bytes) in
     let admits = lent.admits called.written (written-length helper segment words bytes state.score is_segment meets) in
     record {
       registers = registers_admit after.registers state.registers (signature helper).answer called.answer (answer-admits helper segment words bytes state.score is_segment meets) admits.registers;
       frame = admits.frame;
     }
 
-made_sound : (segment : Contents) (state : State) (helper : Helper) → IsSegment segment → (abstract : Result Known Cause) (concrete : Result (List ℕ) Cause) → Sound (IsLent state (signature helper).frame) abstract concrete
+made_sound : (segment : Contents) (state : State) (helper : Helper) → IsSegment segment → (abstract : Result Known Cause) (concrete : Result (List ℕ) Cause) → Sound (IsLent state (frame_use (signature helper).shape)) abstract concrete
     → IfPasses (effect.CanBeMade state) (concrete >>= λ words. Ok (CallHelper helper words))
     → Sound (Stores segment state) (abstract >>= λ after. Ok (state_after (signature helper).answer after)) (concrete >>= λ words. Ok (CallHelper helper words))
 made_sound segment state helper is (Err cause) concrete sound can = tt
@@ -249,5 +250,5 @@ pub call_sound : (segment : Contents) (known : Known) (state : State) → IsSegm
 call_sound segment known state is has None = tt
 call_sound segment known state is has (Some helper) =
     made_sound segment state helper is _ _
-    (then_sound AreWords (IsLent state (signature helper).frame) _ _ _ _ (arguments_sound known state has (signature helper).arguments) (lend_frame_sound known state has (signature helper).frame))
+    (then_sound AreWords (IsLent state (frame_use (signature helper).shape)) _ _ _ _ (arguments_sound known state has (signature helper).arguments) (lend_frame_sound known state has (frame_use (signature helper).shape)))
     (called_can_be_made state (Some helper))

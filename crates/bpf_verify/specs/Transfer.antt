@@ -27,6 +27,7 @@ use Rattle.bpf_kinds.specs.declared.narrowing.Narrowed.{Narrowed}
 use Rattle.bpf_kinds.specs.declared.offsets.Offsets.{Offsets}
 use Rattle.bpf_frame.specs.FrameMap.{all_written, mark}
 use Rattle.bpf_helpers.specs.Helper.{signature}
+use Rattle.bpf_helpers.specs.Shape.{frame_use}
 use Rattle.bpf_helpers.specs.declared.helper.Helper.{Helper}
 use Rattle.bpf_helpers.specs.declared.signature.Argument.{Argument}
 use Rattle.bpf_helpers.specs.declared.signature.Argument.TheVariants as argument
@@ -286,7 +287,7 @@ state_after answer known = record known { registers = Number answer ∷ replicat
 abbrev pub call : Known → Option Helper → Result Known Cause
 call known None = Err UnknownHelper
 call known (Some helper) =
-    arguments_in known (signature helper).arguments >>= lend_frame known (signature helper).frame >>= λ after. Ok (state_after (signature helper).answer after)
+    arguments_in known (signature helper).arguments >>= lend_frame known (frame_use (signature helper).shape) >>= λ after. Ok (state_after (signature helper).answer after)
 
 -- on to the next instruction with a register written
 abbrev pub set_register : Known → ℕ → Kind → Result Edges Cause

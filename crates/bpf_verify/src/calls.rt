@@ -29,7 +29,7 @@ pub(crate) fn call(known: &mut Known, helper: Option<Helper>) -> Result<(), Caus
 {
     let signature = helper.ok_or(Cause::UnknownHelper)?.signature();
     let arguments = arguments_in(known, signature.arguments)?;
-    lend_frame(known, signature.frame, arguments)?;
+    lend_frame(known, signature.shape.frame_use(), arguments)?;
     known.go_behind_call(signature.answer);
     Ok(())
 }

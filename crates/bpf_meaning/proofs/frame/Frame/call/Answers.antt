@@ -4,6 +4,7 @@ use Rattle.std.proofs.lemmas.List.{length-take, length-drop}
 use Rattle.bpf_insn.specs.declared.memory.TheConstants.{FRAME_LENGTH}
 use Rattle.bpf_helpers.specs.Call.{Called, LieWithin, bytes_read, call, second, third, write, written_length}
 use Rattle.bpf_helpers.specs.Helper.{signature}
+use Rattle.bpf_helpers.specs.Shape.{frame_use}
 use Rattle.bpf_helpers.specs.declared.signature.FrameUse.{FrameUse}
 use Rattle.bpf_helpers.specs.declared.signature.FrameUse.TheVariants.{Writes}
 use Rattle.bpf_helpers.specs.declared.signature.Signature.{Signature}
@@ -19,30 +20,32 @@ alike f frame at read bytes new same is = subst (λ (b : List ℕ). new ≡ reco
 pub returns-in-Writes-clause-frame : goal.returns-in-Writes-clause-frame
 returns-in-Writes-clause-frame g c =
     let arguments = c.args.arguments in
-    let use_is : (signature c.args.helper).frame ≡ Writes = sym (ap (λ (s : Signature). s.frame) c.signature.ensures) ∙ c.in-Writes.is in
-    let read = bytes_read (signature c.args.helper).frame arguments c.self.inside.bytes in
-    let same = read_alike c.self.inside.marks c.self.inside.bytes c.args.self.now (signature c.args.helper).frame arguments (omega arith) c.self.view_is c.requires.written in
+    let uses : c.frame_use.result ≡ frame_use (signature c.args.helper).shape = c.frame_use.ensures ∙ ap (λ (s : Signature). frame_use s.shape) c.signature.ensures in
+    let use_is : frame_use (signature c.args.helper).shape ≡ Writes = sym uses ∙ c.in-Writes.is in
+    let read = bytes_read (frame_use (signature c.args.helper).shape) arguments c.self.inside.bytes in
+    let same = read_alike c.self.inside.marks c.self.inside.bytes c.args.self.now (frame_use (signature c.args.helper).shape) arguments (omega arith) c.self.view_is c.requires.written in
     let does = λ (b : List ℕ). call c.args.helper c.args.segment.now arguments b c.args.score.now in
     let long : length (does read).written ≡ third arguments =
     written-length c.args.helper c.args.segment.now arguments read c.args.score.now c.bytes-bytes.ensures.whole c.requires.meets ∙ ap (λ (u : FrameUse). written_length u arguments) use_is in
     let within : second arguments + third arguments ≤ FRAME_LENGTH = subst (λ (u : FrameUse). LieWithin u arguments) use_is c.requires.meets.within in
     let part : length (take (second arguments + third arguments - second arguments) (drop (second arguments) c.self.inside.marks)) ≡ length (does read).written =
     simp (length-take, length-drop) (omega arith) in
-    alike does c.args.self.now (second arguments) read (written_bytes (bytes_read (signature c.args.helper).frame arguments c.args.self.now.bytes)) _ same
+    alike does c.args.self.now (second arguments) read (written_bytes (bytes_read (frame_use (signature c.args.helper).shape) arguments c.args.self.now.bytes)) _ same
     (call_writes c.self.inside.marks c.self.inside.bytes c.args.self.now (second arguments) (second arguments + third arguments - second arguments) (does read).written
     c.call-answer.new.frame c.fill.new.self (omega arith) (omega arith) part c.self.view_is c.call-answer.ensures.frame (c.fill.ensures.after (λ y e. e)))
 
 pub returns-in_default : goal.returns-in_default
 returns-in_default g c =
     let arguments = c.args.arguments in
-    let read = bytes_read (signature c.args.helper).frame arguments c.self.inside.bytes in
-    let same = read_alike c.self.inside.marks c.self.inside.bytes c.args.self.now (signature c.args.helper).frame arguments (omega arith) c.self.view_is c.requires.written in
+    let read = bytes_read (frame_use (signature c.args.helper).shape) arguments c.self.inside.bytes in
+    let same = read_alike c.self.inside.marks c.self.inside.bytes c.args.self.now (frame_use (signature c.args.helper).shape) arguments (omega arith) c.self.view_is c.requires.written in
     let does = λ (b : List ℕ). call c.args.helper c.args.segment.now arguments b c.args.score.now in
-    let none = written-nothing c.args.helper c.args.segment.now arguments read c.args.score.now (λ is. c.in_default.not-Writes (ap (λ (s : Signature). s.frame) c.signature.ensures ∙ is)) in
+    let uses : c.frame_use.result ≡ frame_use (signature c.args.helper).shape = c.frame_use.ensures ∙ ap (λ (s : Signature). frame_use s.shape) c.signature.ensures in
+    let none = written-nothing c.args.helper c.args.segment.now arguments read c.args.score.now (λ is. c.in_default.not-Writes (uses ∙ is)) in
     record {
       answer = c.call-answer.ensures.answer ∙ ap (λ (b : List ℕ). (does b).answer) same;
       frame =
-          alike does c.args.self.now (second arguments) read (written_bytes (bytes_read (signature c.args.helper).frame arguments c.args.self.now.bytes)) _ same
+          alike does c.args.self.now (second arguments) read (written_bytes (bytes_read (frame_use (signature c.args.helper).shape) arguments c.args.self.now.bytes)) _ same
           (call_writes_nothing c.self.inside.marks c.self.inside.bytes c.args.self.now (second arguments) (does read).written c.call-answer.new.frame c.self.view_is none c.call-answer.ensures.frame);
       score = c.call-answer.ensures.score ∙ ap (λ (b : List ℕ). (does b).score) same;
     }
