@@ -7,8 +7,8 @@
 #   beside coreutils: where one isn't there, the block is left out, and said to be. `rt` is played: `rt try -- ..` and `rt run -- ..`
 #   run the program that is tried, and `rt ci` does nothing.
 # - A block ```asm that a block ```hex follows is a program and its words: `asm` makes these of it, and of what `dis` writes of them.
-# - A block ```asm that a block ```verdict follows is a program and what `verify` says of it. In a block ```verdicts each line is a program,
-#   with `|` between its lines, and behind `;` what `verify` says of it.
+# - In a block ```verdicts each row is a program, with `|` between its lines, and behind `;` what `verify` says of it. A row that ends with `|`
+#   goes on in the next line.
 # - A block ```http FOLDER is what a terminal shows beside a server that was just started over the county in FOLDER. It stands at port 8080 there, and
 #   at a free one here. Words behind the folder name further commands. What curl shows of a head is compared without its CRs.
 # - A row of a table with a status, its phrase and a text is a reply. A row with a request in its first cell, which ends a line by `\n`, and a
@@ -16,6 +16,8 @@
 # - In a block ```answers each line is the beginning of a program, and behind `;` is what r0 holds at its end, on the segment of examples/one.
 # - A row of a table with bytes in its first cell and a refusal in its second is a program that `verify` and `run` refuse so; one with a
 #   place, an instruction and its bytes is a program of one instruction, and is tried as above.
+#
+# Then the rows of examples/verdicts, which are such programs; there a line that begins with `#` says what the rows below it are of.
 #
 # Then the program over files and outputs that are missing, faulty or full, and the outcomes of a trace: each text of an error has to stand
 # in docs/refusals.md.
@@ -130,10 +132,24 @@ try_verdict() {
 
 # try_verdicts NAME ROWS
 try_verdicts() {
-    local row
-    while IFS= read -r row; do
+    local line row=""
+    while IFS= read -r line; do
+        case $line in '' | '#'*) continue ;; esac
+        row+=$line
+        [[ $row == *'|' ]] && continue
         try_verdict "$1" "$(tr '|' '\n' <<< "${row%;*}")" "${row##*; }"
+        row=""
     done <<< "$2"
+    [ -z "$row" ] || fail "$1 ends within a row" "$row"
+}
+
+# try_rows FILE
+try_rows() {
+    local before=$((tried + failed))
+    mkdir -p "$scratch/$1" && cd "$scratch/$1" || exit 1
+    try_verdicts "$1" "$(cat "$top/$1")"
+    cd "$top" || exit 1
+    [ $((tried + failed)) -gt $before ] || fail "$1 has no row"
 }
 
 # try_answers NAME ROWS: a program's r0 is made the score, which its row begins with.
@@ -209,7 +225,6 @@ try_document() {
             http) try_http "$1, line $begin" "$needed" "$text" ;;
             asm) asm=$text ;;
             hex) try_conversion "$1, line $begin" "$asm" "$text" ;;
-            verdict) try_verdict "$1, line $begin" "$asm" "$text" ;;
             verdicts) try_verdicts "$1, line $begin" "$text" ;;
             answers) try_answers "$1, line $begin" "$text" ;;
             esac
@@ -518,6 +533,9 @@ END
 cd "$top" || exit 1
 for document in README.md docs/*.md examples/README.md; do
     try_document "$document"
+done
+for rows in examples/verdicts/*.txt; do
+    try_rows "$rows"
 done
 try_cases
 echo "$tried passed, $failed failed"
