@@ -9,6 +9,8 @@ mod flow;
 #[cfg(test)]
 mod frame;
 #[cfg(test)]
+mod generated;
+#[cfg(test)]
 mod helpers;
 #[cfg(test)]
 mod insn;

@@ -176,7 +176,7 @@ accepted; call 4 | jeq r0, 0, +1 | jle r0, 1001, +1 | ldxb r0, [r9+0] | exit; 85
 );
 
 /// Whether a code's verdict is this one. What is accepted keeps the code.
-fn has_verdict(alloc: Global, code: Code<Global>, verdict: &str) -> bool {
+pub fn has_verdict(alloc: Global, code: Code<Global>, verdict: &str) -> bool {
     let count = code.instructions().len();
     let flow = match Flow::of(code) {
         Ok(flow) => flow,

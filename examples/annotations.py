@@ -1,0 +1,1266 @@
+#!/usr/bin/env python3
+"""Writes generated programs with their verdicts, found by a search for annotations.
+
+    python3 annotations.py             the rows of the table in crates/bpf_tests/src/generated.rt
+    python3 annotations.py PROGRAM     the verdict on one program, `|` between its lines
+
+A verdict is `accepted`, or the refusal's line. The rules are those of docs/verifier.md, written down a second time here: kinds, their order,
+the checks and edges of one instruction. What makes a verdict of them is written quite otherwise than in the verifier, which goes over a
+program once and joins the states that meet. Here nothing is joined. An annotation is a state for each instruction; it is good up to a place
+when the state at the start is below the first one and, for each instruction before the place, no check fails and the state on each edge is
+below the one where the edge leads. All annotations of a small domain are tried: if one is good to its end, the program is accepted; if not,
+it is refused at the first place where none that is good up to there passes, for what fails there in the least of them, which has to exist.
+
+The domain, for each place: Unreached, and every combination of
+- for each register that the program names, or uses by `call` or `exit`: Nothing, and of each sort of kind (number, record, frame) that
+  comes to the place in it on an edge out of any state of the domain, every interval with ends in a set: the ends that come so, and
+  for numbers 0 and 2^64 - 1, for offsets in the record 32767. Other registers: Nothing;
+- no mark, and every set of marks that comes so, or is what such sets have in common.
+A program has a few places, so no annotation of the domain is left out: those whose beginnings allow the same states at all later places
+have the same continuations, and are followed as one. A program whose domain is too large for that isn't used.
+
+Beyond the domain annotations are sampled, with any ends: none may pass where none of the domain does, or lack the least one below it.
+"""
+# Needs Python 3.8 or later, and nothing else.
+
+import itertools
+import re
+import sys
+from typing import NamedTuple
+
+SEED = 9669
+WORD = 1 << 64
+RECORD_BYTES, FRAME_BYTES = 228, 512
+LEAST_OFFSET, GREATEST_OFFSET = -32768, 32767
+
+# ---- Kinds and states, and their order
+
+
+class Kind(NamedTuple):
+    sort: str
+    low: int
+    high: int
+
+    def below(self, other):
+        within = other.sort == self.sort and other.low <= self.low and self.high <= other.high
+        return other is NOTHING or within
+
+    def single(self):
+        return self.low == self.high
+
+    def pointer(self):
+        return self.sort in ("record", "frame")
+
+
+NOTHING = Kind("nothing", 0, 0)
+
+
+def number(low, high=None):
+    return Kind("number", low, low if high is None else high)
+
+
+class State(NamedTuple):
+    registers: tuple
+    marks: frozenset
+
+    def read(self, name):
+        """The kind of a register, which has to be known of."""
+        kind = self.registers[index(name)]
+        check(kind is not NOTHING, "40", "ReadsNothing(%d)" % index(name))
+        return kind
+
+    def put(self, name, kind):
+        at = index(name)
+        return State(self.registers[:at] + (kind,) + self.registers[at + 1 :], self.marks)
+
+    def mark(self, first, count):
+        return State(self.registers, self.marks | frozenset(range(first, first + count)))
+
+    def below(self, other):
+        if other is UNREACHED:
+            return False
+        return self.marks >= other.marks and all(kind.below(above) for kind, above in zip(self.registers, other.registers))
+
+
+UNREACHED = None
+ENTRY = State((NOTHING, Kind("record", 0, 0)) + (NOTHING,) * 8 + (Kind("frame", FRAME_BYTES, FRAME_BYTES),), frozenset())
+
+
+def below(state, other):
+    return state is UNREACHED or state.below(other)
+
+
+class Fault(Exception):
+    """The first check that fails."""
+
+
+def check(passes, cause, name):
+    if not passes:
+        raise Fault(cause, name)
+
+
+def index(register):
+    return int(register[1:])
+
+
+# ---- Arithmetic on single numbers
+
+
+def signed(value, width):
+    return value - (1 << width) if value >> (width - 1) else value
+
+
+def quotient_towards_zero(x, y):
+    return abs(x) // abs(y) * (1 if (x < 0) == (y < 0) else -1)
+
+
+def exact(name, width, x, y):
+    """What an operation gives of two numbers below 2^width."""
+    amount = y % width
+    sx, sy = signed(x, width), signed(y, width)
+    value = {
+        "add": lambda: x + y,
+        "sub": lambda: x - y,
+        "mul": lambda: x * y,
+        "div": lambda: x // y if y else 0,
+        "mod": lambda: x % y if y else x,
+        "sdiv": lambda: quotient_towards_zero(sx, sy) if y else 0,
+        "smod": lambda: sx - sy * quotient_towards_zero(sx, sy) if y else x,
+        "or": lambda: x | y,
+        "and": lambda: x & y,
+        "xor": lambda: x ^ y,
+        "lsh": lambda: x << amount,
+        "rsh": lambda: x >> amount,
+        "arsh": lambda: sx >> amount,
+        "neg": lambda: -x,
+    }[name]()
+    return value % (1 << width)
+
+
+def reversed_bytes(value, bits):
+    return int.from_bytes((value % (1 << bits)).to_bytes(bits // 8, "little"), "big")
+
+
+# ---- Results on intervals
+
+
+def cut(x, bits):
+    size = 1 << bits
+    if x.low // size == x.high // size:
+        return number(x.low % size, x.high % size)
+    return number(0, size - 1)
+
+
+def result(name, width, x, y):
+    """What is known of the result of an operation with two operands, or of NEG."""
+    size = 1 << width
+    if width == 32:
+        x, y = cut(x, 32), cut(y, 32)
+    if name == "mov":
+        return y
+    if x.single() and y.single():
+        return number(exact(name, width, x.low, y.low))
+    low, high = RESULTS.get(name, unknown)(size, x.low, x.high, y.low, y.high)
+    return number(low, high)
+
+
+def unknown(size, *_):
+    return 0, size - 1
+
+
+def added(size, a, b, c, d):
+    if b + d < size:
+        return a + c, b + d
+    if a + c >= size:
+        return a + c - size, b + d - size
+    return unknown(size)
+
+
+def subtracted(size, a, b, c, d):
+    if a >= d:
+        return a - d, b - c
+    if b < c:
+        return a - d + size, b - c + size
+    return unknown(size)
+
+
+def multiplied(size, a, b, c, d):
+    return (a * c, b * d) if b * d < size else unknown(size)
+
+
+def divided(size, a, b, c, d):
+    return (a // d, b // c) if c >= 1 else (0, b)
+
+
+def remainder(size, a, b, c, d):
+    return (0, min(b, d - 1)) if c >= 1 else (0, b)
+
+
+def all_ones(b, d):
+    return (1 << max(b, d).bit_length()) - 1
+
+
+def shifted_left(size, a, b, c, d):
+    amount = c % (size.bit_length() - 1)
+    return (a << amount, b << amount) if c == d and b << amount < size else unknown(size)
+
+
+def shifted_right(size, a, b, c, d):
+    amount = c % (size.bit_length() - 1)
+    return (a >> amount, b >> amount) if c == d else (0, b)
+
+
+def shifted_with_sign(size, a, b, c, d):
+    width = size.bit_length() - 1
+    if c == d and (a < size // 2) == (b < size // 2):
+        return exact("arsh", width, a, c), exact("arsh", width, b, c)
+    return unknown(size)
+
+
+RESULTS = {
+    "add": added,
+    "sub": subtracted,
+    "mul": multiplied,
+    "div": divided,
+    "mod": remainder,
+    "and": lambda size, a, b, c, d: (0, min(b, d)),
+    "or": lambda size, a, b, c, d: (max(a, c), all_ones(b, d)),
+    "xor": lambda size, a, b, c, d: (0, all_ones(b, d)),
+    "lsh": shifted_left,
+    "rsh": shifted_right,
+    "arsh": shifted_with_sign,
+}
+
+
+def extended(bits, width, x):
+    """MOVSX."""
+    if width == 32:
+        x = cut(x, 32)
+    if x.single():
+        return number(signed(x.low % (1 << bits), bits) % (1 << width))
+    low_bits = cut(x, bits)
+    return low_bits if low_bits.high < 1 << (bits - 1) else number(0, (1 << width) - 1)
+
+
+def swapped(order, bits, x):
+    """END, which takes the whole register."""
+    if order == "le":
+        return cut(x, bits)
+    return number(reversed_bytes(x.low, bits)) if x.single() else number(0, (1 << bits) - 1)
+
+
+# ---- Narrowing
+
+
+def holds(name, width, x, y):
+    """Whether a comparison holds of two numbers."""
+    x, y = x % (1 << width), y % (1 << width)
+    if name[1] == "s" and name != "jset":
+        name, x, y = "j" + name[2:], signed(x, width), signed(y, width)
+    return {
+        "jeq": x == y,
+        "jne": x != y,
+        "jset": x & y != 0,
+        "jgt": x > y,
+        "jge": x >= y,
+        "jlt": x < y,
+        "jle": x <= y,
+    }[name]
+
+
+def interval(low, high):
+    """None where it is empty."""
+    return number(low, high) if low <= high else None
+
+
+def narrowed_equal(x, y):
+    both = interval(max(x.low, y.low), min(x.high, y.high))
+    return both, both
+
+
+def without(x, y):
+    if not y.single():
+        return x
+    return interval(x.low + (x.low == y.low), x.high - (x.high == y.low))
+
+
+def narrowed_unequal(x, y):
+    return without(x, y), without(y, x)
+
+
+def narrowed_above(x, y):
+    return interval(max(x.low, y.low + 1), x.high), interval(y.low, min(y.high, x.high - 1))
+
+
+def narrowed_not_below(x, y):
+    return interval(max(x.low, y.low), x.high), interval(y.low, min(y.high, x.high))
+
+
+def exchanged(narrowing):
+    return lambda x, y: narrowing(y, x)[::-1]
+
+
+# What is known of both operands where the jump is taken, and where it isn't.
+NARROWINGS = {
+    "eq": (narrowed_equal, narrowed_unequal),
+    "ne": (narrowed_unequal, narrowed_equal),
+    "gt": (narrowed_above, exchanged(narrowed_not_below)),
+    "ge": (narrowed_not_below, exchanged(narrowed_above)),
+    "lt": (exchanged(narrowed_above), narrowed_not_below),
+    "le": (exchanged(narrowed_not_below), narrowed_above),
+}
+
+
+def compared(name, width, x, y):
+    """For the jump taken and not: the operands' kinds, or None where the edge isn't reached."""
+    is_signed = name[1] == "s" and name != "jset"
+    limit = 1 << (width - 1 if is_signed else width)
+    if name != "jset" and x.high < limit and y.high < limit:
+        edges = [narrowing(x, y) for narrowing in NARROWINGS[name[-2:]]]
+        return [None if None in edge else edge for edge in edges]
+    if x.single() and y.single():
+        taken = holds(name, width, x.low, y.low)
+        return [(x, y) if taken else None, None if taken else (x, y)]
+    return [(x, y), (x, y)]
+
+
+# ---- Program text
+
+SIZES = {"b": 1, "h": 2, "w": 4, "dw": 8}
+OPERATIONS = "add|sub|mul|div|sdiv|or|and|lsh|rsh|mod|smod|xor|mov|arsh"
+CONDITIONS = "jeq|jgt|jge|jset|jne|jsgt|jsge|jlt|jle|jslt|jsle"
+FORMS = [
+    ("arithmetic", "(%s)(32)?" % OPERATIONS),
+    ("negate", "neg(32)?"),
+    ("extend", "movsx(8|16|32)(_32)?"),
+    ("swap", "(le|be|swap)(16|32|64)"),
+    ("jump", "(%s)(32)?" % CONDITIONS),
+    ("always", "ja"),
+    ("call", "call"),
+    ("exit", "exit"),
+    ("wide", "lddw"),
+    ("load", "ldx(s?)(b|h|w|dw)"),
+    ("store", "st(x?)(b|h|w|dw)"),
+]
+FORMS = [(form, re.compile(pattern)) for form, pattern in FORMS]
+
+
+def operand(text):
+    """A register is its name, an address its base and offset, anything else a number."""
+    if text.startswith("r"):
+        return text
+    if text.startswith("["):
+        base, offset = re.fullmatch(r"\[(r\d+)([+-]\d+)?\]", text).groups()
+        return base, int(offset or 0)
+    return int(text, 0)
+
+
+def immediate(word):
+    """Hexadecimal digits write the 32 bits."""
+    return signed(word % (1 << 32), 32) if isinstance(word, int) else word
+
+
+class Instruction(NamedTuple):
+    form: str
+    parts: tuple
+    operands: tuple
+    after: int
+
+    def targets(self):
+        """The places that edges lead to, as `step` orders its edges."""
+        if self.form == "exit":
+            return []
+        if self.form == "always":
+            return [self.after + self.operands[0]]
+        return [self.after + self.operands[2], self.after] if self.form == "jump" else [self.after]
+
+    def names(self):
+        """The registers that are used."""
+        used = [part for word in self.operands for part in (word if isinstance(word, tuple) else (word,)) if isinstance(part, str)]
+        if self.form == "exit":
+            used.append("r0")
+        if self.form == "call":
+            used += ["r%d" % at for at in range(len(HELPERS.get(self.operands[0], ((), 0))[0]) + 1)]
+        return used
+
+
+def read_line(line, place):
+    mnemonic, _, rest = line.partition(" ")
+    for form, pattern in FORMS:
+        found = pattern.fullmatch(mnemonic)
+        if found:
+            operands = tuple(operand(word) for word in rest.split(", ") if word)
+            if form == "wide":
+                return Instruction(form, found.groups(), operands, place + 2)
+            return Instruction(form, found.groups(), tuple(map(immediate, operands)), place + 1)
+    raise ValueError("no such instruction: " + line)
+
+
+def read_program(text):
+    """The instructions by their places."""
+    program, place = {}, 0
+    for line in text.split("|"):
+        program[place] = read_line(line.strip(), place)
+        place = program[place].after
+    if any(target not in program for instruction in program.values() for target in instruction.targets()):
+        raise ValueError("no forward code: " + text)
+    return program
+
+
+# ---- The step of one instruction on a state
+
+# The bounds of each argument, None for bytes of the frame, and the answer.
+ANY, LENGTH = (0, WORD - 1), (1, 30)
+HELPERS = {
+    1: ([(0, 16)], number(0, 99999999999)),
+    2: ([(0, 16)], number(0, 1)),
+    3: ([], number(0, 5000)),
+    4: ([], number(1, 1001)),
+    5: ([ANY, ANY], number(0, 3)),
+    6: ([ANY, None, LENGTH], number(0, 1)),
+    7: ([ANY, None, LENGTH], number(0, 1)),
+    8: ([ANY], number(0)),
+    9: ([(0, 3)], number(0, WORD - 1)),
+}
+NAME_COPY, NAME_IS = 6, 7
+
+
+def value_of(state, operand, width):
+    if isinstance(operand, str):
+        return state.read(operand)
+    return number(operand % (1 << width))
+
+
+def moved(name, pointer, distance):
+    """A pointer that a number is added to or subtracted from."""
+    fits = distance.high <= GREATEST_OFFSET or distance.low >= WORD + LEAST_OFFSET
+    check(not distance.pointer() and fits, "41", "PointerArithmetic")
+    low, high = signed(distance.low, 64), signed(distance.high, 64)
+    if name == "sub":
+        low, high = -high, -low
+    low, high = pointer.low + low, pointer.high + high
+    check(LEAST_OFFSET <= low and high <= GREATEST_OFFSET, "42", "LeavesArea")
+    return Kind(pointer.sort, low, high)
+
+
+def combined(name, width, x, y):
+    if not x.pointer() and not y.pointer():
+        return result(name, width, x, y)
+    check(width == 64, "41", "PointerArithmetic")
+    if name == "mov":
+        return y
+    if name in ("add", "sub") and x.pointer():
+        return moved(name, x, y)
+    check(name == "add", "41", "PointerArithmetic")
+    return moved(name, y, x)
+
+
+def arithmetic(state, instruction):
+    (name, width), (to, source) = instruction.parts, instruction.operands
+    width = int(width or 64)
+    x = number(0) if name == "mov" else state.read(to)
+    y = value_of(state, source, width)
+    return [state.put(to, combined(name, width, x, y))]
+
+
+def number_in(state, name):
+    kind = state.read(name)
+    check(not kind.pointer(), "41", "PointerArithmetic")
+    return kind
+
+
+def negate(state, instruction):
+    to = instruction.operands[0]
+    x = number_in(state, to)
+    return [state.put(to, result("neg", int(instruction.parts[0] or 64), x, number(0)))]
+
+
+def extend(state, instruction):
+    (bits, width), (to, source) = instruction.parts, instruction.operands
+    return [state.put(to, extended(int(bits), 32 if width else 64, number_in(state, source)))]
+
+
+def swap(state, instruction):
+    (order, bits), to = instruction.parts, instruction.operands[0]
+    return [state.put(to, swapped(order, int(bits), number_in(state, to)))]
+
+
+def wide(state, instruction):
+    to, value = instruction.operands
+    return [state.put(to, number(value))]
+
+
+def jump(state, instruction):
+    (name, width), (left, right, _) = instruction.parts, instruction.operands
+    width = int(width or 64)
+    x, y = state.read(left), value_of(state, right, width)
+    check(not x.pointer() and not y.pointer(), "48", "ComparesPointer")
+    if left == right:
+        return [state, state]
+    edges = []
+    for edge in compared(name, width, x, y):
+        to = UNREACHED
+        if edge is not None:
+            to = state.put(left, edge[0])
+            if isinstance(right, str):
+                to = to.put(right, edge[1])
+        edges.append(to)
+    return edges
+
+
+def base_of(state, address):
+    kind = state.read(address[0])
+    check(kind.pointer(), "43", "NotPointer")
+    return kind
+
+
+def reached_bytes(pointer, offset, count):
+    """The bytes that an access may touch."""
+    first, last = pointer.low + offset, pointer.high + offset + count - 1
+    size = RECORD_BYTES if pointer.sort == "record" else FRAME_BYTES
+    check(0 <= first and last < size, "44", "OutOfBounds")
+    return range(first, last + 1)
+
+
+def read_bytes(state, pointer, offset, count):
+    reached = reached_bytes(pointer, offset, count)
+    check(pointer.sort == "record" or state.marks.issuperset(reached), "45", "UnwrittenFrame")
+
+
+def load(state, instruction):
+    (sign, size), (to, address) = instruction.parts, instruction.operands
+    size = SIZES[size]
+    read_bytes(state, base_of(state, address), address[1], size)
+    return [state.put(to, number(0, WORD - 1 if sign else (1 << 8 * size) - 1))]
+
+
+def store(state, instruction):
+    size, (address, source) = SIZES[instruction.parts[1]], instruction.operands
+    base = base_of(state, address)
+    check(base.sort == "frame", "46", "WritesRecord")
+    if isinstance(source, str):
+        check(not state.read(source).pointer(), "47", "StoresPointer")
+    reached = reached_bytes(base, address[1], size)
+    return [state.mark(reached[0], size) if base.single() else state]
+
+
+def argument(state, at, bounds):
+    kind = state.read("r%d" % at)
+    fits = kind.sort == "frame" if bounds is None else kind.sort == "number" and bounds[0] <= kind.low and kind.high <= bounds[1]
+    check(fits, "50", "BadArgument(%d)" % at)
+    return kind
+
+
+def call(state, instruction):
+    helper = instruction.operands[0]
+    check(helper in HELPERS, "49", "UnknownHelper")
+    bounds, answer = HELPERS[helper]
+    given = [argument(state, at, bound) for at, bound in enumerate(bounds, 1)]
+    if helper in (NAME_COPY, NAME_IS):
+        pointer, length = given[1:]
+        if helper == NAME_IS:
+            read_bytes(state, pointer, 0, length.high)
+        else:
+            reached = reached_bytes(pointer, 0, length.high)
+            state = state.mark(reached[0], length.low) if pointer.single() else state
+    for name in ("r1", "r2", "r3", "r4", "r5"):
+        state = state.put(name, NOTHING)
+    return [state.put("r0", answer)]
+
+
+def leave(state, _):
+    check(not state.read("r0").pointer(), "51", "ExitNotNumber")
+    return []
+
+
+STEPS = {
+    "arithmetic": arithmetic,
+    "negate": negate,
+    "extend": extend,
+    "swap": swap,
+    "jump": jump,
+    "always": lambda state, _: [state],
+    "call": call,
+    "exit": leave,
+    "wide": wide,
+    "load": load,
+    "store": store,
+}
+
+
+def step(instruction, state):
+    """The state on each edge out, with where it leads; or a Fault."""
+    targets = instruction.targets()
+    edges = [UNREACHED] * len(targets) if state is UNREACHED else STEPS[instruction.form](state, instruction)
+    return list(zip(targets, edges))
+
+
+# ---- The domain of a program
+
+
+class TooLarge(Exception):
+    """More states than are tried."""
+
+
+SORTS = {"number": (0, WORD - 1), "record": (GREATEST_OFFSET,), "frame": ()}
+
+
+def kinds_tried(coming):
+    """The kinds that are tried for a register to which these come, and with which of them it is gone on to find what comes to later places: the intervals
+    from a lower end that comes to an upper end that comes."""
+    tried, followed = {NOTHING}, coming & {NOTHING}
+    for sort, outermost in SORTS.items():
+        lows = {kind.low for kind in coming if kind.sort == sort}
+        highs = {kind.high for kind in coming if kind.sort == sort}
+        if lows:
+            ends = lows.union(highs, outermost)
+            tried |= {Kind(sort, low, high) for low in ends for high in ends if low <= high}
+            followed |= {Kind(sort, low, high) for low in lows for high in highs if low <= high}
+    if len({kind.sort for kind in coming}) > 1:
+        followed.add(NOTHING)
+    return tried, followed or {NOTHING}
+
+
+def marks_tried(coming):
+    """The same of sets of marks."""
+    followed, more = set(), coming
+    while more:
+        followed |= more
+        more = {one & other for one in followed for other in followed} - followed
+    return followed | {frozenset()}, followed or {frozenset()}
+
+
+class Column:
+    """What is tried for one register, or for the marks, at one place: each value is a bit, from a first one on."""
+
+    def __init__(self, tried, followed, is_below, first):
+        self.values = sorted(tried, key=repr)
+        self.followed = followed
+        self.is_below = is_below
+        self.bits = {value: 1 << first + at for at, value in enumerate(self.values)}
+        self.known = {}
+
+    def bit(self, value):
+        return self.bits[value]
+
+    def above(self, value):
+        """The bits of the values that this one is below."""
+        if value not in self.known:
+            self.known[value] = sum(bit for other, bit in self.bits.items() if self.is_below(value, other))
+        return self.known[value]
+
+
+class Domain:
+    """The states that are tried at one place. What is above given states is a product over the columns, so a set of states is a number with the bits of each
+    column, and one bit for Unreached."""
+
+    def __init__(self, used, coming, first):
+        self.used, self.unreached, self.columns = used, 1 << first, []
+        self.end = first + 1
+        arrived = [state for state in coming if state is not UNREACHED]
+        for at in used:
+            self.add(*kinds_tried({state.registers[at] for state in arrived}), Kind.below)
+        self.add(*marks_tried({state.marks for state in arrived}), frozenset.issuperset)
+        self.everything = (1 << self.end) - (1 << first)
+
+    def add(self, tried, followed, is_below):
+        self.columns.append(Column(tried, followed, is_below, self.end))
+        self.end += len(tried)
+
+    def parts(self, state):
+        return zip(self.columns, [state.registers[at] for at in self.used] + [state.marks])
+
+    def alone(self, state):
+        return sum(column.bit(part) for column, part in self.parts(state))
+
+    def above(self, state):
+        """The states that this one is below."""
+        if state is UNREACHED:
+            return self.everything
+        return sum(column.above(part) for column, part in self.parts(state))
+
+    def product(self, choices):
+        for parts in itertools.product(*choices):
+            registers = [NOTHING] * len(ENTRY.registers)
+            for at, kind in zip(self.used, parts):
+                registers[at] = kind
+            yield State(tuple(registers), parts[-1])
+
+    def followed(self):
+        return self.product([column.followed for column in self.columns])
+
+    def states(self):
+        """All states, each as a set of one."""
+        yield self.unreached, UNREACHED
+        for state in self.product([column.values for column in self.columns]):
+            yield self.alone(state), state
+
+    def count(self):
+        total = 1
+        for column in self.columns:
+            total *= len(column.values)
+        return total + 1
+
+
+# ---- The search
+
+STATES_AT_MOST, STEPS_AT_MOST = 800, 100000
+
+
+def outcome(instruction, state):
+    """The edges, or the fault."""
+    try:
+        return step(instruction, state), None
+    except Fault as fault:
+        return None, fault
+
+
+class Search:
+    """All annotations of a program's domain, from place to place. One that is good up to a place is kept as its front, a number: the states that it allows
+    at all places from there on, in the bits of their domains."""
+
+    def __init__(self, program):
+        self.program = program
+        self.places = list(program)
+        self.used = sorted({index(name) for instruction in program.values() for name in instruction.names()})
+        kinds = (kind if at in self.used else NOTHING for at, kind in enumerate(ENTRY.registers))
+        self.entry = State(tuple(kinds), ENTRY.marks)
+        self.make_domains()
+        self.follow()
+
+    def make_domains(self):
+        """The places upwards, since edges lead upwards alone."""
+        self.domains, coming, first = {}, {place: set() for place in self.places}, 0
+        coming[0].add(self.entry)
+        for place in self.places:
+            domain = self.domains[place] = Domain(self.used, coming[place], first)
+            first = domain.end
+            if domain.count() > STATES_AT_MOST:
+                raise TooLarge
+            for state in domain.followed():
+                for target, edge in outcome(self.program[place], state)[0] or ():
+                    coming[target].add(edge)
+
+    def behind(self, place, edges):
+        """What edges allow at the places behind theirs."""
+        allowed = -1 << self.domains[place].end
+        for target, edge in edges:
+            domain = self.domains[target]
+            allowed &= ~domain.everything | domain.above(edge)
+        return allowed
+
+    def passing(self, place):
+        """The states of a domain that pass, each as a set of one, with what it allows behind."""
+        found = []
+        for alone, state in self.domains[place].states():
+            edges, _ = outcome(self.program[place], state)
+            if edges is not None:
+                found.append((alone, state, self.behind(place, edges)))
+        return found
+
+    def follow(self):
+        """Finds `layers`: for each place that annotations are good up to, their fronts, each with the states that pass."""
+        start = self.domains[0]
+        last = self.domains[self.places[-1]].end
+        fronts, self.layers, steps = {(1 << last) - (1 << start.end) | start.above(self.entry)}, [], 0
+        for place in self.places:
+            everything, passing = self.domains[place].everything, self.passing(place)
+            sets = {bits: [found for found in passing if not found[0] & ~bits] for bits in {front & everything for front in fronts}}
+            layer = {front: sets[front & everything] for front in fronts}
+            steps += sum(map(len, layer.values()))
+            if steps > STEPS_AT_MOST:
+                raise TooLarge
+            self.layers.append(layer)
+            fronts = {front & allowed for front, states in layer.items() for _, _, allowed in states}
+
+    def accepted(self):
+        return any(self.layers[-1].values())
+
+    def states_met(self):
+        """For each place up to the verdict's, the states that it has in the annotations good up to there, or to the end."""
+        layers, met = [layer for layer in self.layers if layer], []
+        fronts = {0}
+        if not self.accepted():
+            fronts = layers.pop()
+            domain = self.domains[self.places[len(layers)]]
+            met.append({state for alone, state in domain.states() if any(not alone & ~front for front in fronts)})
+        for layer in reversed(layers):
+            going_on = [(front, state) for front, states in layer.items() for _, state, allowed in states if front & allowed in fronts]
+            fronts = {front for front, _ in going_on}
+            met.append({state for _, state in going_on})
+        return dict(zip(self.places, reversed(met)))
+
+    def least(self):
+        """The annotation that is below all others, up to the verdict's place. It has to exist."""
+        annotation = {place: least_of(states) for place, states in self.states_met().items()}
+        assert is_good(self.program, annotation, self.entry)
+        return annotation
+
+    def verdict(self):
+        if self.accepted():
+            return "accepted"
+        place, state = list(self.least().items())[-1]
+        cause, name = outcome(self.program[place], state)[1].args
+        return "refused %s place %d %s" % (cause, place, name)
+
+
+def least_of(states):
+    least = UNREACHED if UNREACHED in states else next(iter(states))
+    for state in states:
+        least = state if below(state, least) else least
+    assert all(below(least, state) for state in states)
+    return least
+
+
+def is_good(program, annotation, entry):
+    """Whether an annotation is good up to its last place."""
+    last = max(annotation)
+    if not below(entry, annotation[0]):
+        return False
+    for place in annotation:
+        if place < last:
+            edges, fault = outcome(program[place], annotation[place])
+            if fault or not all(target > last or below(edge, annotation[target]) for target, edge in edges):
+                return False
+    return True
+
+
+# ---- Annotations beyond the domain
+
+
+class Draw:
+    """A generator of this script's own, so that no version of Python changes what is drawn."""
+
+    def __init__(self, seed):
+        self.state = seed
+
+    def bits(self):
+        self.state = (self.state * 6364136223846793005 + 1442695040888963407) % WORD
+        return self.state >> 33
+
+    def between(self, low, high):
+        return low + ((high - low + 1) * (self.bits() << 31 | self.bits()) >> 62)
+
+    def one_of(self, choices):
+        return choices[self.between(0, len(choices) - 1)]
+
+    def chance(self, among):
+        return self.between(1, among) == 1
+
+
+EXTENTS = {"number": (0, WORD - 1), "record": (LEAST_OFFSET, GREATEST_OFFSET), "frame": (LEAST_OFFSET, GREATEST_OFFSET)}
+
+
+def kind_above(draw, kinds):
+    if len({kind.sort for kind in kinds}) > 1 or NOTHING in kinds or draw.chance(8):
+        return NOTHING
+    least, greatest = EXTENTS[kinds[0].sort]
+    low, high = min(kind.low for kind in kinds), max(kind.high for kind in kinds)
+    low = draw.one_of((low, low, low, max(least, low - 1), draw.between(least, low)))
+    high = draw.one_of((high, high, high, min(greatest, high + 1), draw.between(high, greatest)))
+    return Kind(kinds[0].sort, low, high)
+
+
+def state_above(draw, states, entry):
+    reached = [state for state in states if state is not UNREACHED]
+    if not reached and not draw.chance(4):
+        return UNREACHED
+    reached = reached or [entry]
+    marks = frozenset.intersection(*(state.marks for state in reached))
+    registers = tuple(kind_above(draw, kinds) for kinds in zip(*(state.registers for state in reached)))
+    return State(registers, frozenset(at for at in marks if not draw.chance(8)))
+
+
+def sample(draw, search, least):
+    """Draws an annotation. It has to be above the least one, and to fail at the verdict's place at the latest where that is a refusal."""
+    annotation, coming = {}, {place: [] for place in search.places}
+    coming[0].append(search.entry)
+    for place in least:
+        state = annotation[place] = state_above(draw, coming[place], search.entry)
+        assert below(least[place], state)
+        edges, fault = outcome(search.program[place], state)
+        if fault:
+            break
+        for target, edge in edges:
+            coming[target].append(edge)
+    else:
+        assert search.accepted()
+    assert is_good(search.program, annotation, search.entry)
+
+
+def judged(text, samples):
+    """The verdict on a program."""
+    search = Search(read_program(text))
+    draw, least = Draw(SEED), search.least()
+    for _ in range(samples):
+        sample(draw, search, least)
+    return search.verdict()
+
+
+# ---- Generated programs
+#
+# A body calculates, compares or stores; a probe behind it passes for what is known of a register by then and for nothing wider, or asks for
+# one more than that. In lines `+END` is the distance to the last `exit`.
+
+SMALL = (0, 1, 2, 3, 5, 7, 8, 15, 31, 32, 63, 64, 100, 127, 128, 255, 256, 1000)
+IMMEDIATES = SMALL + (-1, -2, -3, -8, -128, -255, -256, 32767, -32768, 65535, 65536, 2147483647, -2147483648)
+
+
+def linked(lines):
+    """The lines as text, with distances."""
+    sizes = [2 if line.startswith("lddw") else 1 for line in lines]
+    return " | ".join(line.replace("END", str(sum(sizes[at + 1 : -1]))) for at, line in enumerate(lines))
+
+
+def loaded(draw, to, sizes="b b h w dw sb sh sw"):
+    return "ldx%s %s, [r1+%d]" % (draw.one_of(sizes.split()), to, draw.between(0, 99))
+
+
+# What can't pass where it is reached, each cause by some lines.
+FAULTS = (
+    (("mov r0, r9",), ("neg r9",), ("add r9, 1",), ("movsx8 r0, r9",), ("stxb [r10-1], r9",)),
+    (("add32 r0, r10",), ("and r0, r10",), ("sub r0, r10",), ("mov32 r0, r10",), ("movsx8 r0, r10",)),
+    (("mov r9, r10", "neg r9"), ("mov r9, r10", "be16 r9"), ("mov r9, r10", "mul r9, 2"), ("mov r9, r10", "add r9, 32768")),
+    (("mov r0, r10", "add r0, 32767"), ("mov r0, r10", "sub r0, -32768")),
+    (("ldxb r0, [r0+0]",), ("stb [r0+0], 1",), ("stxw [r0-4], r10",)),
+    (("ldxb r0, [r10+0]",), ("sth [r10-1], 1",), ("ldxw r0, [r10-513]",), ("ldxb r0, [r1+228]",)),
+    (("ldxb r0, [r10-1]",), ("ldxdw r0, [r10-512]",)),
+    (("stb [r1+0], 1",), ("stxb [r1+228], r9",), ("stdw [r1-1], 0",)),
+    (("stxdw [r10-8], r10",), ("stxb [r10+9], r10",)),
+    (("jeq r10, 0, +0",), ("jset r10, r10, +0",), ("jslt32 r0, r10, +0",)),
+    (("call 0",), ("call 10",), ("call -1",)),
+    (("mov r1, r10", "call 8"), ("mov r1, 4", "call 9"), ("mov r1, 17", "call 1"), ("mov r1, -1", "call 2")),
+    (("mov r0, r10", "exit"),),
+)
+
+
+def fault_drawn(draw):
+    return list(draw.one_of(draw.one_of(FAULTS)))
+
+
+def immediate_of(value):
+    """The immediate that a 64-bit comparison makes this number of, or None."""
+    value = signed(value, 64)
+    return value if -(1 << 31) <= value < 1 << 31 else None
+
+
+def comparison(name, condition, value, high):
+    """A comparison with any number: with an immediate in either width, or with r9."""
+    if immediate_of(value) is not None:
+        return ["%s %s, %d" % (condition, name, immediate_of(value))]
+    if high < 1 << 32:
+        return ["%s32 %s, %d" % (condition, name, signed(value, 32))]
+    return ["lddw r9, %d" % value, "%s %s, r9" % (condition, name)]
+
+
+def number_probe(draw, name, kind, exactly):
+    """A jump that is always taken where the number lies as it does, and a fault behind it."""
+    if draw.chance(2):
+        bound = kind.high - (not exactly)
+        condition, value = draw.one_of((("jle", bound), ("jlt", bound + 1)))
+    else:
+        bound = kind.low + (not exactly)
+        condition, value = draw.one_of((("jge", bound), ("jgt", bound - 1)))
+    if not 0 <= value < WORD:
+        return number_probe(draw, name, kind, exactly)
+    fault = fault_drawn(draw)
+    *before, jump = comparison(name, condition, value, kind.high)
+    return before + ["%s, +%d" % (jump, len(fault)), *fault]
+
+
+def access(draw, name, kind, exactly):
+    """A load or a store whose first or last byte is the area's."""
+    size = draw.one_of(tuple(SIZES))
+    if draw.chance(2):
+        end = RECORD_BYTES if kind.sort == "record" else FRAME_BYTES
+        offset = end - SIZES[size] - kind.high + (not exactly)
+    else:
+        offset = -kind.low - (not exactly)
+    if not LEAST_OFFSET <= offset <= GREATEST_OFFSET:
+        return ["stxdw [r10-8], %s" % name]
+    if kind.sort == "record":
+        return ["ldx%s r0, [%s%+d]" % (size, name, offset)]
+    return ["st%s [%s%+d], 1" % (size, name, offset)]
+
+
+# A register may be known nothing of as long as it isn't read.
+UNKNOWN_USED = ("mov r0, %s", "add r0, %s", "neg %s", "ldxb r0, [%s+0]", "stb [%s+0], 1", "jeq %s, 1, +0", "jne r0, %s, +0", "movsx8 r0, %s")
+UNKNOWN_USED += ("mov %s, r0", "lddw %s, 7", "mov32 %s, 3")
+
+
+def probe(draw, name, state, exactly):
+    """Lines that pass, or don't, for what is known of a register."""
+    if state is UNREACHED:
+        return fault_drawn(draw)
+    kind, record = state.registers[index(name)], state.registers[1]
+    if kind is NOTHING:
+        return [draw.one_of(UNKNOWN_USED) % name]
+    if kind.pointer():
+        return access(draw, name, kind, exactly)
+    if record.sort == "record" and kind.high + record.high <= GREATEST_OFFSET and draw.chance(3):
+        there = Kind("record", record.low + kind.low, record.high + kind.high)
+        return ["add r1, %s" % name, *access(draw, "r1", there, exactly)]
+    return number_probe(draw, name, kind, exactly)
+
+
+def finished(draw, body, name, exactly):
+    """The program of a body, with a probe where nothing in the body fails."""
+    search = Search(read_program(linked(body + ["ja +0", "exit"])))
+    least = search.least()
+    place = search.places[-2]
+    if place not in least:
+        return linked(body + ["exit"])
+    state = least[place]
+    lines = body + probe(draw, name, state, exactly)
+    if state is not UNREACHED and state.registers[0].sort != "number" and "r0" not in lines[-1]:
+        lines.append("mov r0, 1")
+    return linked(lines + ["exit"])
+
+
+# Each family of bodies: lines, and the register that is probed.
+
+
+def with_immediate(draw, operation):
+    return [draw.one_of((loaded(draw, "r0"), "call 4", "call 3")), "%s r0, %d" % (operation, draw.one_of(IMMEDIATES))], "r0"
+
+
+def with_register(draw, operation):
+    shape = draw.between(1, 3)
+    if shape == 1:
+        return [loaded(draw, "r0"), loaded(draw, "r2"), "%s r0, r2" % operation], "r0"
+    to, source = ("r0", "r6") if shape == 2 else ("r6", "r0")
+    return [loaded(draw, "r6"), "call 4", "%s %s, %s" % (operation, to, source)], to
+
+
+def with_numbers(draw, operation):
+    start = draw.one_of(("mov r0, %d", "mov32 r0, %d")) % draw.one_of(IMMEDIATES)
+    return [start, "%s r0, %d" % (operation, draw.one_of(IMMEDIATES))], "r0"
+
+
+def of_one(draw, operation):
+    """Operations of one operand."""
+    to = "r0, r0" if operation.startswith("mov") else "r0"
+    start = draw.one_of(("ldxb", "ldxh", "ldxw", "mov", "and", "lddw"))
+    if start == "mov":
+        return ["mov r0, %d" % draw.one_of(IMMEDIATES), "%s %s" % (operation, to)], "r0"
+    if start == "lddw":
+        return ["lddw r0, 0x%x" % draw.between(0, WORD - 1), "%s %s" % (operation, to)], "r0"
+    if start == "and":
+        return [loaded(draw, "r0"), "and r0, %d" % draw.one_of((15, 127, 255, 32767)), "%s %s" % (operation, to)], "r0"
+    return ["%s r0, [r1+%d]" % (start, draw.between(0, 220)), "%s %s" % (operation, to)], "r0"
+
+
+def of_load(draw, size):
+    return ["ldx%s r0, [r1+%d]" % (size, draw.between(0, 9))], "r0"
+
+
+def answered(draw, helper):
+    bound = HELPERS[helper][0][0][1] if HELPERS[helper][0] else 0
+    lines = ["mov r1, %d" % draw.between(0, min(bound, 16))] * (helper not in (3, 4)) + ["mov r2, 9"] * (helper == 5)
+    return lines + ["call %d" % helper], "r0"
+
+
+def near(draw, size):
+    """An immediate that tells among numbers of this size."""
+    bits = 8 * SIZES[size]
+    pool = (0, 1, (1 << bits) - 1, (1 << bits - 1) - 1, 1 << bits - 1, draw.between(0, (1 << min(bits, 31)) - 1))
+    return signed(draw.one_of(pool) % (1 << 32), 32)
+
+
+def narrowed(draw, condition, taken, right):
+    """What is known where a jump is taken or isn't, of either side."""
+    size = draw.one_of(("b", "b", "h", "w", "dw"))
+    lines, name = ["ldx%s r0, [r1+%d]" % (size, draw.between(0, 9))], "r0"
+    if right == "register":
+        lines.append(draw.one_of((loaded(draw, "r2", "b h w"), "mov r2, %d" % near(draw, size))))
+        operand, name = "r2", draw.one_of(("r0", "r2"))
+    else:
+        operand = near(draw, size)
+    pair = ("r0", operand) if right != "register" or draw.chance(2) else (operand, "r0")
+    if taken:
+        return lines + ["%s %s, %s, +1" % ((condition,) + pair), "exit"], name
+    return lines + ["%s %s, %s, +END" % ((condition,) + pair)], name
+
+
+def decided(draw, condition, taken, _):
+    """Comparisons of two single numbers, of which one edge isn't reached."""
+    one = draw.one_of(IMMEDIATES)
+    lines = ["%s r0, %d" % (draw.one_of(("mov", "mov32")), one)]
+    other = draw.one_of((one, one + 1, one - 1, draw.one_of(IMMEDIATES)))
+    other = max(-2147483648, min(2147483647, other))
+    if taken:
+        return lines + ["%s r0, %d, +1" % (condition, other), "exit"], "r0"
+    return lines + ["%s r0, %d, +END" % (condition, other)], "r0"
+
+
+def moved_pointer(draw, _):
+    """Pointers that numbers are added to and subtracted from."""
+    to, lines = "r1", []
+    if draw.chance(3):
+        to, lines = "r2", ["mov r2, %s" % draw.one_of(("r1", "r10"))]
+    distance = draw.one_of((1, -1, 200, 227, -512, 32767, 32255, 32256, -32768, -32767, 32768, -32769))
+    moves = ("add %s, %d" % (to, distance), "sub %s, %d" % (to, -distance))
+    shape = draw.between(1, 4)
+    if shape == 1:
+        return lines + [draw.one_of(moves), "%s %s, %d" % (draw.one_of(("add", "sub")), to, draw.one_of((1, -1, 100, -512)))], to
+    if shape == 2:
+        return lines + [loaded(draw, "r0", "b h"), "jgt r0, %d, +END" % draw.one_of((15, 227, 32767, 32768)), "%s %s, r0" % (draw.one_of(("add", "sub")), to)], to
+    if shape == 3:
+        return lines + [loaded(draw, "r0", "b"), draw.one_of(moves), "%s %s, r0" % (draw.one_of(("add", "sub")), to)], to
+    return [loaded(draw, "r0", "b h"), "mov r3, r0", "%s r3, %s" % (draw.one_of(("add", "add", "sub")), draw.one_of(("r1", "r10")))], "r3"
+
+
+def joined_pointer(draw, _):
+    """Pointers at one offset or another."""
+    base = draw.one_of(("r1", "r10"))
+    lines = ["mov r2, %s" % base, loaded(draw, "r0", "b"), "jeq r0, %d, +1" % draw.one_of(SMALL)]
+    return lines + ["%s r2, %d" % (draw.one_of(("add", "sub")), draw.one_of((1, 7, 227, -1, -8, -512)))], "r2"
+
+
+def marked(draw, _):
+    """Stores on one way or both, and a load. There is no probe."""
+    store = lambda: draw.one_of(("stb [r10-%d], 1" % draw.between(1, 4), "sth [r10-%d], 1" % draw.one_of((2, 3, 4)), "stxb [r10-%d], r0" % draw.between(1, 4)))
+    load = draw.one_of(("ldxb r0, [r10-%d]" % draw.between(1, 4), "ldxh r0, [r10-%d]" % draw.between(2, 4), "ldxsh r0, [r10-2]"))
+    shape = draw.between(1, 4)
+    lines = [loaded(draw, "r0", "b")]
+    jump = "%s r0, %d, +%%d" % (draw.one_of(("jeq", "jgt", "jset", "jslt32")), draw.one_of(SMALL))
+    if shape == 1:
+        return lines + [store(), jump % 1, store(), load], None
+    if shape == 2:
+        return lines + [jump % 2, store(), "ja +1", store(), load], None
+    if shape == 3:
+        return lines + ["and r0, 1", "mov r2, r10", "sub r2, r0", store(), draw.one_of(("stb [r2-2], 1", "ldxb r0, [r2-2]", "ldxh r0, [r2-3]")), load], None
+    return [store(), store(), load], None
+
+
+def copied(draw, helper):
+    """Helpers that take bytes of the frame, at their limits."""
+    length, at = draw.one_of((1, 2, 4, 30)), draw.one_of((1, 2, 4, 30, 512))
+    given = draw.one_of((length, length, length, 0, 31))
+    lines = ["mov r1, 0", "mov r2, r10", "add r2, -%d" % at, "mov r3, %d" % given, "call %d" % helper]
+    if helper == NAME_IS:
+        return [draw.one_of(("sth [r10-2], 1", "stb [r10-1], 1", "stw [r10-4], 1"))] + lines, None
+    return lines + [draw.one_of(("ldxb r0, [r10-1]", "ldxh r0, [r10-2]", "ldxb r0, [r10-%d]" % at))], None
+
+
+def unreached(draw, _):
+    fault = fault_drawn(draw)
+    start = draw.one_of(("mov r0, 1", "call 3"))
+    return [start, draw.one_of(("ja +END", "exit")), *fault], None
+
+
+def against_itself(draw, condition):
+    """Both edges are reached, and nothing is narrowed."""
+    if draw.chance(2):
+        return [loaded(draw, "r0"), "%s r0, r0, +END" % condition], "r0"
+    return ["mov r0, %d" % draw.one_of(SMALL), "%s r0, r0, +END" % condition], "r0"
+
+
+KIND_SOURCES = {
+    "number": ("mov %s, 7", "mov %s, -1", "mov32 %s, 300", "mov %s, 0"),
+    "record": ("mov %s, r1",),
+    "frame": ("mov %s, r10",),
+    "nothing": ("call 3",),
+}
+
+
+def joined_kinds(draw, sorts):
+    """Two kinds that meet. A register that held something holds nothing behind a call."""
+    first, second = sorts
+    to = "r2" if second == "nothing" else "r6"
+    lines = [] if first == "nothing" else [draw.one_of(KIND_SOURCES[first]) % to]
+    lines += ["call 3" if second == "number" else loaded(draw, "r0", "b h"), "jeq r0, %d, +1" % draw.between(0, 9)]
+    if first == second == "nothing":
+        return lines + ["mov r0, 1"], to
+    last = draw.one_of(KIND_SOURCES[second])
+    return lines + [last if second == "nothing" else last % to], to
+
+
+# Checks that pass up to a bound of r0, as lines.
+BOUNDED = (
+    (32767, ("add r1, r0",)),
+    (32760, ("add r1, 7", "add r1, r0")),
+    (200, ("add r1, r0", "ldxb r0, [r1+27]")),
+    (220, ("add r1, r0", "ldxdw r0, [r1+0]")),
+    (511, ("mov r2, r10", "sub r2, r0", "stb [r2-1], 1")),
+    (16, ("mov r1, r0", "call 1")),
+    (16, ("mov r1, r0", "call 2")),
+    (3, ("mov r1, r0", "call 9")),
+)
+
+
+def bounded(draw, shape):
+    """A check at its bound and one beyond, where only a join, a narrowing, or both tell."""
+    bound, lines = draw.one_of(BOUNDED)
+    bound += draw.chance(2)
+    if shape == "join":
+        return ["mov r0, %d" % draw.between(0, 2), loaded(draw, "r3", "b"), "jne r3, 9, +1", "mov r0, %d" % bound, *lines], None
+    if shape == "narrowing":
+        jump = draw.one_of(("jgt r0, %d, +END" % bound, "jge r0, %d, +END" % (bound + 1)))
+        return [loaded(draw, "r0", "h w dw"), jump, *lines], None
+    jump = draw.one_of(("jle r0, %d, +1", "jlt r0, %d, +1", "jeq r0, %d, +1")) % draw.between(1, bound)
+    return [loaded(draw, "r0", "h w dw"), jump, "mov r0, %d" % bound, *lines], None
+
+
+WIDTHS = ("", "32")
+BINARY = [name + width for name in OPERATIONS.split("|") if name != "mov" for width in WIDTHS]
+UNARY = ["neg", "neg32", "mov32", "movsx8", "movsx16", "movsx32", "movsx8_32", "movsx16_32"]
+UNARY += [order + bits for order in ("le", "be", "swap") for bits in ("16", "32", "64")]
+JUMPS = [name + width for name in CONDITIONS.split("|") for width in WIDTHS]
+SORT_PAIRS = [(one, other) for one in KIND_SOURCES for other in KIND_SOURCES]
+
+# What a group of rows is called, its family, and what each of its rows is made of.
+GROUPS = (
+    ("Results of operations with an immediate, with a register, and of two numbers.", with_immediate, BINARY),
+    ("", with_register, BINARY),
+    ("", with_numbers, BINARY),
+    ("Results of operations of one operand, of loads and of calls.", of_one, UNARY),
+    ("", of_load, ("b", "h", "w", "dw", "sb", "sh", "sw")),
+    ("", answered, (1, 2, 3, 4, 5, 9)),
+    ("Narrowing, where a jump is taken and where it isn't.", lambda draw, name: narrowed(draw, name, True, "imm"), JUMPS),
+    ("", lambda draw, name: narrowed(draw, name, False, "imm"), JUMPS),
+    ("", lambda draw, name: narrowed(draw, name, draw.chance(2), "register"), JUMPS),
+    ("", lambda draw, name: decided(draw, name, draw.chance(2), None), JUMPS),
+    ("Comparisons of a register with itself.", against_itself, JUMPS[:12:3]),
+    ("Pointers.", moved_pointer, range(14)),
+    ("", joined_pointer, range(4)),
+    ("Marks.", marked, range(14)),
+    ("", copied, (6, 6, 6, 6, 7, 7, 7, 7)),
+    ("Kinds that meet.", joined_kinds, SORT_PAIRS),
+    ("Bounds.", bounded, ("join", "narrowing", "both") * 5),
+    ("Code that isn't reached.", unreached, range(8)),
+)
+COLUMNS, SAMPLES = 120, 10
+
+
+def row(draw, family, subject, known):
+    """A row that fits, and isn't there yet."""
+    while True:
+        body, name = family(draw, subject)
+        try:
+            text = finished(draw, body, name, draw.chance(2)) if name else linked(body + ["exit"])
+            if len("accepted; " + text) > COLUMNS:
+                continue
+            line = "%s; %s" % (judged(text, SAMPLES), text)
+        except TooLarge:
+            continue
+        if len(line) <= COLUMNS and line not in known:
+            return line
+
+
+def main(arguments):
+    if arguments:
+        print(judged(arguments[0], SAMPLES))
+        return
+    draw, known = Draw(SEED), set()
+    for title, family, subjects in GROUPS:
+        if title:
+            print(title)
+        for subject in subjects:
+            line = row(draw, family, subject, known)
+            known.add(line)
+            print(line)
+
+
+if __name__ == "__main__":
+    main(sys.argv[1:])
