@@ -13,7 +13,8 @@ use wire::{State, serve_one};
 
 // What a client does behind its request, or `asks` where there is no connection; the request; of how many bytes the reply is, and what it begins with.
 //
-// In a text `|` stands for CRLF, `%` for LF, `@` for a program that chooses all segments, and `#` for 2,000 bytes.
+// In a text `|` stands for CRLF, `%` for LF, `@` for a program that chooses all segments, and `#` for 20,000 bytes: more than the reads of a head take,
+// so that unread input is left where the connection is closed.
 const REQUESTS: &str = "\
 ends; POST /jobs HTTP/1.1|Content-Length: 16||@; 85; HTTP/1.1 200 OK|Content-Type: text/plain|Content-Length: 2|Connection: close||1%
 asks; GET /jobs/1 HTTP/1.1||; 59245; HTTP/1.1 200 OK|Content-Type: application/octet-stream|Content-Length: 59144|Connection: close||256 600%
@@ -42,7 +43,7 @@ fn bytes_of(alloc: Global, text: &str) -> Result<Vec<u8>, AllocError> {
             b'|' => bytes.extend_from_slice(b"\r\n")?,
             b'%' => bytes.push(b'\n')?,
             b'@' => bytes.extend_from_slice(PROGRAM)?,
-            b'#' => bytes.extend_from_slice(&[b'q'; 2000])?,
+            b'#' => bytes.extend_from_slice(&[b'q'; 20_000])?,
             other => bytes.push(other)?,
         }
     }
