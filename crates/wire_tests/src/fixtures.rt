@@ -11,6 +11,7 @@ every; b700000001000000 9500000000000000; mov r0, 1 | exit
 two; b700000002000000 9500000000000000; mov r0, 2 | exit
 never; b700000000000000 9500000000000000; mov r0, 0 | exit
 roads; 7112370000000000 b700000000000000 5502010041000000 b700000001000000 9500000000000000; ldxb r2, [r1+55] | mov r0, 0 | jne r2, 65, +1 | mov r0, 1 | exit
+not_water; 7110370000000000 07000000b8ffffff 9500000000000000; ldxb r0, [r1+55] | add r0, -72 | exit
 scored; b7010000f3ffffff 9701010003000000 bf16000000000000 8500000008000000 bf60000000000000 9500000000000000; mov r1, -13 | smod r1, 3 | mov r6, r1 | call 8 | mov r0, r6 | exit
 stuck; 9500000000000000; exit
 unknown; ff00000000000000 9500000000000000; an opcode that no instruction has | exit
@@ -27,6 +28,31 @@ pointer; bf10000000000000 9500000000000000; mov r0, r1 | exit";
 /// A line of record type 1: the 228 bytes of the layout, blank where nothing is named.
 const RECORD: &[u8; 228] =
     b"10006 123456789    Main                                A41        101        199        100        198    3606736067                                                                          -086500000+32400000-086490000+32410000";
+
+/// The segment of examples/one.
+const LANTERN: &[u8; 228] =
+    b"10006 107000725 A  Lantern                       Ct    A61        201        299                      00  \
+    36067                   01010010019010190101          505055050502070002070015951123\
+    -086629875+32411825-086629750+32412484";
+
+/// The county of examples/one: its files of types 1, 4, 5 and 6.
+const ONE: &str = "{lantern}\\r\\n; \
+    40006 107000725  1     130     133{ *24}\\r\\n; \
+    5000601001     130  Old Lantern{ *19}Ct    \\r\\n\
+    5000601001     133  County Road 67{ *22}\\r\\n; \
+    60006 107000725  1       3901       3999{ *22}01  36067     \\r\\n";
+
+/// The text of examples/not_water.s.
+const NOT_WATER: &str = "\
+; every segment that isn't hydrography
+ldxb r0, [r1+55]    ; the first letter of its class
+add r0, -72         ; H is 72: 0 for hydrography alone
+exit
+";
+
+/// What curl sends behind a target. Its version doesn't matter.
+const CURL: &[u8] =
+    b" HTTP/1.1\r\nHost: 127.0.0.1:8080\r\nUser-Agent: curl/8.5.0\r\nAccept: */*\r\n\r\n";
 
 /// A cell of a row, whose cells `;` parts, by its number from 0.
 pub fn cell(row: &str, number: usize) -> &str {
@@ -62,12 +88,16 @@ fn push_braced(alloc: Global, bytes: &mut Vec<u8>, braced: &str) -> Result<(), A
 }
 
 /// Appends the bytes with a name: a line of Main Street, its row of the score 0 or of the greatest, bytes of the line from and up to places counted from
-/// 0, the end of a head without headers, the words of a program, or else the name as a text.
+/// 0; the segment and the source that the documents show; the end of a head without headers, or with those of curl; the words of a program; or else the
+/// name as a text.
 fn push_named(bytes: &mut Vec<u8>, name: &str) -> Result<(), AllocError> {
     match name {
         "line" => push_line(bytes, ""),
         "row" => push_line(bytes, "0\t"),
         "scored_row" => push_line(bytes, "18446744073709551615\t"),
+        "lantern" => bytes.extend_from_slice(LANTERN),
+        "not_water.s" => bytes.extend_from_slice(NOT_WATER.as_bytes()),
+        "curl" => bytes.extend_from_slice(CURL),
         "end" => bytes.extend_from_slice(b" HTTP/1.1\r\n\r\n"),
         _ => match (name.split_once(".."), words_of(name)) {
             (Some((start, end)), _) => bytes.extend_from_slice(part_of_record(start, end)),
@@ -138,8 +168,9 @@ fn digit(letter: u8) -> u8 {
     }
 }
 
-/// The county of these files of types 1, 4, 5 and 6, which `;` parts.
+/// The county of these files of types 1, 4, 5 and 6, which `;` parts, or that of examples/one.
 fn county_of<A: Allocator + Copy>(alloc: A, files: Global, text: &str) -> Option<County<A>> {
+    let text = if text == "one" { ONE } else { text };
     let rt1 = bytes_of(files, cell(text, 0)).ok()?;
     let rt4 = bytes_of(files, cell(text, 1)).ok()?;
     let rt5 = bytes_of(files, cell(text, 2)).ok()?;

@@ -2,8 +2,7 @@
 use crate::tables::wrong_in_table;
 
 // First the head's limits and what stands before it; then its lines; methods; targets; versions; and headers.
-const HEADS: &str = r" => 80
-\r => 400
+const HEADS: &str = r"\r => 400
 \n => 400
 \r\n => 400
 \r\n\r\n\n => 400
@@ -52,16 +51,12 @@ POST /verify HTTP/1.1\r\nA: b\r\n\tc\r\nContent-Length: 16\r\n\r\n{every} => 400
 POST /verify HTTP/1.1\r\n A: b\r\nContent-Length: 16\r\n\r\n{every} => 400
 POST /verify HTTP/1.1\r\nContent-Length: 16\r\n \r\n\r\n{every} => 400
 POST /verify HTTP/1.1\r\nContent-Length:\r\n 16\r\n\r\n{every} => 400
-GET /verify HTTP/1.1\r\n\r\n => = HTTP/1.1 405 Method Not Allowed\r\nContent-Type: text/plain\r\nContent-Length: 19\r\nConnection: close\r\nAllow: POST\r\n\r\nmethod not allowed\n
-PUT /jobs/1 HTTP/1.1\r\n\r\n => = HTTP/1.1 405 Method Not Allowed\r\nContent-Type: text/plain\r\nContent-Length: 19\r\nConnection: close\r\nAllow: GET, DELETE\r\n\r\nmethod not allowed\n
-POST /geocode HTTP/1.1\r\n\r\n => = HTTP/1.1 405 Method Not Allowed\r\nContent-Type: text/plain\r\nContent-Length: 19\r\nConnection: close\r\nAllow: GET\r\n\r\nmethod not allowed\n
-GET /nothing HTTP/1.1\r\n\r\n => = HTTP/1.1 404 Not Found\r\nContent-Type: text/plain\r\nContent-Length: 10\r\nConnection: close\r\n\r\nnot found\n
-GET /\x01 HTTP/1.1\r\n\r\n => = HTTP/1.1 400 Bad Request\r\nContent-Type: text/plain\r\nContent-Length: 12\r\nConnection: close\r\n\r\nbad request\n
+POST /geocode{end} => =405 Method Not Allowed; text/plain; 19; method not allowed\n; GET
+GET /\x01{end} => 400
 PUT /verify HTTP/1.1 >> {every} => 405 POST
 GET /assemble{end} => 405 POST
 DELETE /disassemble{end} => 405 POST
 HEAD /extract{end} => 405 POST
-GET /jobs{end} => 405 POST
 DELETE /jobs{end} => 405 POST
 POST /jobs/1 HTTP/1.1 >> {every} => 405 GET, DELETE
 HEAD /jobs/1{end} => 405 GET, DELETE
@@ -96,7 +91,6 @@ PO:ST /verify HTTP/1.1 >> {every} => 400
 PO,ST /verify HTTP/1.1 >> {every} => 400
 PO ST /verify HTTP/1.1 >> {every} => 400
 POST\r\n /verify HTTP/1.1 >> {every} => 400
-GET /{end} => 404
 GET /nothing{end} => 404
 POST /nothing HTTP/1.1 >> {every} => 404
 BREW /nothing{end} => 404
@@ -135,7 +129,6 @@ POST /verify?{x*8000} HTTP/1.1 >> {every} => 200 text accepted\n
 GET /jobs/1?{end} => 200 octets 1 1\n{row}
 GET /jobs/1?/2{end} => 200 octets 1 1\n{row}
 GET /jobs?/1{end} => 405 POST
-GET /jobs/{end} => 404
 GET /jobs/?1{end} => 404
 GET /jobs//{end} => 404
 GET /jobs//1{end} => 404

@@ -12,8 +12,7 @@ POST /verify HTTP/1.1\r\nContent-Length: 0\r\n\r\n => 422 refused 10 Empty
 POST /verify HTTP/1.1\r\nContent-Length: 000\r\n\r\n{every} => 422 refused 10 Empty
 POST /verify HTTP/1.1\r\nContent-Length: 1048576\r\n\r\n{every*65536} => 422 refused 12 TooLong
 POST /verify HTTP/1.1\r\nContent-Length: 1048575\r\n\r\n{every*65536} => 422 refused 11 NotWhole
-POST /verify HTTP/1.1\r\nContent-Length: 1048577\r\n\r\n{every*100} => 413
-POST /verify HTTP/1.1\r\nContent-Length: 1048577\r\n\r\n => = HTTP/1.1 413 Payload Too Large\r\nContent-Type: text/plain\r\nContent-Length: 10\r\nConnection: close\r\n\r\ntoo large\n
+POST /verify HTTP/1.1\r\nContent-Length: 1048577\r\n\r\n{every*100} => =413 Payload Too Large; text/plain; 10; too large\n
 POST /verify HTTP/1.1\r\nContent-Length: 00000001048577\r\n\r\n => 413
 POST /verify HTTP/1.1\r\nContent-Length: 4294967312\r\n\r\n{every} => 413
 POST /verify HTTP/1.1\r\nContent-Length: 18446744073709551616\r\n\r\n{every} => 413
@@ -45,7 +44,7 @@ POST /verify HTTP/1.1\r\nContent-Length: \xd9\xa1\r\n\r\n{every} => 400
 POST /verify HTTP/1.1\r\nContent-Length: 99999999999999999999x\r\n\r\n{every} => 400
 POST /verify HTTP/1.1\r\nContent-Length: {9*30} 1\r\n\r\n{every} => 400
 POST /verify HTTP/1.1\r\n\r\n{every} => 411
-POST /verify HTTP/1.1\r\nHost: x\r\n\r\n => = HTTP/1.1 411 Length Required\r\nContent-Type: text/plain\r\nContent-Length: 16\r\nConnection: close\r\n\r\nlength required\n
+POST /verify HTTP/1.1\r\nHost: x\r\n\r\n => =411 Length Required; text/plain; 16; length required\n
 POST /verify HTTP/1.0\r\n\r\n{every} => 411
 POST /assemble{end} => 411
 POST /disassemble{end} => 411

@@ -102,6 +102,7 @@ fn outcome_in<'a>(
                 turned.as_str() == "refused memory",
             ))
         }
+        Row::Jobs { .. } => Ok(Outcome::Wrong),
         Row::Request { request, reply, .. } => {
             let served = serve(alloc, state, request, WHOLE, SOUND);
             let written = served.written.as_slice();

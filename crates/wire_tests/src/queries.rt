@@ -3,7 +3,7 @@ use crate::tables::{wrong_in_script, wrong_in_table};
 
 // Queries over Main Street, which has 101 to 199 on its left and 100 to 198 on its right.
 const QUERIES: &str =
-    r"GET /geocode?number=151&name=main&zip=36067 HTTP/1.1\r\n\r\n => = HTTP/1.1 200 OK\r\nContent-Type: text/plain\r\nContent-Length: 31\r\nConnection: close\r\n\r\n123456789\tL\t-86494898\t32405102\n
+    r"GET /geocode?number=151&name=main&zip=36067{end} => 200 text 123456789\tL\t-86494898\t32405102\n
 GET /geocode?number=151&name=main{end} => 200 text 123456789\tL\t-86494898\t32405102\n
 GET /geocode?number=150&name=main&zip=36067{end} => 200 text 123456789\tR\t-86494898\t32405102\n
 GET /geocode?number=101&name=MAIN{end} => 200 text 123456789\tL\t-86500000\t32400000\n

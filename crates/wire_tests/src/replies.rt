@@ -35,28 +35,38 @@ pub fn fault_of(said: &str) -> Option<WireFault> {
 /// The reply that a text says: all of it behind `=`, else its status, and what goes with it: for 200 `text` or `octets` and the body, for 405 the
 /// methods that are allowed, for 422 and 503 the line. Where it says a fault there is none.
 pub fn reply_of(alloc: Global, said: &str) -> Result<Vec<u8>, AllocError> {
-    let (status, what) = said.split_once(' ').unwrap_or((said, ""));
-    if status == "=" {
-        return bytes_of(alloc, what);
+    if let Some(cells) = said.strip_prefix('=') {
+        return whole_reply(alloc, cells);
     }
+    let (status, what) = said.split_once(' ').unwrap_or((said, ""));
     if fault_of(status).is_some() {
         return Ok(Vec::new(alloc));
     }
-    let body = body_of(alloc, status, what)?;
-    let mut reply = head_of(alloc, status, what, body.len())?;
-    reply.extend_from_slice(body.as_slice())?;
-    Ok(reply)
-}
-
-/// A reply's head, with the empty line behind it.
-fn head_of(alloc: Global, status: &str, what: &str, length: usize) -> Result<Vec<u8>, AllocError> {
     let phrase = cell(status_row(status), 1);
     let kind = media_type(status, what);
-    let allow = allow_header(alloc, status, what)?;
+    let body = body_of(alloc, status, what)?;
+    let length = body.len();
+    let allow = if status == "405" { what } else { "" };
+    let cells = format!(in alloc; "{status} {phrase}; {kind}; {length}; ; {allow}")?;
+    laid_out(alloc, cells.as_str(), body.as_slice())
+}
+
+/// The reply all of which is in these cells: the status and its phrase, what the body is, its length, itself, and the methods that are allowed, if any.
+fn whole_reply(alloc: Global, cells: &str) -> Result<Vec<u8>, AllocError> {
+    let body = bytes_of(alloc, cell(cells, 3))?;
+    laid_out(alloc, cells, body.as_slice())
+}
+
+/// A reply with the head that is in these cells.
+fn laid_out(alloc: Global, cells: &str, body: &[u8]) -> Result<Vec<u8>, AllocError> {
+    let (status, kind, length) = (cell(cells, 0), cell(cells, 1), cell(cells, 2));
+    let allow = allow_header(alloc, cell(cells, 4))?;
     let head = format!(in alloc;
-        "HTTP/1.1 {status} {phrase}\r\nContent-Type: {kind}\r\nContent-Length: {length}\r\nConnection: close\r\n{allow}\r\n"
+        "HTTP/1.1 {status}\r\nContent-Type: {kind}\r\nContent-Length: {length}\r\nConnection: close\r\n{allow}\r\n"
     )?;
-    Ok(head.into_bytes())
+    let mut reply = head.into_bytes();
+    reply.extend_from_slice(body)?;
+    Ok(reply)
 }
 
 fn media_type(status: &str, what: &str) -> &'static str {
@@ -67,11 +77,11 @@ fn media_type(status: &str, what: &str) -> &'static str {
     }
 }
 
-fn allow_header(alloc: Global, status: &str, methods: &str) -> Result<String, AllocError> {
-    if status == "405" {
-        format!(in alloc; "Allow: {methods}\r\n")
-    } else {
+fn allow_header(alloc: Global, methods: &str) -> Result<String, AllocError> {
+    if methods.is_empty() {
         Ok(String::new(alloc))
+    } else {
+        format!(in alloc; "Allow: {methods}\r\n")
     }
 }
 

@@ -1,13 +1,7 @@
 //! What the routes of programs answer.
 use crate::tables::{wrong_in_script, wrong_in_table};
 
-// The first replies stand whole.
-const PROGRAMS: &str =
-    r"POST /verify HTTP/1.1\r\nContent-Length: 16\r\n\r\n\xb7\x00\x00\x00\x01\x00\x00\x00\x95\x00\x00\x00\x00\x00\x00\x00 => = HTTP/1.1 200 OK\r\nContent-Type: text/plain\r\nContent-Length: 9\r\nConnection: close\r\n\r\naccepted\n
-POST /verify HTTP/1.1\r\nContent-Length: 8\r\n\r\n\x95\x00\x00\x00\x00\x00\x00\x00 => = HTTP/1.1 422 Unprocessable Entity\r\nContent-Type: text/plain\r\nContent-Length: 35\r\nConnection: close\r\n\r\nrefused 40 place 0 ReadsNothing(0)\n
-POST /assemble HTTP/1.1\r\nContent-Length: 15\r\n\r\nmov r0, 1\nexit\n => = HTTP/1.1 200 OK\r\nContent-Type: application/octet-stream\r\nContent-Length: 16\r\nConnection: close\r\n\r\n\xb7\x00\x00\x00\x01\x00\x00\x00\x95\x00\x00\x00\x00\x00\x00\x00
-POST /disassemble HTTP/1.1\r\nContent-Length: 16\r\n\r\n\xb7\x00\x00\x00\x01\x00\x00\x00\x95\x00\x00\x00\x00\x00\x00\x00 => = HTTP/1.1 200 OK\r\nContent-Type: text/plain\r\nContent-Length: 15\r\nConnection: close\r\n\r\nmov r0, 1\nexit\n
-POST /verify HTTP/1.1 >> {every} => 200 text accepted\n
+const PROGRAMS: &str = r"POST /verify HTTP/1.1 >> {every} => 200 text accepted\n
 POST /verify HTTP/1.1 >> {roads} => 200 text accepted\n
 POST /verify HTTP/1.1 >> {every*2048} => 200 text accepted\n
 POST /verify HTTP/1.1 >> => 422 refused 10 Empty
@@ -25,6 +19,7 @@ POST /verify HTTP/1.1 >> {stuck} => 422 refused 40 place 0 ReadsNothing(0)
 POST /verify HTTP/1.1 >> {beyond} => 422 refused 44 place 0 OutOfBounds
 POST /verify HTTP/1.1 >> {argument} => 422 refused 50 place 5 BadArgument(3)
 POST /verify HTTP/1.1 >> {pointer} => 422 refused 51 place 1 ExitNotNumber
+POST /assemble HTTP/1.1 >> mov r0, 1\nexit\n => 200 octets {every}
 POST /assemble HTTP/1.1 >> mov r0, 1\r\nexit => 200 octets {every}
 POST /assemble HTTP/1.1 >> ; r\xc3\xa9sum\xc3\xa9\n exit ; \xe2\x82\xac => 200 octets {stuck}
 POST /assemble HTTP/1.1 >> => 422 refused 26 line 1 CodeFault(10)
@@ -39,6 +34,7 @@ POST /assemble HTTP/1.1 >> ja out\nexit\n => 422 refused 23 line 1 UnknownLabel
 POST /assemble HTTP/1.1 >> out:\nexit\nout:\n => 422 refused 24 line 3 DoubleLabel
 POST /assemble HTTP/1.1 >> exit\nmov r10, 1\n => 422 refused 26 line 2 CodeFault(18)
 POST /assemble HTTP/1.1 >> mov r0, 1\nja -1\nexit\n => 200 octets {backward}
+POST /disassemble HTTP/1.1 >> {every} => 200 text mov r0, 1\nexit\n
 POST /disassemble HTTP/1.1 >> {stuck} => 200 text exit\n
 POST /disassemble HTTP/1.1 >> {backward} => 200 text mov r0, 1\nja -1\nexit\n
 POST /disassemble HTTP/1.1 >> {wide} => 200 text ja +1\nlddw r0, 0x0000000000000001\nexit\n

@@ -1,9 +1,5 @@
 //! Requests and turns that follow each other.
-use crate::fixtures::state_of;
-use crate::serving::{BYTES, WHOLE, Way};
-use crate::tables::{is_right, row_of, rows_of, wrong_in_script, wrong_row};
-use std::alloc::Global;
-use wire::State;
+use crate::tables::wrong_in_script;
 
 // Scripts with an empty line between: the counties, and then requests and turns, each with what comes of it.
 //
@@ -12,8 +8,8 @@ const SCRIPTS: &str = r"{line}{line}
 turn => none
 GET /jobs/1{end} => 404
 DELETE /jobs/1{end} => 404
-POST /jobs HTTP/1.1 >> {every} => = HTTP/1.1 200 OK\r\nContent-Type: text/plain\r\nContent-Length: 2\r\nConnection: close\r\n\r\n1\n
-GET /jobs/1{end} => = HTTP/1.1 200 OK\r\nContent-Type: application/octet-stream\r\nContent-Length: 4\r\nConnection: close\r\n\r\n0 2\n
+POST /jobs HTTP/1.1 >> {every} => 200 text 1\n
+GET /jobs/1{end} => =200 OK; application/octet-stream; 4; 0 2\n
 GET /jobs/1{end} => 200 octets 0 2\n
 GET /jobs/1{end} => 200 octets 0 2\n
 turn => 2 2
@@ -51,7 +47,6 @@ DELETE /jobs/+1{end} => 404
 DELETE /jobs/-1{end} => 404
 DELETE /jobs/%31{end} => 404
 PUT /jobs/1{end} => 405 GET, DELETE
-PUT /jobs/x{end} => 405 GET, DELETE
 PUT /jobs/18446744073709551617{end} => 405 GET, DELETE
 POST /jobs HTTP/1.1 >> {stuck} => 422 refused 40 place 0 ReadsNothing(0)
 POST /jobs HTTP/1.1 >> => 422 refused 10 Empty
@@ -62,8 +57,8 @@ GET /jobs/2{end} => 404
 POST /jobs HTTP/1.1 >> {scored} => 200 text 2\n
 GET /jobs/2{end} => 200 octets 0 2\n
 GET /jobs/1{end} => 200 octets 2 2\n{row*2}
-DELETE /jobs/1{end} => = HTTP/1.1 200 OK\r\nContent-Type: text/plain\r\nContent-Length: 8\r\nConnection: close\r\n\r\ndropped\n
-GET /jobs/1{end} => = HTTP/1.1 404 Not Found\r\nContent-Type: text/plain\r\nContent-Length: 10\r\nConnection: close\r\n\r\nnot found\n
+DELETE /jobs/1{end} => 200 text dropped\n
+GET /jobs/1{end} => 404
 DELETE /jobs/1{end} => 404
 GET /jobs/01{end} => 404
 PUT /jobs/1{end} => 405 GET, DELETE
@@ -116,7 +111,7 @@ POST /jobs HTTP/1.1 >> {every} => 200 text 1\n
 GET /jobs/1{end} => 200 octets 0 600\n
 GET /jobs/1{end} => 200 octets 0 600\n
 turn => 256 600
-GET /jobs/1{end} => = HTTP/1.1 200 OK\r\nContent-Type: application/octet-stream\r\nContent-Length: 59144\r\nConnection: close\r\n\r\n256 600\n{row*256}
+GET /jobs/1{end} => =200 OK; application/octet-stream; 59144; 256 600\n{row*256}
 GET /jobs/01{end} => 200 octets 256 600\n{row*256}
 POST /jobs HTTP/1.1 >> {stuck} => 422 refused 40 place 0 ReadsNothing(0)
 POST /jobs HTTP/1.1 >> {scored} => 200 text 2\n
@@ -142,10 +137,10 @@ fn turns(rt: HostRuntime) {
 }
 
 // What is asked where as many jobs are open as may be: a body is looked at before that, and a program behind.
-const FULL: &str =
-    r"POST /jobs HTTP/1.1 >> {every} => = HTTP/1.1 503 Service Unavailable\r\nContent-Type: text/plain\r\nContent-Length: 16\r\nConnection: close\r\n\r\nrefused 70 Full\n
+const FULL: &str = r"{line}
+jobs => 64
+POST /jobs HTTP/1.1 >> {every} => 503 refused 70 Full
 POST /jobs HTTP/1.1 >> {stuck} => 503 refused 70 Full
-POST /jobs HTTP/1.1 >> => 503 refused 70 Full
 POST /jobs HTTP/1.1 >> {every*2048}{stuck} => 503 refused 70 Full
 POST /jobs HTTP/1.1\r\n\r\n{stuck} => 411
 POST /jobs HTTP/1.1\r\nTransfer-Encoding: chunked\r\nContent-Length: 8\r\n\r\n{stuck} => 411
@@ -171,37 +166,7 @@ GET /jobs/1{end} => 200 octets 1 1\n{row}
 GET /jobs/2{end} => 200 octets 0 1\n
 POST /jobs HTTP/1.1 >> {two} => 503 refused 70 Full";
 
-/// Opens as many jobs as may be. Whether each gets the next id.
-fn opens_all(alloc: Global, state: &mut State<Global>, way: Way) -> bool {
-    let program = "{every}";
-    for id in 1..=64 {
-        let Ok(text) = format!(in alloc; "POST /jobs HTTP/1.1 >> {program} => 200 text {id}\\n")
-        else {
-            return false;
-        };
-        match row_of(alloc, text.as_str()) {
-            Ok(row) if is_right(alloc, state, &row, way) => {}
-            _ => return false,
-        }
-    }
-    true
-}
-
-/// The first wrong row where all jobs are open, if there is one.
-fn wrong_in_full(alloc: Global, way: Way) -> Option<&'static str> {
-    let (Some(mut state), Ok(rows)) = (state_of(alloc, alloc, "{line}"), rows_of(alloc, FULL))
-    else {
-        return Some("no state");
-    };
-    if !opens_all(alloc, &mut state, way) {
-        return Some("opened");
-    }
-    wrong_row(alloc, &mut state, &rows, way)
-}
-
 #[test]
 fn full(rt: HostRuntime) {
-    for way in [WHOLE, BYTES, Way { cut: 50, step: 7 }] {
-        assert_eq!(rt; wrong_in_full(rt.alloc(), way), None, "{}", way.step);
-    }
+    assert_eq!(rt; wrong_in_script(rt.alloc(), FULL, 7), Ok(None));
 }

@@ -13,6 +13,10 @@ pub enum Row<'a> {
         text: &'a str,
         said: &'a str,
     },
+    Jobs {
+        text: &'a str,
+        last: u64,
+    },
     Request {
         text: &'a str,
         request: Vec<u8>,
@@ -21,12 +25,16 @@ pub enum Row<'a> {
     },
 }
 
-/// The row that a text is: `turn`, or a request, and behind `=>` what comes of it. Where `>>` stands in a request, the length of the body behind it is
-/// announced, in a head without other headers.
+/// The row that a text is: `turn`, `jobs` where there is no job yet, or a request, and behind `=>` what comes of it: of `jobs` the last one's id. Where
+/// `>>` stands in a request, the length of the body behind it is announced in the head's last line.
 pub fn row_of<'a>(alloc: Global, text: &'a str) -> Result<Row<'a>, AllocError> {
     let (asked, said) = text.split_once(" => ").unwrap_or((text, ""));
     if asked == "turn" {
         return Ok(Row::Turn { text, said });
+    }
+    if asked == "jobs" {
+        let last = said.parse().unwrap_or(0);
+        return Ok(Row::Jobs { text, last });
     }
     Ok(Row::Request {
         text,
@@ -43,7 +51,11 @@ fn request_of(alloc: Global, asked: &str) -> Result<Vec<u8>, AllocError> {
     let body = bytes_of(alloc, body.strip_prefix(" ").unwrap_or(body))?;
     let length = body.len();
     let mut request = bytes_of(alloc, line)?;
-    let header = format!(in alloc; "\r\nContent-Length: {length}\r\n\r\n")?;
+    match request.as_slice() {
+        [.., b'\r', b'\n', b'\r', b'\n'] => request.truncate(request.len().saturating_sub(2)),
+        _ => request.extend_from_slice(b"\r\n")?,
+    }
+    let header = format!(in alloc; "Content-Length: {length}\r\n\r\n")?;
     request.extend_from_slice(header.as_bytes())?;
     request.extend_from_slice(body.as_slice())?;
     Ok(request)
@@ -99,6 +111,24 @@ fn is_turned<A: Allocator + Copy>(alloc: Global, state: &mut State<A>, said: &st
     }
 }
 
+/// Opens jobs up to the one with this id. Whether each gets the next id.
+fn opens_jobs<A: Allocator + Copy>(
+    alloc: Global,
+    state: &mut State<A>,
+    last: u64,
+    way: Way,
+) -> Result<bool, AllocError> {
+    let request = request_of(alloc, "POST /jobs{end} >> {every}")?;
+    for id in 1..=last {
+        let said = format!(in alloc; "200 text {id}\\n")?;
+        let reply = reply_of(alloc, said.as_str())?;
+        if !is_replied(alloc, state, &request, way, None, &reply) {
+            return Ok(false);
+        }
+    }
+    Ok(true)
+}
+
 /// Whether what a row says comes of it.
 pub fn is_right<A: Allocator + Copy>(
     alloc: Global,
@@ -108,6 +138,7 @@ pub fn is_right<A: Allocator + Copy>(
 ) -> bool {
     match row {
         Row::Turn { said, .. } => is_turned(alloc, state, said),
+        Row::Jobs { last, .. } => opens_jobs(alloc, state, *last, way) == Ok(true),
         Row::Request {
             request,
             fault,
@@ -120,7 +151,7 @@ pub fn is_right<A: Allocator + Copy>(
 impl<'a> Row<'a> {
     pub fn text(&self) -> &'a str {
         match self {
-            Row::Turn { text, .. } => text,
+            Row::Turn { text, .. } | Row::Jobs { text, .. } => text,
             Row::Request { text, .. } => text,
         }
     }
@@ -128,7 +159,7 @@ impl<'a> Row<'a> {
     /// How many bytes the request has.
     pub fn length(&self) -> usize {
         match self {
-            Row::Turn { .. } => 0,
+            Row::Turn { .. } | Row::Jobs { .. } => 0,
             Row::Request { request, .. } => request.len(),
         }
     }

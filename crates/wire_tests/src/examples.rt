@@ -1,0 +1,111 @@
+//! The examples of docs/http.md in its order, row for row: examples/try.sh compares the document with the tables, and sends it to the program.
+use crate::tables::{wrong_in_script, wrong_in_table};
+
+// The blocks with whole replies, an empty line between: the county, then each request of curl and its reply. Turns are those behind the connections.
+//
+// Of what curl sends its version is fixed, and the Content-Type of a body is left out, which isn't looked at.
+const BLOCKS: &str = r"one
+POST /verify{curl} >> {every} => =200 OK; text/plain; 9; accepted\n
+POST /verify{curl} >> {stuck} => =422 Unprocessable Entity; text/plain; 35; refused 40 place 0 ReadsNothing(0)\n
+
+one
+POST /assemble{curl} >> {not_water.s} => =200 OK; application/octet-stream; 24; {not_water}
+POST /assemble{curl} >> frob r0 => =422 Unprocessable Entity; text/plain; 34; refused 21 line 1 UnknownMnemonic\n
+
+one
+POST /disassemble{curl} >> {not_water} => =200 OK; text/plain; 34; ldxb r0, [r1+55]\nadd r0, -72\nexit\n
+POST /disassemble{curl} >> 1234567 => =422 Unprocessable Entity; text/plain; 20; refused 11 NotWhole\n
+
+one
+POST /extract{curl} >> {every} => =200 OK; application/octet-stream; 231; 0\t{lantern}\n
+POST /extract{curl} >> {stuck} => =422 Unprocessable Entity; text/plain; 35; refused 40 place 0 ReadsNothing(0)\n
+
+one
+GET /geocode?number=251&name=lantern{curl} => =200 OK; text/plain; 31; 107000725\tL\t-86629812\t32412161\n
+GET /geocode?number=251&name=Old+Lantern&zip=36067{curl} => =200 OK; text/plain; 31; 107000725\tL\t-86629812\t32412161\n
+GET /geocode?number=251&name=lantern&zip=36068{curl} => =200 OK; text/plain; 0;
+GET /geocode?number=251{curl} => =400 Bad Request; text/plain; 12; bad request\n
+
+one
+POST /jobs{curl} >> {every} => =200 OK; text/plain; 2; 1\n
+turn => 1 1
+GET /jobs/1{curl} => =200 OK; application/octet-stream; 235; 1 1\n0\t{lantern}\n
+DELETE /jobs/1{curl} => =200 OK; text/plain; 8; dropped\n
+GET /jobs/1{curl} => =404 Not Found; text/plain; 10; not found\n
+
+one
+jobs => 64
+POST /jobs{curl} >> => =503 Service Unavailable; text/plain; 16; refused 70 Full\n
+
+one
+PUT /jobs/1{curl} => =405 Method Not Allowed; text/plain; 19; method not allowed\n; GET, DELETE";
+
+#[test]
+fn blocks(rt: HostRuntime) {
+    for script in BLOCKS.split("\n\n") {
+        assert_eq!(rt; wrong_in_script(rt.alloc(), script, 1), Ok(None));
+    }
+}
+
+// The block of which parts of the replies are shown, between the last two of those. Any 400 segments stand for the example county.
+const TURNS: &str = r"{line*400}
+POST /jobs{curl} >> {every} => 200 text 1\n
+turn => 256 400
+GET /jobs/1{curl} => 200 octets 256 400\n{row*256}
+turn => 400 400
+GET /jobs/1{curl} => 200 octets 400 400\n{row*400}
+turn => none
+GET /jobs/1{curl} => 200 octets 400 400\n{row*400}
+DELETE /jobs/1{curl} => 200 text dropped\n";
+
+#[test]
+fn turns(rt: HostRuntime) {
+    assert_eq!(rt; wrong_in_script(rt.alloc(), TURNS, 17), Ok(None));
+}
+
+// The requests that are shown byte for byte.
+const REQUESTS: &str = r"GET /geocode HTTP/2.0\r\n\r\n => 400
+GET  /geocode HTTP/1.1\r\n\r\n => 400
+GET /geocode HTTP/1.1\r\nHost : a\r\n\r\n => 400
+GET /geocode HTTP/1.1\r\nX: a\r\n b\r\n\r\n => 400
+GET / HTTP/1.1\r\n\r\n => 404
+FROB /Verify HTTP/1.1\r\n\r\n => 404
+GET /jobs/ HTTP/1.1\r\n\r\n => 404
+GET /verify HTTP/1.1\r\n\r\n => 405 POST
+FROB /verify HTTP/1.1\r\n\r\n => 405 POST
+HEAD /geocode?number=251&name=lantern HTTP/1.1\r\n\r\n => 405 GET
+GET /jobs HTTP/1.1\r\n\r\n => 405 POST
+PUT /jobs/x HTTP/1.1\r\n\r\n => 405 GET, DELETE
+POST /verify HTTP/1.1\r\n\r\n => 411
+POST /verify HTTP/1.1\r\nTransfer-Encoding: chunked\r\nContent-Length: x\r\n\r\n => 411
+POST /verify HTTP/1.1\r\nTransfer-Encoding:\r\nContent-Length: 0\r\n\r\n => 411
+POST /verify HTTP/1.1\r\nContent-Length:\r\n\r\n => 400
+POST /verify HTTP/1.1\r\nContent-Length: +8\r\n\r\n => 400
+POST /verify HTTP/1.1\r\nContent-Length: 0\r\ncontent-length: 0\r\n\r\n => 400
+POST /verify HTTP/1.1\r\nContent-Length: 1048577\r\n\r\n => 413
+POST /verify HTTP/1.1\r\nContent-Length: 99999999999999999999999999\r\n\r\n => 413
+POST /assemble HTTP/1.1\r\nContent-Length: 1\r\n\r\n\xff => 400
+GET /geocode?number=164-20&name=lantern HTTP/1.1\r\n\r\n => 400
+GET /geocode?number=251&name= HTTP/1.1\r\n\r\n => 400
+GET /geocode?number=251&name=lantern&zip= HTTP/1.1\r\n\r\n => 400
+GET /geocode?number=x&number=251&name=lantern HTTP/1.1\r\n\r\n => 400
+GET /jobs/0 HTTP/1.0\r\n\r\n => 404
+\r\n\nGET /jobs/x HTTP/1.1\nContent-Length: x\n\n => 404
+DELETE /jobs/18446744073709551616 HTTP/1.1\r\n\r\n => 404";
+
+// Those of which it counts what comes next. One that is silent then is left to the tests of clients that are slow.
+const ENDS: &str = r" => 80
+\r\n\r\n => 400
+GET /jobs/0 HTTP/1.1\r\n => 400
+GET /jobs/0 HTTP/1.1\r\nX: {a*8192} => 400
+GET /jobs/0 HTTP/1.1\r\n{X: a\r\n*64}\r\n => 404
+GET /jobs/0 HTTP/1.1\r\n{X: a\r\n*65}\r\n => 400
+POST /verify HTTP/1.1\r\nContent-Length: 16\r\n\r\n\xb7\x00\x00\x00\x01\x00\x00\x00\x95\x00\x00\x00\x00\x00\x00 => 400
+POST /verify HTTP/1.1\r\nContent-Length: 0016\r\n\r\n{every}any other bytes => 200 text accepted\n";
+
+#[test]
+fn requests(rt: HostRuntime) {
+    for table in [REQUESTS, ENDS] {
+        assert_eq!(rt; wrong_in_table(rt.alloc(), table), Ok(None));
+    }
+}
