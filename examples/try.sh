@@ -13,6 +13,7 @@
 #   at a free one here. Words behind the folder name further commands. What curl shows of a head is compared without its CRs.
 # - A row of a table with a status, its phrase and a text is a reply. A row with a request in its first cell, which ends a line by `\n`, and a
 #   status in its second is sent as it stands, and the whole reply has to be that of the status, byte for byte.
+#   What docs/http.md shows so, with curl's heads, has to be what crates/wire_tests/src/examples.rt has, row for row.
 # - In a block ```answers each line is the beginning of a program, and behind `;` is what r0 holds at its end, on the segment of examples/one.
 # - A row of a table with bytes in its first cell and a refusal in its second is a program that `verify` and `run` refuse so; one with a
 #   place, an instruction and its bytes is a program of one instruction, and is tried as above.
@@ -172,6 +173,53 @@ try_http() {
     stop_server
 }
 
+# show_replies TEXT: adds to the examples each request of curl whose reply's head the text shows, and that reply, as a row of the tests. A body that
+# curl writes to a file has the file's name.
+show_replies() {
+    local line asked="" head="" body="" allow="" record tab=$'\t' escape='\t'
+    record=$(tr -d '\r' < "$top/examples/one/TGR01001.RT1")
+    add_reply() {
+        body=${body//"$record"/"{lantern}"}
+        [ -n "$head" ] && examples+="$asked => =$head$body$allow"$'\n'
+        head="" body="" allow=""
+    }
+    while IFS= read -r line; do
+        case $line in
+        '$ '*) add_reply; asked=$(asked_of "$line"); [[ $line =~ ' -o '([a-z_]+) ]] && body=" {${BASH_REMATCH[1]}}" ;;
+        'HTTP/1.1 '*) head="${line#* };" ;;
+        'Content-'*) head+=" ${line#*: };" ;;
+        'Allow: '*) allow="; ${line#*: }" ;;
+        'Connection: close' | '') ;;
+        *) body=${body:- }${line//"$tab"/"$escape"}'\n' ;;
+        esac
+    done <<< "$1"
+    add_reply
+}
+
+# asked_of COMMAND: what curl asks for, as the tests have it, but for the body.
+asked_of() {
+    local method=GET target=${1#*127.0.0.1:8080}
+    case $1 in
+    *' -X '*) method=${1#* -X } ;;
+    *' --data-binary '*) method=POST ;;
+    esac
+    printf '%s\n' "${method%% *} ${target%%[\' ]*}{curl}"
+}
+
+# try_rows NAME: the tests have just the rows of the examples, in the document's order, before those of requests that are told in words.
+try_rows() {
+    local line asked held=""
+    while IFS= read -r line; do
+        [[ $line == 'const ENDS'* ]] && break
+        line=${line#*r\"} line=${line%\";}
+        case $line in
+        'turn => '*) ;;
+        *' => ='* | *' => '[45]*) asked=${line%% => *}; held+="${asked%% >>*} => ${line#* => }"$'\n' ;;
+        esac
+    done < "$top/crates/wire_tests/src/examples.rt"
+    if [ "$examples" = "$held" ]; then pass; else fail "$1 shows" "$examples" "and the rows of the tests are" "$held"; fi
+}
+
 # try_request NAME BYTES STATUS ALLOW
 try_request() {
     local wanted wrote
@@ -198,8 +246,9 @@ try_refusal() {
 try_document() {
     local line number=0 kind="" needed="" text="" asm="" begin=0 cell
     local refusal='^\| ((`[0-9a-f ]+`(, )?)+) \| `(refused [^`]*)` \|$' instruction='^\| [0-9]+ \| `([^`]+)` \| `([0-9a-f ]+)` \|$'
-    local reply='^\| [0-9]+ \| ([45][0-9][0-9]) ([A-Z][A-Za-z ]+) \| `([^`]+)` \|' request='^\| `([^`]+\\n)` \| ([45][0-9][0-9])(, `(Allow: [A-Z, ]+)`)? \|'
+    local reply='^\| [0-9]+ \| ([45][0-9][0-9]) ([A-Z][A-Za-z ]+) \| `([^`]+)` \|' request='^\| `([^`]+\\n[^`]*)` \| ([45][0-9][0-9])(, `(Allow: [A-Z, ]+)`)? \|'
     local -A phrases=() bodies=()
+    examples=""
     clone "$scratch/$1"
     cd "$scratch/$1" || exit 1
     while IFS= read -r line; do
@@ -216,13 +265,14 @@ try_document() {
             elif [[ $line =~ $reply ]]; then
                 phrases[${BASH_REMATCH[1]}]=${BASH_REMATCH[2]} bodies[${BASH_REMATCH[1]}]=${BASH_REMATCH[3]}
             elif [[ $line =~ $request ]]; then
+                examples+="${BASH_REMATCH[1]} => ${BASH_REMATCH[2]}${BASH_REMATCH[4]#Allow:}"$'\n'
                 try_request "$1, line $number" "${BASH_REMATCH[1]}" "${BASH_REMATCH[2]}" "${BASH_REMATCH[4]}"
             fi
         elif [ "$line" = '```' ]; then
             text=${text%$'\n'}
             case $kind in
             console) try_console "$1, line $begin" "$needed" "$text" ;;
-            http) try_http "$1, line $begin" "$needed" "$text" ;;
+            http) show_replies "$text"; try_http "$1, line $begin" "$needed" "$text" ;;
             asm) asm=$text ;;
             hex) try_conversion "$1, line $begin" "$asm" "$text" ;;
             verdicts) try_verdicts "$1, line $begin" "$text" ;;
@@ -235,6 +285,7 @@ try_document() {
     done < "$top/$1"
     stop_server
     cd "$top" || exit 1
+    if [ "$1" = docs/http.md ]; then try_rows "$1"; fi
 }
 
 # try_case STATUS SIZE TEXT COMMAND: the exit status, how many bytes are written, and what stands on standard error. The text of status 3 and that of a
