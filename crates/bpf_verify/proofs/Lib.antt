@@ -17,6 +17,7 @@ pub mod RiseChecks
 pub mod RiseMemory
 pub mod RiseCalls
 pub mod RiseComparison
+pub mod CheckRises
 pub mod RiseInstructions
 pub mod PassLemmas
 pub mod VerdictLemmas

@@ -301,7 +301,7 @@ module _ (code passed : List Insn) (place : ℕ) (insn : Insn) (before after : L
     found = found_more;
   }
 
--- A check that fails in a state fails in every state above: where none fails, none fails below.
+-- Where a check fails in a state, some check fails in every state above: where none fails, none fails below.
 fails_above : (insn : Insn) (lower higher : AbstractState) (cause : Cause) → IsProper lower → IsProper higher → IsWithin lower higher → transfer lower insn ≡ Err cause → Fails higher insn
 fails_above insn lower higher cause proper above within fails = by_result (transfer higher insn) refl
   where

@@ -20,11 +20,11 @@ use Rattle.bpf_helpers.specs.declared.signature.FrameUse.TheVariants as frame_us
 use Rattle.bpf_meaning.specs.Checks.{Sound}
 use Rattle.bpf_meaning.specs.declared.cause.Cause.TheVariants.{OutOfBounds, UnwrittenFrame, BadArgument}
 use Rattle.bpf_meaning.proofs.CheckLemmas.{then_sound, passes_if}
-use Rattle.bpf_verify.specs.State.{IsWithinKnown}
+use Rattle.bpf_verify.specs.State.{IsBelow, IsWithinKnown}
 use Rattle.bpf_verify.specs.Transfer.{are_allowed, argument_kind, argument_in, arguments_in, lie_within, lend_bytes, lend_read, lend_frame, all_marked, mark_bytes, call}
 use Rattle.bpf_verify.specs.declared.calls.LentBytes.{LentBytes}
 use Rattle.bpf_verify.specs.declared.state.Known.{Known}
-use Rattle.bpf_verify.proofs.RiseChecks.{IsLower, IsLowerInterval, AreLowerOffsets, IsBelow, read_lower}
+use Rattle.bpf_verify.proofs.RiseChecks.{IsLower, IsLowerInterval, AreLowerOffsets, read_lower}
 use Rattle.bpf_verify.proofs.RiseMemory.{ChangesBelow, lie_within_falls, all_marked_falls, mark_bytes_lower}
 use Rattle.bpf_verify.proofs.StateLaws.{kind_reflexive}
 
@@ -57,7 +57,7 @@ argument_kind_lower number argument.Frame (Number x) n is = tt
 argument_kind_lower number argument.Frame (Record x) n is = tt
 argument_kind_lower number argument.Frame Nothing n is = tt
 
-argument_in_lower : (higher lower : Known) → IsBelow higher lower → (number : ℕ) (wanted : Argument) → Sound IsLower (argument_in higher number wanted) (argument_in lower number wanted)
+pub argument_in_lower : (higher lower : Known) → IsBelow lower higher → (number : ℕ) (wanted : Argument) → Sound IsLower (argument_in higher number wanted) (argument_in lower number wanted)
 argument_in_lower higher lower below number argument.Unused = tt
 argument_in_lower higher lower below number (argument.Number allowed) = then_sound IsLower IsLower _ _ _ _ (read_lower higher lower below number) (argument_kind_lower number (argument.Number allowed))
 argument_in_lower higher lower below number argument.Frame = then_sound IsLower IsLower _ _ _ _ (read_lower higher lower below number) (argument_kind_lower number argument.Frame)
@@ -66,7 +66,7 @@ record AreArgumentsLower (higher lower : List Kind) : Type 0 where
   second : IsLower (get_or higher 1 Nothing) (get_or lower 1 Nothing)
   third : IsLower (get_or higher 2 Nothing) (get_or lower 2 Nothing)
 
-arguments_lower : (higher lower : Known) → IsBelow higher lower → (wanted : List Argument) → Sound AreArgumentsLower (arguments_in higher wanted) (arguments_in lower wanted)
+arguments_lower : (higher lower : Known) → IsBelow lower higher → (wanted : List Argument) → Sound AreArgumentsLower (arguments_in higher wanted) (arguments_in lower wanted)
 arguments_lower higher lower below wanted =
     then_sound IsLower AreArgumentsLower _ _ _ _ (argument_in_lower higher lower below 1 (get_or wanted 0 argument.Unused)) (λ x a one.
     then_sound IsLower AreArgumentsLower _ _ _ _ (argument_in_lower higher lower below 2 (get_or wanted 1 argument.Unused)) (λ y b two.
@@ -103,7 +103,7 @@ lend_bytes_lower (Number x) y m n from count = tt
 lend_bytes_lower (Record x) y m n from count = tt
 lend_bytes_lower Nothing y m n from count = tt
 
-written_lower : (higher lower : Known) → IsBelow higher lower → (x n : LentBytes) → AreLentLower x n → IsWithinKnown (mark_bytes lower n.offsets (pos 0) n.count.low) (mark_bytes higher x.offsets (pos 0) x.count.low)
+written_lower : (higher lower : Known) → IsBelow lower higher → (x n : LentBytes) → AreLentLower x n → IsWithinKnown (mark_bytes lower n.offsets (pos 0) n.count.low) (mark_bytes higher x.offsets (pos 0) x.count.low)
 written_lower higher lower below x n are =
     let least = are.count.within.low in let ordered = are.count.ordered in
     mark_bytes_lower higher lower below x.offsets n.offsets (pos 0) n.count.low x.count.low are.offsets least
@@ -112,7 +112,7 @@ written_lower higher lower below x n are =
     offsets_reflexive : (x : Offsets) → offsets.IsWithin x x
     offsets_reflexive x = record { low = omega (arith, ints); high = omega (arith, ints) }
 
-lend_read_lower : (higher lower : Known) → IsBelow higher lower → (x n : LentBytes) → AreLentLower x n → Sound ChangesBelow (lend_read higher x) (lend_read lower n)
+lend_read_lower : (higher lower : Known) → IsBelow lower higher → (x n : LentBytes) → AreLentLower x n → Sound ChangesBelow (lend_read higher x) (lend_read lower n)
 lend_read_lower higher lower below x n are = by_test (all_marked higher x.offsets (pos 0) x.count.high) refl
   where
     by_test : (marked : Bool) → all_marked higher x.offsets (pos 0) x.count.high ≡ marked → Sound ChangesBelow (if marked then Ok higher else Err UnwrittenFrame) (lend_read lower n)
@@ -121,7 +121,7 @@ lend_read_lower higher lower below x n are = by_test (all_marked higher x.offset
         (all_marked_falls higher lower below x.offsets n.offsets (pos 0) x.count.high n.count.high are.offsets are.count.within.high are.within marked) below.within
     by_test false unmarked = tt
 
-lend_frame_lower : (higher lower : Known) → IsBelow higher lower → (frame : FrameUse) (kinds others : List Kind) → AreArgumentsLower kinds others → Sound ChangesBelow (lend_frame higher frame kinds) (lend_frame lower frame others)
+lend_frame_lower : (higher lower : Known) → IsBelow lower higher → (frame : FrameUse) (kinds others : List Kind) → AreArgumentsLower kinds others → Sound ChangesBelow (lend_frame higher frame kinds) (lend_frame lower frame others)
 lend_frame_lower higher lower below frame_use.Nothing kinds others are = below.within
 lend_frame_lower higher lower below frame_use.Writes kinds others are =
     then_sound AreLentLower ChangesBelow _ _ _ _ (lend_bytes_lower (get_or kinds 1 Nothing) (get_or kinds 2 Nothing) (get_or others 1 Nothing) (get_or others 2 Nothing) are.second are.third)
@@ -144,7 +144,7 @@ registers_lower kinds others answer all (suc (suc (suc (suc (suc (suc register))
     subst (λ (k : Kind). kind.IsWithin k (get_or (drop 6 kinds) register Nothing)) (sym (get_or-drop 6 others register Nothing))
     (subst (kind.IsWithin (get_or others (6 + register) Nothing)) (sym (get_or-drop 6 kinds register Nothing)) (all (6 + register)))
 
-pub call_lower : (higher lower : Known) → IsBelow higher lower → (helper : Helper) → Sound ChangesBelow (call higher (Some helper)) (call lower (Some helper))
+pub call_lower : (higher lower : Known) → IsBelow lower higher → (helper : Helper) → Sound ChangesBelow (call higher (Some helper)) (call lower (Some helper))
 call_lower higher lower below helper =
     let answer = (signature helper).answer in
     then_sound ChangesBelow ChangesBelow _ _ _ _

@@ -20,7 +20,7 @@ use Rattle.bpf_meaning.specs.Tags.{operate, move}
 use Rattle.bpf_meaning.specs.declared.cause.Cause.{Cause}
 use Rattle.bpf_meaning.specs.declared.cause.Cause.TheVariants.{PointerArithmetic, LeavesArea}
 use Rattle.bpf_meaning.proofs.TagLemmas.{Relate, Agree, operate_agrees, move_agrees}
-use Rattle.bpf_verify.specs.State.{IsProperKnown, IsWithinKnown, kind_of}
+use Rattle.bpf_verify.specs.State.{IsBelow, kind_of}
 use Rattle.bpf_verify.specs.Transfer.{read_kind, read, number_or, or_cause, tagged_kind, kind_pointer, kind_tags}
 use Rattle.bpf_verify.specs.declared.state.Known.{Known}
 use Rattle.bpf_kinds.proofs.MovingRises.{near_rises, move_by_rises, move_back_by_rises}
@@ -79,12 +79,6 @@ is_within (Frame x) Nothing is = absurd is
 pub single_lower : (n : ℕ) → IsLowerInterval (single n) (single n)
 single_lower n = record { within = record { low = omega arith; high = omega arith }; ordered = omega arith }
 
--- two proper states, one below the other
-pub record IsBelow (higher lower : Known) : Type 0 where
-  pub proper_higher : IsProperKnown higher
-  pub proper : IsProperKnown lower
-  pub within : IsWithinKnown lower higher
-
 -- reading
 
 read_kind_lower : (register : ℕ) (x n : Kind) → IsLower x n → Sound IsLower (read_kind register x) (read_kind register n)
@@ -102,7 +96,7 @@ read_kind_lower register (Frame x) (Number n) is = absurd is
 read_kind_lower register (Frame x) (Record n) is = absurd is
 read_kind_lower register (Frame x) Nothing is = absurd is
 
-pub read_lower : (higher lower : Known) → IsBelow higher lower → (register : ℕ) → Sound IsLower (read higher register) (read lower register)
+pub read_lower : (higher lower : Known) → IsBelow lower higher → (register : ℕ) → Sound IsLower (read higher register) (read lower register)
 read_lower higher lower below register =
     read_kind_lower register (kind_of higher register) (kind_of lower register)
     (is_lower (kind_of higher register) (kind_of lower register) (below.within.registers register) (below.proper.kinds register))

@@ -11,12 +11,12 @@ use Rattle.bpf_kinds.specs.declared.kind.Kind.TheVariants.{Number, Record, Frame
 use Rattle.bpf_kinds.specs.declared.narrowing.Narrowed.{Narrowed}
 use Rattle.bpf_kinds.proofs.NarrowingRises.{refine_rises}
 use Rattle.bpf_meaning.specs.Checks.{Sound}
-use Rattle.bpf_verify.specs.State.{Edges, AreEdgesWithin, IsWithin, IsWithinKnown, with_kind}
+use Rattle.bpf_verify.specs.State.{IsBelow, Edges, AreEdgesWithin, IsWithin, IsWithinKnown, with_kind}
 use Rattle.bpf_verify.specs.Transfer.{is_register, with_narrowed, narrowed, branch, on_edge, compare}
 use Rattle.bpf_verify.specs.declared.comparison.Comparison.{Comparison}
 use Rattle.bpf_verify.specs.declared.state.Known.{Known}
 use Rattle.bpf_verify.specs.declared.successors.Edge.TheVariants.{Unchanged}
-use Rattle.bpf_verify.proofs.RiseChecks.{IsLower, IsLowerInterval, IsBelow}
+use Rattle.bpf_verify.proofs.RiseChecks.{IsLower, IsLowerInterval}
 use Rattle.bpf_verify.proofs.RiseMemory.{with_kind_lower}
 
 -- what is known on the edges
@@ -30,7 +30,7 @@ with_narrowed_lower higher lower left (Register right) wider both same within fi
     (length-set lower.registers left (Number both.left) ∙ same ∙ sym (length-set higher.registers left (Number wider.left)))
     (with_kind_lower higher lower left (Number wider.left) (Number both.left) same within first) second
 
-branch_lower : (higher lower : Known) → IsBelow higher lower → (comparison : Comparison) (x y m n : Interval) → IsLowerInterval x m → IsLowerInterval y n → (taken : Bool) → IsWithin (on_edge lower comparison (branch comparison m n taken)) (on_edge higher comparison (branch comparison x y taken))
+branch_lower : (higher lower : Known) → IsBelow lower higher → (comparison : Comparison) (x y m n : Interval) → IsLowerInterval x m → IsLowerInterval y n → (taken : Bool) → IsWithin (on_edge lower comparison (branch comparison m n taken)) (on_edge higher comparison (branch comparison x y taken))
 branch_lower higher lower below comparison x y m n first second taken = by_test (is_register comparison.left.number comparison.right)
   where
     same : length lower.registers ≡ length higher.registers
@@ -47,7 +47,7 @@ branch_lower higher lower below comparison x y m n first second taken = by_test 
     by_test true = below.within
     by_test false = by_refined (refine comparison.condition comparison.width m n taken) refl
 
-pub compare_lower : (higher lower : Known) → IsBelow higher lower → (comparison : Comparison) (x y m n : Kind) → IsLower x m → IsLower y n → Sound EdgesBelow (compare higher comparison x y) (compare lower comparison m n)
+pub compare_lower : (higher lower : Known) → IsBelow lower higher → (comparison : Comparison) (x y m n : Kind) → IsLower x m → IsLower y n → Sound EdgesBelow (compare higher comparison x y) (compare lower comparison m n)
 compare_lower higher lower below comparison (Number x) (Number y) (Number m) (Number n) first second = record {
   next = branch_lower higher lower below comparison x y m n first second false;
   target = branch_lower higher lower below comparison x y m n first second true;

@@ -13,10 +13,10 @@ use Rattle.bpf_meaning.specs.Walk.{walk}
 use Rattle.bpf_meaning.specs.declared.cause.Cause.{Cause}
 use Rattle.bpf_meaning.specs.declared.cause.Cause.TheVariants.{StoresPointer}
 use Rattle.bpf_meaning.proofs.WalkForesees.{Foresees, walk_foreseen, any_fits}
-use Rattle.bpf_verify.specs.State.{AbstractState, Unreached, Reached, Edges, AreEdgesWithin, IsProper, IsWithin, IsWithinKnown}
+use Rattle.bpf_verify.specs.State.{IsBelow, AbstractState, Unreached, Reached, Edges, AreEdgesWithin, IsProper, IsWithin, IsWithinKnown}
 use Rattle.bpf_verify.specs.Transfer.{kinds, number_or, transfer}
 use Rattle.bpf_verify.specs.declared.state.Known.{Known}
-use Rattle.bpf_verify.proofs.RiseChecks.{IsLower, IsLowerInterval, AreLowerOffsets, IsBelow, is_within, single_lower, read_lower, number_or_lower, operate_lower, move_lower}
+use Rattle.bpf_verify.proofs.RiseChecks.{IsLower, IsLowerInterval, AreLowerOffsets, is_within, single_lower, read_lower, number_or_lower, operate_lower, move_lower}
 use Rattle.bpf_verify.proofs.RiseMemory.{ArePointersLower, ChangesBelow, pointers_lower, load_from_lower, frame_offsets_lower, store_at_lower, with_kind_lower}
 use Rattle.bpf_verify.proofs.RiseCalls.{call_lower}
 use Rattle.bpf_verify.proofs.RiseComparison.{EdgesBelow, compare_lower}
@@ -36,7 +36,7 @@ stored_lower (Frame x) n is = tt
 stored_lower Nothing n is = tt
 
 -- each step of an instruction
-kinds_rise : (higher lower : Known) → IsBelow higher lower → (insn : Insn) → Foresees (kinds higher) (kinds lower) insn
+kinds_rise : (higher lower : Known) → IsBelow lower higher → (insn : Insn) → Foresees (kinds higher) (kinds lower) insn
 kinds_rise higher lower below insn = record {
   Fits = λ immediate. Unit {0};
   Read = λ register. IsLower;
@@ -73,7 +73,7 @@ kinds_rise higher lower below insn = record {
   end = λ x n is. record { next = tt; target = tt };
 }
 
-walk_rises : (higher lower : Known) → IsBelow higher lower → (insn : Insn) → Sound EdgesBelow (walk (kinds higher) insn) (walk (kinds lower) insn)
+walk_rises : (higher lower : Known) → IsBelow lower higher → (insn : Insn) → Sound EdgesBelow (walk (kinds higher) insn) (walk (kinds lower) insn)
 unfolding kinds_rise
 walk_rises higher lower below insn = walk_foreseen (kinds higher) (kinds lower) insn (kinds_rise higher lower below insn) (any_fits insn)
 

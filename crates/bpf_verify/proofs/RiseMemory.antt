@@ -21,11 +21,11 @@ use Rattle.bpf_kinds.proofs.ResultLemmas.{load-proper}
 use Rattle.bpf_meaning.specs.Checks.{Sound}
 use Rattle.bpf_meaning.specs.declared.cause.Cause.TheVariants.{OutOfBounds, UnwrittenFrame}
 use Rattle.bpf_meaning.proofs.CheckLemmas.{then_sound, passes_if}
-use Rattle.bpf_verify.specs.State.{IsWithinKnown, with_kind}
+use Rattle.bpf_verify.specs.State.{IsBelow, IsWithinKnown, with_kind}
 use Rattle.bpf_verify.specs.Transfer.{only_pointers, pointers_in, lie_within, area_length, all_marked, load_area, load_from, frame_offsets, mark_bytes, store_at}
 use Rattle.bpf_verify.specs.declared.memory.Pointers.{Pointers}
 use Rattle.bpf_verify.specs.declared.state.Known.{Known}
-use Rattle.bpf_verify.proofs.RiseChecks.{IsLower, IsLowerInterval, AreLowerOffsets, IsBelow, read_lower}
+use Rattle.bpf_verify.proofs.RiseChecks.{IsLower, IsLowerInterval, AreLowerOffsets, read_lower}
 
 -- the base
 
@@ -45,7 +45,7 @@ only_pointers_lower (Frame x) Nothing is = absurd is
 only_pointers_lower (Number x) n is = tt
 only_pointers_lower Nothing n is = tt
 
-pub pointers_lower : (higher lower : Known) → IsBelow higher lower → (base : ℕ) → Sound ArePointersLower (pointers_in higher base) (pointers_in lower base)
+pub pointers_lower : (higher lower : Known) → IsBelow lower higher → (base : ℕ) → Sound ArePointersLower (pointers_in higher base) (pointers_in lower base)
 pointers_lower higher lower below base = then_sound IsLower ArePointersLower _ _ _ _ (read_lower higher lower below base) only_pointers_lower
 
 -- bytes from each of the offsets on
@@ -71,7 +71,7 @@ lie_inside least low high most offset count above between below within = record 
   within = grind (arith, ints, nat_tests);
 }
 
-pub all_marked_falls : (higher lower : Known) → IsBelow higher lower → (x n : Offsets) (offset : ℤ) (count less : ℕ) → AreLowerOffsets x n → less ≤ count → lie_within x offset count FRAME_LENGTH ≡ true → all_marked higher x offset count ≡ true → all_marked lower n offset less ≡ true
+pub all_marked_falls : (higher lower : Known) → IsBelow lower higher → (x n : Offsets) (offset : ℤ) (count less : ℕ) → AreLowerOffsets x n → less ≤ count → lie_within x offset count FRAME_LENGTH ≡ true → all_marked higher x offset count ≡ true → all_marked lower n offset less ≡ true
 all_marked_falls higher lower below x n offset count zero is fewer within marked = refl
 all_marked_falls higher lower below x n offset zero (suc less) is fewer within marked = absurd (omega arith)
 all_marked_falls higher lower below x n offset (suc count) (suc less) is fewer within marked =
@@ -85,7 +85,7 @@ all_marked_falls higher lower below x n offset (suc count) (suc less) is fewer w
 load_lower : (format : LoadFormat) → IsLowerInterval (load format) (load format)
 load_lower format = let proper = load-proper format in let ordered = proper.ordered in record { within = record { low = omega arith; high = omega arith }; ordered = ordered }
 
-load_area_lower : (higher lower : Known) → IsBelow higher lower → (format : LoadFormat) (into : Area) (x n : Offsets) (offset : ℤ) → AreLowerOffsets x n → lie_within x offset (load_length format) (area_length into) ≡ true
+load_area_lower : (higher lower : Known) → IsBelow lower higher → (format : LoadFormat) (into : Area) (x n : Offsets) (offset : ℤ) → AreLowerOffsets x n → lie_within x offset (load_length format) (area_length into) ≡ true
     → Sound IsLower (load_area higher format (record { area = into; offsets = x }) offset) (load_area lower format (record { area = into; offsets = n }) offset)
 load_area_lower higher lower below format area.Record x n offset is within = load_lower format
 load_area_lower higher lower below format area.Frame x n offset is within = by_test (all_marked higher x offset (load_length format)) refl
@@ -96,7 +96,7 @@ load_area_lower higher lower below format area.Frame x n offset is within = by_t
         (all_marked_falls higher lower below x n offset (load_length format) (load_length format) is (omega arith) within marked) (load_lower format)
     by_test false unmarked = tt
 
-load_into_lower : (higher lower : Known) → IsBelow higher lower → (format : LoadFormat) (into : Area) (x n : Offsets) (offset : ℤ) → AreLowerOffsets x n
+load_into_lower : (higher lower : Known) → IsBelow lower higher → (format : LoadFormat) (into : Area) (x n : Offsets) (offset : ℤ) → AreLowerOffsets x n
     → Sound IsLower (load_from higher format (record { area = into; offsets = x }) offset) (load_from lower format (record { area = into; offsets = n }) offset)
 load_into_lower higher lower below format into x n offset is = by_test (lie_within x offset (load_length format) (area_length into)) refl
   where
@@ -108,7 +108,7 @@ load_into_lower higher lower below format into x n offset is = by_test (lie_with
         (load_area_lower higher lower below format into x n offset is within)
     by_test false outside = tt
 
-pub load_from_lower : (higher lower : Known) → IsBelow higher lower → (format : LoadFormat) (p q : Pointers) (offset : ℤ) → ArePointersLower p q → Sound IsLower (load_from higher format p offset) (load_from lower format q offset)
+pub load_from_lower : (higher lower : Known) → IsBelow lower higher → (format : LoadFormat) (p q : Pointers) (offset : ℤ) → ArePointersLower p q → Sound IsLower (load_from higher format p offset) (load_from lower format q offset)
 load_from_lower higher lower below format p q offset are =
     subst (λ (into : Area). Sound IsLower (load_from higher format p offset) (load_from lower format (record { area = into; offsets = q.offsets }) offset)) (sym are.into)
     (load_into_lower higher lower below format p.area p.offsets q.offsets offset are.offsets)
@@ -133,7 +133,7 @@ marked_known known from count = record known { frame = record known.frame { mark
 
 -- Bytes that are written from each of the offsets on: more get their marks where the offsets are fewer, and as many bytes or more are
 -- written in any case.
-pub mark_bytes_lower : (higher lower : Known) → IsBelow higher lower → (x n : Offsets) (offset : ℤ) (count less : ℕ) → AreLowerOffsets x n → less ≤ count → lie_within n offset count FRAME_LENGTH ≡ true
+pub mark_bytes_lower : (higher lower : Known) → IsBelow lower higher → (x n : Offsets) (offset : ℤ) (count less : ℕ) → AreLowerOffsets x n → less ≤ count → lie_within n offset count FRAME_LENGTH ≡ true
     → IsWithinKnown (mark_bytes lower n offset count) (mark_bytes higher x offset less)
 mark_bytes_lower higher lower below x n offset count less is fewer within = by_tests (int_eq x.low x.high) (int_eq n.low n.high) refl refl
   where
@@ -160,7 +160,7 @@ mark_bytes_lower higher lower below x n offset count less is fewer within = by_t
 abbrev pub ChangesBelow : Known → Known → Type 0
 ChangesBelow higher lower = IsWithinKnown lower higher
 
-pub store_at_lower : (higher lower : Known) → IsBelow higher lower → (x n : Offsets) (offset : ℤ) (size : StoreSize) → AreLowerOffsets x n → Sound ChangesBelow (store_at higher x offset size) (store_at lower n offset size)
+pub store_at_lower : (higher lower : Known) → IsBelow lower higher → (x n : Offsets) (offset : ℤ) (size : StoreSize) → AreLowerOffsets x n → Sound ChangesBelow (store_at higher x offset size) (store_at lower n offset size)
 store_at_lower higher lower below x n offset size is = by_test (lie_within x offset (store_length size) FRAME_LENGTH) refl
   where
     by_test : (within : Bool) → lie_within x offset (store_length size) FRAME_LENGTH ≡ within → Sound ChangesBelow (if within then Ok (mark_bytes higher x offset (store_length size)) else Err OutOfBounds) (store_at lower n offset size)

@@ -56,6 +56,12 @@ pub record IsWithinKnown (known other : Known) : Type 0 where
   pub registers : (register : ℕ) → kind.IsWithin (kind_of known register) (kind_of other register)
   pub frame : map.IsWithin known.frame other.frame
 
+-- what is known is below what else is known, and both are proper
+pub record IsBelow (lower higher : Known) : Type 0 where
+  pub proper : IsProperKnown lower
+  pub proper_higher : IsProperKnown higher
+  pub within : IsWithinKnown lower higher
+
 -- the least kinds round those of two lists, one by one
 abbrev pub join_kinds : List Kind → List Kind → List Kind
 join_kinds (x ∷ xs) (y ∷ ys) = kind.join x y ∷ join_kinds xs ys

@@ -1,7 +1,7 @@
 -- The transfer function, or abstract step: what is known behind an instruction, by what is known before it, or its first check that fails
 -- for some of the values that are possible. It walks the instruction table with kinds in the place of values. What is known of results is
 -- this project's own.
-use Rattle.std.specs.Prelude.{ℕ, zero, suc, ◌+◌, ℤ, pos, ◌+ℤ◌, ◌&&◌, ◌==◌, Bool, true, false, IsTrue, int_le, nat_le, unsigned_abs, List, [], ◌∷◌, ◌++◌, drop, replicate, get_or, Option, Some, None, Result, Ok, Err, if◌then◌else◌}
+use Rattle.std.specs.Prelude.{◌≡◌, ℕ, zero, suc, ◌+◌, ℤ, pos, ◌+ℤ◌, ◌&&◌, ◌==◌, Bool, true, false, IsTrue, int_le, nat_le, unsigned_abs, List, [], ◌∷◌, ◌++◌, drop, replicate, get_or, Option, Some, None, Result, Ok, Err, if◌then◌else◌}
 use Rattle.std.specs.Int.{w32}
 use Rattle.std.specs.Ordering.{int_eq}
 use Rattle.bpf_insn.specs.Arithmetic as arithmetic
@@ -152,6 +152,11 @@ only_pointers kind = Err NotPointer
 
 abbrev pub pointers_in : Known → ℕ → Result Pointers Cause
 pointers_in known register = read known register >>= only_pointers
+
+-- pointers lie within others: they point into the same area, at offsets within theirs
+pub record ArePointersWithin (pointers others : Pointers) : Type 0 where
+  pub into : pointers.area ≡ others.area
+  pub offsets : pointer_offsets.IsWithin pointers.offsets others.offsets
 
 -- what is known of the registers; an immediate is compared with the low bits of a register, so many as the comparison has
 abbrev pub kind_registers : Known → Registers

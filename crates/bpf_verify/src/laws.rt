@@ -1,14 +1,26 @@
 //! What holds of the definitions themselves. The functions do nothing: each one's contract is the law.
-ghost use Rattle.std.specs.Prelude.{◌≡◌, ℕ, List, Option, Ok};
+ghost use Rattle.std.specs.Prelude.{◌≡◌, ℕ, ℤ, List, Option, Ok, Some};
 ghost use Rattle.bpf_insn.specs.declared.instruction.Insn.{Insn};
 ghost use Rattle.bpf_insn.specs.declared.value.Area.{Area};
 ghost use Rattle.bpf_flow.specs.Flow.{IsForward};
+ghost use Rattle.bpf_helpers.specs.declared.helper.Helper.{Helper};
+ghost use Rattle.bpf_helpers.specs.declared.signature.Argument.{Argument};
+ghost use Rattle.bpf_insn.specs.declared.instruction.LoadFormat.{LoadFormat};
+ghost use Rattle.bpf_insn.specs.declared.instruction.StoreSize.{StoreSize};
+ghost use Rattle.bpf_kinds.specs.Kind as kinds;
+ghost use Rattle.bpf_kinds.specs.Offsets as pointer_offsets;
+ghost use Rattle.bpf_kinds.specs.declared.kind.Kind.{Kind};
+ghost use Rattle.bpf_kinds.specs.declared.offsets.Offsets.{Offsets};
+ghost use Rattle.bpf_meaning.specs.Checks.{Sound};
 ghost use Rattle.bpf_meaning.specs.Run.{IsSafe};
 ghost use Rattle.bpf_meaning.specs.declared.cause.Cause.{Cause};
 ghost use Rattle.bpf_meaning.specs.declared.state.State.{State};
 ghost use Rattle.bpf_verify.specs.Annotation.{HasGoodAnnotation, IsAccepted, IsRefusedAt};
-ghost use Rattle.bpf_verify.specs.State.{AbstractState, Admits, AreEdgesWithin, Edges, IsProper, IsWithin, Unreached, join};
-ghost use Rattle.bpf_verify.specs.Transfer.{transfer};
+ghost use Rattle.bpf_verify.specs.State.{AbstractState, Admits, AreEdgesWithin, Edges, IsBelow, IsProper, IsWithin, IsWithinKnown, Unreached, join};
+ghost use Rattle.bpf_verify.specs.Transfer.{ArePointersWithin, argument_in, call, compare, load_from, pointers_in, read, store_at, transfer};
+ghost use Rattle.bpf_verify.specs.declared.comparison.Comparison.{Comparison};
+ghost use Rattle.bpf_verify.specs.declared.memory.Pointers.{Pointers};
+ghost use Rattle.bpf_verify.specs.declared.state.Known.{Known};
 ghost use Rattle.bpf_verify.specs.Verified.{HasBaseAreas};
 
 /// Soundness: a code whose jumps go forward, that ends in EXIT and that has an annotation which is good to its end, is stuck on no segment,
@@ -37,6 +49,28 @@ pub fn states_stand_in_order()
     ensures admits_more { (x y : AbstractState) (state : State) → IsWithin x y → Admits x state → Admits y state }
 {}
 
+/// Each check goes upwards: what passes it by what is known passes it by what is known lower, and what it gives is lower. What operations,
+/// narrowing, moves of pointers and marks give goes upwards by the laws of `bpf_kinds` and `bpf_frame`.
+pub fn checks_rise()
+    ensures read { (lower higher : Known) (register : ℕ) → IsBelow lower higher
+        → Sound (λ x n. kinds.IsWithin n x) (read higher register) (read lower register) }
+    ensures base { (lower higher : Known) (base : ℕ) → IsBelow lower higher
+        → Sound (λ x n. ArePointersWithin n x) (pointers_in higher base) (pointers_in lower base) }
+    ensures load { (lower higher : Known) (format : LoadFormat) (x n : Pointers) (offset : ℤ) → IsBelow lower higher
+        → pointer_offsets.IsProper n.offsets → ArePointersWithin n x
+        → Sound (λ x n. kinds.IsWithin n x) (load_from higher format x offset) (load_from lower format n offset) }
+    ensures store { (lower higher : Known) (x n : Offsets) (offset : ℤ) (size : StoreSize) → IsBelow lower higher
+        → pointer_offsets.IsProper n → pointer_offsets.IsWithin n x
+        → Sound (λ x n. IsWithinKnown n x) (store_at higher x offset size) (store_at lower n offset size) }
+    ensures argument { (lower higher : Known) (number : ℕ) (wanted : Argument) → IsBelow lower higher
+        → Sound (λ x n. kinds.IsWithin n x) (argument_in higher number wanted) (argument_in lower number wanted) }
+    ensures call { (lower higher : Known) (helper : Helper) → IsBelow lower higher
+        → Sound (λ x n. IsWithinKnown n x) (call higher (Some helper)) (call lower (Some helper)) }
+    ensures compare { (lower higher : Known) (comparison : Comparison) (x y m n : Kind) → IsBelow lower higher
+        → kinds.IsProper m → kinds.IsProper n → kinds.IsWithin m x → kinds.IsWithin n y
+        → Sound (λ x n. AreEdgesWithin n x) (compare higher comparison x y) (compare lower comparison m n) }
+{}
+
 /// What is known behind an instruction grows with what is known before it: where no check of an instruction fails in a state, none fails in
 /// a state below it, and what is known on the edges lies below too.
 pub fn upward()
@@ -44,7 +78,7 @@ pub fn upward()
         → transfer higher insn ≡ Ok edges → (below : Edges) × (transfer lower insn ≡ Ok below) × AreEdgesWithin below edges }
 {}
 
-/// A code has one verdict: with an annotation that is good to its end it isn't refused, and it is refused at one place with one cause, or
+/// A code has at most one verdict: with an annotation that is good to its end it isn't refused, and it is refused at one place with one cause, or
 /// accepted with one list of areas.
 pub fn verdicts()
     ensures accepted { (code : List Insn) (place : ℕ) (cause : Cause) → HasGoodAnnotation code → IsRefusedAt code place cause → ⊥ }

@@ -45,9 +45,10 @@ struct Visited {
     area: Option<Area>,
 }
 
-/// Finds whether a code can be stuck on some segment, in one pass over its instructions in order: it refuses at the first that may be, by
-/// what is known before it. That is the most that can be known by the rules: no other annotation goes further. Its time grows with the instructions. It takes memory for a pointer a word of the code, for what is known at
-/// those places ahead that are reached, and for what is kept of each instruction.
+/// Finds the verdict on a code, in one pass over its instructions in order: it refuses at the first place where a check fails by what is
+/// known before it. By the rules no more can be known: no other annotation goes further. Its time grows with the instructions. It takes
+/// memory for a pointer a word of the code, for what is known at those places ahead that are reached, and for what is kept of each
+/// instruction.
 pub fn verify<A: Allocator + Copy>(alloc: A, flow: Flow<A>) -> Result<Verified<A>, VerifyFault>
     ensures ok { IfOk result (λ verified. (verified.code ≡ flow.code) × HasGoodAnnotation flow.code) }
     ensures areas { IfOk result (λ verified. IsAccepted flow.code verified.areas) }

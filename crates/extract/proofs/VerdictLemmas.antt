@@ -12,6 +12,7 @@ use Rattle.bpf_verify.specs.Annotation.{HasGoodAnnotation, IsVerifyFault}
 use Rattle.bpf_verify.specs.declared.fault.VerifyFault.{VerifyFault}
 use Rattle.bpf_verify.specs.declared.fault.VerifyFault.TheVariants as verify_fault
 use Rattle.extract.specs.Program.{IsSafeProgram, IsProgramFault}
+use Rattle.extract.specs.ProgramFault.{of_verify}
 use Rattle.extract.specs.declared.program.ProgramFault.{ProgramFault}
 use Rattle.extract.specs.declared.program.ProgramFault.TheVariants.{Code, Flow, Verify, Memory}
 
@@ -46,3 +47,8 @@ one_fault program (Verify a) (Flow b) is also first second =
     absurd (has_no_fault is.0 b is.2 (subst (λ (c : List Insn). flow.IsFirstFault c b) (same_code program also.0 is.0 also.1 is.1) also.2))
 one_fault program (Verify a) (Verify b) is also first second =
     ap Verify (verdict.one_fault also.0 a b (subst (λ (c : List Insn). IsVerifyFault c a) (same_code program is.0 also.0 is.1 also.1) is.3) also.3 is.4 also.4)
+
+-- what the verifier says of a program's code is said of the program
+pub verify_fault_is : (program : List ℕ) (code : List Insn) (fault : VerifyFault) → IsCodeOf program code → IsForward code → IsVerifyFault code fault → IsProgramFault program (of_verify fault)
+verify_fault_is program code verify_fault.Memory is forward refused = tt
+verify_fault_is program code (verify_fault.Refused place cause) is forward refused = (code, is, forward, refused, λ same. cc)

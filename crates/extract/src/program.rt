@@ -100,7 +100,7 @@ impl ProgramFault {
 pub fn accept<A: Allocator + Copy>(alloc: A, program: &[u8]) -> Result<Verified<A>, ProgramFault>
     ensures ok { IfOk result (λ verified. IsSafeProgram program.now verified.code) }
     ensures err { IfErr result (IsProgramFault program.now) }
-    // A program that may be accepted is refused for want of memory alone.
+    // A program that has a safe code is refused for want of memory alone.
     ensures only { (code : List Insn) → IsSafeProgram program.now code → IfErr result (λ fault. fault ≡ ProgramFault.Memory) }
 {
     let code = decode(alloc, program)?;
