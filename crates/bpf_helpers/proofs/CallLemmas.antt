@@ -15,11 +15,11 @@ use Rattle.tl_segments.specs.declared.range.RangeFields.{RangeFields}
 use Rattle.tl_segments.proofs.SegmentLemmas.{AreBytes-field_of}
 use Rattle.bpf_kinds.specs.Interval.{Admits, between, single}
 use Rattle.bpf_kinds.specs.declared.interval.Interval.{Interval}
-use Rattle.bpf_helpers.specs.Call.{LieWithin, Meaning, Meets, MeetsSignature, call, does, first, meaning, second, shape_of, third, written_length}
+use Rattle.bpf_helpers.specs.Call.{Meaning, MeetsSignature, call, does, first, meaning, second, shape_of, third, written_length}
 use Rattle.bpf_helpers.specs.Call.Meaning.{TellsRecord, TellsSegment, ComparesFrame, CopiesIntoFrame, SetsScore}
-use Rattle.bpf_helpers.specs.Shape.{frame_use}
 use Rattle.bpf_helpers.specs.Helper.{any, by_number, signature}
 use Rattle.bpf_helpers.specs.Meaning.{truth, bytes_at, field_number, or_zero, sides, first_bytes, coordinate_word}
+use Rattle.bpf_helpers.specs.Shape.{frame_use}
 use Rattle.bpf_helpers.specs.declared.fields.TheConstants.{FIELDS, COORDINATES}
 use Rattle.bpf_helpers.specs.declared.helper.Helper.{Helper}
 use Rattle.bpf_helpers.specs.declared.helper.Helper.TheVariants.{Field, Has, Names, Ranges, InRange, NameCopy, NameIs, Emit, Coord}
@@ -57,14 +57,9 @@ frame-length Field uses = absurd (uses refl)
 frame-length otherwise uses = grind arith
 
 -- there are three arguments
-
 pub three-wanted : (helper : Helper) → get_or (signature helper).arguments 0 Unused ∷ get_or (signature helper).arguments 1 Unused ∷ get_or (signature helper).arguments 2 Unused ∷ [] ≡ (signature helper).arguments
 three-wanted Field = refl
 three-wanted otherwise = refl
-
-past-third : (helper : Helper) (at word : ℕ) → Meets (get_or (signature helper).arguments (suc (suc (suc at))) Unused) word
-past-third Field at word = tt
-past-third otherwise at word = tt
 
 -- the shape is that of what the helper function does
 pub shape-is : (helper : Helper) → shape_of (meaning helper) ≡ (signature helper).shape
@@ -75,16 +70,6 @@ shape-is otherwise = refl
 below-any : (helper : Helper) → (signature helper).answer.high < 2 ^ 64
 below-any Field = omega arith
 below-any otherwise = omega arith
-
--- three arguments meet a signature where each is what it wants and the frame's bytes lie within the frame
-pub MeetsSignature-three : (helper : Helper) (a b c : ℕ) → Meets (get_or (signature helper).arguments 0 Unused) a → Meets (get_or (signature helper).arguments 1 Unused) b → Meets (get_or (signature helper).arguments 2 Unused) c → LieWithin (frame_use (signature helper).shape) (a ∷ b ∷ c ∷ []) → MeetsSignature helper (a ∷ b ∷ c ∷ [])
-MeetsSignature-three helper a b c meets_a meets_b meets_c within = record { count = refl; each = each; within = within }
-  where
-    each : (at : ℕ) → Meets (get_or (signature helper).arguments at Unused) (get_or (a ∷ b ∷ c ∷ []) at 0)
-    each zero = meets_a
-    each (suc zero) = meets_b
-    each (suc (suc zero)) = meets_c
-    each (suc (suc (suc at))) = past-third helper at 0
 
 truth-bit : (b : Bool) → Admits (between 0 1) (truth b)
 truth-bit true = record { above = omega arith; below = omega arith }
@@ -154,7 +139,7 @@ AreBytes-first : (count : ℕ) (name : Option (List ℕ)) → IfSome name (AreBy
 AreBytes-first count None are few = record { length = length-replicate count 32; bytes = replicate-bytes count }
 AreBytes-first count (Some name) are few = let long = are.length in record { length = grind (arith, common_steps); bytes = take-bytes count name are.bytes }
 
--- what the bounds of a meaning are: of its answer, of what it copies, and of the score that it sets
+-- What a helper function does keeps within bounds: its answer, what it copies, and the score that it sets.
 
 abbrev IsBounded : Meaning → Interval → List ℕ → Type 0
 IsBounded (TellsRecord told) answer arguments = (segment : Contents) → IsSegment segment → Admits answer (told segment.bytes arguments)

@@ -4,8 +4,8 @@ use Rattle.tl_segments.specs.Segment.{Contents, names_of, ranges_of}
 use Rattle.bpf_insn.specs.declared.memory.TheConstants.{FRAME_LENGTH}
 use Rattle.bpf_kinds.specs.Interval.{Admits}
 use Rattle.bpf_helpers.specs.Helper.{signature}
-use Rattle.bpf_helpers.specs.Shape.{frame_use}
 use Rattle.bpf_helpers.specs.Meaning.{truth, field_number, or_zero, sides, is_name, first_bytes, coordinate}
+use Rattle.bpf_helpers.specs.Shape.{frame_use}
 use Rattle.bpf_helpers.specs.declared.helper.Helper.{Helper}
 use Rattle.bpf_helpers.specs.declared.helper.Helper.TheVariants.{Field, Has, Names, Ranges, InRange, NameCopy, NameIs, Emit, Coord}
 use Rattle.bpf_helpers.specs.declared.signature.Argument.{Argument}

@@ -2,9 +2,9 @@
 ghost use Rattle.std.specs.Prelude.{◌≡◌, ◌≤◌, is_some, length, slice_get};
 ghost use Rattle.bpf_kinds.specs.Interval.{Admits};
 ghost use Rattle.bpf_helpers.specs.Call.{MeetsSignature, bytes_read, call, second, write};
-ghost use Rattle.bpf_helpers.specs.Shape.{frame_use};
 ghost use Rattle.bpf_helpers.specs.Helper.{signature};
 ghost use Rattle.bpf_helpers.specs.Meaning.{first_bytes, is_name, sides};
+ghost use Rattle.bpf_helpers.specs.Shape.{frame_use};
 ghost use Rattle.tl_segments.specs.Segment.{names_of, ranges_of};
 
 use crate::fields::{coordinate, field_number};

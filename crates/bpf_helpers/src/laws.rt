@@ -1,9 +1,9 @@
 //! Laws over the definitions, as contracts of functions that do nothing.
 ghost use Rattle.std.specs.Prelude.{◌≡◌, ◌≢◌, ℕ, ◌+◌, ◌-◌, ◌^◌, ◌<◌, ◌≤◌, List, [], length, get_or, slice_get, slice_index, codes, IsTrue, Some, None};
 ghost use Rattle.bpf_helpers.specs.Call.{MeetsSignature, call, first, meaning, shape_of, write, written_length};
-ghost use Rattle.bpf_helpers.specs.Shape.{frame_use};
 ghost use Rattle.bpf_helpers.specs.Helper.{by_number, reads_record_alone, signature};
 ghost use Rattle.bpf_helpers.specs.Meaning.{places};
+ghost use Rattle.bpf_helpers.specs.Shape.{frame_use};
 ghost use Rattle.bpf_helpers.specs.declared.helper.Helper.{Helper};
 ghost use Rattle.bpf_helpers.specs.declared.helper.Helper.TheVariants.{Field, Has, Names, Ranges, InRange, NameCopy, NameIs, Emit, Coord};
 ghost use Rattle.bpf_helpers.specs.declared.signature.Argument.TheVariants.{Unused, Number, Frame};

@@ -1,5 +1,5 @@
 -- Calls of helper functions: what holds once their checks have passed, and what they leave of the frame.
-use Rattle.std.proofs.Common.{◌≡◌, ltb, ℕ, zero, suc, ◌+◌, ◌≤◌, ◌^◌, inl, inr, pos, Bool, true, false, ◌⊎◌, List, [], ◌∷◌, map, length, get_or, slice_get, Option, Some, None, Result, Ok, Err, if◌then◌else◌, refl, sym, ◌∙◌, subst, arith}
+use Rattle.std.proofs.Common.{◌≡◌, ltb, ℕ, zero, suc, ◌+◌, ◌≤◌, ◌^◌, inl, inr, pos, Bool, true, false, ◌⊎◌, List, [], ◌∷◌, map, length, get_or, Option, Some, None, Result, Ok, Err, if◌then◌else◌, refl, sym, ◌∙◌, subst, arith}
 use Rattle.std.specs.Prelude.{IsTrue}
 use Rattle.std.specs.Int.{cast_signed, w64}
 use Rattle.std.proofs.lemmas.Bool.{false≢true, cases_lt}
@@ -11,7 +11,7 @@ use Rattle.bpf_insn.specs.declared.value.Value.TheVariants.{Empty, Number, Point
 use Rattle.bpf_insn.specs.declared.memory.TheConstants.{FRAME_LENGTH}
 use Rattle.bpf_kinds.specs.Interval.{Admits}
 use Rattle.bpf_kinds.specs.declared.interval.Interval.{Interval}
-use Rattle.tl_segments.specs.Segment.{Contents, IsSegment, names_of}
+use Rattle.tl_segments.specs.Segment.{Contents, IsSegment}
 use Rattle.bpf_helpers.specs.Call.{Meaning, Meets, LieWithin, bytes_read, call, does, meaning, second, shape_of, third, write}
 use Rattle.bpf_helpers.specs.Call.Meaning.{CopiesIntoFrame}
 use Rattle.bpf_helpers.specs.Meaning.{first_bytes}
