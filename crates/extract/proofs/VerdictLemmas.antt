@@ -3,12 +3,11 @@ use Rattle.std.proofs.Common.{◌≡◌, ◌≢◌, ℕ, List, refl, sym, ap, �
 use Rattle.bpf_flow.proofs.FlowLemmas.{has_no_fault, one_fault_lem}
 use Rattle.bpf_flow.specs.Flow as flow
 use Rattle.bpf_flow.specs.Flow.{IsForward}
-use Rattle.bpf_flow.specs.declared.fault.FlowFault.{FlowFault}
 use Rattle.bpf_insn.proofs.CodeLemmas as code_of
 use Rattle.bpf_insn.specs.Code.{IsCodeOf}
 use Rattle.bpf_insn.specs.declared.instruction.Insn.{Insn}
 use Rattle.bpf_verify.proofs.VerdictLemmas as verdict
-use Rattle.bpf_verify.specs.Annotation.{HasGoodAnnotation, IsVerifyFault}
+use Rattle.bpf_verify.specs.Annotation.{IsVerifyFault}
 use Rattle.bpf_verify.specs.declared.fault.VerifyFault.{VerifyFault}
 use Rattle.bpf_verify.specs.declared.fault.VerifyFault.TheVariants as verify_fault
 use Rattle.extract.specs.Program.{IsSafeProgram, IsProgramFault}
@@ -16,7 +15,7 @@ use Rattle.extract.specs.ProgramFault.{of_verify}
 use Rattle.extract.specs.declared.program.ProgramFault.{ProgramFault}
 use Rattle.extract.specs.declared.program.ProgramFault.TheVariants.{Code, Flow, Verify, Memory}
 
-same_code : (program : List ℕ) (a b : List Insn) → IsCodeOf program a → IsCodeOf program b → a ≡ b
+pub same_code : (program : List ℕ) (a b : List Insn) → IsCodeOf program a → IsCodeOf program b → a ≡ b
 same_code program a b is also = code_of.one_code a b (sym is.words ∙ also.words)
 
 -- a program that is accepted has no fault

@@ -3,3 +3,4 @@ pub mod SegmentLemmas
 mod TableLemmas
 mod NextLemmas
 mod RunLemmas
+mod VerdictLemmas

@@ -1,11 +1,14 @@
 //! Laws, each the contract of a function that does nothing.
-ghost use Rattle.std.specs.Prelude.{◌≡◌, ℕ, List, [], ◌∷◌, ◌++◌, Some, Contains};
+ghost use Rattle.std.specs.Prelude.{◌≡◌, ◌≢◌, ℕ, Bor, List, [], ◌∷◌, ◌++◌, Some, Contains};
 ghost use Rattle.std.specs.List.{range_with_len};
 ghost use Rattle.tl_segments.specs.County.{CountyParts};
 ghost use Rattle.jobs.specs.Run.{Exchange, IsOwn, IsRun, ids_given, programs_of, turns_of};
 ghost use Rattle.jobs.specs.Table.{JobParts, Step, Table, empty_table, job_of};
 ghost use Rattle.jobs.specs.declared.event.Event.{Event};
+ghost use Rattle.jobs.specs.declared.event.Event.TheVariants.{Submit};
 ghost use Rattle.jobs.specs.declared.event.Reply.{Reply};
+ghost use Rattle.jobs.specs.declared.event.Reply.TheVariants.{Refused};
+ghost use Rattle.jobs.specs.declared.fault.JobFault.TheVariants.{Memory};
 ghost use Rattle.jobs.specs.declared.position.TheConstants.{COUNTY_LIMIT};
 ghost use Rattle.jobs.specs.declared.table.TheConstants.{JOB_LIMIT};
 ghost use Rattle.jobs.specs.declared.turn.TheConstants.{SEGMENTS_PER_TURN};
@@ -41,4 +44,10 @@ pub fn runs()
 pub fn runs_go_on()
     ensures { (old now new : Table) (exchanges : List Exchange) (event : Event) (reply : Reply)
         → IsRun old exchanges now → Step now event reply new → IsRun old (exchanges ++ record { event = event; reply = reply } ∷ []) new }
+{}
+
+/// Want of memory aside, one thing is replied to a submission: it is told of the table and of the program.
+pub fn submissions()
+    ensures { (old new again : Table) (program : Bor (List ℕ)) (reply other : Reply) → Step old (Submit program) reply new
+        → Step old (Submit program) other again → reply ≢ Refused Memory → other ≢ Refused Memory → reply ≡ other }
 {}

@@ -5,3 +5,4 @@ mod ReadingLemmas
 mod RowsLemmas
 mod ServingLemmas
 mod QueryLemmas
+mod VerdictLemmas
