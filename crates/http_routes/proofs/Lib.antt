@@ -1,3 +1,4 @@
+mod RouteLemmas
 mod SeekLemmas
 mod TableLemmas
 mod TargetLemmas

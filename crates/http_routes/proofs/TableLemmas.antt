@@ -1,5 +1,6 @@
 -- The table of routes, as the router holds it.
-use Rattle.std.proofs.Common.{◌≡◌, ℕ, Bool, true, false, cond, List, [], ◌∷◌, ◌++◌, Err, Option, None, Some, ◌∙◌, sym, refl, ap, subst, rules}
+use Rattle.std.proofs.Common.{◌≡◌, ℕ, suc, ◌+◌, ◌<◌, ◌≤◌, Bool, true, false, cond, List, [], ◌∷◌, ◌++◌, length, drop, get_or, Err, Option, None, Some, ◌∙◌, sym, refl, ap, subst, add-one, drop-cons, rules}
+use Rattle.std.proofs.Math.ListN.{drop_of_length-le}
 use Rattle.std.specs.Prelude.{Result, codes, option_map}
 use Rattle.std.specs.Str.{bytes_eq}
 use Rattle.std.proofs.lemmas.Slice.Eq.{bytes_eq-Decides}
@@ -11,14 +12,14 @@ use Rattle.matchit.specs.Rows.{RowsOf}
 use Rattle.matchit.specs.Router.{Inserted, InsertsRead, Refused, RouteOf, nearest}
 use Rattle.matchit.specs.declared.error.InsertError.{InsertError}
 use Rattle.matchit.specs.declared.error.InsertError.TheVariants.{Conflict, InvalidParam, InvalidParamSegment, InvalidCatchAll, OutOfMemory}
-use Rattle.http_routes.specs.Routes.{matches, path, route_of}
-use Rattle.http_routes.specs.Table.{FindsRoutes, pattern, row}
+use Rattle.http_routes.specs.Routes.{matches, route_of, routes, row}
+use Rattle.http_routes.specs.Table.{FindsRoutes, entry, pattern}
 use Rattle.http_routes.proofs.SeekLemmas.{seek_alone, seek_among, seek_literal}
 use Rattle.http_routes.specs.declared.route.Route.{Route}
 use Rattle.http_routes.specs.declared.route.Route.TheVariants.{Verify, Assemble, Disassemble, Extract, Geocode, Jobs, Job}
 
 -- what inserting a route's path does to the rows
-pub row_inserted : (route : Route) (old new : RowsOf (RouteOf Route)) (result : Result (Unit {0}) InsertError) → InsertsRead (parse_route (path route)) route old new result → Inserted (row route).1 old new result
+pub row_inserted : (route : Route) (old new : RowsOf (RouteOf Route)) (result : Result (Unit {0}) InsertError) → InsertsRead (parse_route (row route).path) route old new result → Inserted (entry route).1 old new result
 unfolding matchit_on_literals
 row_inserted Verify old new result is = is
 row_inserted Assemble old new result is = is
@@ -29,7 +30,7 @@ row_inserted Jobs old new result is = is
 row_inserted Job old new result is = is
 
 -- a path that conflicts with none is refused for want of memory alone
-pub refused_for_memory : (route : Route) (old new : RowsOf (RouteOf Route)) (error : InsertError) → InsertsRead (parse_route (path route)) route old new (Err error) → nearest (pattern route) old ≡ None → error ≡ OutOfMemory
+pub refused_for_memory : (route : Route) (old new : RowsOf (RouteOf Route)) (error : InsertError) → InsertsRead (parse_route (row route).path) route old new (Err error) → nearest (pattern route) old ≡ None → error ≡ OutOfMemory
 refused_for_memory route old new error is free = by_error error (row_inserted route old new (Err error) is).1
   where
     by_error : (error : InsertError) → Refused (pattern route) old error → error ≡ OutOfMemory
@@ -41,19 +42,19 @@ refused_for_memory route old new error is free = by_error error (row_inserted ro
 
 -- the rows in the router's order
 before_job : RowsOf (RouteOf Route)
-before_job = row Assemble ∷ row Disassemble ∷ row Extract ∷ row Geocode ∷ []
+before_job = entry Assemble ∷ entry Disassemble ∷ entry Extract ∷ entry Geocode ∷ []
 
 behind_job : RowsOf (RouteOf Route)
-behind_job = row Jobs ∷ row Verify ∷ []
+behind_job = entry Jobs ∷ entry Verify ∷ []
 
 pub table : RowsOf (RouteOf Route)
-table = before_job ++ row Job ∷ behind_job
+table = before_job ++ entry Job ∷ behind_job
 
 -- which route is found, by which tests pass
 in_order : (assemble disassemble extract geocode jobs job : Bool)
     → option_map (λ (found : RouteOf Route). found.value) (or_else
-    (cond assemble (Some (row Assemble).1) (cond disassemble (Some (row Disassemble).1) (cond extract (Some (row Extract).1) (cond geocode (Some (row Geocode).1) (cond jobs (Some (row Jobs).1) None)))))
-    (cond job (Some (row Job).1) None))
+    (cond assemble (Some (entry Assemble).1) (cond disassemble (Some (entry Disassemble).1) (cond extract (Some (entry Extract).1) (cond geocode (Some (entry Geocode).1) (cond jobs (Some (entry Jobs).1) None)))))
+    (cond job (Some (entry Job).1) None))
     ≡ cond assemble (Some Assemble) (cond disassemble (Some Disassemble) (cond extract (Some Extract) (cond geocode (Some Geocode) (cond jobs (Some Jobs) (cond job (Some Job) None)))))
 in_order true disassemble extract geocode jobs job = refl
 in_order false true extract geocode jobs job = refl
@@ -65,7 +66,7 @@ in_order false false false false false false = refl
 
 abbrev FindsRoute : List ℕ → Type 0
 FindsRoute path =
-    option_map (λ (found : RouteOf Route). found.value) (or_else (lookup path (before_job ++ behind_job)) (cond (matches Job path) (Some (row Job).1) None)) ≡ route_of path
+    option_map (λ (found : RouteOf Route). found.value) (or_else (lookup path (before_job ++ behind_job)) (cond (matches Job path) (Some (entry Job).1) None)) ≡ route_of path
 
 finds_route : (path : List ℕ) → FindsRoute path
 unfolding before_job behind_job
@@ -79,12 +80,27 @@ pub table_finds : FindsRoutes table
 unfolding table before_job behind_job
 table_finds path =
     ap (option_map (λ (found : RouteOf Route). found.value))
-    (seek_among (codes "/jobs/") (row Job).1 before_job behind_job path (search rules) (search rules) (search rules)
-    ∙ ap (λ (found : Option (RouteOf Route)). or_else found (seek 0 (row Job ∷ []) path)) (seek_literal (before_job ++ behind_job) path (search rules))
-    ∙ ap (or_else (lookup path (before_job ++ behind_job))) (seek_alone (codes "/jobs/") (row Job).1 path (search rules)))
+    (seek_among (codes "/jobs/") (entry Job).1 before_job behind_job path (search rules) (search rules) (search rules)
+    ∙ ap (λ (found : Option (RouteOf Route)). or_else found (seek 0 (entry Job ∷ []) path)) (seek_literal (before_job ++ behind_job) path (search rules))
+    ∙ ap (or_else (lookup path (before_job ++ behind_job))) (seek_alone (codes "/jobs/") (entry Job).1 path (search rules)))
     ∙ finds_route path
 
--- the routes, inserted one after the other
-pub table_is : placed (row Job) (placed (row Jobs) (placed (row Geocode) (placed (row Extract) (placed (row Disassemble) (placed (row Assemble) (placed (row Verify) [])))))) ≡ table
+-- routes that can be inserted one after the other, behind which the table stands
+abbrev pub MakesTable : List Route → RowsOf (RouteOf Route) → Type 0
+MakesTable [] rows = rows ≡ table
+MakesTable (route ∷ more) rows = (nearest (pattern route) rows ≡ None) × MakesTable more (placed (entry route) rows)
+
+pub all_make : MakesTable routes []
 unfolding table before_job behind_job
-table_is = refl
+all_make = (refl, (refl, (refl, (refl, (refl, (refl, (refl, refl)))))))
+
+-- the next one can be inserted
+pub next_route : (all : List Route) (fallback : Route) (index : ℕ) (rows : RowsOf (RouteOf Route)) → index < length all → MakesTable (drop index all) rows → MakesTable (get_or all index fallback ∷ drop (suc index) all) rows
+next_route all fallback index rows below makes = subst (λ left. MakesTable left rows) (drop-cons all index fallback below) makes
+
+-- it is inserted
+pub inserted : (all : List Route) (fallback : Route) (index : ℕ) (rows more : RowsOf (RouteOf Route)) → index < length all → MakesTable (drop index all) rows → more ≡ placed (entry (get_or all index fallback)) rows → MakesTable (drop (index + 1) all) more
+inserted all fallback index rows more below makes same = rw (same, add-one) (next_route all fallback index rows below makes).1
+
+pub all_inserted : (all : List Route) (index : ℕ) (rows : RowsOf (RouteOf Route)) → length all ≤ index → MakesTable (drop index all) rows → rows ≡ table
+all_inserted all index rows above makes = subst (λ left. MakesTable left rows) (drop_of_length-le all above) makes

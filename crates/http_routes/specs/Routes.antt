@@ -7,25 +7,20 @@ use Rattle.http_routes.specs.declared.route.Route.{Route}
 use Rattle.http_routes.specs.declared.route.Route.TheVariants.{Verify, Assemble, Disassemble, Extract, Geocode, Jobs, Job}
 use Rattle.http_routes.specs.declared.route.Action.TheVariants as action
 
--- the paths: what stands in braces is any one segment of a path that isn't empty
-abbrev pub path : Route → List ℕ
-path Verify = codes "/verify"
-path Assemble = codes "/assemble"
-path Disassemble = codes "/disassemble"
-path Extract = codes "/extract"
-path Geocode = codes "/geocode"
-path Jobs = codes "/jobs"
-path Job = codes "/jobs/{id}"
+-- A row of the table: the path, in which what stands in braces is any one segment that isn't empty, and the methods, with what each asks for.
+pub record RowParts : Type 0 where
+  pub path : List ℕ
+  pub actions : List (List ℕ × Action)
 
--- the methods of a route, and what each asks for
-abbrev pub actions : Route → List (List ℕ × Action)
-actions Verify = (codes "POST", action.Verify) ∷ []
-actions Assemble = (codes "POST", action.Assemble) ∷ []
-actions Disassemble = (codes "POST", action.Disassemble) ∷ []
-actions Extract = (codes "POST", action.Extract) ∷ []
-actions Geocode = (codes "GET", action.Geocode) ∷ []
-actions Jobs = (codes "POST", action.Submit) ∷ []
-actions Job = (codes "GET", action.Fetch) ∷ (codes "DELETE", action.Drop) ∷ []
+-- the table
+abbrev pub row : Route → RowParts
+row Verify = record { path = codes "/verify"; actions = (codes "POST", action.Verify) ∷ [] }
+row Assemble = record { path = codes "/assemble"; actions = (codes "POST", action.Assemble) ∷ [] }
+row Disassemble = record { path = codes "/disassemble"; actions = (codes "POST", action.Disassemble) ∷ [] }
+row Extract = record { path = codes "/extract"; actions = (codes "POST", action.Extract) ∷ [] }
+row Geocode = record { path = codes "/geocode"; actions = (codes "GET", action.Geocode) ∷ [] }
+row Jobs = record { path = codes "/jobs"; actions = (codes "POST", action.Submit) ∷ [] }
+row Job = record { path = codes "/jobs/{id}"; actions = (codes "GET", action.Fetch) ∷ (codes "DELETE", action.Drop) ∷ [] }
 
 abbrev pub has_slash : List ℕ → Bool
 has_slash [] = false
@@ -38,7 +33,7 @@ is_segment text = nat_lt 0 (length text) && not (has_slash text)
 -- a route has a path: what stands in braces is a segment, and all else itself
 abbrev pub matches : Route → List ℕ → Bool
 matches Job text = starts_with nat_eq text (codes "/jobs/") && is_segment (drop 6 text)
-matches route text = bytes_eq (path route) text
+matches route text = bytes_eq (row route).path text
 
 abbrev pub routes : List Route
 routes = Verify ∷ Assemble ∷ Disassemble ∷ Extract ∷ Geocode ∷ Jobs ∷ Job ∷ []
@@ -49,7 +44,7 @@ route_of text = find (λ route. matches route text) routes
 
 -- what a method asks of a route
 abbrev pub action_of : Route → List ℕ → Option Action
-action_of route method = option_map (λ row. row.1) (find (λ row. bytes_eq row.0 method) (actions route))
+action_of route method = option_map (λ asks. asks.1) (find (λ asks. bytes_eq asks.0 method) (row route).actions)
 
 -- the names, with a comma and a blank between each two
 abbrev pub listed : List (List ℕ) → List ℕ
@@ -59,4 +54,4 @@ listed (name ∷ next ∷ names) = name ++ codes ", " ++ listed (next ∷ names)
 
 -- the methods of a route, as the header `Allow` has them (RFC 9110, section 10.2.1)
 abbrev pub allow : Route → List ℕ
-allow route = listed (map (λ row. row.0) (actions route))
+allow route = listed (map (λ asks. asks.0) (row route).actions)

@@ -3,22 +3,22 @@ use Rattle.std.specs.Prelude.{◌≡◌, ℕ, List, [], ◌∷◌, ◌++◌, cod
 use Rattle.matchit.specs.Rows.{param_token, RowsOf}
 use Rattle.matchit.specs.Router.{RouteOf}
 use Rattle.matchit.specs.Seek.{first}
-use Rattle.http_routes.specs.Routes.{path, route_of}
+use Rattle.http_routes.specs.Routes.{route_of, row}
 use Rattle.http_routes.specs.declared.route.Route.{Route}
 use Rattle.http_routes.specs.declared.route.Route.TheVariants.{Job}
 
 -- a path, byte by byte, with a token for what stands in braces
 abbrev pub pattern : Route → List ℕ
 pattern Job = codes "/jobs/" ++ param_token ∷ []
-pattern route = path route
+pattern route = (row route).path
 
 -- where the names of a path's parameters begin and end
 abbrev pub names : Route → List (ℕ × ℕ)
 names Job = (7, 9) ∷ []
 names route = []
 
-abbrev pub row : Route → List ℕ × RouteOf Route
-row route = (pattern route, record { pattern = pattern route; text = path route; names = names route; value = route })
+abbrev pub entry : Route → List ℕ × RouteOf Route
+entry route = (pattern route, record { pattern = pattern route; text = (row route).path; names = names route; value = route })
 
 -- a router finds the route of each path
 abbrev pub FindsRoutes : RowsOf (RouteOf Route) → Type 0

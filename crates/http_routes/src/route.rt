@@ -1,8 +1,7 @@
 //! The table of routes.
-ghost use Rattle.std.specs.Prelude.{◌≡◌, ◌≤◌, length};
-ghost use Rattle.http_routes.specs.Routes.{action_of, allow, path};
-
-use http::Method;
+ghost use Rattle.std.specs.Prelude.{◌≡◌, ◌≤◌, length, map, find, option_map};
+ghost use Rattle.std.specs.Str.{bytes_eq};
+ghost use Rattle.http_routes.specs.Routes.{action_of, allow, row};
 
 /// What a request asks for.
 #[derive(Clone, Copy, PartialEq, Eq)]
@@ -29,40 +28,85 @@ pub enum Route {
     Job,
 }
 
+/// A row of the table.
+#[derive(Clone, Copy)]
+struct Row {
+    /// What stands in braces is any one segment of a path that isn't empty.
+    path: &'static str,
+    /// The methods, as the header `Allow` has them.
+    allow: &'static str,
+    /// What each method asks for.
+    methods: &'static [(&'static str, Action)],
+}
+
+impl Row {
+    fn new(
+        path: &'static str,
+        allow: &'static str,
+        methods: &'static [(&'static str, Action)],
+    ) -> Row
+        ensures path { result.path.now ≡ path.now }
+        ensures allow { result.allow.now ≡ allow.now }
+        ensures methods { result.methods.now ≡ methods.now }
+    {
+        Row {
+            path,
+            allow,
+            methods,
+        }
+    }
+}
+
 impl Route {
-    /// The route's path. What stands in braces is any one segment of a path that isn't empty.
-    pub(crate) fn path(self) -> &'static str
-        ensures { result.now ≡ path self }
+    /// All routes, each once.
+    pub(crate) const ALL: [Route; 7] = [
+        Route::Verify,
+        Route::Assemble,
+        Route::Disassemble,
+        Route::Extract,
+        Route::Geocode,
+        Route::Jobs,
+        Route::Job,
+    ];
+
+    /// The table, a row each.
+    fn row(self) -> Row
+        ensures path { result.path.now ≡ (row self).path }
+        ensures allow { result.allow.now ≡ allow self }
+        ensures short { length result.allow.now ≤ 32 }
+        ensures methods { map (λ method. (method.0.now, method.1)) result.methods.now ≡ (row self).actions }
     {
         match self {
-            Route::Verify => "/verify",
-            Route::Assemble => "/assemble",
-            Route::Disassemble => "/disassemble",
-            Route::Extract => "/extract",
-            Route::Geocode => "/geocode",
-            Route::Jobs => "/jobs",
-            Route::Job => "/jobs/{id}",
+            Route::Verify => Row::new("/verify", "POST", &[("POST", Action::Verify)]),
+            Route::Assemble => Row::new("/assemble", "POST", &[("POST", Action::Assemble)]),
+            Route::Disassemble => Row::new(
+                "/disassemble",
+                "POST",
+                &[("POST", Action::Disassemble)],
+            ),
+            Route::Extract => Row::new("/extract", "POST", &[("POST", Action::Extract)]),
+            Route::Geocode => Row::new("/geocode", "GET", &[("GET", Action::Geocode)]),
+            Route::Jobs => Row::new("/jobs", "POST", &[("POST", Action::Submit)]),
+            Route::Job => Row::new(
+                "/jobs/{id}",
+                "GET, DELETE",
+                &[("GET", Action::Fetch), ("DELETE", Action::Drop)],
+            ),
         }
+    }
+
+    /// The route's path.
+    pub(crate) fn path(self) -> &'static str
+        ensures { result.now ≡ (row self).path }
+    {
+        self.row().path
     }
 
     /// What a method asks of the route, `None` where the route doesn't have it. Small letters are another method.
     pub fn action(self, method: &[u8]) -> Option<Action>
         ensures { result ≡ action_of self method.now }
     {
-        let get = method == Method::GET.as_str().as_bytes();
-        let post = method == Method::POST.as_str().as_bytes();
-        let delete = method == Method::DELETE.as_str().as_bytes();
-        match self {
-            Route::Verify if post => Some(Action::Verify),
-            Route::Assemble if post => Some(Action::Assemble),
-            Route::Disassemble if post => Some(Action::Disassemble),
-            Route::Extract if post => Some(Action::Extract),
-            Route::Geocode if get => Some(Action::Geocode),
-            Route::Jobs if post => Some(Action::Submit),
-            Route::Job if get => Some(Action::Fetch),
-            Route::Job if delete => Some(Action::Drop),
-            _ => None,
-        }
+        action_among(self.row().methods, method)
     }
 
     /// The methods of the route, as the header `Allow` has them.
@@ -70,11 +114,14 @@ impl Route {
         ensures value { result.now ≡ allow self }
         ensures short { length result.now ≤ 32 }
     {
-        match self {
-            Route::Verify | Route::Assemble | Route::Disassemble | Route::Extract | Route::Jobs =>
-                "POST",
-            Route::Geocode => "GET",
-            Route::Job => "GET, DELETE",
-        }
+        self.row().allow
     }
+}
+
+/// What a method asks for where these are all.
+fn action_among(methods: &[(&str, Action)], method: &[u8]) -> Option<Action>
+    ensures { result ≡ option_map (λ asks. asks.1) (find (λ asks. bytes_eq asks.0.now method.now) methods.now) }
+{
+    let found = methods.iter().find(|asks| asks.0.as_bytes() == method)?;
+    Some(found.1)
 }

@@ -3,7 +3,7 @@ ghost use Rattle.std.specs.Prelude.{◌≡◌, None, OnOk};
 ghost use Rattle.matchit.specs.Order.{placed};
 ghost use Rattle.matchit.specs.Router.{nearest};
 ghost use Rattle.http_routes.specs.Routes.{route_of};
-ghost use Rattle.http_routes.specs.Table.{FindsRoutes, pattern, row};
+ghost use Rattle.http_routes.specs.Table.{FindsRoutes, entry, pattern};
 
 use crate::route::Route;
 use matchit::{InsertError, Router};
@@ -20,13 +20,9 @@ impl Routes {
     /// The routes of the table. This alone takes memory.
     pub fn new(alloc: Global) -> Result<Routes, AllocError> {
         let mut router = Router::new(alloc);
-        insert(Route::Verify, &mut router)?;
-        insert(Route::Assemble, &mut router)?;
-        insert(Route::Disassemble, &mut router)?;
-        insert(Route::Extract, &mut router)?;
-        insert(Route::Geocode, &mut router)?;
-        insert(Route::Jobs, &mut router)?;
-        insert(Route::Job, &mut router)?;
+        for route in Route::ALL {
+            insert(route, &mut router)?;
+        }
         Ok(Routes { router })
     }
 
@@ -44,7 +40,7 @@ impl Routes {
 // Want of memory is the one fault.
 fn insert(route: Route, router: &mut Router<Route>) -> Result<(), AllocError>
     requires { nearest (pattern route) router.old ≡ None }
-    ensures { OnOk result (router.new ≡ placed (row route) router.old) }
+    ensures { OnOk result (router.new ≡ placed (entry route) router.old) }
 {
     match router.insert(route.path(), route) {
         Ok(()) => Ok(()),
