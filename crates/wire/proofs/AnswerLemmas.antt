@@ -1,5 +1,5 @@
 -- What was answered is what is replied.
-use Rattle.std.proofs.Common.{◌≡◌, ℕ, List, Option, Some, None, refl, sym, ap, ◌∙◌, subst}
+use Rattle.std.proofs.Common.{◌≡◌, ℕ, List, Option, None, refl, sym, subst}
 use Rattle.std.specs.Prelude.{Result}
 use Rattle.http_reply.specs.Reply.{ReplyParts, reply_text}
 use Rattle.http_routes.specs.declared.route.Action.{Action}
@@ -36,8 +36,8 @@ of_counties answers counties others bytes body reply same same_body is =
     subst (λ body. answers others body reply) same_body (subst (λ counties. answers counties bytes reply) same is)
 
 -- an id that isn't one is of no job
-pub of_no_job : (asked : ℕ → Event) (id : Option ℕ) (old new : StateParts) → None ≡ id → new ≡ old → AsksJob asked id old (status_reply NotFound) new
-of_no_job asked id old new none same = subst (λ id. AsksJob asked id old (status_reply NotFound) new) none (refl, same)
+pub of_no_job : (asked : ℕ → Event) (id : Option ℕ) (table : Table) → None ≡ id → AsksJob asked id table (status_reply NotFound) table
+of_no_job asked id table none = subst (λ id. AsksJob asked id table (status_reply NotFound) table) none (refl, refl)
 
 -- an answer to what was decided
 pub answers_decision : (decision is : DecisionParts) (old : StateParts) (reply : ReplyParts) (new : StateParts) → decision ≡ is → Answers old is reply new → Answers old decision reply new

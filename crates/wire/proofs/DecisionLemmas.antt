@@ -1,12 +1,11 @@
 -- What was read of an input decides what the whole of it decides.
-use Rattle.std.proofs.Common.{◌≡◌, ◌⊎◌, ℕ, ◌+◌, ◌-◌, ◌<◌, ◌≤◌, nat_le, true, false, IsTrue, inl, inr, List, [], ◌∷◌, ◌++◌, length, take, Option, Some, None, refl, sym, ap, ◌∙◌, subst, arith}
+use Rattle.std.proofs.Common.{◌≡◌, ℕ, ◌-◌, ◌<◌, ◌≤◌, true, false, inl, inr, List, [], ◌∷◌, ◌++◌, length, take, Option, Some, None, refl, sym, ap, ◌∙◌, subst, arith}
 use Rattle.std.proofs.lemmas.Bool.{le-leb, lt-leb}
 use Rattle.std.proofs.lemmas.List.{append-nil, length-append}
-use Rattle.std.specs.Io.KnownBytes.{Keeps}
 use Rattle.std.specs.Option.{option_and_then}
-use Rattle.std.specs.Prelude.{Result, Ok, Err}
+use Rattle.std.specs.Prelude.{Ok, Err, if◌then◌else◌}
 use Rattle.http_reply.specs.declared.status.Status.TheVariants.{BadRequest, NotFound}
-use Rattle.http_request.specs.Head.{Head, HasHead, HasNoHead}
+use Rattle.http_request.specs.Head.{Head, HasHead}
 use Rattle.http_request.specs.Length.{body_length}
 use Rattle.http_request.specs.Reading.{EndsInBody, FailsInBody, FailsInHead, LacksHead, LacksMemory, ReadsBody, ReadsHead, Request, Takes}
 use Rattle.http_request.specs.Whole.{left_of}
@@ -49,37 +48,37 @@ decides_no_action request route old new reads is_route none =
     decides_by_head request (Disallows route) old new reads
     (λ rest. sym (with_route request.head route rest is_route ∙ ap (λ found. decide_action request.head route found rest) none))
 
--- a head that asks for something
-pub record AsksFor (head : Head) (route : Route) (action : Action) : Type 0 where
-  pub is_route : route_of (path_of head.target) ≡ Some route
-  pub is_action : action_of route head.method ≡ Some action
+-- what a head decides that asks for something, by its route
+by_action : (head : Head) (found : Option Route) (action : Action) (rest : List ℕ) → option_and_then (λ route. action_of route head.method) found ≡ Some action
+    → decide_route head found rest ≡ (if takes_body action then decide_body head action (body_length head) rest else Asks (asked_by head action []))
+by_action head None action rest asks = cc
+by_action head (Some route) action rest asks = ap (λ found. decide_action head route found rest) asks
 
-with_action : (head : Head) (route : Route) (action : Action) (rest : List ℕ) → AsksFor head route action → decide head rest ≡ decide_action head route (Some action) rest
-with_action head route action rest asks =
-    with_route head route rest asks.is_route ∙ ap (λ found. decide_action head route found rest) asks.is_action
+without_body : (head : Head) (action : Action) (rest : List ℕ) → asked_action head ≡ Some action → takes_body action ≡ false → decide head rest ≡ Asks (asked_by head action [])
+without_body head action rest asks none = by_action head (route_of (path_of head.target)) action rest asks ∙ rw none refl
 
-without_body : (head : Head) (route : Route) (action : Action) (rest : List ℕ) → AsksFor head route action → takes_body action ≡ false → decide head rest ≡ Asks (asked_by head action [])
-without_body head route action rest asks none = rw (with_action head route action rest asks) rw none refl
+with_body : (head : Head) (action : Action) (rest : List ℕ) → asked_action head ≡ Some action → takes_body action ≡ true → decide head rest ≡ decide_body head action (body_length head) rest
+with_body head action rest asks takes = by_action head (route_of (path_of head.target)) action rest asks ∙ rw takes refl
 
-with_body : (head : Head) (route : Route) (action : Action) (rest : List ℕ) → AsksFor head route action → takes_body action ≡ true → decide head rest ≡ decide_body head action (body_length head) rest
-with_body head route action rest asks takes = rw (with_action head route action rest asks) rw takes refl
+pub asked : (head : Head) (route : Route) (action : Action) → route_of (path_of head.target) ≡ Some route → action_of route head.method ≡ Some action → asked_action head ≡ Some action
+asked head route action is_route is_action = ap (λ found. option_and_then (λ route. action_of route head.method) found) is_route ∙ is_action
 
-pub decides_without_body : (request : Request) (route : Route) (action : Action) (old new : Reader) → ReadsHead request old new → AsksFor request.head route action → takes_body action ≡ false → Decides (Asks (asked_by request.head action [])) old new
-decides_without_body request route action old new reads asks none =
-    decides_by_head request _ old new reads (λ rest. sym (without_body request.head route action rest asks none))
+pub decides_without_body : (request : Request) (action : Action) (old new : Reader) → ReadsHead request old new → asked_action request.head ≡ Some action → takes_body action ≡ false → Decides (Asks (asked_by request.head action [])) old new
+decides_without_body request action old new reads asks none =
+    decides_by_head request _ old new reads (λ rest. sym (without_body request.head action rest asks none))
 
-pub decides_no_length : (request : Request) (route : Route) (action : Action) (fault : LengthFault) (old new : Reader) → ReadsHead request old new → AsksFor request.head route action → takes_body action ≡ true → body_length request.head ≡ Err fault → Decides (Refuses (length_status fault)) old new
-decides_no_length request route action fault old new reads asks takes is_fault =
+pub decides_no_length : (request : Request) (action : Action) (fault : LengthFault) (old new : Reader) → ReadsHead request old new → asked_action request.head ≡ Some action → takes_body action ≡ true → body_length request.head ≡ Err fault → Decides (Refuses (length_status fault)) old new
+decides_no_length request action fault old new reads asks takes is_fault =
     decides_by_head request _ old new reads
-    (λ rest. sym (with_body request.head route action rest asks takes ∙ ap (λ length. decide_body request.head action length rest) is_fault))
+    (λ rest. sym (with_body request.head action rest asks takes ∙ ap (λ length. decide_body request.head action length rest) is_fault))
 
-abbrev announces : (input : List ℕ) (head : Head) (rest : List ℕ) (route : Route) (action : Action) (count : ℕ) → HasHead input head rest → AsksFor head route action → takes_body action ≡ true → body_length head ≡ Ok count → AnnouncesBody input
-announces input head rest route action count has asks takes is_count = record {
+abbrev announces : (input : List ℕ) (head : Head) (rest : List ℕ) (action : Action) (count : ℕ) → HasHead input head rest → asked_action head ≡ Some action → takes_body action ≡ true → body_length head ≡ Ok count → AnnouncesBody input
+announces input head rest action count has asks takes is_count = record {
   head = head;
   rest = rest;
   has = has;
   action = action;
-  asks = ap (λ found. option_and_then (λ route. action_of route head.method) found) asks.is_route ∙ asks.is_action;
+  asks = asks;
   takes = takes;
   count = count;
   announces = is_count;
@@ -89,8 +88,8 @@ within : (behind taken : List ℕ) (count : ℕ) → length (behind ++ taken) < 
 within behind taken count short = let long = length-append behind taken in omega arith
 
 -- the head was read, and then no more than the body has
-read_enough : (request : Request) (route : Route) (action : Action) (count : ℕ) (taken : List ℕ) (old now new : Reader) → ReadsHead request old now → AsksFor request.head route action → takes_body action ≡ true → body_length request.head ≡ Ok count → Takes taken now new → length taken ≤ count - length request.behind → ReadsEnough old new
-read_enough request route action count taken old now new reads asks takes is_count takes' fits = record {
+read_enough : (request : Request) (action : Action) (count : ℕ) (taken : List ℕ) (old now new : Reader) → ReadsHead request old now → asked_action request.head ≡ Some action → takes_body action ≡ true → body_length request.head ≡ Ok count → Takes taken now new → length taken ≤ count - length request.behind → ReadsEnough old new
+read_enough request action count taken old now new reads asks takes is_count takes' fits = record {
   taken = reads.taken ++ taken;
   takes = Takes-append reads.taken taken old now new reads.takes takes';
   some = (let some = HasHead-some reads.taken request.head request.behind reads.has in let long = length-append reads.taken taken in omega arith);
@@ -100,13 +99,13 @@ read_enough request route action count taken old now new reads asks takes is_cou
     enough : (taken : List ℕ) → length taken ≤ count - length request.behind → IsEnough (reads.taken ++ taken)
     enough [] fits = inl (subst (λ taken. length taken ≤ HEAD_LIMIT) (sym (append-nil reads.taken)) reads.room)
     enough (byte ∷ bytes) fits = inr (
-      announces (reads.taken ++ byte ∷ bytes) request.head (request.behind ++ byte ∷ bytes) route action count
+      announces (reads.taken ++ byte ∷ bytes) request.head (request.behind ++ byte ∷ bytes) action count
           (HasHead-append reads.taken (byte ∷ bytes) request.head request.behind reads.has) asks takes is_count,
       (let long = length-append request.behind (byte ∷ bytes) in omega arith),
     )
 
-pub decides_with_body : (request : Request) (route : Route) (action : Action) (count : ℕ) (body : List ℕ) (old now new : Reader) → ReadsHead request old now → AsksFor request.head route action → takes_body action ≡ true → body_length request.head ≡ Ok count → ReadsBody request.behind count body now new → Decides (Asks (asked_by request.head action body)) old new
-decides_with_body request route action count body old now new reads asks takes is_count is_body =
+pub decides_with_body : (request : Request) (action : Action) (count : ℕ) (body : List ℕ) (old now new : Reader) → ReadsHead request old now → asked_action request.head ≡ Some action → takes_body action ≡ true → body_length request.head ≡ Ok count → ReadsBody request.behind count body now new → Decides (Asks (asked_by request.head action body)) old new
+decides_with_body request action count body old now new reads asks takes is_count is_body =
     let had = had_request request count body old now new reads is_body in
     record {
       input = had.had.input;
@@ -116,20 +115,20 @@ decides_with_body request route action count body old now new reads asks takes i
         had.rest,
         had.had.has,
         sym (
-            with_body request.head route action had.rest asks takes
+            with_body request.head action had.rest asks takes
             ∙ ap (λ length. decide_body request.head action length had.rest) is_count
             ∙ whole request.head action count had.rest body had.whole had.is_body
             ),
       );
-      read = read_enough request route action count is_body.taken old now new reads asks takes is_count is_body.takes (let exact = is_body.exact in omega arith);
+      read = read_enough request action count is_body.taken old now new reads asks takes is_count is_body.takes (let exact = is_body.exact in omega arith);
     }
   where
     whole : (head : Head) (action : Action) (count : ℕ) (rest body : List ℕ) → count ≤ length rest → body ≡ take count rest → decide_body head action (Ok count) rest ≡ Asks (asked_by head action body)
     whole head action count rest body within is_body =
         rw is_body (rw (le-leb count (length rest) within) refl)
 
-pub decides_short_body : (request : Request) (route : Route) (action : Action) (count : ℕ) (old now new : Reader) → ReadsHead request old now → AsksFor request.head route action → takes_body action ≡ true → body_length request.head ≡ Ok count → EndsInBody request.behind count now new → Decides (Refuses BadRequest) old new
-decides_short_body request route action count old now new reads asks takes is_count ends =
+pub decides_short_body : (request : Request) (action : Action) (count : ℕ) (old now new : Reader) → ReadsHead request old now → asked_action request.head ≡ Some action → takes_body action ≡ true → body_length request.head ≡ Ok count → EndsInBody request.behind count now new → Decides (Refuses BadRequest) old new
+decides_short_body request action count old now new reads asks takes is_count ends =
     let had = had_short_request request count old now new reads ends in
     record {
       input = had.had.input;
@@ -139,12 +138,12 @@ decides_short_body request route action count old now new reads asks takes is_co
         had.rest,
         had.had.has,
         sym (
-            with_body request.head route action had.rest asks takes
+            with_body request.head action had.rest asks takes
             ∙ ap (λ length. decide_body request.head action length had.rest) is_count
             ∙ cut request.head action count had.rest had.short
             ),
       );
-      read = read_enough request route action count ends.taken old now new reads asks takes is_count ends.takes (within request.behind ends.taken count ends.short);
+      read = read_enough request action count ends.taken old now new reads asks takes is_count ends.takes (within request.behind ends.taken count ends.short);
     }
   where
     cut : (head : Head) (action : Action) (count : ℕ) (rest : List ℕ) → length rest < count → decide_body head action (Ok count) rest ≡ Refuses BadRequest
@@ -153,29 +152,29 @@ decides_short_body request route action count old now new reads asks takes is_co
 pub undecided_in_head : (old new : Reader) → FailsInHead old new → FailsUndecided old new
 undecided_in_head old new fails = record { taken = fails.taken; fails = fails.fails; undecided = inl (fails.part, fails.room) }
 
-pub undecided_in_body : (request : Request) (route : Route) (action : Action) (count : ℕ) (old now new : Reader) → ReadsHead request old now → AsksFor request.head route action → takes_body action ≡ true → body_length request.head ≡ Ok count → FailsInBody request.behind count now new → FailsUndecided old new
-undecided_in_body request route action count old now new reads asks takes is_count fails = record {
+pub undecided_in_body : (request : Request) (action : Action) (count : ℕ) (old now new : Reader) → ReadsHead request old now → asked_action request.head ≡ Some action → takes_body action ≡ true → body_length request.head ≡ Ok count → FailsInBody request.behind count now new → FailsUndecided old new
+undecided_in_body request action count old now new reads asks takes is_count fails = record {
   taken = reads.taken ++ fails.taken;
   fails = record {
     consumed = Consumes-append old.left now.left new.left reads.taken fails.taken reads.takes.consumed fails.fails.consumed;
     failed = λ same. fails.fails.failed (same ∙ sym reads.takes.failed);
   };
   undecided = inr (
-    announces (reads.taken ++ fails.taken) request.head (request.behind ++ fails.taken) route action count
+    announces (reads.taken ++ fails.taken) request.head (request.behind ++ fails.taken) action count
         (HasHead-append reads.taken fails.taken request.head request.behind reads.has) asks takes is_count,
     fails.short,
   );
 }
 
-pub stops_in_body : (request : Request) (route : Route) (action : Action) (count : ℕ) (old now new : Reader) → ReadsHead request old now → AsksFor request.head route action → takes_body action ≡ true → body_length request.head ≡ Ok count → LacksMemory request.behind count now new → StopsInBody old new
-stops_in_body request route action count old now new reads asks takes is_count lacks =
+pub stops_in_body : (request : Request) (action : Action) (count : ℕ) (old now new : Reader) → ReadsHead request old now → asked_action request.head ≡ Some action → takes_body action ≡ true → body_length request.head ≡ Ok count → LacksMemory request.behind count now new → StopsInBody old new
+stops_in_body request action count old now new reads asks takes is_count lacks =
     let had = had_head request old now reads in
     record {
       input = had.input;
       is_input = had.known;
-      announced = announces had.input request.head (request.behind ++ left_of now) route action count had.has asks takes is_count;
+      announced = announces had.input request.head (request.behind ++ left_of now) action count had.has asks takes is_count;
       wanted = lacks.wanted;
-      read = read_enough request route action count lacks.taken old now new reads asks takes is_count lacks.takes lacks.within;
+      read = read_enough request action count lacks.taken old now new reads asks takes is_count lacks.takes lacks.within;
     }
 
 -- an input decides one thing

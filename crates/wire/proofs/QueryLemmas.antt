@@ -1,5 +1,5 @@
 -- The first pair of a query with a key.
-use Rattle.std.proofs.Common.{◌≡◌, ℕ, true, false, List, [], ◌∷◌, find, Option, Some, None, option_map, refl, sym, ap, ◌∙◌}
+use Rattle.std.proofs.Common.{◌≡◌, ℕ, true, false, List, ◌∷◌, Some, refl}
 use Rattle.std.specs.Str.{bytes_eq}
 use Rattle.wire.specs.Query.{decoded, value_in}
 

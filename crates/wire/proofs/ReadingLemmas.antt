@@ -1,11 +1,11 @@
 -- What the calls that read a request say, as the lemmas on decisions want it.
-use Rattle.std.proofs.Common.{◌≡◌, ℕ, List, Option, Some, None, refl, sym, ap, ◌∙◌, subst}
-use Rattle.std.specs.Prelude.{Result, Ok, Err}
+use Rattle.std.proofs.Common.{◌≡◌, ℕ, List, [], Option, Some, None, sym, ap, ◌∙◌, subst}
+use Rattle.std.specs.Prelude.{Ok}
 use Rattle.http_request.specs.Head.{Head}
 use Rattle.http_request.specs.Reading.{AnswersHead, EndsBody, LacksHead, ReadsBody, ReadsHead, Request}
 use Rattle.http_request.specs.declared.body.BodyFault.{BodyFault}
 use Rattle.http_routes.specs.Routes.{action_of, route_of}
-use Rattle.http_routes.specs.Target.{path_of, query_of}
+use Rattle.http_routes.specs.Target.{path_of}
 use Rattle.http_routes.specs.declared.route.Action.{Action}
 use Rattle.http_routes.specs.declared.route.Route.{Route}
 use Rattle.tl_fields.specs.Device.{Reader}
@@ -26,10 +26,9 @@ found_route found path text target is_path is_target is_found =
 pub found_action : (found : Option Action) (route : Route) (text method : List ℕ) → text ≡ method → found ≡ action_of route text → action_of route method ≡ found
 found_action found route text method is_method is_found = sym (is_found ∙ ap (action_of route) is_method)
 
--- the parts of a target that was cut
-pub named_parts : (head : Head) (action : Action) (path query text body bytes : List ℕ) → path ≡ path_of text → query ≡ query_of text → text ≡ head.target → bytes ≡ body → asked_by head action body ≡ record { action = action; path = path; query = query; body = bytes }
-named_parts head action path query text body bytes is_path is_query is_target is_body =
-    rw is_path (rw is_query (rw is_target (rw is_body refl)))
+-- nothing is asked with an empty body but what is asked without one
+pub asked_bare : (head : Head) (action : Action) (bytes : List ℕ) (asked : AskedParts) → bytes ≡ [] → asked_by head action bytes ≡ asked → asked_by head action [] ≡ asked
+asked_bare head action bytes asked none is = sym (ap (λ bytes. asked_by head action bytes) none) ∙ is
 
 pub renamed : (asked other : AskedParts) (old new : Reader) → asked ≡ other → Decides (Asks asked) old new → Decides (Asks other) old new
 renamed asked other old new same decides = subst (λ asked. Decides (Asks asked) old new) same decides

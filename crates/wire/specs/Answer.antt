@@ -39,9 +39,11 @@ use Rattle.jobs.specs.declared.event.Reply.TheVariants.{Submitted, Turned, Rows,
 use Rattle.jobs.specs.declared.fault.JobFault.{JobFault}
 use Rattle.jobs.specs.declared.fault.JobFault.TheVariants.{Full, NoJob}
 use Rattle.tl_segments.specs.County.{CountyParts}
-use Rattle.wire.specs.Decision.{AnnouncesBody, AskedParts, DecisionParts, IsDecided, Refuses, Disallows, Asks}
+use Rattle.wire.specs.Decision.{AnnouncesBody, AskedParts, DecisionParts, IsDecided, Refuses, Disallows, Asks, extent_of}
 use Rattle.wire.specs.Query.{asked_place}
 use Rattle.wire.specs.State.{StateParts, counties_of}
+use Rattle.wire.specs.declared.serving.Extent.{Extent}
+use Rattle.wire.specs.declared.serving.Extent.TheVariants.{Part}
 
 abbrev pub plain : Status → List ℕ → ReplyParts
 plain status body = record { status = status; media = Plain; allow = None; body = body }
@@ -143,9 +145,9 @@ Submits program (event.Submit submitted) = submitted.now ≡ program
 Submits program other = ⊥
 
 -- what is asked of the job of an id; an id that isn't one is of no job
-abbrev pub AsksJob : (ℕ → Event) → Option ℕ → StateParts → ReplyParts → StateParts → Type 0
+abbrev pub AsksJob : (ℕ → Event) → Option ℕ → Table → ReplyParts → Table → Type 0
 AsksJob asked None old reply new = (reply ≡ status_reply status.NotFound) × (new ≡ old)
-AsksJob asked (Some id) old reply new = TellsTable (λ event. event ≡ asked id) old.table reply new.table
+AsksJob asked (Some id) old reply new = TellsTable (λ event. event ≡ asked id) old reply new
 
 -- What is replied to what is asked for, a row each, and the state that it leaves. What is asked of jobs is one event of their table, and nothing
 -- else changes the state.
@@ -156,8 +158,8 @@ AnswersAction action.Disassemble old asked reply new = DisassemblesTo asked.body
 AnswersAction action.Extract old asked reply new = ExtractsTo (counties_of old) asked.body reply × (new ≡ old)
 AnswersAction action.Geocode old asked reply new = GeocodesTo (counties_of old) asked.query reply × (new ≡ old)
 AnswersAction action.Submit old asked reply new = TellsTable (Submits asked.body) old.table reply new.table
-AnswersAction action.Fetch old asked reply new = AsksJob event.Fetch (job_id asked.path) old reply new
-AnswersAction action.Drop old asked reply new = AsksJob event.Drop (job_id asked.path) old reply new
+AnswersAction action.Fetch old asked reply new = AsksJob event.Fetch (job_id asked.path) old.table reply new.table
+AnswersAction action.Drop old asked reply new = AsksJob event.Drop (job_id asked.path) old.table reply new.table
 
 -- what is replied to a decision
 abbrev pub Answers : StateParts → DecisionParts → ReplyParts → StateParts → Type 0
@@ -165,8 +167,9 @@ Answers old (Refuses status) reply new = (reply ≡ status_reply status) × (new
 Answers old (Disallows route) reply new = (reply ≡ disallowed route) × (new ≡ old)
 Answers old (Asks asked) reply new = AnswersAction asked.action old asked reply new
 
--- What is replied to an input: what it decides is answered; or, where memory was wanting for a body that isn't empty, that is said, and the state stays.
-abbrev pub Replies : List ℕ → StateParts → ReplyParts → StateParts → Type 0
-Replies input old reply new =
-    ((decision : DecisionParts) × IsDecided input decision × Answers old decision reply new)
-    ⊎ ((announced : AnnouncesBody input) × (0 < announced.count) × (reply ≡ memory_reply) × (new ≡ old))
+-- What is replied to an input of which so much was read: what it decides is answered; or, where memory was wanting for a body that isn't empty,
+-- that is said, and the state stays.
+abbrev pub Replies : List ℕ → Extent → StateParts → ReplyParts → StateParts → Type 0
+Replies input extent old reply new =
+    ((decision : DecisionParts) × IsDecided input decision × (extent ≡ extent_of decision) × Answers old decision reply new)
+    ⊎ ((announced : AnnouncesBody input) × (0 < announced.count) × (extent ≡ Part) × (reply ≡ memory_reply) × (new ≡ old))

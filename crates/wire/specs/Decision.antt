@@ -11,8 +11,10 @@ use Rattle.http_reply.specs.declared.status.Status.TheVariants.{BadRequest, NotF
 use Rattle.http_routes.specs.Routes.{action_of, route_of}
 use Rattle.http_routes.specs.Target.{path_of, query_of}
 use Rattle.http_routes.specs.declared.route.Action.{Action}
-use Rattle.http_routes.specs.declared.route.Action.TheVariants.{Verify, Assemble, Disassemble, Extract, Geocode, Submit, Fetch, Drop}
+use Rattle.http_routes.specs.declared.route.Action.TheVariants.{Geocode, Fetch, Drop}
 use Rattle.http_routes.specs.declared.route.Route.{Route}
+use Rattle.wire.specs.declared.serving.Extent.{Extent}
+use Rattle.wire.specs.declared.serving.Extent.TheVariants.{Whole, Part}
 
 -- what a request asks for, with the path and the query of its target and with its body
 pub record AskedParts : Type 0 where
@@ -26,6 +28,12 @@ pub data DecisionParts : Type 0 where
   Refuses : Status → DecisionParts
   Disallows : Route → DecisionParts
   Asks : AskedParts → DecisionParts
+
+-- how much of a request was read: the whole of one that asks for something, else as much as it took to refuse it
+abbrev pub extent_of : DecisionParts → Extent
+extent_of (Asks asked) = Whole
+extent_of (Refuses status) = Part
+extent_of (Disallows route) = Part
 
 -- what is asked for with a body: all that is asked by POST
 abbrev pub takes_body : Action → Bool

@@ -8,6 +8,7 @@ use Rattle.jobs.specs.declared.event.Reply.{Reply}
 use Rattle.wire.specs.Answer.{Replies, job_reply}
 use Rattle.wire.specs.State.{StateParts}
 use Rattle.wire.specs.Turn.{IsTurn}
+use Rattle.wire.specs.declared.serving.Extent.{Extent}
 
 -- an event that a request may be: any but a turn
 abbrev pub is_requested : Event → Bool
@@ -28,7 +29,7 @@ pub data Act : Type 0 where
   Turned : Option Reply → Act
 
 abbrev pub Acts : StateParts → Act → StateParts → Type 0
-Acts old (Replied input reply) new = Replies input old reply new
+Acts old (Replied input reply) new = (extent : Extent) × Replies input extent old reply new
 Acts old (Turned reply) new = IsTurn old.table reply new.table
 
 -- one after the other

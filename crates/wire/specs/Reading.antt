@@ -1,5 +1,5 @@
 -- Inside the crate: what reading an input and answering it came to.
-use Rattle.std.specs.Prelude.{◌≡◌, ◌<◌, ℕ, List, Option, Some, Result, Ok, Err, ⊤}
+use Rattle.std.specs.Prelude.{◌<◌, ℕ, List, Some, Result, Ok, Err}
 use Rattle.std.specs.Io.KnownBytes.{Keeps}
 use Rattle.http_reply.specs.Reply.{ReplyParts, reply_text}
 use Rattle.http_request.specs.Reading.{IsClosed}
@@ -18,6 +18,7 @@ use Rattle.wire.specs.declared.decision.Decision.{Decision}
 use Rattle.wire.specs.declared.decision.Decision.TheVariants.{Refuses, Disallows, Asks}
 use Rattle.wire.specs.declared.decision.ReadFault.{ReadFault}
 use Rattle.wire.specs.declared.decision.ReadFault.TheVariants.{Closed, Read, Memory}
+use Rattle.wire.specs.declared.serving.Extent.{Extent}
 
 abbrev pub of_head : HeadFault → ReadFault
 of_head head_fault.Closed = Closed
@@ -51,11 +52,10 @@ FailsToDecide Closed old new = IsClosed old new
 FailsToDecide Read old new = FailsUndecided old new
 FailsToDecide Memory old new = StopsInBody old new
 
--- a fault of the writer is one of the connection
-abbrev pub IsResultOf : {T : Type 0} → Result (Unit {0}) WriteFault → Result T WireFault → Type 0
-IsResultOf (Ok done) (Ok value) = ⊤
-IsResultOf (Err fault) (Err given) = given ≡ of_write fault
-IsResultOf written result = ⊥
+-- how serving ends where a reply was written, or a beginning of it
+abbrev pub ends_with : Extent → Result (Unit {0}) WriteFault → Result Extent WireFault
+ends_with extent (Ok done) = Ok extent
+ends_with extent (Err fault) = Err (of_write fault)
 
 -- a reply that is such was written, whole or up to the writer's fault
 pub record WritesReply (is_reply : ReplyParts → Type 0) (written : Result (Unit {0}) WriteFault) (old new : Writer) : Type 0 where

@@ -1,5 +1,5 @@
 -- What serving a connection does to the state and to both of its ends.
-use Rattle.std.specs.Prelude.{◌≡◌, ◌<◌, ℕ, List, length, Some, Result, Ok, Err}
+use Rattle.std.specs.Prelude.{◌≡◌, ◌<◌, ℕ, List, length, Some, Result, Ok, Err, ⊤}
 use Rattle.std.specs.Io.KnownBytes.{Keeps}
 use Rattle.http_reply.specs.Reply.{ReplyParts, reply_text}
 use Rattle.http_request.specs.Reading.{FailsBehind, IsClosed, Takes}
@@ -12,6 +12,7 @@ use Rattle.wire.specs.Decision.{IsEnough, IsUndecided}
 use Rattle.wire.specs.State.{StateParts}
 use Rattle.wire.specs.declared.fault.WireFault.{WireFault}
 use Rattle.wire.specs.declared.fault.WireFault.TheVariants.{Closed, Read, Write, WriteZero}
+use Rattle.wire.specs.declared.serving.Extent.{Extent}
 
 -- a server's state, with the reader and the writer of a connection
 pub record Connection : Type 0 where
@@ -26,14 +27,14 @@ pub record ReadsEnough (old new : Reader) : Type 0 where
   pub some : 0 < length taken
   pub enough : IsEnough taken
 
--- All that the reader has left is an input, which has a reply. That was written, whole or up to the writer's fault, and the state is the one
--- that it leaves.
-pub record IsReplied (written : Result (Unit {0}) WriteFault) (old new : Connection) : Type 0 where
+-- All that the reader has left is an input, of which so much was read, and which has a reply. That was written, whole or up to the writer's fault,
+-- and the state is the one that it leaves.
+pub record IsReplied (extent : Extent) (written : Result (Unit {0}) WriteFault) (old new : Connection) : Type 0 where
   pub input : List ℕ
   pub is_input : Keeps old.reader.left (Some input)
   pub read : ReadsEnough old.reader new.reader
   pub reply : ReplyParts
-  pub replies : Replies input old.state reply new.state
+  pub replies : Replies input extent old.state reply new.state
   pub writes : WritesText (reply_text reply) written old.writer new.writer
 
 -- nothing was written, and the state is as it was
@@ -50,8 +51,13 @@ pub record FailsUndecided (old new : Reader) : Type 0 where
 -- How serving ends: a reply was written, or a beginning of one up to the writer's fault; or nothing was written, since there is no input, or
 -- since a read failed before the reply was decided.
 abbrev pub IsServed : {T : Type 0} → Result T WireFault → Connection → Connection → Type 0
-IsServed (Ok done) old new = IsReplied (Ok tt) old new
-IsServed (Err Write) old new = IsReplied (Err write_fault.Write) old new
-IsServed (Err WriteZero) old new = IsReplied (Err write_fault.WriteZero) old new
+IsServed (Ok done) old new = (extent : Extent) × IsReplied extent (Ok tt) old new
+IsServed (Err Write) old new = (extent : Extent) × IsReplied extent (Err write_fault.Write) old new
+IsServed (Err WriteZero) old new = (extent : Extent) × IsReplied extent (Err write_fault.WriteZero) old new
 IsServed (Err Closed) old new = IsUnanswered old new × IsClosed old.reader new.reader
 IsServed (Err Read) old new = IsUnanswered old new × FailsUndecided old.reader new.reader
+
+-- a reply that was written goes with how much of the request was read
+abbrev pub TellsExtent : Result Extent WireFault → Connection → Connection → Type 0
+TellsExtent (Ok extent) old new = IsReplied extent (Ok tt) old new
+TellsExtent (Err fault) old new = ⊤

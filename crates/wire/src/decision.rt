@@ -1,12 +1,13 @@
 //! What an input decides: whether it is a request, and what that asks for.
-ghost use Rattle.std.specs.Prelude.{◌≡◌, IfErr, IfOk};
-ghost use Rattle.tl_fields.specs.Device.{reader};
-ghost use Rattle.wire.specs.Decision.{length_status, takes_body};
-ghost use Rattle.wire.specs.Reading.{Decides, FailsToDecide, decision_of, of_head};
+ghost use Rattle.std.specs.Prelude.{◌≡◌, IfErr, IfOk, IsTrue};
+ghost use Rattle.http_request.specs.Reading.{ReadsHead};
+ghost use Rattle.tl_fields.specs.Device.{Reader, reader};
+ghost use Rattle.wire.specs.Decision.{asked_action, asked_by, extent_of, length_status, takes_body};
+ghost use Rattle.wire.specs.Reading.{Decides, FailsToDecide, asked_of, decision_of, of_head};
 
 use crate::serving::Extent;
 use http_reply::Status;
-use http_request::{BodyFault, HeadBuffer, HeadFault, LengthFault, read_body};
+use http_request::{BodyFault, HeadBuffer, HeadFault, LengthFault, Request, read_body};
 use http_routes::{Action, Route, Routes, Target};
 use std::alloc::Allocator;
 use tl_fields::CountedRead;
@@ -20,6 +21,21 @@ pub(crate) struct Asked<'a, A: Allocator> {
     pub body: Vec<u8, A>,
 }
 
+impl<'a, A: Allocator> Asked<'a, A> {
+    /// What a request asks for by its target, with this body.
+    fn of(request: &Request<'a>, action: Action, body: Vec<u8, A>) -> Self
+        ensures { asked_of result ≡ asked_by request.now.head action body.items }
+    {
+        let target = Target::of(request.target());
+        Asked {
+            action,
+            path: target.path,
+            query: target.query,
+            body,
+        }
+    }
+}
+
 /// What an input decides.
 #[derive(Drop)]
 pub(crate) enum Decision<'a, A: Allocator> {
@@ -30,7 +46,9 @@ pub(crate) enum Decision<'a, A: Allocator> {
 
 impl<A: Allocator> Decision<'_, A> {
     /// How much of the request was read.
-    pub fn extent(&self) -> Extent {
+    pub fn extent(&self) -> Extent
+        ensures { result ≡ extent_of (decision_of self.now) }
+    {
         match self {
             Decision::Refuses(_) | Decision::Disallows(_) => Extent::Part,
             Decision::Asks(_) => Extent::Whole,
@@ -72,32 +90,40 @@ pub(crate) fn read_decision<'a, A: Allocator + Copy, R: CountedRead>(
     let Some(request) = buffer.read_head(input)? else {
         return Ok(Decision::Refuses(Status::BadRequest));
     };
-    let target = Target::of(request.target());
-    let Some(route) = routes.find(target.path) else {
+    let Some(route) = routes.find(Target::of(request.target()).path) else {
         return Ok(Decision::Refuses(Status::NotFound));
     };
     let Some(action) = route.action(request.method()) else {
         return Ok(Decision::Disallows(route));
     };
     if !takes_body(action) {
-        return Ok(Decision::Asks(Asked {
-            action,
-            path: target.path,
-            query: target.query,
-            body: Vec::new(alloc),
-        }));
+        return Ok(Decision::Asks(Asked::of(&request, action, Vec::new(alloc))));
     }
+    read_asked(alloc, &request, action, input)
+}
+
+/// Reads a request on behind its head, which asks for something with a body.
+fn read_asked<'a, A: Allocator + Copy, R: CountedRead>(
+    alloc: A,
+    request: &Request<'a>,
+    action: Action,
+    input: &mut R,
+) -> Result<Decision<'a, A>, ReadFault>
+    requires asks { asked_action request.now.head ≡ Some action }
+    requires takes { IsTrue (takes_body action) }
+    ensures ok { IfOk result (λ decision. (start : Reader)
+        → ReadsHead request.now start (reader R.remaining R.failed_reads input.old)
+        → Decides (decision_of decision) start (reader R.remaining R.failed_reads input.new)) }
+    ensures err { IfErr result (λ fault. (start : Reader)
+        → ReadsHead request.now start (reader R.remaining R.failed_reads input.old)
+        → FailsToDecide fault start (reader R.remaining R.failed_reads input.new)) }
+{
     let length = match request.body_length() {
         Ok(length) => length,
         Err(fault) => return Ok(Decision::Refuses(length_status(fault))),
     };
     match read_body(alloc, request.behind(), length, input) {
-        Ok(body) => Ok(Decision::Asks(Asked {
-            action,
-            path: target.path,
-            query: target.query,
-            body,
-        })),
+        Ok(body) => Ok(Decision::Asks(Asked::of(request, action, body))),
         Err(BodyFault::Short) => Ok(Decision::Refuses(Status::BadRequest)),
         Err(BodyFault::Read) => Err(ReadFault::Read),
         Err(BodyFault::Memory) => Err(ReadFault::Memory),

@@ -1,7 +1,11 @@
 //! What the table of jobs says, as an answer.
 ghost use Rattle.std.specs.Prelude.{◌≡◌, decimal, false};
+ghost use Rattle.http_reply.specs.Reply.{reply_text};
+ghost use Rattle.http_reply.specs.declared.status.Status.TheVariants.{NotFound};
+ghost use Rattle.http_routes.specs.Target.{job_id};
 ghost use Rattle.tl_fields.specs.Device.{writer};
-ghost use Rattle.wire.specs.Answer.{TellsTable, job_fault_reply, job_reply};
+ghost use Rattle.tl_fields.specs.Writing.{WritesText};
+ghost use Rattle.wire.specs.Answer.{AsksJob, TellsTable, job_fault_reply, job_reply, status_reply};
 ghost use Rattle.wire.specs.Reading.{WritesReply};
 ghost use Rattle.wire.specs.Turn.{IsTurn, lends_rows};
 ghost use Rattle.wire.specs.Reply.{reply_of};
@@ -10,6 +14,7 @@ use crate::answer::Answer;
 use arrayvec::ArrayString;
 use extract::Refusal;
 use http_reply::Status;
+use http_routes::job_id;
 use itoa::Buffer;
 use jobs::{Event, JobFault, Jobs, Reply};
 use std::alloc::Allocator;
@@ -26,6 +31,44 @@ pub(crate) fn tell<A: Allocator + Copy, W: CountedWrite>(
 {
     let said = jobs.apply(event);
     job_answer::<A>(said).write(out)
+}
+
+/// Replies how far the job is that a path names, with its rows.
+pub(crate) fn fetch<A: Allocator + Copy, W: CountedWrite>(
+    jobs: &mut Jobs<A>,
+    path: &str,
+    out: &mut W,
+) -> Result<(), WriteFault>
+    ensures { WritesReply (λ reply. AsksJob Event.Fetch (job_id path.now) jobs.old reply jobs.new) result
+        (writer W.contents W.counts out.old) (writer W.contents W.counts out.new) }
+{
+    match job_id(path) {
+        Some(id) => tell(jobs, Event::Fetch(id), out),
+        None => no_job::<A, W>(out),
+    }
+}
+
+/// Removes the job that a path names.
+pub(crate) fn remove<A: Allocator + Copy, W: CountedWrite>(
+    jobs: &mut Jobs<A>,
+    path: &str,
+    out: &mut W,
+) -> Result<(), WriteFault>
+    ensures { WritesReply (λ reply. AsksJob Event.Drop (job_id path.now) jobs.old reply jobs.new) result
+        (writer W.contents W.counts out.old) (writer W.contents W.counts out.new) }
+{
+    match job_id(path) {
+        Some(id) => tell(jobs, Event::Drop(id), out),
+        None => no_job::<A, W>(out),
+    }
+}
+
+/// An id that isn't one is of no job.
+fn no_job<A: Allocator, W: CountedWrite>(out: &mut W) -> Result<(), WriteFault>
+    ensures { WritesText (reply_text (status_reply NotFound)) result
+        (writer W.contents W.counts out.old) (writer W.contents W.counts out.new) }
+{
+    Answer::<A>::Status(Status::NotFound).write(out)
 }
 
 /// Moves the job whose turn is next on by a turn.

@@ -8,6 +8,7 @@ ghost use Rattle.wire.specs.Answer.{ExtractsTo, IsVerified, Replies, memory_repl
 ghost use Rattle.wire.specs.Decision.{DecisionParts, IsDecided};
 ghost use Rattle.wire.specs.Event.{Act, AreActs, IsEvent};
 ghost use Rattle.wire.specs.State.{StateParts, new_state};
+ghost use Rattle.wire.specs.declared.serving.Extent.{Extent};
 
 /// An input decides one thing. So how it is cut into reads can't matter, since what is replied is told of the input alone.
 pub fn decisions()
@@ -17,7 +18,7 @@ pub fn decisions()
 /// A request is one event of the table of jobs and never a turn, or none. So whatever a server replies, to whatever inputs, and with whatever turns behind
 /// them, its table is that of a run, of which `laws::runs` of the crate `jobs` says that no job is in what another one gets.
 pub fn requests()
-    ensures one_event { (input : List ℕ) (old new : StateParts) (reply : ReplyParts) → Replies input old reply new
+    ensures one_event { (input : List ℕ) (extent : Extent) (old new : StateParts) (reply : ReplyParts) → Replies input extent old reply new
         → (new ≡ old) ⊎ IsEvent old reply new }
     ensures runs { (counties : List CountyParts) (acts : List Act) (state : StateParts) → AreActs (new_state counties) acts state
         → (exchanges : List Exchange) × IsRun (empty_table counties) exchanges state.table }

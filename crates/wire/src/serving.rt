@@ -1,25 +1,22 @@
 //! One request, read and answered.
 ghost use Rattle.tl_fields.specs.Device.{reader, writer};
-ghost use Rattle.std.specs.Prelude.{◌≡◌, Result};
-ghost use Rattle.tl_fields.specs.declared.writing.WriteFault.{WriteFault};
+ghost use Rattle.std.specs.Prelude.{◌≡◌};
 ghost use Rattle.tl_fields.specs.Writing.{WritesText};
 ghost use Rattle.http_reply.specs.Reply.{reply_text};
-ghost use Rattle.http_reply.specs.declared.status.Status.TheVariants.{NotFound};
-ghost use Rattle.wire.specs.Answer.{Answers, AnswersAction, memory_reply, status_reply};
-ghost use Rattle.wire.specs.Reading.{IsResultOf, WritesReply, asked_of, decision_of};
-ghost use Rattle.wire.specs.Serving.{IsServed};
+ghost use Rattle.wire.specs.Answer.{Answers, AnswersAction, memory_reply};
+ghost use Rattle.wire.specs.Reading.{WritesReply, asked_of, decision_of, ends_with};
+ghost use Rattle.wire.specs.Serving.{IsServed, TellsExtent};
 
 use crate::answer::Answer;
 use crate::decision::{Asked, Decision, ReadFault, read_decision};
 use crate::fault::WireFault;
 use crate::geocoder::geocode;
-use crate::job::tell;
+use crate::job::{fetch, remove, tell};
 use crate::programs::{assemble, disassemble, extract, verify};
 use crate::state::State;
 use extract::Refusal;
-use http_reply::Status;
 use http_request::HeadBuffer;
-use http_routes::{Action, job_id};
+use http_routes::Action;
 use jobs::Event;
 use std::alloc::Allocator;
 use tl_fields::{CountedRead, CountedWrite, WriteFault};
@@ -58,7 +55,10 @@ pub fn serve_request<A: Allocator + Copy, R: CountedRead, W: CountedWrite>(
     input: &mut R,
     out: &mut W,
 ) -> Result<Extent, WireFault>
-    ensures { IsServed result
+    ensures served { IsServed result
+        (record { state = state.old; reader = reader R.remaining R.failed_reads input.old; writer = writer W.contents W.counts out.old })
+        (record { state = state.new; reader = reader R.remaining R.failed_reads input.new; writer = writer W.contents W.counts out.new }) }
+    ensures extent { TellsExtent result
         (record { state = state.old; reader = reader R.remaining R.failed_reads input.old; writer = writer W.contents W.counts out.old })
         (record { state = state.new; reader = reader R.remaining R.failed_reads input.new; writer = writer W.contents W.counts out.new }) }
 {
@@ -67,23 +67,27 @@ pub fn serve_request<A: Allocator + Copy, R: CountedRead, W: CountedWrite>(
         Ok(decision) => decision,
         Err(ReadFault::Closed) => return Err(WireFault::Closed),
         Err(ReadFault::Read) => return Err(WireFault::Read),
-        Err(ReadFault::Memory) => return lack_memory::<A, W>(out),
+        Err(ReadFault::Memory) => return end_with(Extent::Part, lack_memory::<A, W>(out)),
     };
-    match state.answer(&decision, out) {
-        Ok(()) => Ok(decision.extent()),
+    end_with(decision.extent(), state.answer(&decision, out))
+}
+
+/// How serving ends, by what came of the write.
+fn end_with(extent: Extent, written: Result<(), WriteFault>) -> Result<Extent, WireFault>
+    ensures { result ≡ ends_with extent written }
+{
+    match written {
+        Ok(()) => Ok(extent),
         Err(fault) => Err(WireFault::from(fault)),
     }
 }
 
 /// Says that memory was wanting for the body.
-fn lack_memory<A: Allocator, W: CountedWrite>(out: &mut W) -> Result<Extent, WireFault>
-    ensures { (written : Result (Unit {0}) WriteFault) × WritesText (reply_text memory_reply) written
-        (writer W.contents W.counts out.old) (writer W.contents W.counts out.new) × IsResultOf written result }
+fn lack_memory<A: Allocator, W: CountedWrite>(out: &mut W) -> Result<(), WriteFault>
+    ensures { WritesText (reply_text memory_reply) result
+        (writer W.contents W.counts out.old) (writer W.contents W.counts out.new) }
 {
-    match Answer::<A>::Refused(Refusal::memory()).write(out) {
-        Ok(()) => Ok(Extent::Part),
-        Err(fault) => Err(WireFault::from(fault)),
-    }
+    Answer::<A>::Refused(Refusal::memory()).write(out)
 }
 
 impl<A: Allocator + Copy> State<A> {
@@ -120,22 +124,8 @@ impl<A: Allocator + Copy> State<A> {
             Action::Extract => extract(self.alloc, self.jobs.counties(), body).write(out),
             Action::Geocode => geocode(self.alloc, self.jobs.counties(), asked.query).write(out),
             Action::Submit => tell(&mut self.jobs, Event::Submit(body), out),
-            Action::Fetch => match job_id(asked.path) {
-                Some(id) => tell(&mut self.jobs, Event::Fetch(id), out),
-                None => no_job::<A, W>(out),
-            },
-            Action::Drop => match job_id(asked.path) {
-                Some(id) => tell(&mut self.jobs, Event::Drop(id), out),
-                None => no_job::<A, W>(out),
-            },
+            Action::Fetch => fetch(&mut self.jobs, asked.path, out),
+            Action::Drop => remove(&mut self.jobs, asked.path, out),
         }
     }
-}
-
-/// An id that isn't one is of no job.
-fn no_job<A: Allocator, W: CountedWrite>(out: &mut W) -> Result<(), WriteFault>
-    ensures { WritesText (reply_text (status_reply NotFound)) result
-        (writer W.contents W.counts out.old) (writer W.contents W.counts out.new) }
-{
-    Answer::<A>::Status(Status::NotFound).write(out)
 }

@@ -1,4 +1,4 @@
-use Rattle.std.proofs.Common.{ℕ, ◌-◌, length}
+use Rattle.std.proofs.Common.{◌-◌, length}
 use Rattle.jobs.specs.Segments.{segments_of}
 use Rattle.wire.proofs.RowsLemmas.{AreRowsOf}
 use Rattle.wire.proofs.programs.all_rows.Given as goal

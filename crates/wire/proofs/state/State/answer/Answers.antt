@@ -1,4 +1,4 @@
-use Rattle.std.proofs.Common.{◌≡◌, refl, ap}
+use Rattle.std.proofs.Common.{refl, ap}
 use Rattle.wire.specs.Decision.{Refuses, Disallows}
 use Rattle.wire.specs.Reading.{decision_of}
 use Rattle.wire.proofs.AnswerLemmas.{answers_decision, writes_such}

@@ -1,8 +1,7 @@
-use Rattle.std.proofs.Common.{◌≡◌, refl, ap, ◌∙◌}
-use Rattle.http_routes.specs.declared.route.Action.TheVariants.{Verify, Assemble, Disassemble, Extract, Geocode, Fetch, Drop}
-use Rattle.jobs.specs.declared.event.Event.TheVariants as event
+use Rattle.std.proofs.Common.{refl, ap, ◌∙◌}
+use Rattle.http_routes.specs.declared.route.Action.TheVariants.{Verify, Assemble, Disassemble, Extract, Geocode}
 use Rattle.wire.specs.Answer.{AssemblesTo, DisassemblesTo, ExtractsTo, GeocodesTo, IsVerified}
-use Rattle.wire.proofs.AnswerLemmas.{answers_action, of_body, of_counties, of_no_job, writes_such}
+use Rattle.wire.proofs.AnswerLemmas.{answers_action, of_body, of_counties, writes_such}
 use Rattle.wire.proofs.state.State.answer_asked.Goals as goal
 
 pub returns-in-Verify : goal.returns-in-Verify
@@ -26,11 +25,3 @@ pub returns-in-Geocode : goal.returns-in-Geocode
 returns-in-Geocode g c =
     let counties = c.counties-in-Geocode.ensures.value ∙ ap (λ state. state.table.counties) c.self.view_is in
     writes_such _ _ _ _ _ (answers_action _ Geocode _ _ _ _ c.in-Geocode.is (of_counties GeocodesTo _ _ _ _ _ counties refl c.geocode.ensures, refl)) c.write-in-Geocode.ensures
-
-pub returns-in-None : goal.returns-in-None
-returns-in-None g c =
-    writes_such _ _ _ _ _ (answers_action _ Fetch _ _ _ _ c.in-Fetch.is (of_no_job event.Fetch _ _ _ (c.in-None.ensures) refl)) c.no_job.ensures
-
-pub returns-in-None-job_id : goal.returns-in-None-job_id
-returns-in-None-job_id g c =
-    writes_such _ _ _ _ _ (answers_action _ Drop _ _ _ _ c.in-Drop.is (of_no_job event.Drop _ _ _ (c.in-None-job_id.ensures) refl)) c.no_job-in-None-job_id.ensures

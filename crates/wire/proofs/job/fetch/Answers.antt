@@ -1,0 +1,6 @@
+use Rattle.jobs.specs.declared.event.Event.TheVariants as event
+use Rattle.wire.proofs.AnswerLemmas.{of_no_job, writes_such}
+use Rattle.wire.proofs.job.fetch.Goals as goal
+
+pub returns-in-None : goal.returns-in-None
+returns-in-None g c = writes_such _ _ _ _ _ (of_no_job event.Fetch _ _ c.in-None.ensures) c.no_job.ensures
