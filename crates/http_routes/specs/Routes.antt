@@ -6,6 +6,14 @@ use Rattle.http_routes.specs.declared.route.Action.{Action}
 use Rattle.http_routes.specs.declared.route.Route.{Route}
 use Rattle.http_routes.specs.declared.route.Route.TheVariants.{Verify, Assemble, Disassemble, Extract, Geocode, Jobs, Job}
 use Rattle.http_routes.specs.declared.route.Action.TheVariants as action
+use Rattle.http_routes.specs.declared.route.Verb.{Verb}
+use Rattle.http_routes.specs.declared.route.Verb.TheVariants.{Get, Post, Delete}
+
+-- the methods by their names (RFC 9110, section 9)
+abbrev pub verb_name : Verb → List ℕ
+verb_name Get = codes "GET"
+verb_name Post = codes "POST"
+verb_name Delete = codes "DELETE"
 
 -- A row of the table: the path, in which what stands in braces is any one segment that isn't empty, and the methods, with what each asks for.
 pub record RowParts : Type 0 where

@@ -1,7 +1,9 @@
 //! The table of routes.
 ghost use Rattle.std.specs.Prelude.{◌≡◌, ◌≤◌, length, map, find, option_map};
 ghost use Rattle.std.specs.Str.{bytes_eq};
-ghost use Rattle.http_routes.specs.Routes.{action_of, allow, row};
+ghost use Rattle.http_routes.specs.Routes.{action_of, allow, row, verb_name};
+
+use http::Method;
 
 /// What a request asks for.
 #[derive(Clone, Copy, PartialEq, Eq)]
@@ -36,15 +38,32 @@ struct Row {
     /// The methods, as the header `Allow` has them.
     allow: &'static str,
     /// What each method asks for.
-    methods: &'static [(&'static str, Action)],
+    methods: &'static [(Verb, Action)],
+}
+
+/// A method that some route has.
+#[derive(Clone, Copy)]
+enum Verb {
+    Get,
+    Post,
+    Delete,
+}
+
+impl Verb {
+    /// Whether a request's method is this one. Small letters are another method (RFC 9110, section 9.1).
+    fn is(self, method: &[u8]) -> bool
+        ensures { result ≡ bytes_eq (verb_name self) method.now }
+    {
+        match self {
+            Verb::Get => method == Method::GET.as_str().as_bytes(),
+            Verb::Post => method == Method::POST.as_str().as_bytes(),
+            Verb::Delete => method == Method::DELETE.as_str().as_bytes(),
+        }
+    }
 }
 
 impl Row {
-    fn new(
-        path: &'static str,
-        allow: &'static str,
-        methods: &'static [(&'static str, Action)],
-    ) -> Row
+    fn new(path: &'static str, allow: &'static str, methods: &'static [(Verb, Action)]) -> Row
         ensures path { result.path.now ≡ path.now }
         ensures allow { result.allow.now ≡ allow.now }
         ensures methods { result.methods.now ≡ methods.now }
@@ -74,23 +93,23 @@ impl Route {
         ensures path { result.path.now ≡ (row self).path }
         ensures allow { result.allow.now ≡ allow self }
         ensures short { length result.allow.now ≤ 32 }
-        ensures methods { map (λ method. (method.0.now, method.1)) result.methods.now ≡ (row self).actions }
+        ensures methods { map (λ asks. (verb_name asks.0, asks.1)) result.methods.now ≡ (row self).actions }
     {
         match self {
-            Route::Verify => Row::new("/verify", "POST", &[("POST", Action::Verify)]),
-            Route::Assemble => Row::new("/assemble", "POST", &[("POST", Action::Assemble)]),
+            Route::Verify => Row::new("/verify", "POST", &[(Verb::Post, Action::Verify)]),
+            Route::Assemble => Row::new("/assemble", "POST", &[(Verb::Post, Action::Assemble)]),
             Route::Disassemble => Row::new(
                 "/disassemble",
                 "POST",
-                &[("POST", Action::Disassemble)],
+                &[(Verb::Post, Action::Disassemble)],
             ),
-            Route::Extract => Row::new("/extract", "POST", &[("POST", Action::Extract)]),
-            Route::Geocode => Row::new("/geocode", "GET", &[("GET", Action::Geocode)]),
-            Route::Jobs => Row::new("/jobs", "POST", &[("POST", Action::Submit)]),
+            Route::Extract => Row::new("/extract", "POST", &[(Verb::Post, Action::Extract)]),
+            Route::Geocode => Row::new("/geocode", "GET", &[(Verb::Get, Action::Geocode)]),
+            Route::Jobs => Row::new("/jobs", "POST", &[(Verb::Post, Action::Submit)]),
             Route::Job => Row::new(
                 "/jobs/{id}",
                 "GET, DELETE",
-                &[("GET", Action::Fetch), ("DELETE", Action::Drop)],
+                &[(Verb::Get, Action::Fetch), (Verb::Delete, Action::Drop)],
             ),
         }
     }
@@ -119,9 +138,9 @@ impl Route {
 }
 
 /// What a method asks for where these are all.
-fn action_among(methods: &[(&str, Action)], method: &[u8]) -> Option<Action>
-    ensures { result ≡ option_map (λ asks. asks.1) (find (λ asks. bytes_eq asks.0.now method.now) methods.now) }
+fn action_among(methods: &[(Verb, Action)], method: &[u8]) -> Option<Action>
+    ensures { result ≡ option_map (λ asks. asks.1) (find (λ asks. bytes_eq (verb_name asks.0) method.now) methods.now) }
 {
-    let found = methods.iter().find(|asks| asks.0.as_bytes() == method)?;
+    let found = methods.iter().find(|asks| asks.0.is(method))?;
     Some(found.1)
 }
