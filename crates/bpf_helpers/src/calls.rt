@@ -25,10 +25,12 @@ pub fn call<A: Allocator>(
     score: &mut u64,
 ) -> u64
     requires { MeetsSignature helper arguments }
-    ensures answer { result ≡ (call helper segment.now arguments (bytes_read (frame_use (signature helper).shape) arguments frame.old) score.old).answer }
+    ensures answer { result ≡
+        (call helper segment.now arguments (bytes_read (frame_use (signature helper).shape) arguments frame.old) score.old).answer }
     ensures frame { frame.new ≡ write frame.old (second arguments)
         (call helper segment.now arguments (bytes_read (frame_use (signature helper).shape) arguments frame.old) score.old).written }
-    ensures score { score.new ≡ (call helper segment.now arguments (bytes_read (frame_use (signature helper).shape) arguments frame.old) score.old).score }
+    ensures score { score.new ≡
+        (call helper segment.now arguments (bytes_read (frame_use (signature helper).shape) arguments frame.old) score.old).score }
     ensures interval { Admits (signature helper).answer result }
 {
     let [first, second, third] = arguments;
