@@ -1,7 +1,7 @@
 -- What is replied to a submission is told of the table and the program, want of memory aside.
 use Rattle.std.proofs.Common.{◌≡◌, ◌≢◌, ℕ, List, refl, sym, ap, ◌∙◌}
 use Rattle.extract.proofs.VerdictLemmas as verdict
-use Rattle.std.specs.Prelude.{Bor}
+use Rattle.std.specs.Borrow.{Bor}
 use Rattle.jobs.specs.Table.{Step, Table}
 use Rattle.jobs.specs.declared.event.Event.TheVariants.{Submit}
 use Rattle.jobs.specs.declared.event.Reply.{Reply}

@@ -1,5 +1,6 @@
 //! Laws, each the contract of a function that does nothing.
-ghost use Rattle.std.specs.Prelude.{◌≡◌, ◌≢◌, ℕ, Bor, List, [], ◌∷◌, ◌++◌, Some, Contains};
+ghost use Rattle.std.specs.Prelude.{◌≡◌, ◌≢◌, ℕ, List, [], ◌∷◌, ◌++◌, Some, Contains};
+ghost use Rattle.std.specs.Borrow.{Bor};
 ghost use Rattle.std.specs.List.{range_with_len};
 ghost use Rattle.tl_segments.specs.County.{CountyParts};
 ghost use Rattle.jobs.specs.Run.{Exchange, IsOwn, IsRun, ids_given, programs_of, turns_of};
