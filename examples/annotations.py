@@ -28,7 +28,7 @@ import re
 import sys
 from typing import NamedTuple
 
-SEED = 9669
+SEED = 5
 WORD = 1 << 64
 RECORD_BYTES, FRAME_BYTES = 228, 512
 LEAST_OFFSET, GREATEST_OFFSET = -32768, 32767
@@ -948,24 +948,30 @@ def comparison(name, condition, value, high):
     """A comparison with any number: with an immediate in either width, or with r9."""
     if immediate_of(value) is not None:
         return ["%s %s, %d" % (condition, name, immediate_of(value))]
-    if high < 1 << 32:
+    if max(value, high) < 1 << 32:
         return ["%s32 %s, %d" % (condition, name, signed(value, 32))]
     return ["lddw r9, %d" % value, "%s %s, r9" % (condition, name)]
 
 
-def number_probe(draw, name, kind, exactly):
+def bounds_probed(kind, before, ask):
+    """The conditions, each with a number, that ask for an end, or for one more than it. An end is told that isn't where it was before."""
+    beyond = ask.startswith("beyond")
+    if kind.single():
+        return [("jeq", (kind.low + beyond) % WORD)]
+    high, low = kind.high - beyond, kind.low + beyond
+    upper, lower = [("jle", high), ("jlt", high + 1)], [("jge", low), ("jgt", low - 1)]
+    if ask.endswith("low") or (kind.low > before.low and kind.high == before.high):
+        return lower
+    return lower + upper if ask == "ends" and before.low < kind.low else upper
+
+
+def number_probe(draw, name, kind, before, ask):
     """A jump that is always taken where the number lies as it does, and a fault behind it."""
-    if draw.chance(2):
-        bound = kind.high - (not exactly)
-        condition, value = draw.one_of((("jle", bound), ("jlt", bound + 1)))
-    else:
-        bound = kind.low + (not exactly)
-        condition, value = draw.one_of((("jge", bound), ("jgt", bound - 1)))
-    if not 0 <= value < WORD:
-        return number_probe(draw, name, kind, exactly)
+    conditions = [(condition, value) for condition, value in bounds_probed(kind, before, ask) if 0 <= value < WORD]
+    condition, value = draw.one_of(conditions)
     fault = fault_drawn(draw)
-    *before, jump = comparison(name, condition, value, kind.high)
-    return before + ["%s, +%d" % (jump, len(fault)), *fault]
+    *lines, jump = comparison(name, condition, value, kind.high)
+    return lines + ["%s, +%d" % (jump, len(fault)), *fault]
 
 
 def access(draw, name, kind, exactly):
@@ -988,7 +994,10 @@ UNKNOWN_USED = ("mov r0, %s", "add r0, %s", "neg %s", "ldxb r0, [%s+0]", "stb [%
 UNKNOWN_USED += ("mov %s, r0", "lddw %s, 7", "mov32 %s, 3")
 
 
-def probe(draw, name, state, exactly):
+EVERYTHING = number(0, WORD - 1)
+
+
+def probe(draw, name, state, before, ask):
     """Lines that pass, or don't, for what is known of a register."""
     if state is UNREACHED:
         return fault_drawn(draw)
@@ -996,101 +1005,139 @@ def probe(draw, name, state, exactly):
     if kind is NOTHING:
         return [draw.one_of(UNKNOWN_USED) % name]
     if kind.pointer():
-        return access(draw, name, kind, exactly)
-    if record.sort == "record" and kind.high + record.high <= GREATEST_OFFSET and draw.chance(3):
+        return access(draw, name, kind, ask != "beyond")
+    small = record.sort == "record" and kind.high + record.high <= GREATEST_OFFSET and kind.low == before.low
+    if small and ask in ("ends", "beyond") and draw.chance(3):
         there = Kind("record", record.low + kind.low, record.high + kind.high)
-        return ["add r1, %s" % name, *access(draw, "r1", there, exactly)]
-    return number_probe(draw, name, kind, exactly)
+        return ["add r1, %s" % name, *access(draw, "r1", there, ask != "beyond")]
+    return number_probe(draw, name, kind, before, ask)
 
 
-def finished(draw, body, name, exactly):
+def kind_before(search, least, name):
+    """What was known of a register before the last jump, if that is a number."""
+    kinds = [least[place].registers[index(name)] for place in least if search.program[place].form == "jump" and least[place] is not UNREACHED]
+    return kinds[-1] if kinds and kinds[-1].sort == "number" else EVERYTHING
+
+
+def finished(draw, body, name, ask):
     """The program of a body, with a probe where nothing in the body fails."""
     search = Search(read_program(linked(body + ["ja +0", "exit"])))
     least = search.least()
-    place = search.places[-2]
-    if place not in least:
+    if search.places[-2] not in least:
         return linked(body + ["exit"])
-    state = least[place]
-    lines = body + probe(draw, name, state, exactly)
+    state, before = least[search.places[-2]], kind_before(search, least, name)
+    if ask == "ends" and state is not UNREACHED and state.registers[index(name)] == before:
+        ask = "beyond"
+    lines = body + probe(draw, name, state, before, ask)
     if state is not UNREACHED and state.registers[0].sort != "number" and "r0" not in lines[-1]:
         lines.append("mov r0, 1")
     return linked(lines + ["exit"])
 
 
-# Each family of bodies: lines, and the register that is probed.
+# Each family of bodies: lines, the register that is probed, and perhaps what is asked for.
 
 
-def with_immediate(draw, operation):
-    return [draw.one_of((loaded(draw, "r0"), "call 4", "call 3")), "%s r0, %d" % (operation, draw.one_of(IMMEDIATES))], "r0"
+# The rows of results by their operands, with what is asked for. A is a number from 1 to 1001, B one byte, D any number of the width, N a negative one; a
+# pair is the bounds of an immediate.
+CASES = (
+    ("add", "A", (1, 5000), "low high"), ("add", "A", (-1, -1), "high beyond"), ("add", "B", (-255, -1), "beyond"), ("add", "A", "B", "high"),
+    ("sub", "A", (1, 1), "high beyond"), ("sub", "B", (256, 5000), "low high"), ("sub", "B", (1, 255), "beyond"), ("sub", "B", "A", "beyond"),
+    ("mul", "A", (2, 9), "low high"), ("mul", "D", (2, 9), "beyond"), ("mul", "B", "A", "high"),
+    ("div", "A", (2, 9), "high beyond"), ("div", "B", "A", "high"), ("div", "A", "B", "high beyond"), ("div", "A", (0, 0), "high"),
+    ("mod", "A", (2, 9), "high beyond"), ("mod", "A", (1002, 5000), "high beyond"), ("mod", "A", "B", "high"), ("mod", "A", (0, 0), "high"),
+    ("and", "A", (2, 100), "high beyond"), ("and", "A", (1024, 5000), "high"), ("and", "A", "B", "high"),
+    ("or", "A", (16, 100), "low high beyond"), ("or", "A", "B", "low high"), ("xor", "A", (16, 100), "high beyond"), ("xor", "A", "B", "high"),
+    ("lsh", "A", (1, 3), "low high"), ("lsh", "A", (65, 67), "high"), ("lsh", "A", (62, 63), "beyond"), ("lsh", "A", "B", "beyond"),
+    ("rsh", "A", (1, 3), "high beyond"), ("rsh", "A", (65, 67), "high"), ("rsh", "A", "B", "high beyond"),
+    ("arsh", "A", (1, 3), "high"), ("arsh", "N", (1, 3), "low high"), ("arsh", "D", (1, 3), "beyond"), ("arsh", "A", "B", "beyond"),
+    ("sdiv", "A", (2, 9), "beyond"), ("smod", "A", (2, 9), "beyond"),
+)
 
 
-def with_register(draw, operation):
-    shape = draw.between(1, 3)
-    if shape == 1:
-        return [loaded(draw, "r0"), loaded(draw, "r2"), "%s r0, r2" % operation], "r0"
-    to, source = ("r0", "r6") if shape == 2 else ("r6", "r0")
-    return [loaded(draw, "r6"), "call 4", "%s %s, %s" % (operation, to, source)], to
+def operated(draw, subject):
+    """An operation on intervals."""
+    name, left, right, ask, width = subject
+    any_number = loaded(draw, "r0", "w" if width else "dw")
+    start = {"A": ["call 4"], "B": [loaded(draw, "r0", "b")], "D": [any_number], "N": ["call 4", "sub r0, %d" % draw.between(1001, 9999)]}[left]
+    if isinstance(right, tuple):
+        return start + ["%s%s r0, %d" % (name, width, draw.between(*right))], "r0", ask
+    to, source = ("r0", "r6") if left == "A" else ("r6", "r0")
+    return [loaded(draw, "r6", "b"), "call 4", "%s%s %s, %s" % (name, width, to, source)], to, ask
 
 
 def with_numbers(draw, operation):
-    start = draw.one_of(("mov r0, %d", "mov32 r0, %d")) % draw.one_of(IMMEDIATES)
-    return [start, "%s r0, %d" % (operation, draw.one_of(IMMEDIATES))], "r0"
+    """An operation on two single numbers."""
+    start = draw.one_of(("mov r0, %d", "mov32 r0, %d")) % draw.one_of(IMMEDIATES[2:])
+    return [start, "%s r0, %d" % (operation, draw.one_of((3, 5, 7, 15, 100, 255, -3, -8, -255)))], "r0", "ends" if operation[:2] in ("an", "or", "xo", "sm", "sd", "mo") else "beyond"
 
 
-def of_one(draw, operation):
-    """Operations of one operand."""
-    to = "r0, r0" if operation.startswith("mov") else "r0"
-    start = draw.one_of(("ldxb", "ldxh", "ldxw", "mov", "and", "lddw"))
-    if start == "mov":
-        return ["mov r0, %d" % draw.one_of(IMMEDIATES), "%s %s" % (operation, to)], "r0"
-    if start == "lddw":
-        return ["lddw r0, 0x%x" % draw.between(0, WORD - 1), "%s %s" % (operation, to)], "r0"
-    if start == "and":
-        return [loaded(draw, "r0"), "and r0, %d" % draw.one_of((15, 127, 255, 32767)), "%s %s" % (operation, to)], "r0"
-    return ["%s r0, [r1+%d]" % (start, draw.between(0, 220)), "%s %s" % (operation, to)], "r0"
+def of_one(draw, subject):
+    """An operation of one operand, on a single number, on one from 1 to 1001 or 127, on some round 65536, or on any."""
+    operation, start, ask = subject
+    line = operation + (" r0, r0" if operation.startswith("mov") else " r0")
+    if start == "single":
+        return ["mov r0, %d" % draw.one_of((3, 200, 1000, 40000, -2, -200, -1000, -70000)), line], "r0", ask
+    if start == "across":
+        return ["call 4", "add r0, %d" % draw.between(65000, 65500), line], "r0", ask
+    if start == "low":
+        return ["call 4"] + ["and r0, 127"] * ("8" in operation) + [line], "r0", ask
+    return ["ldxdw r0, [r1+%d]" % draw.between(0, 9), line], "r0", ask
 
 
 def of_load(draw, size):
-    return ["ldx%s r0, [r1+%d]" % (size, draw.between(0, 9))], "r0"
+    return ["ldx%s r0, [r1+%d]" % (size, draw.between(0, 9))], "r0", draw.one_of(("ends", "beyond", "beyond"))
 
 
 def answered(draw, helper):
     bound = HELPERS[helper][0][0][1] if HELPERS[helper][0] else 0
     lines = ["mov r1, %d" % draw.between(0, min(bound, 16))] * (helper not in (3, 4)) + ["mov r2, 9"] * (helper == 5)
-    return lines + ["call %d" % helper], "r0"
+    return lines + ["call %d" % helper], "r0", draw.one_of(("ends", "beyond", "beyond"))
 
 
-def near(draw, size):
-    """An immediate that tells among numbers of this size."""
-    bits = 8 * SIZES[size]
-    pool = (0, 1, (1 << bits) - 1, (1 << bits - 1) - 1, 1 << bits - 1, draw.between(0, (1 << min(bits, 31)) - 1))
-    return signed(draw.one_of(pool) % (1 << 32), 32)
-
-
-def narrowed(draw, condition, taken, right):
-    """What is known where a jump is taken or isn't, of either side."""
-    size = draw.one_of(("b", "b", "h", "w", "dw"))
-    lines, name = ["ldx%s r0, [r1+%d]" % (size, draw.between(0, 9))], "r0"
-    if right == "register":
-        lines.append(draw.one_of((loaded(draw, "r2", "b h w"), "mov r2, %d" % near(draw, size))))
-        operand, name = "r2", draw.one_of(("r0", "r2"))
-    else:
-        operand = near(draw, size)
-    pair = ("r0", operand) if right != "register" or draw.chance(2) else (operand, "r0")
+def jumped(lines, condition, one, other, taken):
+    """The lines, and a jump that is taken or isn't; its other edge leaves."""
     if taken:
-        return lines + ["%s %s, %s, +1" % ((condition,) + pair), "exit"], name
-    return lines + ["%s %s, %s, +END" % ((condition,) + pair)], name
+        return lines + ["%s %s, %s, +1" % (condition, one, other), "exit"]
+    return lines + ["%s %s, %s, +END" % (condition, one, other)]
 
 
-def decided(draw, condition, taken, _):
-    """Comparisons of two single numbers, of which one edge isn't reached."""
-    one = draw.one_of(IMMEDIATES)
-    lines = ["%s r0, %d" % (draw.one_of(("mov", "mov32")), one)]
-    other = draw.one_of((one, one + 1, one - 1, draw.one_of(IMMEDIATES)))
-    other = max(-2147483648, min(2147483647, other))
-    if taken:
-        return lines + ["%s r0, %d, +1" % (condition, other), "exit"], "r0"
-    return lines + ["%s r0, %d, +END" % (condition, other)], "r0"
+def narrowed_left(draw, subject):
+    """What is known of the left side, behind a comparison with an immediate that lies inside, or at an end for equality."""
+    condition, taken = subject
+    size = draw.one_of(("b", "b", "h"))
+    greatest = (1 << 8 * SIZES[size]) - 1
+    equal = condition[1:3] in ("eq", "ne")
+    operand = draw.one_of((0, greatest)) if equal else draw.between(2, greatest - 2)
+    return jumped(["ldx%s r0, [r1+%d]" % (size, draw.between(0, 9))], condition, "r0", operand, taken), "r0", "ends"
+
+
+def narrowed_right(draw, subject):
+    """What is known of a right side from 0 to 65535, where the left one is from 1 to 1001 or a single number."""
+    condition, taken = subject
+    equal = (condition[1:3] == "eq") == (not taken) and condition[1:3] in ("eq", "ne")
+    left = "mov r0, %d" % draw.one_of((0, 65535)) if equal else "call 4"
+    return jumped(["ldxh r6, [r1+%d]" % draw.between(0, 9), left], condition, "r0", "r6", taken), "r6", "ends"
+
+
+def not_narrowed(draw, subject):
+    """Comparisons that tell nothing, as a side may be too large for them."""
+    condition, taken = subject
+    sizes = "dw sb sh" if "32" not in condition else "w dw" if condition[1] == "s" else "dw"
+    relation = condition.replace("32", "")[-2:]
+    if relation in ("eq", "ne"):
+        taken = relation == "eq"
+    ask = "beyond low" if (relation in ("gt", "ge")) == taken else "beyond high"
+    return jumped([loaded(draw, "r0", sizes)], condition, "r0", draw.between(1, 9), taken), "r0", ask
+
+
+def decided(draw, subject):
+    """Comparisons of two single numbers: a fault on the edge that isn't reached, or on the other."""
+    condition, on_other = subject
+    one = draw.one_of((3, 64, 200, 65535, -1, -3, -200, 2147483647))
+    other = min(2147483647, draw.one_of((one, one, one + 1, one - 1, -one, 7)))
+    name, start = condition.replace("32", ""), draw.one_of(("mov", "mov32"))
+    taken = holds(name, 64 if name == condition else 32, one % (1 << (64 if start == "mov" else 32)), other)
+    return jumped(["%s r0, %d" % (start, one)], condition, "r0", other, taken == on_other) + fault_drawn(draw), None
 
 
 def moved_pointer(draw, _):
@@ -1117,20 +1164,25 @@ def joined_pointer(draw, _):
     return lines + ["%s r2, %d" % (draw.one_of(("add", "sub")), draw.one_of((1, 7, 227, -1, -8, -512)))], "r2"
 
 
+def stored(draw):
+    low = draw.between(1, 4)
+    return draw.one_of(("stb [r10-%d], 1" % low, "sth [r10-%d], 1" % max(2, low), "stxb [r10-%d], r0" % low))
+
+
 def marked(draw, _):
-    """Stores on one way or both, and a load. There is no probe."""
-    store = lambda: draw.one_of(("stb [r10-%d], 1" % draw.between(1, 4), "sth [r10-%d], 1" % draw.one_of((2, 3, 4)), "stxb [r10-%d], r0" % draw.between(1, 4)))
+    """Stores on one way or both, and a load."""
     load = draw.one_of(("ldxb r0, [r10-%d]" % draw.between(1, 4), "ldxh r0, [r10-%d]" % draw.between(2, 4), "ldxsh r0, [r10-2]"))
+    start = loaded(draw, "r0", "b")
+    jump = "%s r0, %d, +" % (draw.one_of(("jeq", "jgt", "jset", "jslt32")), draw.one_of(SMALL))
     shape = draw.between(1, 4)
-    lines = [loaded(draw, "r0", "b")]
-    jump = "%s r0, %d, +%%d" % (draw.one_of(("jeq", "jgt", "jset", "jslt32")), draw.one_of(SMALL))
     if shape == 1:
-        return lines + [store(), jump % 1, store(), load], None
+        return [start, stored(draw), jump + "1", stored(draw), load], None
     if shape == 2:
-        return lines + [jump % 2, store(), "ja +1", store(), load], None
+        return [start, jump + "2", stored(draw), "ja +1", stored(draw), load], None
     if shape == 3:
-        return lines + ["and r0, 1", "mov r2, r10", "sub r2, r0", store(), draw.one_of(("stb [r2-2], 1", "ldxb r0, [r2-2]", "ldxh r0, [r2-3]")), load], None
-    return [store(), store(), load], None
+        access = draw.one_of(("stb [r2-2], 1", "ldxb r0, [r2-2]", "ldxh r0, [r2-3]"))
+        return [start, "and r0, 1", "mov r2, r10", "sub r2, r0", stored(draw), access, load], None
+    return [start, stored(draw), stored(draw), load], None
 
 
 def copied(draw, helper):
@@ -1204,41 +1256,64 @@ def bounded(draw, shape):
 
 WIDTHS = ("", "32")
 BINARY = [name + width for name in OPERATIONS.split("|") if name != "mov" for width in WIDTHS]
-UNARY = ["neg", "neg32", "mov32", "movsx8", "movsx16", "movsx32", "movsx8_32", "movsx16_32"]
-UNARY += [order + bits for order in ("le", "be", "swap") for bits in ("16", "32", "64")]
+EXTENSIONS = ["movsx8", "movsx16", "movsx32", "movsx8_32", "movsx16_32"]
+# Operations of one operand: on what, and what is asked for.
+UNARY = (
+    (("neg", "neg32"), (("single", "ends"), ("low", "beyond"))),
+    (("mov32",), (("single", "ends"), ("low", "low"), ("any", "high"), ("any", "beyond"))),
+    (EXTENSIONS, (("single", "ends"), ("low", "high"), ("any", "beyond"))),
+    (("le16", "le32", "le64"), (("single", "ends"), ("low", "low"), ("any", "beyond"))),
+    (("be16", "be32", "be64"), (("single", "ends"), ("low", "high"))),
+    (("swap16", "swap32", "swap64"), (("single", "ends"), ("low", "beyond"))),
+    (("le16", "movsx16"), (("across", "beyond"),)),
+)
 JUMPS = [name + width for name in CONDITIONS.split("|") for width in WIDTHS]
+ORDERINGS = [jump for jump in JUMPS if not jump.startswith("jset")]
+LIMITED = [jump for jump in ORDERINGS if "32" in jump or jump[1] == "s"]
 SORT_PAIRS = [(one, other) for one in KIND_SOURCES for other in KIND_SOURCES]
+
+
+def pairs(ones, others):
+    return list(itertools.product(ones, others))
+
+
+def alternating(jumps, first):
+    """Each jump taken or not, so that a condition has both in its two widths."""
+    return [(jump, (at + at // 2) % 2 == first) for at, jump in enumerate(jumps)]
+
 
 # What a group of rows is called, its family, and what each of its rows is made of.
 GROUPS = (
-    ("Results of operations with an immediate, with a register, and of two numbers.", with_immediate, BINARY),
-    ("", with_register, BINARY),
-    ("", with_numbers, BINARY),
-    ("Results of operations of one operand, of loads and of calls.", of_one, UNARY),
+    ("Results of operations.", operated, [(*case[:3], ask, WIDTHS[at % 2]) for at, case in enumerate(CASES) for ask in case[3].split()]),
+    ("Operations on single numbers.", with_numbers, BINARY[::3] + BINARY[1::3]),
+    ("Operations of one operand, loads and calls.", of_one, [(name, *how) for names, hows in UNARY for name in names for how in hows]),
     ("", of_load, ("b", "h", "w", "dw", "sb", "sh", "sw")),
     ("", answered, (1, 2, 3, 4, 5, 9)),
-    ("Narrowing, where a jump is taken and where it isn't.", lambda draw, name: narrowed(draw, name, True, "imm"), JUMPS),
-    ("", lambda draw, name: narrowed(draw, name, False, "imm"), JUMPS),
-    ("", lambda draw, name: narrowed(draw, name, draw.chance(2), "register"), JUMPS),
-    ("", lambda draw, name: decided(draw, name, draw.chance(2), None), JUMPS),
-    ("Comparisons of a register with itself.", against_itself, JUMPS[:12:3]),
-    ("Pointers.", moved_pointer, range(14)),
+    ("Narrowing of the left side, where a jump is taken and where it isn't.", narrowed_left, pairs(ORDERINGS, (True, False))),
+    ("Narrowing of the right side.", narrowed_right, alternating(ORDERINGS, 0)),
+    ("Comparisons that narrow nothing.", not_narrowed, alternating(LIMITED, 1)),
+    ("Comparisons of single numbers.", decided, alternating(JUMPS, 0)),
+    ("Comparisons of a register with itself.", against_itself, JUMPS[::5]),
+    ("Pointers.", moved_pointer, range(10)),
     ("", joined_pointer, range(4)),
-    ("Marks.", marked, range(14)),
-    ("", copied, (6, 6, 6, 6, 7, 7, 7, 7)),
+    ("Marks.", marked, range(10)),
+    ("", copied, (6, 6, 6, 7, 7, 7)),
     ("Kinds that meet.", joined_kinds, SORT_PAIRS),
-    ("Bounds.", bounded, ("join", "narrowing", "both") * 5),
-    ("Code that isn't reached.", unreached, range(8)),
+    ("Bounds of a check that only a join, a narrowing, or both tell.", bounded, ("join", "narrowing", "both") * 4),
+    ("Code that isn't reached.", unreached, range(5)),
 )
+
+
 COLUMNS, SAMPLES = 120, 10
 
 
 def row(draw, family, subject, known):
     """A row that fits, and isn't there yet."""
     while True:
-        body, name = family(draw, subject)
+        body, name, *asked = family(draw, subject)
+        ask = asked[0] if asked else draw.one_of(("ends", "ends", "beyond"))
         try:
-            text = finished(draw, body, name, draw.chance(2)) if name else linked(body + ["exit"])
+            text = finished(draw, body, name, ask) if name else linked(body + ["exit"])
             if len("accepted; " + text) > COLUMNS:
                 continue
             line = "%s; %s" % (judged(text, SAMPLES), text)
@@ -1248,18 +1323,24 @@ def row(draw, family, subject, known):
             return line
 
 
+def table():
+    """The rows as a constant of Rust, groups with their titles."""
+    draw, known = Draw(SEED), set()
+    lines = ["const VERDICTS: &str = concat!("]
+    for title, family, subjects in GROUPS:
+        if title:
+            lines += ['",'] * bool(known) + ["    // " + title, '    "\\']
+        for subject in subjects:
+            lines.append(row(draw, family, subject, known))
+            known.add(lines[-1])
+    return lines + ['"', ");"]
+
+
 def main(arguments):
     if arguments:
         print(judged(arguments[0], SAMPLES))
-        return
-    draw, known = Draw(SEED), set()
-    for title, family, subjects in GROUPS:
-        if title:
-            print(title)
-        for subject in subjects:
-            line = row(draw, family, subject, known)
-            known.add(line)
-            print(line)
+    else:
+        print("\n".join(table()))
 
 
 if __name__ == "__main__":
