@@ -13,13 +13,16 @@ it is refused at the first place where none that is good up to there passes, for
 
 The domain, for each place: Unreached, and every combination of
 - for each register that the program names, or uses by `call` or `exit`: Nothing, and of each sort of kind (number, record, frame) that
-  comes to the place in it on an edge out of any state of the domain, every interval with ends in a set: the ends that come so, and
-  for numbers 0 and 2^64 - 1, for offsets in the record 32767. Other registers: Nothing;
-- no mark, and every set of marks that comes so, or is what such sets have in common.
-A program has a few places, so no annotation of the domain is left out: those whose beginnings allow the same states at all later places
-have the same continuations, and are followed as one. A program whose domain is too large for that isn't used.
+  comes to the place in it, every interval whose ends come to it so, or are 0 or 2^64 - 1 for numbers, 32767 for offsets in the record.
+  Other registers: Nothing;
+- no mark, and every set of marks that comes, or is what such sets have in common.
+What comes to a place does so on an edge out of a state of the domain: of one whose intervals reach from a lower end that came to an upper
+end that came, and whose marks are what sets that came have in common.
 
-Beyond the domain annotations are sampled, with any ends: none may pass where none of the domain does, or lack the least one below it.
+A program has a few places, so no annotation of the domain is left out: those whose beginnings allow the same states at all later places
+have the same continuations, and are followed as one. A program whose domain is too large for that isn't used. As it is a part of all
+annotations, it alone can't show that none is good; so others are drawn, with any ends: none may pass where none of the domain does, or
+not be above the least one of the domain.
 """
 # Needs Python 3.8 or later, and nothing else.
 
@@ -402,7 +405,8 @@ def read_program(text):
     for line in text.split("|"):
         program[place] = read_line(line.strip(), place)
         place = program[place].after
-    if any(target not in program for instruction in program.values() for target in instruction.targets()):
+    edges = [(place, target) for place, instruction in program.items() for target in instruction.targets()]
+    if any(target <= place or target not in program for place, target in edges) or list(program.values())[-1].form != "exit":
         raise ValueError("no forward code: " + text)
     return program
 
@@ -606,8 +610,7 @@ SORTS = {"number": (0, WORD - 1), "record": (GREATEST_OFFSET,), "frame": ()}
 
 
 def kinds_tried(coming):
-    """The kinds that are tried for a register to which these come, and with which of them it is gone on to find what comes to later places: the intervals
-    from a lower end that comes to an upper end that comes."""
+    """The kinds that are tried for a register to which these come, and those of them that are followed to what comes to later places."""
     tried, followed = {NOTHING}, coming & {NOTHING}
     for sort, outermost in SORTS.items():
         lows = {kind.low for kind in coming if kind.sort == sort}
@@ -651,8 +654,8 @@ class Column:
 
 
 class Domain:
-    """The states that are tried at one place. What is above given states is a product over the columns, so a set of states is a number with the bits of each
-    column, and one bit for Unreached."""
+    """The states that are tried at one place. What is above given states is a product over the columns, so a set of states is a number with
+    the bits of each column, and one bit for Unreached."""
 
     def __init__(self, used, coming, first):
         self.used, self.unreached, self.columns = used, 1 << first, []
@@ -716,8 +719,8 @@ def outcome(instruction, state):
 
 
 class Search:
-    """All annotations of a program's domain, from place to place. One that is good up to a place is kept as its front, a number: the states that it allows
-    at all places from there on, in the bits of their domains."""
+    """All annotations of a program's domain, from place to place. One that is good up to a place is kept as its front, a number: the states
+    that it allows at all places from there on, in the bits of their domains."""
 
     def __init__(self, program):
         self.program = program
@@ -990,10 +993,10 @@ def access(draw, name, kind, exactly):
 
 
 # A register may be known nothing of as long as it isn't read.
-UNKNOWN_USED = ("mov r0, %s", "add r0, %s", "neg %s", "ldxb r0, [%s+0]", "stb [%s+0], 1", "jeq %s, 1, +0", "jne r0, %s, +0", "movsx8 r0, %s")
-UNKNOWN_USED += ("mov %s, r0", "lddw %s, 7", "mov32 %s, 3")
-
-
+UNKNOWN_USED = (
+    "mov r0, %s", "add r0, %s", "neg %s", "ldxb r0, [%s+0]", "stb [%s+0], 1", "jeq %s, 1, +0", "jne r0, %s, +0", "movsx8 r0, %s",
+    "mov %s, r0", "lddw %s, 7", "mov32 %s, 3",
+)
 EVERYTHING = number(0, WORD - 1)
 
 
@@ -1015,7 +1018,8 @@ def probe(draw, name, state, before, ask):
 
 def kind_before(search, least, name):
     """What was known of a register before the last jump, if that is a number."""
-    kinds = [least[place].registers[index(name)] for place in least if search.program[place].form == "jump" and least[place] is not UNREACHED]
+    jumps = [place for place in least if search.program[place].form == "jump" and least[place] is not UNREACHED]
+    kinds = [least[place].registers[index(name)] for place in jumps]
     return kinds[-1] if kinds and kinds[-1].sort == "number" else EVERYTHING
 
 
@@ -1037,16 +1041,19 @@ def finished(draw, body, name, ask):
 # Each family of bodies: lines, the register that is probed, and perhaps what is asked for.
 
 
-# The rows of results by their operands, with what is asked for. A is a number from 1 to 1001, B one byte, D any number of the width, N a negative one; a
-# pair is the bounds of an immediate.
+# The rows of results by their operands, with what is asked for. A is a number from 1 to 1001, B one byte, D any number of the width, N a
+# negative one; a pair is the bounds of an immediate.
 CASES = (
-    ("add", "A", (1, 5000), "low high"), ("add", "A", (-1, -1), "high beyond"), ("add", "B", (-255, -1), "beyond"), ("add", "A", "B", "high"),
-    ("sub", "A", (1, 1), "high beyond"), ("sub", "B", (256, 5000), "low high"), ("sub", "B", (1, 255), "beyond"), ("sub", "B", "A", "beyond"),
+    ("add", "A", (1, 5000), "low high"), ("add", "A", (-1, -1), "high beyond"), ("add", "B", (-255, -1), "beyond"),
+    ("add", "A", "B", "high"),
+    ("sub", "A", (1, 1), "high beyond"), ("sub", "B", (256, 5000), "low high"), ("sub", "B", (1, 255), "beyond"),
+    ("sub", "B", "A", "beyond"),
     ("mul", "A", (2, 9), "low high"), ("mul", "D", (2, 9), "beyond"), ("mul", "B", "A", "high"),
     ("div", "A", (2, 9), "high beyond"), ("div", "B", "A", "high"), ("div", "A", "B", "high beyond"), ("div", "A", (0, 0), "high"),
     ("mod", "A", (2, 9), "high beyond"), ("mod", "A", (1002, 5000), "high beyond"), ("mod", "A", "B", "high"), ("mod", "A", (0, 0), "high"),
     ("and", "A", (2, 100), "high beyond"), ("and", "A", (1024, 5000), "high"), ("and", "A", "B", "high"),
-    ("or", "A", (16, 100), "low high beyond"), ("or", "A", "B", "low high"), ("xor", "A", (16, 100), "high beyond"), ("xor", "A", "B", "high"),
+    ("or", "A", (16, 100), "low high beyond"), ("or", "A", "B", "low high"),
+    ("xor", "A", (16, 100), "high beyond"), ("xor", "A", "B", "high"),
     ("lsh", "A", (1, 3), "low high"), ("lsh", "A", (65, 67), "high"), ("lsh", "A", (62, 63), "beyond"), ("lsh", "A", "B", "beyond"),
     ("rsh", "A", (1, 3), "high beyond"), ("rsh", "A", (65, 67), "high"), ("rsh", "A", "B", "high beyond"),
     ("arsh", "A", (1, 3), "high"), ("arsh", "N", (1, 3), "low high"), ("arsh", "D", (1, 3), "beyond"), ("arsh", "A", "B", "beyond"),
@@ -1058,7 +1065,8 @@ def operated(draw, subject):
     """An operation on intervals."""
     name, left, right, ask, width = subject
     any_number = loaded(draw, "r0", "w" if width else "dw")
-    start = {"A": ["call 4"], "B": [loaded(draw, "r0", "b")], "D": [any_number], "N": ["call 4", "sub r0, %d" % draw.between(1001, 9999)]}[left]
+    negative = "sub r0, %d" % draw.between(1001, 9999)
+    start = {"A": ["call 4"], "B": [loaded(draw, "r0", "b")], "D": [any_number], "N": ["call 4", negative]}[left]
     if isinstance(right, tuple):
         return start + ["%s%s r0, %d" % (name, width, draw.between(*right))], "r0", ask
     to, source = ("r0", "r6") if left == "A" else ("r6", "r0")
@@ -1066,9 +1074,10 @@ def operated(draw, subject):
 
 
 def with_numbers(draw, operation):
-    """An operation on two single numbers."""
+    """An operation on two single numbers. Where an interval's ends would come to the same, one more is asked for."""
     start = draw.one_of(("mov r0, %d", "mov32 r0, %d")) % draw.one_of(IMMEDIATES[2:])
-    return [start, "%s r0, %d" % (operation, draw.one_of((3, 5, 7, 15, 100, 255, -3, -8, -255)))], "r0", "ends" if operation[:2] in ("an", "or", "xo", "sm", "sd", "mo") else "beyond"
+    line = "%s r0, %d" % (operation, draw.one_of((3, 5, 7, 15, 100, 255, -3, -8, -255)))
+    return [start, line], "r0", "ends" if operation.startswith(("and", "or", "xor", "mod", "sdiv", "smod")) else "beyond"
 
 
 def of_one(draw, subject):
@@ -1151,7 +1160,8 @@ def moved_pointer(draw, _):
     if shape == 1:
         return lines + [draw.one_of(moves), "%s %s, %d" % (draw.one_of(("add", "sub")), to, draw.one_of((1, -1, 100, -512)))], to
     if shape == 2:
-        return lines + [loaded(draw, "r0", "b h"), "jgt r0, %d, +END" % draw.one_of((15, 227, 32767, 32768)), "%s %s, r0" % (draw.one_of(("add", "sub")), to)], to
+        jump = "jgt r0, %d, +END" % draw.one_of((15, 227, 32767, 32768))
+        return lines + [loaded(draw, "r0", "b h"), jump, "%s %s, r0" % (draw.one_of(("add", "sub")), to)], to
     if shape == 3:
         return lines + [loaded(draw, "r0", "b"), draw.one_of(moves), "%s %s, r0" % (draw.one_of(("add", "sub")), to)], to
     return [loaded(draw, "r0", "b h"), "mov r3, r0", "%s r3, %s" % (draw.one_of(("add", "add", "sub")), draw.one_of(("r1", "r10")))], "r3"
@@ -1337,10 +1347,15 @@ def table():
 
 
 def main(arguments):
-    if arguments:
-        print(judged(arguments[0], SAMPLES))
-    else:
+    if not arguments:
         print("\n".join(table()))
+        return
+    try:
+        print(judged(arguments[0], SAMPLES))
+    except TooLarge:
+        sys.exit("there are too many states to try")
+    except ValueError as fault:
+        sys.exit(str(fault))
 
 
 if __name__ == "__main__":

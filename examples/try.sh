@@ -21,10 +21,10 @@
 # Then the rows of examples/verdicts, which are such programs; there a line that begins with `#` says what the rows below it are of.
 #
 # Then the program over files and outputs that are missing, faulty or full, and the outcomes of a trace: each text of an error has to stand
-# in docs/refusals.md.
+# in docs/refusals.md. And the table of crates/bpf_tests/src/generated.rt has to be what annotations.py writes.
 #
 # Prints what failed, and ends with 0 where nothing did, else with 1. It needs bash and coreutils, and takes less than a minute. The blocks ```http
-# need curl.
+# need curl, and annotations.py needs python3.
 
 set -u
 export LC_ALL=C
@@ -581,7 +581,17 @@ END
     cd "$top" || exit 1
 }
 
+# The table of verdicts on generated programs, and the tool that writes it.
+try_table() {
+    local table=crates/bpf_tests/src/generated.rt
+    command -v python3 > /dev/null || { skip "$table (there is no python3 here)"; return; }
+    if diff <(python3 examples/annotations.py) <(sed -n '/^const VERDICTS/,/^);/p' $table) > "$scratch/differences"; then pass; else
+        fail "examples/annotations.py writes another table than that of $table" "$(head -n 20 "$scratch/differences")"
+    fi
+}
+
 cd "$top" || exit 1
+try_table
 for document in README.md docs/*.md examples/README.md; do
     try_document "$document"
 done

@@ -14,13 +14,13 @@ accepted; call 4 | add r0, 979 | jgt r0, 979, +1 | stb [r1+0], 1 | exit
 accepted; call 4 | add r0, 2605 | jle r0, 3606, +2 | mov r0, r10 | exit | exit
 accepted; call 4 | add32 r0, -1 | jlt r0, 1001, +1 | and r0, r10 | exit
 refused 43 place 3 NotPointer; call 4 | add32 r0, -1 | jle r0, 999, +1 | stb [r0+0], 1 | exit
-refused 40 place 3 ReadsNothing(9); ldxb r0, [r1+24] | add r0, -34 | jle r0, -2, +1 | add r9, 1 | exit
+refused 40 place 3 ReadsNothing(9); ldxb r0, [r1+86] | add r0, -34 | jle r0, -2, +1 | add r9, 1 | exit
 accepted; ldxb r6, [r1+70] | call 4 | add32 r0, r6 | jle r0, 1256, +2 | mov r1, 4 | call 9 | exit
 accepted; call 4 | sub r0, 1 | jle r0, 1000, +1 | jset r10, r10, +0 | exit
 refused 48 place 3 ComparesPointer; call 4 | sub r0, 1 | jle r0, 999, +1 | jset r10, r10, +0 | exit
-accepted; ldxb r0, [r1+45] | sub32 r0, 2925 | jgt32 r0, -2926, +2 | mov r0, r10 | exit | exit
-accepted; ldxb r0, [r1+50] | sub32 r0, 4015 | jle32 r0, -3760, +1 | stxdw [r10-8], r10 | exit
-refused 46 place 3 WritesRecord; ldxb r0, [r1+33] | sub r0, 166 | jlt r0, -1, +1 | stb [r1+0], 1 | exit
+accepted; ldxb r0, [r1+89] | sub32 r0, 2925 | jgt32 r0, -2926, +2 | mov r0, r10 | exit | exit
+accepted; ldxb r0, [r1+30] | sub32 r0, 4015 | jle32 r0, -3760, +1 | stxdw [r10-8], r10 | exit
+refused 46 place 3 WritesRecord; ldxb r0, [r1+83] | sub r0, 166 | jlt r0, -1, +1 | stb [r1+0], 1 | exit
 refused 43 place 4 NotPointer; ldxb r6, [r1+38] | call 4 | sub32 r6, r0 | jle32 r6, -2, +1 | stxw [r0-4], r10 | exit
 accepted; call 4 | mul r0, 6 | jge r0, 6, +1 | stdw [r1-1], 0 | exit
 accepted; call 4 | mul r0, 9 | jle r0, 9009, +1 | call -1 | exit
@@ -61,8 +61,8 @@ accepted; call 4 | rsh32 r0, 65 | jlt r0, 501, +1 | call -1 | exit
 accepted; ldxb r6, [r1+29] | call 4 | rsh r0, r6 | jlt r0, 1002, +2 | mov r1, -1 | call 2 | exit
 refused 40 place 4 ReadsNothing(9); ldxb r6, [r1+75] | call 4 | rsh r0, r6 | jlt r0, 1001, +1 | stxb [r10-1], r9 | exit
 accepted; call 4 | arsh32 r0, 2 | jlt r0, 251, +1 | neg r9 | exit
-accepted; call 4 | sub r0, 7871 | arsh r0, 2 | jge r0, -1968, +1 | ldxw r0, [r10-513] | exit
-accepted; call 4 | sub r0, 9422 | arsh r0, 3 | jlt r0, -1052, +1 | call -1 | exit
+accepted; call 4 | sub r0, 5774 | arsh r0, 2 | jge r0, -1444, +1 | ldxw r0, [r10-513] | exit
+accepted; call 4 | sub r0, 7567 | arsh r0, 3 | jlt r0, -820, +1 | call -1 | exit
 refused 50 place 4 BadArgument(1); ldxw r0, [r1+9] | arsh32 r0, 3 | jle32 r0, -2, +2 | mov r1, 17 | call 1 | exit
 refused 49 place 4 UnknownHelper; ldxb r6, [r1+46] | call 4 | arsh r0, r6 | jle r0, -2, +1 | call 0 | exit
 refused 40 place 3 ReadsNothing(9); call 4 | sdiv32 r0, 2 | jle32 r0, -2, +1 | neg r9 | exit
@@ -269,12 +269,12 @@ refused 48 place 3 ComparesPointer; mov r0, 256 | jsle r0, r0, +2 | jeq r0, 257,
 ",
     // Pointers.
     "\
-refused 41 place 3 PointerArithmetic; mov r2, r10 | ldxh r0, [r1+42] | jgt r0, 32768, +1 | add r2, r0 | exit
-refused 44 place 3 OutOfBounds; ldxb r0, [r1+18] | sub r1, 32767 | add r1, r0 | ldxh r0, [r1+32767] | exit
-accepted; ldxh r0, [r1+74] | jgt r0, 15, +2 | sub r1, r0 | ldxb r0, [r1+15] | exit
-refused 44 place 3 OutOfBounds; ldxb r0, [r1+25] | jgt r0, 227, +2 | sub r1, r0 | ldxh r0, [r1+226] | exit
-refused 44 place 3 OutOfBounds; ldxh r0, [r1+38] | jgt r0, 15, +2 | add r1, r0 | ldxdw r0, [r1-1] | exit
-refused 44 place 3 OutOfBounds; ldxh r0, [r1+24] | jgt r0, 15, +2 | add r1, r0 | ldxw r0, [r1-1] | exit
+accepted; mov r2, r10 | ldxb r0, [r1+97] | jgt r0, 32768, +2 | add r2, r0 | stw [r2-512], 1 | exit
+accepted; sub r1, -200 | add r1, -1 | ldxw r0, [r1+25] | exit
+refused 44 place 3 OutOfBounds; ldxb r0, [r1+5] | sub r1, -227 | sub r1, r0 | ldxdw r0, [r1-7] | exit
+accepted; add r1, -512 | add r1, -512 | ldxh r0, [r1+1250] | exit
+refused 44 place 3 OutOfBounds; ldxb r0, [r1+19] | jgt r0, 32767, +2 | add r1, r0 | ldxdw r0, [r1-1] | exit
+refused 44 place 3 OutOfBounds; ldxb r0, [r1+22] | jgt r0, 32767, +2 | add r1, r0 | ldxw r0, [r1-1] | exit
 refused 41 place 0 PointerArithmetic; sub r1, 32769 | add r1, 100 | exit
 refused 44 place 3 OutOfBounds; mov r2, r1 | sub r2, -32256 | add r2, 1 | ldxw r0, [r2-32032] | exit
 refused 41 place 2 PointerArithmetic; ldxh r0, [r1+64] | mov r3, r0 | sub r3, r1 | exit

@@ -1,6 +1,6 @@
 //! Verdicts on programs, and what is found out of those that are accepted, worked out from the rules by hand.
 
-use crate::fixtures::{EXIT, code_of, cut, repeated};
+use crate::fixtures::{EXIT, bytes_of, code_of, cut, repeated};
 use bpf_flow::Flow;
 use bpf_insn::{Area, Code, decode};
 use bpf_text::assemble;
@@ -235,14 +235,38 @@ fn areas(rt: HostRuntime) {
     }
 }
 
-/// As many words as a program may have: `ldxb r0, [r1+55]`, `jne r0, 65, +4093` to the last word, 4,093 times `jne r0, 65, +0`, and `exit`.
+/// The bytes of `ldxb r0, [r1+55]`.
+const LOAD: &[u8] = b"\x71\x10\x37\0\0\0\0\0";
+
+// As many words as a program may have. A row has the verdict, the words behind LOAD, how often those behind come, and those before EXIT. In the
+// second and third row `add r0, 1` stands behind each `jgt r0, 254, +1`, so r0 is 255 at the end. In the last one each store is jumped over.
+const LONG: &str = "\
+accepted; 5500fd0f41000000; 4093; 5500000041000000
+accepted; ; 2046; 25000100fe000000 0700000001000000; 15000100ff000000 bf90000000000000
+refused 40 place 4094 ReadsNothing(9); ; 2046; 25000100fe000000 0700000001000000; 15000100fe000000 bf90000000000000
+refused 45 place 4093 UnwrittenFrame; ; 2046; 1500010041000000 720af8ff01000000; 71a2f8ff00000000 b700000001000000
+";
+
+/// The code of a row, without its verdict.
+fn long_code_of(alloc: Global, row: &str) -> Option<Code<Global>> {
+    let (start, rest) = cut(row, "; ");
+    let (count, rest) = cut(rest, "; ");
+    let (words, end) = cut(rest, "; ");
+    let start = bytes_of(alloc, start)?;
+    let words = bytes_of(alloc, words)?;
+    let end = bytes_of(alloc, end)?;
+    let middle = repeated(alloc, &start, &words, count.parse().ok()?, &end).ok()?;
+    let program = repeated(alloc, LOAD, &middle, 1, EXIT).ok()?;
+    decode(alloc, &program).ok()
+}
+
 #[test]
 fn long_code(rt: HostRuntime) {
-    let start = b"\x71\x10\x37\0\0\0\0\0\x55\0\xfd\x0f\x41\0\0\0";
-    let jump = b"\x55\0\0\0\x41\0\0\0";
-    let program = repeated(rt.alloc(), start, jump, 4_093, EXIT).expect(&rt, "memory");
-    let code = decode(rt.alloc(), &program).expect(&rt, "a code");
-    assert!(rt; has_verdict(rt.alloc(), code, "accepted"));
+    for row in LONG.lines() {
+        let (verdict, words) = cut(row, "; ");
+        let code = long_code_of(rt.alloc(), words).expect(&rt, row);
+        assert!(rt; has_verdict(rt.alloc(), code, verdict), "{row}");
+    }
 }
 
 // Want of memory has a name and no number.
