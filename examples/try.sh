@@ -129,6 +129,9 @@ try_verdict() {
     printf '%s\n' "$2" > try.s
     wrote=$(extractd asm --source try.s 2>&1 > try.bpf && extractd verify --program try.bpf 2>&1)
     if [ "$?: $wrote" = "$status: $3" ]; then pass; else fail "$1 shows" "$2" "$3" "and it is" "$wrote"; fi
+    [ -z "$server" ] && return
+    wrote=$(curl --data-binary @try.bpf "http://127.0.0.1:$port/verify" 2>&1)
+    if [ "$wrote" = "$3" ]; then pass; else fail "$1 shows" "$2" "$3" "and the server says" "$wrote"; fi
 }
 
 # try_verdicts NAME ROWS
@@ -144,11 +147,17 @@ try_verdicts() {
     [ -z "$row" ] || fail "$1 ends within a row" "$row"
 }
 
-# try_rows FILE
-try_rows() {
+# try_verdict_rows FILE: `verify` and the server say the same of each program.
+try_verdict_rows() {
     local before=$((tried + failed))
     mkdir -p "$scratch/$1" && cd "$scratch/$1" || exit 1
+    if command -v curl > /dev/null; then
+        start_server "$top/examples/one" || fail "$1: no server" "$(cat "$scratch/said.err")"
+    else
+        skip "$1 by POST /verify (there is no curl here)"
+    fi
     try_verdicts "$1" "$(cat "$top/$1")"
+    stop_server
     cd "$top" || exit 1
     [ $((tried + failed)) -gt $before ] || fail "$1 has no row"
 }
@@ -206,8 +215,8 @@ asked_of() {
     printf '%s\n' "${method%% *} ${target%%[\' ]*}{curl}"
 }
 
-# try_rows NAME: the tests have just the rows of the examples, in the document's order, before those of requests that are told in words.
-try_rows() {
+# try_example_rows NAME: the tests have just the rows of the examples, in the document's order, before those of requests that are told in words.
+try_example_rows() {
     local line asked held=""
     while IFS= read -r line; do
         [[ $line == 'const ENDS'* ]] && break
@@ -285,7 +294,7 @@ try_document() {
     done < "$top/$1"
     stop_server
     cd "$top" || exit 1
-    if [ "$1" = docs/http.md ]; then try_rows "$1"; fi
+    if [ "$1" = docs/http.md ]; then try_example_rows "$1"; fi
 }
 
 # try_case STATUS SIZE TEXT COMMAND: the exit status, how many bytes are written, and what stands on standard error. The text of status 3 and that of a
@@ -596,7 +605,7 @@ for document in README.md docs/*.md examples/README.md; do
     try_document "$document"
 done
 for rows in examples/verdicts/*.txt; do
-    try_rows "$rows"
+    try_verdict_rows "$rows"
 done
 try_cases
 echo "$tried passed, $failed failed"
