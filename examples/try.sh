@@ -18,7 +18,8 @@
 # - A row of a table with bytes in its first cell and a refusal in its second is a program that `verify` and `run` refuse so; one with a
 #   place, an instruction and its bytes is a program of one instruction, and is tried as above.
 #
-# Then the rows of examples/verdicts, which are such programs; there a line that begins with `#` says what the rows below it are of.
+# Then the rows of examples/verdicts, which are such programs; there a line that begins with `#` says what the rows below it are of. Each program is
+# also sent to the server, which has to say the same.
 #
 # Then the program over files and outputs that are missing, faulty or full, and the outcomes of a trace: each text of an error has to stand
 # in docs/refusals.md. And the table of crates/bpf_tests/src/generated.rt has to be what annotations.py writes.
@@ -599,6 +600,15 @@ try_table() {
     fi
 }
 
+# A program of 4,003 words, nearly all of them conditional jumps: of it `verify` and the server say the same, too.
+try_long_program() {
+    mkdir -p "$scratch/long" && cd "$scratch/long" || exit 1
+    command -v curl > /dev/null && start_server "$top/examples/one"
+    try_verdict "a program of 4,000 jumps" "ldxb r2, [r1+55]"$'\n'"$(yes 'jne r2, 65, +0' | head -n 4000)"$'\n'"mov r0, 1"$'\n'"exit" accepted
+    stop_server
+    cd "$top" || exit 1
+}
+
 cd "$top" || exit 1
 try_table
 for document in README.md docs/*.md examples/README.md; do
@@ -607,6 +617,7 @@ done
 for rows in examples/verdicts/*.txt; do
     try_verdict_rows "$rows"
 done
+try_long_program
 try_cases
 echo "$tried passed, $failed failed"
 [ $failed -eq 0 ]

@@ -108,6 +108,15 @@ asm stw [r10-4], 0x6e69616d\nmov r1, 0\nmov r2, r10\nadd r2, -4\nmov r3, 4\ncall
 asm mov r1, 0\ncall 9\nmov r1, r0\nmov r6, r0\ncall 8\nmov r0, r6\nexit | | LINE \n | 18446744073623051616\t LINE \n
 asm mov r1, 0\nmov r2, r10\nadd r2, -4\nmov r3, 4\ncall 6\nldxw r1, [r10-4]\ncall 8\nmov r0, 1\nexit | | LINE \n | 1852399949\t LINE \n
 asm mov r1, 1\nmov r2, r10\nadd r2, -4\nmov r3, 4\ncall 6\nldxw r1, [r10-4]\ncall 8\nmov r0, 1\nexit | | LINE \n | 538976288\t LINE \n
+asm add r1, -32768\nadd r1, 32767\nldxb r0, [r1+1]\nexit | | LINE \n | 0\t LINE \n
+asm add r1, -32768\nldxb r0, [r1+32767]\nexit | refused 44 place 1 OutOfBounds | ! 0 pipe | ! write 0
+asm ldxb r2, [r1+55]\nadd r2, -1\nadd r1, r2\nldxb r0, [r1+0]\nexit | refused 41 place 2 PointerArithmetic | ! 0 pipe | ! write 0
+asm mov r0, 1\nldxb r2, [r1+55]\njeq r2, 0, +4\nadd r2, -1\nand r2, 127\nadd r1, r2\nldxb r0, [r1+0]\nexit | | LINE \n | 0\t LINE \n
+asm ldxb r2, [r1+55]\ndiv r2, 2\nadd r1, r2\nldxb r0, [r1+0]\nexit | | LINE \n | 0\t LINE \n
+asm ldxb r2, [r1+55]\nsdiv r2, 2\nadd r1, r2\nldxb r0, [r1+0]\nexit | refused 41 place 2 PointerArithmetic | ! 0 pipe | ! write 0
+asm mov r2, 5\nmov r0, 1\njgt r2, 9, +1\nexit\nldxb r0, [r9+0]\nexit | | LINE \n | 0\t LINE \n
+asm ldxb r2, [r1+55]\nmov r0, 1\njne r2, r2, +1\nexit\nldxb r0, [r9+0]\nexit | refused 40 place 4 ReadsNothing(9) | ! 0 pipe | ! write 0
+asm ldxb r2, [r1+55]\nmov r0, 1\njset r2, 240, +2\nadd r1, r2\nldxb r0, [r1+0]\nexit | refused 44 place 4 OutOfBounds | ! 0 pipe | ! write 0
 asm call 3\nexit | | LINE \n |
 asm call 4\nmov r1, r0\ncall 8\nmov r0, 1\nexit | | LINE \n | 1\t LINE \n
 ";

@@ -26,3 +26,5 @@ mod scripts;
 mod serving;
 #[cfg(test)]
 mod tables;
+#[cfg(test)]
+mod verdicts;
