@@ -1,5 +1,5 @@
 -- Each check goes upwards, as its law has it.
-use Rattle.std.proofs.Common.{◌≡◌, ℕ, ℤ, Some}
+use Rattle.std.proofs.Common.{ℕ, ℤ, Some}
 use Rattle.bpf_helpers.specs.declared.helper.Helper.{Helper}
 use Rattle.bpf_helpers.specs.declared.signature.Argument.{Argument}
 use Rattle.bpf_insn.specs.declared.instruction.LoadFormat.{LoadFormat}

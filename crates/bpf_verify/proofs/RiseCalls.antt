@@ -8,7 +8,7 @@ use Rattle.bpf_kinds.specs.Kind as kind
 use Rattle.bpf_kinds.specs.Offsets as offsets
 use Rattle.bpf_kinds.specs.declared.interval.Interval.{Interval}
 use Rattle.bpf_kinds.specs.declared.kind.Kind.{Kind}
-use Rattle.bpf_kinds.specs.declared.kind.Kind.TheVariants.{Number, Record, Frame, Nothing}
+use Rattle.bpf_kinds.specs.declared.kind.Kind.TheVariants.{Number, Frame, Nothing}
 use Rattle.bpf_kinds.specs.declared.offsets.Offsets.{Offsets}
 use Rattle.bpf_helpers.specs.Helper.{signature}
 use Rattle.bpf_helpers.specs.Shape.{frame_use}
@@ -24,7 +24,7 @@ use Rattle.bpf_verify.specs.State.{IsBelow, IsWithinKnown}
 use Rattle.bpf_verify.specs.Transfer.{are_allowed, argument_kind, argument_in, arguments_in, lie_within, lend_bytes, lend_read, lend_frame, all_marked, mark_bytes, call}
 use Rattle.bpf_verify.specs.declared.calls.LentBytes.{LentBytes}
 use Rattle.bpf_verify.specs.declared.state.Known.{Known}
-use Rattle.bpf_verify.proofs.RiseChecks.{IsLower, IsLowerInterval, AreLowerOffsets, read_lower}
+use Rattle.bpf_verify.proofs.RiseChecks.{IsLower, lower_cases, IsLowerInterval, AreLowerOffsets, read_lower}
 use Rattle.bpf_verify.proofs.RiseMemory.{ChangesBelow, lie_within_falls, all_marked_falls, mark_bytes_lower}
 use Rattle.bpf_verify.proofs.StateLaws.{kind_reflexive}
 
@@ -42,20 +42,10 @@ number_lower number allowed x n is = by_test (are_allowed allowed x) refl
 
 argument_kind_lower : (number : ℕ) (wanted : Argument) (x n : Kind) → IsLower x n → Sound IsLower (argument_kind number wanted x) (argument_kind number wanted n)
 argument_kind_lower number argument.Unused x n is = tt
-argument_kind_lower number (argument.Number allowed) (Number x) (Number n) is = number_lower number allowed x n is
-argument_kind_lower number (argument.Number allowed) (Number x) (Record n) is = absurd is
-argument_kind_lower number (argument.Number allowed) (Number x) (Frame n) is = absurd is
-argument_kind_lower number (argument.Number allowed) (Number x) Nothing is = absurd is
-argument_kind_lower number (argument.Number allowed) (Record x) n is = tt
-argument_kind_lower number (argument.Number allowed) (Frame x) n is = tt
-argument_kind_lower number (argument.Number allowed) Nothing n is = tt
-argument_kind_lower number argument.Frame (Frame x) (Frame n) is = is
-argument_kind_lower number argument.Frame (Frame x) (Number n) is = absurd is
-argument_kind_lower number argument.Frame (Frame x) (Record n) is = absurd is
-argument_kind_lower number argument.Frame (Frame x) Nothing is = absurd is
-argument_kind_lower number argument.Frame (Number x) n is = tt
-argument_kind_lower number argument.Frame (Record x) n is = tt
-argument_kind_lower number argument.Frame Nothing n is = tt
+argument_kind_lower number (argument.Number allowed) x n is =
+    lower_cases (λ x n. Sound IsLower (argument_kind number (argument.Number allowed) x) (argument_kind number (argument.Number allowed) n)) (number_lower number allowed) (λ x n are. tt) (λ x n are. tt) (λ n. tt) x n is
+argument_kind_lower number argument.Frame x n is =
+    lower_cases (λ x n. Sound IsLower (argument_kind number argument.Frame x) (argument_kind number argument.Frame n)) (λ x n is. tt) (λ x n are. tt) (λ x n are. are) (λ n. tt) x n is
 
 pub argument_in_lower : (higher lower : Known) → IsBelow lower higher → (number : ℕ) (wanted : Argument) → Sound IsLower (argument_in higher number wanted) (argument_in lower number wanted)
 argument_in_lower higher lower below number argument.Unused = tt
@@ -81,8 +71,8 @@ record AreLentLower (higher lower : LentBytes) : Type 0 where
   within : lie_within higher.offsets (pos 0) higher.count.high FRAME_LENGTH ≡ true
   inside : lie_within lower.offsets (pos 0) lower.count.high FRAME_LENGTH ≡ true
 
-lend_bytes_lower : (x y m n : Kind) → IsLower x m → IsLower y n → Sound AreLentLower (lend_bytes x y) (lend_bytes m n)
-lend_bytes_lower (Frame x) (Number y) (Frame m) (Number n) from count = by_test (lie_within x (pos 0) y.high FRAME_LENGTH) refl
+frame_lent : (x m : Offsets) (y n : Interval) → AreLowerOffsets x m → IsLowerInterval y n → Sound AreLentLower (lend_bytes (Frame x) (Number y)) (lend_bytes (Frame m) (Number n))
+frame_lent x m y n from count = by_test (lie_within x (pos 0) y.high FRAME_LENGTH) refl
   where
     by_test : (within : Bool) → lie_within x (pos 0) y.high FRAME_LENGTH ≡ within → Sound AreLentLower (if within then Ok (record { offsets = x; count = y }) else Err OutOfBounds) (lend_bytes (Frame m) (Number n))
     by_test true within =
@@ -90,18 +80,12 @@ lend_bytes_lower (Frame x) (Number y) (Frame m) (Number n) from count = by_test 
         passes_if AreLentLower (Ok (record { offsets = x; count = y })) (Ok (record { offsets = m; count = n })) (lie_within m (pos 0) n.high FRAME_LENGTH) OutOfBounds inside
         (record { offsets = from; count = count; within = within; inside = inside })
     by_test false outside = tt
-lend_bytes_lower (Frame x) (Number y) (Frame m) (Record n) from count = absurd count
-lend_bytes_lower (Frame x) (Number y) (Frame m) (Frame n) from count = absurd count
-lend_bytes_lower (Frame x) (Number y) (Frame m) Nothing from count = absurd count
-lend_bytes_lower (Frame x) (Number y) (Number m) n from count = absurd from
-lend_bytes_lower (Frame x) (Number y) (Record m) n from count = absurd from
-lend_bytes_lower (Frame x) (Number y) Nothing n from count = absurd from
-lend_bytes_lower (Frame x) (Frame y) m n from count = tt
-lend_bytes_lower (Frame x) (Record y) m n from count = tt
-lend_bytes_lower (Frame x) Nothing m n from count = tt
-lend_bytes_lower (Number x) y m n from count = tt
-lend_bytes_lower (Record x) y m n from count = tt
-lend_bytes_lower Nothing y m n from count = tt
+
+lend_bytes_lower : (x y m n : Kind) → IsLower x m → IsLower y n → Sound AreLentLower (lend_bytes x y) (lend_bytes m n)
+lend_bytes_lower x y m n from count =
+    lower_cases (λ x m. Sound AreLentLower (lend_bytes x y) (lend_bytes m n)) (λ x m is. tt) (λ x m are. tt)
+    (λ x m from. lower_cases (λ y n. Sound AreLentLower (lend_bytes (Frame x) y) (lend_bytes (Frame m) n)) (λ y n count. frame_lent x m y n from count) (λ y n are. tt) (λ y n are. tt) (λ n. tt) y n count)
+    (λ m. tt) x m from
 
 written_lower : (higher lower : Known) → IsBelow lower higher → (x n : LentBytes) → AreLentLower x n → IsWithinKnown (mark_bytes lower n.offsets (pos 0) n.count.low) (mark_bytes higher x.offsets (pos 0) x.count.low)
 written_lower higher lower below x n are =

@@ -58,23 +58,32 @@ is_lower (Frame x) (Number n) within proper = absurd within
 is_lower (Frame x) (Record n) within proper = absurd within
 is_lower (Frame x) Nothing within proper = absurd within
 
+-- such kinds, by what they are
+pub lower_cases : (Such : Kind → Kind → Type 0) → ((x n : Interval) → IsLowerInterval x n → Such (Number x) (Number n)) → ((x n : Offsets) → AreLowerOffsets x n → Such (Record x) (Record n)) → ((x n : Offsets) → AreLowerOffsets x n → Such (Frame x) (Frame n)) → ((n : Kind) → Such Nothing n)
+    → (x n : Kind) → IsLower x n → Such x n
+lower_cases Such numbers records frames nothing (Number x) (Number n) is = numbers x n is
+lower_cases Such numbers records frames nothing (Record x) (Record n) is = records x n is
+lower_cases Such numbers records frames nothing (Frame x) (Frame n) is = frames x n is
+lower_cases Such numbers records frames nothing Nothing n is = nothing n
+lower_cases Such numbers records frames nothing (Number x) (Record n) is = absurd is
+lower_cases Such numbers records frames nothing (Number x) (Frame n) is = absurd is
+lower_cases Such numbers records frames nothing (Number x) Nothing is = absurd is
+lower_cases Such numbers records frames nothing (Record x) (Number n) is = absurd is
+lower_cases Such numbers records frames nothing (Record x) (Frame n) is = absurd is
+lower_cases Such numbers records frames nothing (Record x) Nothing is = absurd is
+lower_cases Such numbers records frames nothing (Frame x) (Number n) is = absurd is
+lower_cases Such numbers records frames nothing (Frame x) (Record n) is = absurd is
+lower_cases Such numbers records frames nothing (Frame x) Nothing is = absurd is
+
+-- every kind lies within Nothing
+within_nothing : (n : Kind) → kind.IsWithin n Nothing
+within_nothing (Number n) = tt
+within_nothing (Record n) = tt
+within_nothing (Frame n) = tt
+within_nothing Nothing = tt
+
 pub is_within : (x n : Kind) → IsLower x n → kind.IsWithin n x
-is_within (Number x) (Number n) is = is.within
-is_within (Record x) (Record n) is = is.within
-is_within (Frame x) (Frame n) is = is.within
-is_within Nothing (Number n) is = tt
-is_within Nothing (Record n) is = tt
-is_within Nothing (Frame n) is = tt
-is_within Nothing Nothing is = tt
-is_within (Number x) (Record n) is = absurd is
-is_within (Number x) (Frame n) is = absurd is
-is_within (Number x) Nothing is = absurd is
-is_within (Record x) (Number n) is = absurd is
-is_within (Record x) (Frame n) is = absurd is
-is_within (Record x) Nothing is = absurd is
-is_within (Frame x) (Number n) is = absurd is
-is_within (Frame x) (Record n) is = absurd is
-is_within (Frame x) Nothing is = absurd is
+is_within = lower_cases (λ x n. kind.IsWithin n x) (λ x n is. is.within) (λ x n are. are.within) (λ x n are. are.within) within_nothing
 
 pub single_lower : (n : ℕ) → IsLowerInterval (single n) (single n)
 single_lower n = record { within = record { low = omega arith; high = omega arith }; ordered = omega arith }
@@ -82,19 +91,7 @@ single_lower n = record { within = record { low = omega arith; high = omega arit
 -- reading
 
 read_kind_lower : (register : ℕ) (x n : Kind) → IsLower x n → Sound IsLower (read_kind register x) (read_kind register n)
-read_kind_lower register Nothing n is = tt
-read_kind_lower register (Number x) (Number n) is = is
-read_kind_lower register (Record x) (Record n) is = is
-read_kind_lower register (Frame x) (Frame n) is = is
-read_kind_lower register (Number x) (Record n) is = absurd is
-read_kind_lower register (Number x) (Frame n) is = absurd is
-read_kind_lower register (Number x) Nothing is = absurd is
-read_kind_lower register (Record x) (Number n) is = absurd is
-read_kind_lower register (Record x) (Frame n) is = absurd is
-read_kind_lower register (Record x) Nothing is = absurd is
-read_kind_lower register (Frame x) (Number n) is = absurd is
-read_kind_lower register (Frame x) (Record n) is = absurd is
-read_kind_lower register (Frame x) Nothing is = absurd is
+read_kind_lower register = lower_cases (λ x n. Sound IsLower (read_kind register x) (read_kind register n)) (λ x n is. is) (λ x n are. are) (λ x n are. are) (λ n. tt)
 
 pub read_lower : (higher lower : Known) → IsBelow lower higher → (register : ℕ) → Sound IsLower (read higher register) (read lower register)
 read_lower higher lower below register =
@@ -102,13 +99,7 @@ read_lower higher lower below register =
     (is_lower (kind_of higher register) (kind_of lower register) (below.within.registers register) (below.proper.kinds register))
 
 pub number_or_lower : (cause : Cause) (x n : Kind) → IsLower x n → Sound IsLowerInterval (number_or cause x) (number_or cause n)
-number_or_lower cause (Number x) (Number n) is = is
-number_or_lower cause (Number x) (Record n) is = absurd is
-number_or_lower cause (Number x) (Frame n) is = absurd is
-number_or_lower cause (Number x) Nothing is = absurd is
-number_or_lower cause (Record x) n is = tt
-number_or_lower cause (Frame x) n is = tt
-number_or_lower cause Nothing n is = tt
+number_or_lower cause = lower_cases (λ x n. Sound IsLowerInterval (number_or cause x) (number_or cause n)) (λ x n is. is) (λ x n are. tt) (λ x n are. tt) (λ n. tt)
 
 -- arithmetic
 
@@ -128,19 +119,7 @@ found_lower cause (Some x) other all =
     subst (λ (o : Option Offsets). Sound AreLowerOffsets (Ok x) (or_cause cause o)) (sym there.1) (record { within = there.2; ordered = there.3 })
 
 tags_lower : (x n : Kind) → IsLower x n → Relate IsLowerInterval AreLowerOffsets (tagged_kind x) (tagged_kind n)
-tags_lower Nothing n is = tt
-tags_lower (Number x) (Number n) is = is
-tags_lower (Record x) (Record n) is = (refl, is)
-tags_lower (Frame x) (Frame n) is = (refl, is)
-tags_lower (Number x) (Record n) is = absurd is
-tags_lower (Number x) (Frame n) is = absurd is
-tags_lower (Number x) Nothing is = absurd is
-tags_lower (Record x) (Number n) is = absurd is
-tags_lower (Record x) (Frame n) is = absurd is
-tags_lower (Record x) Nothing is = absurd is
-tags_lower (Frame x) (Number n) is = absurd is
-tags_lower (Frame x) (Record n) is = absurd is
-tags_lower (Frame x) Nothing is = absurd is
+tags_lower = lower_cases (λ x n. Relate IsLowerInterval AreLowerOffsets (tagged_kind x) (tagged_kind n)) (λ x n is. is) (λ x n are. (refl, are)) (λ x n are. (refl, are)) (λ n. tt)
 
 pointer_lower : (into : Area) (x n : Offsets) → AreLowerOffsets x n → IsLower (kind_pointer into x) (kind_pointer into n)
 pointer_lower area.Record x n is = is

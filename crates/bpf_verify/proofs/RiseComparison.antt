@@ -7,7 +7,7 @@ use Rattle.bpf_kinds.specs.Interval as interval
 use Rattle.bpf_kinds.specs.Narrowing.{refine}
 use Rattle.bpf_kinds.specs.declared.interval.Interval.{Interval}
 use Rattle.bpf_kinds.specs.declared.kind.Kind.{Kind}
-use Rattle.bpf_kinds.specs.declared.kind.Kind.TheVariants.{Number, Record, Frame, Nothing}
+use Rattle.bpf_kinds.specs.declared.kind.Kind.TheVariants.{Number}
 use Rattle.bpf_kinds.specs.declared.narrowing.Narrowed.{Narrowed}
 use Rattle.bpf_kinds.proofs.NarrowingRises.{refine_rises}
 use Rattle.bpf_meaning.specs.Checks.{Sound}
@@ -16,7 +16,7 @@ use Rattle.bpf_verify.specs.Transfer.{is_register, with_narrowed, narrowed, bran
 use Rattle.bpf_verify.specs.declared.comparison.Comparison.{Comparison}
 use Rattle.bpf_verify.specs.declared.state.Known.{Known}
 use Rattle.bpf_verify.specs.declared.successors.Edge.TheVariants.{Unchanged}
-use Rattle.bpf_verify.proofs.RiseChecks.{IsLower, IsLowerInterval}
+use Rattle.bpf_verify.proofs.RiseChecks.{IsLower, lower_cases, IsLowerInterval}
 use Rattle.bpf_verify.proofs.RiseMemory.{with_kind_lower}
 
 -- what is known on the edges
@@ -48,19 +48,9 @@ branch_lower higher lower below comparison x y m n first second taken = by_test 
     by_test false = by_refined (refine comparison.condition comparison.width m n taken) refl
 
 pub compare_lower : (higher lower : Known) → IsBelow lower higher → (comparison : Comparison) (x y m n : Kind) → IsLower x m → IsLower y n → Sound EdgesBelow (compare higher comparison x y) (compare lower comparison m n)
-compare_lower higher lower below comparison (Number x) (Number y) (Number m) (Number n) first second = record {
-  next = branch_lower higher lower below comparison x y m n first second false;
-  target = branch_lower higher lower below comparison x y m n first second true;
-}
-compare_lower higher lower below comparison (Number x) (Number y) (Number m) (Record n) first second = absurd second
-compare_lower higher lower below comparison (Number x) (Number y) (Number m) (Frame n) first second = absurd second
-compare_lower higher lower below comparison (Number x) (Number y) (Number m) Nothing first second = absurd second
-compare_lower higher lower below comparison (Number x) (Number y) (Record m) n first second = absurd first
-compare_lower higher lower below comparison (Number x) (Number y) (Frame m) n first second = absurd first
-compare_lower higher lower below comparison (Number x) (Number y) Nothing n first second = absurd first
-compare_lower higher lower below comparison (Number x) (Record y) m n first second = tt
-compare_lower higher lower below comparison (Number x) (Frame y) m n first second = tt
-compare_lower higher lower below comparison (Number x) Nothing m n first second = tt
-compare_lower higher lower below comparison (Record x) y m n first second = tt
-compare_lower higher lower below comparison (Frame x) y m n first second = tt
-compare_lower higher lower below comparison Nothing y m n first second = tt
+compare_lower higher lower below comparison x y m n first second =
+    lower_cases (λ x m. Sound EdgesBelow (compare higher comparison x y) (compare lower comparison m n))
+    (λ x m first. lower_cases (λ y n. Sound EdgesBelow (compare higher comparison (Number x) y) (compare lower comparison (Number m) n))
+    (λ y n second. record { next = branch_lower higher lower below comparison x y m n first second false; target = branch_lower higher lower below comparison x y m n first second true })
+    (λ y n are. tt) (λ y n are. tt) (λ n. tt) y n second)
+    (λ x m are. tt) (λ x m are. tt) (λ m. tt) x m first

@@ -7,7 +7,6 @@ use Rattle.bpf_insn.specs.declared.instruction.Insn.{Insn}
 use Rattle.bpf_insn.specs.declared.instruction.Source.TheVariants.{Immediate, Register}
 use Rattle.bpf_kinds.specs.declared.interval.Interval.{Interval}
 use Rattle.bpf_kinds.specs.declared.kind.Kind.{Kind}
-use Rattle.bpf_kinds.specs.declared.kind.Kind.TheVariants.{Number, Record, Frame, Nothing}
 use Rattle.bpf_meaning.specs.Checks.{Sound}
 use Rattle.bpf_meaning.specs.Walk.{walk}
 use Rattle.bpf_meaning.specs.declared.cause.Cause.{Cause}
@@ -16,7 +15,7 @@ use Rattle.bpf_meaning.proofs.WalkForesees.{Foresees, walk_foreseen, any_fits}
 use Rattle.bpf_verify.specs.State.{IsBelow, AbstractState, Unreached, Reached, Edges, AreEdgesWithin, IsProper, IsWithin, IsWithinKnown}
 use Rattle.bpf_verify.specs.Transfer.{kinds, number_or, transfer}
 use Rattle.bpf_verify.specs.declared.state.Known.{Known}
-use Rattle.bpf_verify.proofs.RiseChecks.{IsLower, IsLowerInterval, AreLowerOffsets, is_within, single_lower, read_lower, number_or_lower, operate_lower, move_lower}
+use Rattle.bpf_verify.proofs.RiseChecks.{IsLower, lower_cases, IsLowerInterval, AreLowerOffsets, is_within, single_lower, read_lower, number_or_lower, operate_lower, move_lower}
 use Rattle.bpf_verify.proofs.RiseMemory.{ArePointersLower, ChangesBelow, pointers_lower, load_from_lower, frame_offsets_lower, store_at_lower, with_kind_lower}
 use Rattle.bpf_verify.proofs.RiseCalls.{call_lower}
 use Rattle.bpf_verify.proofs.RiseComparison.{EdgesBelow, compare_lower}
@@ -27,13 +26,7 @@ on_to_next : (higher lower : Known) → IsWithinKnown lower higher → EdgesBelo
 on_to_next higher lower within = record { next = within; target = tt }
 
 stored_lower : (x n : Kind) → IsLower x n → Sound (λ (a b : Interval). Unit {0}) (number_or StoresPointer x) (number_or StoresPointer n)
-stored_lower (Number x) (Number n) is = tt
-stored_lower (Number x) (Record n) is = absurd is
-stored_lower (Number x) (Frame n) is = absurd is
-stored_lower (Number x) Nothing is = absurd is
-stored_lower (Record x) n is = tt
-stored_lower (Frame x) n is = tt
-stored_lower Nothing n is = tt
+stored_lower = lower_cases (λ x n. Sound (λ (a b : Interval). Unit {0}) (number_or StoresPointer x) (number_or StoresPointer n)) (λ x n is. tt) (λ x n are. tt) (λ x n are. tt) (λ n. tt)
 
 -- each step of an instruction
 kinds_rise : (higher lower : Known) → IsBelow lower higher → (insn : Insn) → Foresees (kinds higher) (kinds lower) insn

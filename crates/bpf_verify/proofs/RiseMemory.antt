@@ -15,7 +15,7 @@ use Rattle.bpf_frame.proofs.RiseLemmas.{all_written_falls, mark_rises, mark_lowe
 use Rattle.bpf_kinds.specs.Kind as kind
 use Rattle.bpf_kinds.specs.Results.{load}
 use Rattle.bpf_kinds.specs.declared.kind.Kind.{Kind}
-use Rattle.bpf_kinds.specs.declared.kind.Kind.TheVariants.{Number, Record, Frame, Nothing}
+use Rattle.bpf_kinds.specs.declared.kind.Kind.TheVariants.{Number, Nothing}
 use Rattle.bpf_kinds.specs.declared.offsets.Offsets.{Offsets}
 use Rattle.bpf_kinds.proofs.ResultLemmas.{load-proper}
 use Rattle.bpf_meaning.specs.Checks.{Sound}
@@ -25,7 +25,7 @@ use Rattle.bpf_verify.specs.State.{IsBelow, IsWithinKnown, with_kind}
 use Rattle.bpf_verify.specs.Transfer.{only_pointers, pointers_in, lie_within, area_length, all_marked, load_area, load_from, frame_offsets, mark_bytes, store_at}
 use Rattle.bpf_verify.specs.declared.memory.Pointers.{Pointers}
 use Rattle.bpf_verify.specs.declared.state.Known.{Known}
-use Rattle.bpf_verify.proofs.RiseChecks.{IsLower, IsLowerInterval, AreLowerOffsets, read_lower}
+use Rattle.bpf_verify.proofs.RiseChecks.{IsLower, lower_cases, IsLowerInterval, AreLowerOffsets, read_lower}
 
 -- the base
 
@@ -34,16 +34,8 @@ pub record ArePointersLower (higher lower : Pointers) : Type 0 where
   pub offsets : AreLowerOffsets higher.offsets lower.offsets
 
 only_pointers_lower : (x n : Kind) → IsLower x n → Sound ArePointersLower (only_pointers x) (only_pointers n)
-only_pointers_lower (Record x) (Record n) is = record { into = refl; offsets = is }
-only_pointers_lower (Frame x) (Frame n) is = record { into = refl; offsets = is }
-only_pointers_lower (Record x) (Number n) is = absurd is
-only_pointers_lower (Record x) (Frame n) is = absurd is
-only_pointers_lower (Record x) Nothing is = absurd is
-only_pointers_lower (Frame x) (Number n) is = absurd is
-only_pointers_lower (Frame x) (Record n) is = absurd is
-only_pointers_lower (Frame x) Nothing is = absurd is
-only_pointers_lower (Number x) n is = tt
-only_pointers_lower Nothing n is = tt
+only_pointers_lower =
+    lower_cases (λ x n. Sound ArePointersLower (only_pointers x) (only_pointers n)) (λ x n is. tt) (λ x n are. record { into = refl; offsets = are }) (λ x n are. record { into = refl; offsets = are }) (λ n. tt)
 
 pub pointers_lower : (higher lower : Known) → IsBelow lower higher → (base : ℕ) → Sound ArePointersLower (pointers_in higher base) (pointers_in lower base)
 pointers_lower higher lower below base = then_sound IsLower ArePointersLower _ _ _ _ (read_lower higher lower below base) only_pointers_lower
