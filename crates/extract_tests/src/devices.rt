@@ -1,14 +1,13 @@
 //! Readers and writers that go wrong in mid-stream, and the order in which they are called.
-use crate::fixtures::{
-    Files, NONE, RECORD, bytes_of, cell, extract_of, files_of, is_as_expected, program_of,
-};
+use crate::extracts::extract_of;
 use extract::{ExtractFault, extract};
+use fixtures::{Device, Files, Readers, bytes, cell, is_outcome, program, writer};
 use std::alloc::Global;
 use std::cell::Cell;
 use std::io;
-use std::io::{ErrorKind, Read, Write};
+use std::io::{Read, Write};
 use std::test::Fail;
-use tl_fields::{Burst, Counting, Fuse};
+use tl_fields::Counting;
 use tl_records::{LineFault, LineFlaw};
 use tl_segments::{CountyFile, LoadFault};
 
@@ -20,6 +19,9 @@ const IN_ORDER: [(CountyFile, u64, u64); 4] = [
     (CountyFile::Rt1, 229, 231),
 ];
 
+// How reads fail.
+const KINDS: [&str; 3] = ["interrupted", "blocked", "pipe"];
+
 /// The fault of a failing read behind so many lines of a file.
 fn read_fault(file: CountyFile, lines: u64) -> ExtractFault {
     let line = lines.wrapping_add(1);
@@ -28,33 +30,38 @@ fn read_fault(file: CountyFile, lines: u64) -> ExtractFault {
     ExtractFault::Load(LoadFault::Line { file, fault })
 }
 
-/// Whether an extract stops at a read that fails behind so many others: behind so many lines of its file, and so many bytes of rows.
+/// Whether an extract stops at a read that fails behind so many others: behind so many lines of its file, and so many
+/// bytes of rows.
 fn stops_at(
     alloc: Global,
     program: &[u8],
     files: &Files,
     (file, length, row): (CountyFile, u64, u64),
     (before, passing): (u64, u64),
+    kind: &str,
 ) -> bool {
     let lines = passing.checked_div(length).unwrap_or(0);
-    let mut out = Counting::new(Vec::new(alloc));
-    let given = extract_of(alloc, program, files, (file, passing), &mut out);
-    let calls = before.wrapping_add(passing).wrapping_add(1);
-    given == (Err(read_fault(file, lines)), calls)
-        && out.get_ref().len() as u64 == lines.wrapping_mul(row)
+    let call = passing.wrapping_add(1);
+    let mut readers = Readers::new(files, file, Device::new(kind).at_call(call));
+    let mut out = writer(alloc, Device::new(""));
+    let given = extract_of(alloc, program, &mut readers, &mut out);
+    given == Err(read_fault(file, lines))
+        && readers.calls() == before.wrapping_add(call)
+        && out.get_ref().inner.inner.len() as u64 == lines.wrapping_mul(row)
 }
 
-/// Whether each read of a file of two lines is the last one where it fails, behind so many reads of other files, and the rows of the lines
-/// before it were written.
+/// Whether each read of a file of two lines is the last one where it fails, behind so many reads of other files, and the
+/// rows of the lines before it were written.
 fn each_read_stops(
     alloc: Global,
     program: &[u8],
     files: &Files,
     file: (CountyFile, u64, u64),
     before: u64,
+    kind: &str,
 ) -> bool {
     for passing in 0..=file.1.wrapping_mul(2) {
-        if !stops_at(alloc, program, files, file, (before, passing)) {
+        if !stops_at(alloc, program, files, file, (before, passing), kind) {
             return false;
         }
     }
@@ -62,10 +69,10 @@ fn each_read_stops(
 }
 
 /// The file at whose reads an extract of two lines a file doesn't stop, if there is one.
-fn wrong_file(alloc: Global, program: &[u8], files: &Files) -> Option<&'static str> {
+fn wrong_file(alloc: Global, program: &[u8], files: &Files, kind: &str) -> Option<&'static str> {
     let mut before: u64 = 0;
     for file in IN_ORDER {
-        if !each_read_stops(alloc, program, files, file, before) {
+        if !each_read_stops(alloc, program, files, file, before, kind) {
             return Some(file.0.name());
         }
         before = before.wrapping_add(file.1.wrapping_mul(2)).wrapping_add(1);
@@ -75,47 +82,26 @@ fn wrong_file(alloc: Global, program: &[u8], files: &Files) -> Option<&'static s
 
 #[test]
 fn each_read_fails(rt: HostRuntime) -> Result<(), Fail> {
-    let row = "every; = 0a = 0a; = 0a = 0a; = 0a = 0a; = 0a = 0a";
-    let program = program_of(rt.alloc(), row)?;
-    let files = files_of(rt.alloc(), row)?;
-    assert_eq!(rt; wrong_file(rt.alloc(), &program, &files), None);
+    let row = r"{rt1\n*2}; {rt4\n*2}; {rt5\n*2}; {rt6\n*2}";
+    let program = program(rt.alloc(), "every").ok_or("program")?;
+    let files = Files::new(rt.alloc(), row, 0)?;
+    for kind in KINDS {
+        let wrong = wrong_file(rt.alloc(), &program, &files, kind);
+        assert_eq!(rt; wrong, None, "{kind}");
+    }
     Ok(())
 }
 
-// Hands on so many bytes a write at most.
-#[derive(Drop)]
-struct Narrow<T> {
-    inner: T,
-    step: usize,
-}
+// How a device goes wrong, and the refusal.
+const DEVICES: &str = "pipe; refused 60 Write
+interrupted; refused 60 Write
+blocked; refused 60 Write
+nothing; refused 61 WriteZero
+by 1 interrupted; refused 60 Write
+by 1 nothing; refused 61 WriteZero";
 
-impl<T: Write> Write for Narrow<T> {
-    fn write(&mut self, buf: &[u8]) -> io::Result<usize> {
-        self.inner.write(&buf[..buf.len().min(self.step)])
-    }
-
-    fn flush(&mut self) -> io::Result<()> {
-        self.inner.flush()
-    }
-}
-
-// How many bytes a write takes at most, how the device goes wrong, and the refusal.
-const DEVICES: &str = "999;BrokenPipe;refused 60 Write
-999;Interrupted;refused 60 Write
-999;TakesNothing;refused 61 WriteZero
-1;Interrupted;refused 60 Write
-1;TakesNothing;refused 61 WriteZero";
-
-fn burst_named(name: &str) -> Burst {
-    match name {
-        "BrokenPipe" => Burst::Fails(ErrorKind::BrokenPipe),
-        "Interrupted" => Burst::Fails(ErrorKind::Interrupted),
-        _ => Burst::TakesNothing,
-    }
-}
-
-/// How many writes of rows and reads there are until a device without room for more bytes goes wrong, which the two rows of 231 bytes fill, each in
-/// writes of 2, 228 and 1 bytes. Each of the three empty files is read once.
+/// How many writes of rows and reads there are until a device without room for more bytes goes wrong, which the two rows
+/// of 231 bytes fill, each in writes of 2, 228 and 1 bytes. Each of the three empty files is read once.
 fn calls_until(room: u64) -> (u64, u64) {
     match room {
         0 => (1, 232),
@@ -137,7 +123,8 @@ fn writes_of(step: usize, room: u64, rows: u64) -> u64 {
     }
 }
 
-/// Whether an extract of two lines to a device that goes wrong behind so many bytes has the refusal of a row, and wrote these bytes.
+/// Whether an extract of two lines to a device that goes wrong behind so many bytes has the refusal of a row, and wrote
+/// these bytes.
 fn is_cut_off(
     alloc: Global,
     program: &[u8],
@@ -146,17 +133,16 @@ fn is_cut_off(
     room: usize,
     row: &str,
 ) -> bool {
-    let step = cell(row, 0).parse().unwrap_or(0);
-    let inner = Vec::new(alloc);
-    let narrow = Narrow { inner, step };
-    let mut out = Counting::new(Fuse::after_bytes(narrow, room, burst_named(cell(row, 1))));
-    let (given, reads) = extract_of(alloc, program, files, NONE, &mut out);
+    let device = Device::new(cell(row, 0)).after(room);
+    let mut readers = Readers::new(files, CountyFile::Rt1, Device::new(""));
+    let mut out = writer(alloc, device);
+    let given = extract_of(alloc, program, &mut readers, &mut out);
     let fuse = out.get_ref();
-    let (rows, all_reads) = calls_until(room as u64);
-    let expected = if room < 462 { cell(row, 2) } else { "2" };
-    is_as_expected(&given, expected)
+    let (rows, reads) = calls_until(room as u64);
+    let expected = if room < 462 { cell(row, 1) } else { "ok 2" };
+    is_outcome(given.map_err(|fault| fault.line()), expected)
         && text.get(..room) == Some(fuse.inner.inner.as_slice())
-        && (fuse.calls, reads) == (writes_of(step, room as u64, rows), all_reads)
+        && (fuse.calls, readers.calls()) == (writes_of(device.step, room as u64, rows), reads)
 }
 
 /// The device that is wrong with so much room, if there is one.
@@ -175,16 +161,11 @@ fn wrong_device(
     None
 }
 
-// A file of two lines, and its rows.
-const TWO_LINES: &str = "every; = 0a = 0a";
-
-const TWO_ROWS: &str = "0 09 = 0a 0 09 = 0a";
-
 #[test]
 fn each_write_fails(rt: HostRuntime) -> Result<(), Fail> {
-    let program = program_of(rt.alloc(), TWO_LINES)?;
-    let files = files_of(rt.alloc(), TWO_LINES)?;
-    let text = bytes_of(rt.alloc(), RECORD, TWO_ROWS)?;
+    let program = program(rt.alloc(), "every").ok_or("program")?;
+    let files = Files::new(rt.alloc(), r"{rt1\n*2}", 0)?;
+    let text = bytes(rt.alloc(), r"0\t{rt1}\n0\t{rt1}\n")?;
     for room in 0..=462 {
         let wrong = wrong_device(rt.alloc(), &program, &files, &text, room);
         assert_eq!(rt; wrong, None, "{room}");
@@ -243,8 +224,8 @@ impl Write for Telling<'_> {
 
 #[test]
 fn rows_leave_before_the_next_line(rt: HostRuntime) -> Result<(), Fail> {
-    let program = program_of(rt.alloc(), "every")?;
-    let file = bytes_of(rt.alloc(), RECORD, "= 0a = 0a = 0a")?;
+    let program = program(rt.alloc(), "every").ok_or("program")?;
+    let file = bytes(rt.alloc(), r"{rt1\n*3}")?;
     let written = Cell::new(0);
     let mut rt1 = Asking::new(file.as_slice(), &written);
     let mut out = Counting::new(Telling { written: &written });

@@ -1,12 +1,14 @@
-//! Tests of the crate `extract`. They go through its public calls, and stand in a crate of their own since a crate with tests is proved once
-//! without them and once with them.
+//! Tests of the crate `extract`. They go through its public calls, and stand in a crate of their own since a crate with tests
+//! is proved once without them and once with them.
 #![tactic(auto)]
 
 #[cfg(test)]
-mod counties;
-#[cfg(test)]
 mod devices;
 #[cfg(test)]
-mod fixtures;
+mod extracts;
+#[cfg(test)]
+mod memory;
 #[cfg(test)]
 mod rows;
+#[cfg(test)]
+mod sweep;
