@@ -3,11 +3,12 @@ ghost use Rattle.std.specs.Prelude.{◌≤◌, length};
 ghost use Rattle.jobs.specs.Segments.{segments_of};
 ghost use Rattle.jobs.specs.declared.position.TheConstants.{COUNTY_LIMIT};
 
-use crate::fixtures::{cell, counties_of, program_of, table_of};
 use crate::plain::{Asked, PlainTable, does_same};
+use crate::tables::{counties_of, table_of};
 use bpf_machine::run;
 use bpf_verify::Verified;
 use extract::{accept, row_text};
+use fixtures::{cell, program};
 use jobs::{COUNTY_LIMIT, Jobs, advance};
 use std::alloc::{AllocError, Global};
 use std::test::Fail;
@@ -214,9 +215,9 @@ fn are_advances_right(
     alloc: Global,
     counties: &[County<Global>],
     total: u64,
-    program: &str,
+    name: &str,
 ) -> Option<bool> {
-    let program = program_of(alloc, program).ok()?;
+    let program = program(alloc, name)?;
     let verified = accept(alloc, &program).ok()?;
     if counties.len() > COUNTY_LIMIT {
         return None;

@@ -1,6 +1,7 @@
 //! Lists of events that are made by numbers, beside a plain table.
-use crate::fixtures::{ACCEPTED, cell, table_of};
 use crate::plain::{Asked, PlainTable, does_same, has_same};
+use crate::tables::{ACCEPTED, table_of};
+use fixtures::cell;
 use jobs::Jobs;
 use std::alloc::Global;
 

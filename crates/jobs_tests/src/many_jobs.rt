@@ -1,6 +1,6 @@
 //! As many jobs as may be, and whose turn it is.
-use crate::fixtures::{ACCEPTED, table_of};
 use crate::plain::{Asked, PlainTable, does_same, has_same};
+use crate::tables::{ACCEPTED, table_of};
 use crate::worked::wrong_row;
 use jobs::Jobs;
 use std::alloc::Global;

@@ -1,5 +1,6 @@
 //! A plain program for tables of jobs: it keeps each job alone, by its program and the number of its turns.
-use crate::fixtures::{are_plain_rows, is_fault, program_of, refusal_of};
+use crate::tables::{are_plain_rows, is_fault};
+use fixtures::{program, refusal};
 use jobs::{Event, JobFault, Jobs, Reply};
 use std::alloc::{Allocator, Global};
 
@@ -71,8 +72,8 @@ impl PlainTable {
         if self.is_full() {
             return Err("refused 70 Full");
         }
-        if refusal_of(program) != "" {
-            return Err(refusal_of(program));
+        if refusal(program) != "" {
+            return Err(refusal(program));
         }
         self.given = self.given.wrapping_add(1);
         let id = self.given;
@@ -136,7 +137,7 @@ fn submits_same<A: Allocator + Copy>(
     plain: &mut PlainTable,
     name: &'static str,
 ) -> bool {
-    let Ok(program) = program_of(alloc, name) else {
+    let Some(program) = program(alloc, name) else {
         return false;
     };
     let expected = plain.submit(name);

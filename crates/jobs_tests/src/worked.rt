@@ -1,5 +1,6 @@
 //! Tables worked by hand.
-use crate::fixtures::{is_said, program_of, table_of};
+use crate::tables::{is_said, table_of};
+use fixtures::program;
 use jobs::{Event, Jobs, Reply};
 use std::alloc::Global;
 use std::test::Fail;
@@ -126,7 +127,7 @@ pub fn is_right(alloc: Global, jobs: &mut Jobs<Global>, row: &str) -> Option<boo
     let id = what.parse().unwrap_or(0);
     let event = match word {
         "submit" => {
-            let program = program_of(alloc, what).ok()?;
+            let program = program(alloc, what)?;
             return Some(is_said(alloc, &jobs.apply(Event::Submit(&program)), said));
         }
         "turn" => Event::Turn(id),
