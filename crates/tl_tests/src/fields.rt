@@ -1,6 +1,7 @@
 //! Values of the record layouts, worked by hand, and devices that go wrong in mid-stream.
-use crate::fixtures::{RECORD_1, cut, write_over};
+use crate::notation::{cut, write_over};
 use arrayvec::ArrayVec;
+use fixtures::RT1;
 use std::alloc::Global;
 use std::io::{BufReader, ErrorKind, Read, Write};
 use tl_fields::{
@@ -40,7 +41,7 @@ fn is_field(line: &[u8], row: &str) -> bool {
 #[test]
 fn fields_of_a_line(rt: HostRuntime) {
     for row in FIELDS.lines() {
-        assert!(rt; is_field(RECORD_1, row), "{row}");
+        assert!(rt; is_field(RT1, row), "{row}");
     }
 }
 

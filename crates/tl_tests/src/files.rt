@@ -1,5 +1,6 @@
 //! Lines and files, written as rows of text.
-use crate::fixtures::{Files, RECORD_1, cut, write_over, write_text};
+use crate::notation::{cut, write_over, write_text};
+use fixtures::{Files, RT1 as MAIN_STREET};
 use std::alloc::Global;
 
 /// Blanks to write a line over.
@@ -86,7 +87,7 @@ fn end_of(word: &str) -> &'static str {
 fn write_line(line: &mut [u8], usual: &[u8], texts: &str) {
     let base = match texts.as_bytes() {
         [b'=', ..] => usual,
-        [b'#', ..] => RECORD_1,
+        [b'#', ..] => MAIN_STREET,
         _ => usual.get(..1).unwrap_or(b""),
     };
     write_over(line, base);

@@ -1,6 +1,7 @@
 //! Hits of house numbers worked by hand, and hits compared with those of a plain program.
 use crate::files::files_of;
-use crate::fixtures::{behind_files, cut, load};
+use crate::notation::{behind_files, cut};
+use fixtures::county;
 use geocode::{Hit, Place, Side, find};
 use std::alloc::Global;
 use std::slice::Iter;
@@ -65,7 +66,7 @@ pub fn counties_of(alloc: Global, rows: &str) -> Option<Vec<County<Global>>> {
     let mut counties = Vec::new(alloc);
     for row in rows.lines() {
         let files = files_of(alloc, row)?;
-        counties.push(load(alloc, &files).ok()?).ok()?;
+        counties.push(county(alloc, &files).ok()?).ok()?;
     }
     Some(counties)
 }

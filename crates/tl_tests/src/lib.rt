@@ -7,7 +7,7 @@ mod fields;
 #[cfg(test)]
 mod files;
 #[cfg(test)]
-mod fixtures;
+mod notation;
 #[cfg(test)]
 mod hits;
 #[cfg(test)]

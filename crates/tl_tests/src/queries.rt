@@ -1,5 +1,5 @@
 //! Queries of texts, and the lines of their hits.
-use crate::fixtures::cut;
+use crate::notation::cut;
 use crate::hits::counties_of;
 use geocode::{Query, QueryFault, hit_lines};
 use std::alloc::Global;

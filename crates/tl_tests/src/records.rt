@@ -1,6 +1,7 @@
 //! Lines of record files, worked by hand.
 use crate::files::{BLANKS, line_of};
-use crate::fixtures::{RECORD_1, cut, write_text};
+use crate::notation::{cut, write_text};
+use fixtures::RT1;
 use std::io::ErrorKind;
 use tl_fields::{Burst, Counting, Fuse};
 use tl_records::{Line, LineFault, read_line, rt1, rt4, rt5, rt6};
@@ -14,7 +15,7 @@ const RECORD_6: &[u8; 76] =
 
 fn record_of(tag: &str) -> &'static [u8] {
     match tag {
-        "1" => RECORD_1,
+        "1" => RT1,
         "4" => RECORD_4,
         "5" => RECORD_5,
         _ => RECORD_6,

@@ -2,8 +2,10 @@
 mod behind_faults;
 mod counties;
 mod plain;
+mod sweep;
 
-use crate::fixtures::{RECORD_1, cut, text_of, write_over};
+use crate::notation::{cut, text_of, write_over};
+use fixtures::RT1;
 use std::alloc::{AllocError, Global};
 use tl_segments::{NAME_LENGTH, Range, Segment, lies_on, name_equals};
 
@@ -168,7 +170,7 @@ fn has_fields(range: Range<'_>, row: &str) -> bool {
 }
 
 fn segment_of(alloc: Global) -> Result<Segment<Global>, AllocError> {
-    let mut segment = Segment::of(alloc, RECORD_1);
+    let mut segment = Segment::of(alloc, RT1);
     segment.push_name(b"Oak                           ")?;
     segment.push_name(b"Elm                           ")?;
     segment.push_range(FURTHER)?;
@@ -182,10 +184,10 @@ fn counts(segment: &Segment<Global>) -> (u64, u64) {
 
 #[test]
 fn parts_of_a_segment(rt: HostRuntime) {
-    assert!(rt; counts(&Segment::of(rt.alloc(), RECORD_1)) == (0, 1));
+    assert!(rt; counts(&Segment::of(rt.alloc(), RT1)) == (0, 1));
     let segment = segment_of(rt.alloc()).expect(&rt, "memory");
     for row in PARTS.lines() {
         assert!(rt; has_part(&segment, row), "{row}");
     }
-    assert!(rt; counts(&segment) == (2, 3) && segment.bytes() == RECORD_1.as_slice());
+    assert!(rt; counts(&segment) == (2, 3) && segment.bytes() == RT1.as_slice());
 }

@@ -1,6 +1,7 @@
 //! Where the readers of a county's files stand behind a fault: a line that is too long is left behind its 231st byte.
 use crate::files::files_of;
-use crate::fixtures::{Files, behind_files, cut};
+use crate::notation::{behind_files, cut};
+use fixtures::Files;
 use std::alloc::Global;
 use std::io::{BufReader, Read};
 use tl_fields::{Buffered, CountedRead, Counting};

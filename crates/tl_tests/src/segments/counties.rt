@@ -1,22 +1,22 @@
-//! Counties worked by hand, and readers and allocators that go wrong in mid-stream.
+//! Counties worked by hand, and readers that go wrong in mid-stream.
 use super::plain::{are_plain, say};
 use crate::files::files_of;
-use crate::fixtures::{Files, RECORD_1, behind_files, cut, load, reader};
-use linked_list_allocator::LocalHeap;
+use crate::notation::{behind_files, cut};
+use fixtures::{Device, Files, Readers, county, is_refusal};
 use std::alloc::{Allocator, Global};
 use tl_records::{LineFault, LineFlaw};
-use tl_segments::{County, CountyFile, Index, LoadFault, Segment};
+use tl_segments::{County, CountyFile, LoadFault, Segment};
 
 /// Whether this is said of a county that was loaded.
-fn is_said<A: Allocator>(county: &Result<County<A>, LoadFault>, expected: &str) -> bool {
+pub fn is_said<A: Allocator>(county: &Result<County<A>, LoadFault>, expected: &str) -> bool {
     match county {
-        Err(fault) => fault.line().as_str() == expected,
+        Err(fault) => is_refusal(fault.line().as_str(), expected),
         Ok(county) => are_said(county.segments(), expected),
     }
 }
 
 /// Whether this is said of segments.
-fn are_said<A: Allocator>(segments: &[Segment<A>], expected: &str) -> bool {
+pub fn are_said<A: Allocator>(segments: &[Segment<A>], expected: &str) -> bool {
     let mut words = expected.split_terminator(' ');
     for segment in segments {
         if say_ranges(segment, say_names(segment, words.next())) != Some("") {
@@ -200,7 +200,7 @@ fn is_county(alloc: Global, row: &str) -> bool {
     let Some(files) = files_of(alloc, row) else {
         return false;
     };
-    are_plain(&files, expected) && is_said(&load(alloc, &files), expected)
+    are_plain(&files, expected) && is_said(&county(alloc, &files), expected)
 }
 
 #[test]
@@ -236,7 +236,7 @@ fn is_large(alloc: Global, row: &str) -> bool {
     let Some(files) = files_of(alloc, row) else {
         return false;
     };
-    match load(alloc, &files) {
+    match county(alloc, &files) {
         Ok(county) => has_counts(county.segments(), [names, ranges, count]),
         Err(_) => false,
     }
@@ -256,19 +256,11 @@ fn fault_of(
     failing: CountyFile,
     passing: u64,
 ) -> (Option<LoadFault>, u64) {
-    let mut rt1 = reader(&files.rt1, calls_of(CountyFile::Rt1, failing, passing));
-    let mut rt4 = reader(&files.rt4, calls_of(CountyFile::Rt4, failing, passing));
-    let mut rt5 = reader(&files.rt5, calls_of(CountyFile::Rt5, failing, passing));
-    let mut rt6 = reader(&files.rt6, calls_of(CountyFile::Rt6, failing, passing));
-    let fault = County::load(alloc, &mut rt1, &mut rt4, &mut rt5, &mut rt6).err();
-    let joined = rt4.get_ref().calls.wrapping_add(rt5.get_ref().calls);
-    let others = rt6.get_ref().calls.wrapping_add(rt1.get_ref().calls);
-    (fault, joined.wrapping_add(others))
-}
-
-/// How many calls a file's reader passes.
-fn calls_of(file: CountyFile, failing: CountyFile, passing: u64) -> u64 {
-    if file == failing { passing } else { u64::MAX }
+    let device = Device::new("interrupted").at_call(passing.wrapping_add(1));
+    let mut readers = Readers::new(files, failing, device);
+    let Readers { rt1, rt4, rt5, rt6 } = &mut readers;
+    let fault = County::load(alloc, rt1, rt4, rt5, rt6).err();
+    (fault, readers.calls())
 }
 
 // The files in the order in which they are read, and how long their lines are.
@@ -319,51 +311,4 @@ fn wrong_file(alloc: Global, files: &Files) -> Option<&'static str> {
 fn each_read_fails(rt: HostRuntime) {
     let files = files_of(rt.alloc(), "= =|= =|= =|= =").expect(&rt, "files");
     assert_eq!(rt; wrong_file(rt.alloc(), &files), None);
-}
-
-const SMALL: &str = "= 6@15 =|= 6@15,8@26|= 8@18,Elm@21|= 6@15,7@29 =";
-
-/// Whether so much memory is refused to a county, or else the county is right.
-fn is_refused(alloc: Global, files: &Files, bytes: usize) -> Option<bool> {
-    let heap = LocalHeap::new(alloc, bytes).ok()?;
-    let county = load(&heap, files);
-    if is_said(&county, "refused memory") {
-        return Some(true);
-    }
-    is_said(&county, "5+Oak/9/9 6+Elm/7 5+Oak/9/9").then_some(false)
-}
-
-/// How many steps of 16 bytes were the last that were too few.
-fn refused_up_to(alloc: Global, files: &Files) -> Option<usize> {
-    let mut refused = 0;
-    for size in 0..1000 {
-        if is_refused(alloc, files, size * 16)? {
-            refused = size;
-        }
-    }
-    Some(refused)
-}
-
-#[test]
-fn little_memory(rt: HostRuntime) {
-    let files = files_of(rt.alloc(), SMALL).expect(&rt, "files");
-    let refused = refused_up_to(rt.alloc(), &files).unwrap_or(0);
-    assert!(rt; refused > 100 && refused < 900, "{refused}");
-}
-
-/// Whether a line that nothing is joined to gets its segment where there is no memory at all.
-fn is_made_without_memory(alloc: Global) -> bool {
-    let Ok(heap) = LocalHeap::new(alloc, 0) else {
-        return false;
-    };
-    let index = Index::new(&heap);
-    let mut segment = index.blank_segment();
-    let mut rt1 = reader(RECORD_1, u64::MAX);
-    index.next_segment(&mut rt1, &mut 0, &mut segment) == Ok(Some(()))
-        && segment.bytes() == RECORD_1.as_slice()
-}
-
-#[test]
-fn no_memory(rt: HostRuntime) {
-    assert!(rt; is_made_without_memory(rt.alloc()));
 }

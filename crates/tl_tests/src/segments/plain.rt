@@ -1,5 +1,6 @@
 //! A county's segments worked out from the bytes of all lines, each time from their beginning.
-use crate::fixtures::{Files, text_of};
+use crate::notation::text_of;
+use fixtures::Files;
 use tl_fields::number;
 
 /// What the lines of a file are like (TIGER/Line 2006), and how they are refused.
