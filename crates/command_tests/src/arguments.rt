@@ -1,6 +1,7 @@
 //! Arguments that ask for nothing: usage faults, and calls for help.
-use super::fixtures::{cell, run};
+use super::running::run;
 use command_line::read_serve;
+use fixtures::{cell, table};
 use std::alloc::{AllocError, Global};
 use std::test::Fail;
 use tl_fields::Counting;
@@ -8,105 +9,111 @@ use tl_fields::Counting;
 // The command, how the text for the user begins, and what it has somewhere in it: the program's name in a usage line, its version, an example of each
 // command.
 const TEXTS: &str = r#"
-extractd | error: 'extractd' requires a subcommand
-extractd run | error:
-extractd run --program p.bpf 01001 | error:
-extractd run --data d 01001 | error:
-extractd run --program p.bpf --data d | error:
-extractd run --program p.bpf --data | error:
-extractd run --program p.bpf --program p.bpf --data d 01001 | error:
-extractd run --program p.bpf --data d --data d 01001 | error:
-extractd run --program p.bpf --data d 01001 01001 | error:
-extractd run --program p.bpf --data d --limit 1 01001 | error:
-extractd run --program p.bpf --data d 0100 | error: CODE is five digits, and "0100" isn't
-extractd run --program p.bpf --data d 010010 | error: CODE is five digits, and "010010" isn't
-extractd run --program p.bpf --data d 0100a | error: CODE is five digits, and "0100a" isn't
-extractd run --program p.bpf --data d 0100١ | error: CODE is five digits, and "0100١" isn't
-extractd run --program p.bpf --data d '' | error: CODE is five digits, and "" isn't
-extractd frob | error:
-extractd verify | error:
-extractd verify --program | error:
-extractd verify p.bpf | error:
-extractd verify --source p.s | error:
-extractd verify --program p.bpf --data d | error:
-extractd verify --program p.bpf 01001 | error:
-extractd verify --program p.bpf --program p.bpf | error:
-extractd asm | error:
-extractd asm --source | error:
-extractd asm p.s | error:
-extractd asm --program p.bpf | error:
-extractd asm --source p.s p.s | error:
-extractd asm --source p.s --source p.s | error:
-extractd dis | error:
-extractd dis --program | error:
-extractd dis p.bpf | error:
-extractd dis --source p.s | error:
-extractd dis --program p.bpf 01001 | error:
-extractd dis --program p.bpf --program p.bpf | error:
-extractd trace --program p.bpf --data d --line 1 01001 | error:
-extractd trace --program p.bpf --data d --limit 1 01001 | error:
-extractd trace --program p.bpf --line 1 --limit 1 01001 | error:
-extractd trace --data d --line 1 --limit 1 01001 | error:
-extractd trace --program p.bpf --data d --line 1 --limit 1 | error:
-extractd trace --program p.bpf --data d --line 1 --line 1 --limit 1 01001 | error:
-extractd trace --program p.bpf --data d --line 1 --limit 1 1001 | error: CODE is five digits, and "1001" isn't
-extractd trace --program p.bpf --data d --line '' --limit 1 01001 | error: --line is 1 to 19 digits, and "" isn't
-extractd trace --program p.bpf --data d --line +1 --limit 1 01001 | error: --line is 1 to 19 digits, and "+1" isn't
-extractd trace --program p.bpf --data d --line 1a --limit 1 01001 | error: --line is 1 to 19 digits, and "1a" isn't
-extractd trace --program p.bpf --data d --line 1 --limit 10000000000000000000 01001 | error: --limit is 1 to 19 digits, and "10000000000000000000" isn't
-extractd trace --program p.bpf --data d --line 1 --limit -1 01001 | error:
-extractd geocode --data d --number 1 --name Main | error:
-extractd geocode --data d --number 1 01001 | error:
-extractd geocode --data d --name Main 01001 | error:
-extractd geocode --number 1 --name Main 01001 | error:
-extractd geocode --data d --number 1 --number 1 --name Main 01001 | error:
-extractd geocode --data d --number 1 --name Main --program p.bpf 01001 | error:
-extractd serve --data d --port 8080 01001 | error: serve wants a socket
-extractd serve --data d --port 8080 | error: the following required arguments were not provided:
-extractd serve --help | Answers requests
-extractd --help | | extractd serve --data tiger --port 8080 01001
-extractd serve | | Usage: extractd serve --data <DIR> --port <P> <CODE>...
-extractd help | error:
-extractd --help | Extracts the TIGER/Line street segments
-extractd run --help | Writes the rows
-extractd trace --help | Says what
-extractd geocode --help | Writes where
-extractd verify --help | Says whether
-extractd asm --help | Writes the BPF
-extractd dis --help | Writes a program
-extractd --version | extractd 0.1.0
-extractd geocode --data d --number '' --name main 01001 | error: --number is 1 to 11 digits, and "" isn't
-extractd geocode --data d --number 100000000151 --name main 01001 | error: --number is 1 to 11 digits, and "100000000151" isn't
-extractd geocode --data d --number 151a --name main 01001 | error: --number is 1 to 11 digits, and "151a" isn't
-extractd geocode --data d --number 164-20 --name main 01001 | error: --number is 1 to 11 digits, and "164-20" isn't
-extractd geocode --data d --number 151 --name '' 01001 | error: --name is 1 to 30 bytes, and "" isn't
-extractd geocode --data d --number 151 --name main___________________________ 01001 | error: --name is 1 to 30 bytes, and "main                           " isn't
-extractd geocode --data d --number 151 --name äääääääääääääääm 01001 | error: --name is 1 to 30 bytes, and "äääääääääääääääm" isn't
-extractd geocode --data d --number 151 --name main --zip 000000360670 01001 | error: --zip is 1 to 11 digits, and "000000360670" isn't
-extractd geocode --data d --number 151 --name main --zip 3606x 01001 | error: --zip is 1 to 11 digits, and "3606x" isn't
-extractd geocode --data d --number 151 --name main 010010 | error: CODE is five digits, and "010010" isn't
-extractd geocode --data d --number 151 --name main 01001 0100 | error: CODE is five digits, and "0100" isn't
-extractd geocode --data d --number 151 --name main | error: the following required arguments were not provided:
-extractd run | | Usage: extractd run --program <FILE> --data <DIR> <CODE>
-extractd trace | | Usage: extractd trace --program <FILE> --data <DIR> --line <N> --limit <L> <CODE>
-extractd verify | | Usage: extractd verify --program <FILE>
-extractd geocode | | Usage: extractd geocode --data <DIR> --number <N> --name <TEXT> <CODE>...
-extractd asm | | Usage: extractd asm --source <FILE>
-extractd dis | | Usage: extractd dis --program <FILE>
-extractd frob | | Usage: extractd <COMMAND>
-extractd --help | | extractd run --program street.bpf --data tiger 01001 > rows.tsv
-extractd --help | | extractd trace --program street.bpf --data tiger --line 12 --limit 4096 01001
-extractd --help | | extractd geocode --data tiger --number 151 --name main --zip 36067 01001
-extractd --help | | extractd verify --program street.bpf
-extractd --help | | extractd asm --source street.s > street.bpf
-extractd --help | | extractd dis --program street.bpf
-extractd --help | | extractd 0.1.0
-extractd --help | | 4  out of memory
-extractd run --help | | extractd run --program street.bpf --data tiger 01001 > rows.tsv
-extractd trace --help | | stuck place P cause N
-extractd verify --help | | extractd verify --program street.bpf
-extractd asm --help | | extractd asm --source street.s > street.bpf
-extractd dis --help | | extractd dis --program street.bpf
+extractd; error: 'extractd' requires a subcommand
+extractd run; error:
+extractd run --program p.bpf 01001; error:
+extractd run --data d 01001; error:
+extractd run --program p.bpf --data d; error:
+extractd run --program p.bpf --data; error:
+extractd run --program p.bpf --program p.bpf --data d 01001; error:
+extractd run --program p.bpf --data d --data d 01001; error:
+extractd run --program p.bpf --data d 01001 01001; error:
+extractd run --program p.bpf --data d --limit 1 01001; error:
+extractd run --program p.bpf --data d 0100; error: CODE is five digits, and "0100" isn't
+extractd run --program p.bpf --data d 010010; error: CODE is five digits, and "010010" isn't
+extractd run --program p.bpf --data d 0100a; error: CODE is five digits, and "0100a" isn't
+extractd run --program p.bpf --data d 0100١; error: CODE is five digits, and "0100١" isn't
+extractd run --program p.bpf --data d ''; error: CODE is five digits, and "" isn't
+extractd frob; error:
+extractd verify; error:
+extractd verify --program; error:
+extractd verify p.bpf; error:
+extractd verify --source p.s; error:
+extractd verify --program p.bpf --data d; error:
+extractd verify --program p.bpf 01001; error:
+extractd verify --program p.bpf --program p.bpf; error:
+extractd asm; error:
+extractd asm --source; error:
+extractd asm p.s; error:
+extractd asm --program p.bpf; error:
+extractd asm --source p.s p.s; error:
+extractd asm --source p.s --source p.s; error:
+extractd dis; error:
+extractd dis --program; error:
+extractd dis p.bpf; error:
+extractd dis --source p.s; error:
+extractd dis --program p.bpf 01001; error:
+extractd dis --program p.bpf --program p.bpf; error:
+extractd trace --program p.bpf --data d --line 1 01001; error:
+extractd trace --program p.bpf --data d --limit 1 01001; error:
+extractd trace --program p.bpf --line 1 --limit 1 01001; error:
+extractd trace --data d --line 1 --limit 1 01001; error:
+extractd trace --program p.bpf --data d --line 1 --limit 1; error:
+extractd trace --program p.bpf --data d --line 1 --line 1 --limit 1 01001; error:
+extractd trace --program p.bpf --data d --line 1 --limit 1 1001; error: CODE is five digits, and "1001" isn't
+extractd trace --program p.bpf --data d --line '' --limit 1 01001; error: --line is 1 to 19 digits, and "" isn't
+extractd trace --program p.bpf --data d --line +1 --limit 1 01001; error: --line is 1 to 19 digits, and "+1" isn't
+extractd trace --program p.bpf --data d --line 1a --limit 1 01001; error: --line is 1 to 19 digits, and "1a" isn't
+extractd trace --program p.bpf --data d --line 1 --limit 10000000000000000000 01001;
+  error: --limit is 1 to 19 digits, and "10000000000000000000" isn't
+extractd trace --program p.bpf --data d --line 1 --limit -1 01001; error:
+extractd geocode --data d --number 1 --name Main; error:
+extractd geocode --data d --number 1 01001; error:
+extractd geocode --data d --name Main 01001; error:
+extractd geocode --number 1 --name Main 01001; error:
+extractd geocode --data d --number 1 --number 1 --name Main 01001; error:
+extractd geocode --data d --number 1 --name Main --program p.bpf 01001; error:
+extractd serve --data d --port 8080 01001; error: serve wants a socket
+extractd serve --data d --port 8080; error: the following required arguments were not provided:
+extractd serve --help; Answers requests
+extractd --help;; extractd serve --data tiger --port 8080 01001
+extractd serve;; Usage: extractd serve --data <DIR> --port <P> <CODE>...
+extractd help; error:
+extractd --help; Extracts the TIGER/Line street segments
+extractd run --help; Writes the rows
+extractd trace --help; Says what
+extractd geocode --help; Writes where
+extractd verify --help; Says whether
+extractd asm --help; Writes the BPF
+extractd dis --help; Writes a program
+extractd --version; extractd 0.1.0
+extractd geocode --data d --number '' --name main 01001; error: --number is 1 to 11 digits, and "" isn't
+extractd geocode --data d --number 100000000151 --name main 01001;
+  error: --number is 1 to 11 digits, and "100000000151" isn't
+extractd geocode --data d --number 151a --name main 01001; error: --number is 1 to 11 digits, and "151a" isn't
+extractd geocode --data d --number 164-20 --name main 01001; error: --number is 1 to 11 digits, and "164-20" isn't
+extractd geocode --data d --number 151 --name '' 01001; error: --name is 1 to 30 bytes, and "" isn't
+extractd geocode --data d --number 151 --name main___________________________ 01001;
+  error: --name is 1 to 30 bytes, and "main                           " isn't
+extractd geocode --data d --number 151 --name äääääääääääääääm 01001;
+  error: --name is 1 to 30 bytes, and "äääääääääääääääm" isn't
+extractd geocode --data d --number 151 --name main --zip 000000360670 01001;
+  error: --zip is 1 to 11 digits, and "000000360670" isn't
+extractd geocode --data d --number 151 --name main --zip 3606x 01001;
+  error: --zip is 1 to 11 digits, and "3606x" isn't
+extractd geocode --data d --number 151 --name main 010010; error: CODE is five digits, and "010010" isn't
+extractd geocode --data d --number 151 --name main 01001 0100; error: CODE is five digits, and "0100" isn't
+extractd geocode --data d --number 151 --name main; error: the following required arguments were not provided:
+extractd run;; Usage: extractd run --program <FILE> --data <DIR> <CODE>
+extractd trace;; Usage: extractd trace --program <FILE> --data <DIR> --line <N> --limit <L> <CODE>
+extractd verify;; Usage: extractd verify --program <FILE>
+extractd geocode;; Usage: extractd geocode --data <DIR> --number <N> --name <TEXT> <CODE>...
+extractd asm;; Usage: extractd asm --source <FILE>
+extractd dis;; Usage: extractd dis --program <FILE>
+extractd frob;; Usage: extractd <COMMAND>
+extractd --help;; extractd run --program street.bpf --data tiger 01001 > rows.tsv
+extractd --help;; extractd trace --program street.bpf --data tiger --line 12 --limit 4096 01001
+extractd --help;; extractd geocode --data tiger --number 151 --name main --zip 36067 01001
+extractd --help;; extractd verify --program street.bpf
+extractd --help;; extractd asm --source street.s > street.bpf
+extractd --help;; extractd dis --program street.bpf
+extractd --help;; extractd 0.1.0
+extractd --help;; 4  out of memory
+extractd run --help;; extractd run --program street.bpf --data tiger 01001 > rows.tsv
+extractd trace --help;; stuck place P cause N
+extractd verify --help;; extractd verify --program street.bpf
+extractd asm --help;; extractd asm --source street.s > street.bpf
+extractd dis --help;; extractd dis --program street.bpf
 "#;
 
 /// Whether the text for the user is as a row says, and nothing is opened: the arguments come first.
@@ -120,7 +127,7 @@ fn is_usage(alloc: Global, row: &str) -> Result<bool, AllocError> {
 
 #[test]
 fn usage(rt: HostRuntime) -> Result<(), Fail> {
-    for row in TEXTS.trim().lines() {
+    for row in table(rt.alloc(), TEXTS.trim())?.lines() {
         assert!(rt; is_usage(rt.alloc(), row)?, "{row}");
     }
     Ok(())
@@ -128,14 +135,14 @@ fn usage(rt: HostRuntime) -> Result<(), Fail> {
 
 // What stands behind `serve`, and the status and the text of the fault, or the port and how many counties are asked for.
 const SERVES: &str = r#"
---data d --port 8080 01001 | 8080 | 1
---data d --port 1 01001 01003 01001 | 1 | 3
---port 65535 01001 01003 --data d | 65535 | 2
---data d --port 0 01001 | 2 | error: --port is 1 to 65535, and "0" isn't
---data d --port 65536 01001 | 2 | error: --port is 1 to 65535, and "65536" isn't
---data d --port +80 01001 | 2 | error: --port is 1 to 65535, and "+80" isn't
---data d --port http 01001 | 2 | error: --port is 1 to 65535, and "http" isn't
---data d --port 8080 0100 | 2 | error: CODE is five digits, and "0100" isn't
+--data d --port 8080 01001; 8080; 1
+--data d --port 1 01001 01003 01001; 1; 3
+--port 65535 01001 01003 --data d; 65535; 2
+--data d --port 0 01001; 2; error: --port is 1 to 65535, and "0" isn't
+--data d --port 65536 01001; 2; error: --port is 1 to 65535, and "65536" isn't
+--data d --port +80 01001; 2; error: --port is 1 to 65535, and "+80" isn't
+--data d --port http 01001; 2; error: --port is 1 to 65535, and "http" isn't
+--data d --port 8080 0100; 2; error: CODE is five digits, and "0100" isn't
 "#;
 
 /// Whether the words of a row ask for what it says.

@@ -2,9 +2,10 @@
 use super::conversions::{DOCUMENTED, PROGRAMS, SOURCES};
 use super::counties::{COUNTIES, OPENINGS};
 use super::devices::CASES;
-use super::fixtures::{Ending, bytes_in, cell, contents_of, files_of, run};
 use super::geocodes::GEOCODES;
+use super::running::{Ending, content_of, contents_of, files_of, run};
 use super::runs::FILES;
+use fixtures::{bytes, cell, table};
 use std::alloc::{AllocError, Global};
 use std::test::Fail;
 
@@ -28,7 +29,7 @@ fn command_and_names(row: &str) -> (&str, &str) {
 /// Whether the command of a row ends so. Where standard error fails, what it took is not looked at.
 fn is_ending(alloc: Global, row: &str, errors: &str) -> Result<bool, AllocError> {
     let (_, names) = command_and_names(row);
-    let written = bytes_in(alloc, cell(row, 1))?;
+    let written = bytes(alloc, content_of(cell(row, 1)))?;
     let ending = ending_of(alloc, row, errors)?;
     let is_said = !errors.is_empty() || ending.says(cell(row, 3));
     let is_opened = names.is_empty() || ending.opened.as_str().trim() == names;
@@ -39,15 +40,15 @@ fn is_ending(alloc: Global, row: &str, errors: &str) -> Result<bool, AllocError>
 fn is_right(alloc: Global, row: &str) -> Result<bool, AllocError> {
     Ok(
         is_ending(alloc, row, "")?
-            && is_ending(alloc, row, "! write 0")?
-            && is_ending(alloc, row, "! empty 0")?
-            && is_ending(alloc, row, "! write 1")?,
+            && is_ending(alloc, row, "! call 1 full")?
+            && is_ending(alloc, row, "! call 1 nothing")?
+            && is_ending(alloc, row, "! call 2 full")?,
     )
 }
 
-/// The first row of a table that is wrong, or nothing.
-fn wrong_row(alloc: Global, table: &'static str) -> Result<&'static str, AllocError> {
-    for row in table.trim().lines() {
+/// The first row that is wrong, or nothing.
+fn wrong_row(alloc: Global, rows: &str) -> Result<&str, AllocError> {
+    for row in rows.lines() {
         if !is_right(alloc, row)? {
             return Ok(row);
         }
@@ -57,10 +58,11 @@ fn wrong_row(alloc: Global, table: &'static str) -> Result<&'static str, AllocEr
 
 #[test]
 fn endings(rt: HostRuntime) -> Result<(), Fail> {
-    for table in [
+    for text in [
         SOURCES, DOCUMENTED, PROGRAMS, COUNTIES, OPENINGS, FILES, GEOCODES, CASES,
     ] {
-        let wrong = wrong_row(rt.alloc(), table)?;
+        let rows = table(rt.alloc(), text.trim())?;
+        let wrong = wrong_row(rt.alloc(), &rows)?;
         assert!(rt; wrong.is_empty(), "{wrong}");
     }
     Ok(())

@@ -12,11 +12,11 @@ mod devices;
 #[cfg(test)]
 mod endings;
 #[cfg(test)]
-mod fixtures;
-#[cfg(test)]
 mod geocodes;
 #[cfg(test)]
 mod readers;
+#[cfg(test)]
+mod running;
 #[cfg(test)]
 mod runs;
 #[cfg(test)]

@@ -2,27 +2,48 @@
 //! rows.
 
 pub const FILES: &str = r"
-extractd run --program p.bpf --data d 01001 | 0\t LINE \n 0\t LINE \n | 0 | | p.bpf: ONE EXIT | d/TGR01001.RT1: LINE \n LINE \n
-extractd run --program p.bpf --data d 01001 | | 0 | | p.bpf: ONE EXIT | d/TGR01001.RT1:
-extractd run --program p.bpf --data d 01001 | 0\t LINE \n | 0 | | p.bpf: 71 10 e3 00 00 00 00 00 EXIT | d/TGR01001.RT1: LINE \n
-extractd run --program p.bpf --data d 01001 | 0\t LINE \n 0\t LINE \n 0\t LINE \n | 0 | | p.bpf: ONE EXIT | d/TGR01001.RT1: LINE \r\n LINE \n LINE
-extractd run --program p.bpf --data d 01001 | 0\t LINE \n | 1 | refused 1 rt1 line 2 WrongLength | p.bpf: ONE EXIT | d/TGR01001.RT1: LINE \r\n ..227 \n LINE
-extractd run --program p.bpf --data d 01001 | 0\t ..55 H01 58.. \n 0\t ..55 ___ 58.. \n | 0 | | p.bpf: 71 10 37 00 00 00 00 00 07 00 00 00 bf ff ff ff EXIT | d/TGR01001.RT1: LINE \n ..55 H01 58.. \n ..55 ___ 58.. \n
-extractd run --program p.bpf --data d 01001 | 0\t LINE \n | 0 | | p.bpf: 71 12 37 00 00 00 00 00 b7 00 00 00 00 00 00 00 55 02 01 00 41 00 00 00 ONE EXIT | d/TGR01001.RT1: LINE \n ..55 H01 58.. \n ..55 ___ 58.. \n
-extractd run --program p.bpf --data d 01001 | 0\t LINE \n | 0 | | p.bpf: ONE EXIT 71 90 00 00 00 00 00 00 EXIT | d/TGR01001.RT1: LINE \n
-extractd run --program p.bpf --data d 01001 | 0\t LINE \n | 1 | refused 1 rt1 line 2 WrongLength | p.bpf: ONE EXIT | d/TGR01001.RT1: LINE \n ..227 \n
-extractd run --program p.bpf --data d 01001 | | 1 | refused 1 rt1 line 1 WrongLength | p.bpf: ONE EXIT | d/TGR01001.RT1: LINE _ \n LINE \n
-extractd run --program p.bpf --data d 01001 | | 1 | refused 1 rt1 line 1 WrongLength | p.bpf: ONE EXIT | d/TGR01001.RT1: LINE __ \n
-extractd run --program p.bpf --data d 01001 | | 1 | refused 1 rt1 line 1 WrongLength | p.bpf: ONE EXIT | d/TGR01001.RT1: LINE ___ \n
-extractd run --program p.bpf --data d 01001 | | 1 | refused 1 rt1 line 1 WrongLength | p.bpf: ONE EXIT | d/TGR01001.RT1: LINE \r
-extractd run --program p.bpf --data d 01001 | | 1 | refused 1 rt1 line 1 WrongLength | p.bpf: ONE EXIT | d/TGR01001.RT1: LINE \r\r\n
-extractd run --program p.bpf --data d 01001 | 0\t LINE \n | 1 | refused 1 rt1 line 2 WrongLength | p.bpf: ONE EXIT | d/TGR01001.RT1: LINE \n \n
-extractd run --program p.bpf --data d 01001 | | 1 | refused 1 rt1 line 1 WrongLength | p.bpf: ONE EXIT | d/TGR01001.RT1: \n LINE \n
-extractd run --program p.bpf --data d 01001 | 0\t LINE \n | 1 | refused 2 rt1 line 2 WrongType | p.bpf: ONE EXIT | d/TGR01001.RT1: LINE \n 4 1.. \n
-extractd run --program p.bpf --data d 01001 | | 1 | refused 3 rt1 line 1 BadTlid | p.bpf: ONE EXIT | d/TGR01001.RT1: ..5 __________ 15.. \n
-extractd run --program p.bpf --data d 01001 | | 1 | refused 3 rt1 line 1 BadTlid | p.bpf: ONE EXIT | d/TGR01001.RT1: ..5 _12_456789 15.. \n
-extractd run --program p.bpf --data d 01001 | | 1 | refused 2 rt1 line 1 WrongType | p.bpf: ONE EXIT | d/TGR01001.RT1: 42345__________ 15.. \n
-extractd run --program p.bpf --data d 01001 | 0\t ..30 \r 31.. \n | 0 | | p.bpf: ONE EXIT | d/TGR01001.RT1: ..30 \r 31.. \n
-extractd run --program p.bpf --data d 01001 | 0\t ..19 c3 a9 ff 80 23.. \n | 0 | | p.bpf: ONE EXIT | d/TGR01001.RT1: ..19 c3 a9 ff 80 23.. \n
-extractd run --program p.bpf --data d 01001 | 0\t LINE \n *600 | 0 | | p.bpf: ONE EXIT | d/TGR01001.RT1: LINE \n *600
+extractd run --program p.bpf --data d 01001; 0\t{rt1}\n0\t{rt1}\n; 0;; p.bpf: {every}; d/TGR01001.RT1:
+  {rt1}\n{rt1}\n
+extractd run --program p.bpf --data d 01001;; 0;; p.bpf: {every}; d/TGR01001.RT1:
+extractd run --program p.bpf --data d 01001; 0\t{rt1}\n; 0;; p.bpf: {asm ldxb r0, [r1+227] | exit};
+  d/TGR01001.RT1: {rt1}\n
+extractd run --program p.bpf --data d 01001; 0\t{rt1}\n0\t{rt1}\n0\t{rt1}\n; 0;; p.bpf: {every};
+  d/TGR01001.RT1: {rt1}\r\n{rt1}\n{rt1}
+extractd run --program p.bpf --data d 01001; 0\t{rt1}\n; 1; refused 1 rt1 line 2 WrongLength; p.bpf: {every};
+  d/TGR01001.RT1: {rt1}\r\n{rt1 ..227}\n{rt1}
+extractd run --program p.bpf --data d 01001; 0\t{rt1 CFCC=H01}\n0\t{rt1 CFCC=}\n; 0;; p.bpf: {asm ldxb r0, [r1+55]
+  | add r0, -65 | exit}; d/TGR01001.RT1: {rt1}\n{rt1 CFCC=H01}\n{rt1 CFCC=}\n
+extractd run --program p.bpf --data d 01001; 0\t{rt1}\n; 0;; p.bpf: {asm ldxb r2, [r1+55] | mov r0, 0 | jne r2, 65,
+  +1 | mov r0, 1 | exit}; d/TGR01001.RT1: {rt1}\n{rt1 CFCC=H01}\n{rt1 CFCC=}\n
+extractd run --program p.bpf --data d 01001; 0\t{rt1}\n; 0;; p.bpf: {asm mov r0, 1 | exit | ldxb r0, [r9+0] | exit};
+  d/TGR01001.RT1: {rt1}\n
+extractd run --program p.bpf --data d 01001; 0\t{rt1}\n; 1; refused 1 rt1 line 2 WrongLength; p.bpf: {every};
+  d/TGR01001.RT1: {rt1}\n{rt1 ..227}\n
+extractd run --program p.bpf --data d 01001;; 1; refused 1 rt1 line 1 WrongLength; p.bpf: {every};
+  d/TGR01001.RT1: {rt1} \n{rt1}\n
+extractd run --program p.bpf --data d 01001;; 1; refused 1 rt1 line 1 WrongLength; p.bpf: {every};
+  d/TGR01001.RT1: {rt1}  \n
+extractd run --program p.bpf --data d 01001;; 1; refused 1 rt1 line 1 WrongLength; p.bpf: {every};
+  d/TGR01001.RT1: {rt1}   \n
+extractd run --program p.bpf --data d 01001;; 1; refused 1 rt1 line 1 WrongLength; p.bpf: {every};
+  d/TGR01001.RT1: {rt1}\r
+extractd run --program p.bpf --data d 01001;; 1; refused 1 rt1 line 1 WrongLength; p.bpf: {every};
+  d/TGR01001.RT1: {rt1}\r\r\n
+extractd run --program p.bpf --data d 01001; 0\t{rt1}\n; 1; refused 1 rt1 line 2 WrongLength; p.bpf: {every};
+  d/TGR01001.RT1: {rt1}\n\n
+extractd run --program p.bpf --data d 01001;; 1; refused 1 rt1 line 1 WrongLength; p.bpf: {every};
+  d/TGR01001.RT1: \n{rt1}\n
+extractd run --program p.bpf --data d 01001; 0\t{rt1}\n; 1; refused 2 rt1 line 2 WrongType; p.bpf: {every};
+  d/TGR01001.RT1: {rt1}\n{rt1 RT=4}\n
+extractd run --program p.bpf --data d 01001;; 1; refused 3 rt1 line 1 BadTlid; p.bpf: {every};
+  d/TGR01001.RT1: {rt1 TLID=}\n
+extractd run --program p.bpf --data d 01001;; 1; refused 3 rt1 line 1 BadTlid; p.bpf: {every};
+  d/TGR01001.RT1: {rt1 TLID=12_456789}\n
+extractd run --program p.bpf --data d 01001;; 1; refused 2 rt1 line 1 WrongType; p.bpf: {every};
+  d/TGR01001.RT1: {rt1 RT=4 VERSION=2345 TLID=}\n
+extractd run --program p.bpf --data d 01001; 0\t{rt1 FENAME=Main_______\r}\n; 0;; p.bpf: {every};
+  d/TGR01001.RT1: {rt1 FENAME=Main_______\r}\n
+extractd run --program p.bpf --data d 01001; 0\t{rt1 FENAME=\xc3\xa9\xff\x80}\n; 0;; p.bpf: {every};
+  d/TGR01001.RT1: {rt1 FENAME=\xc3\xa9\xff\x80}\n
+extractd run --program p.bpf --data d 01001; {0\trt1\n*600}; 0;; p.bpf: {every}; d/TGR01001.RT1: {rt1\n*600}
 ";

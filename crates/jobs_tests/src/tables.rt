@@ -16,11 +16,12 @@ fn is_road(number: u64) -> bool {
 /// to 58. No two numbers have the same line.
 fn push_line(alloc: Global, number: u64, bytes: &mut Vec<u8>) -> Result<(), AllocError> {
     let tlid = format!(in alloc; "{number:010}")?;
-    bytes.extend_from_slice(&RT1[..5])?;
+    let line = RT1.as_slice();
+    bytes.extend_from_slice(&line[..5])?;
     bytes.extend_from_slice(tlid.as_bytes())?;
-    bytes.extend_from_slice(&RT1[15..55])?;
+    bytes.extend_from_slice(&line[15..55])?;
     bytes.extend_from_slice(if is_road(number) { b"A41" } else { b"H01" })?;
-    bytes.extend_from_slice(&RT1[58..])?;
+    bytes.extend_from_slice(&line[58..])?;
     bytes.extend_from_slice(b"\n")
 }
 
