@@ -140,7 +140,13 @@ pub fn run(
     };
     let mut out = writer(alloc, Device::new(fault_in(out)));
     let mut errors = writer(alloc, Device::new(fault_in(errors)));
-    let status = command(alloc, arguments.as_slice(), &mut files, &mut out, &mut errors);
+    let status = command(
+        alloc,
+        arguments.as_slice(),
+        &mut files,
+        &mut out,
+        &mut errors,
+    );
     Ok(Ending {
         status,
         written: out.into_inner().inner.inner,

@@ -7,9 +7,9 @@ mod fields;
 #[cfg(test)]
 mod files;
 #[cfg(test)]
-mod notation;
-#[cfg(test)]
 mod hits;
+#[cfg(test)]
+mod notation;
 #[cfg(test)]
 mod queries;
 #[cfg(test)]

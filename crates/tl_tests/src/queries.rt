@@ -1,6 +1,6 @@
 //! Queries of texts, and the lines of their hits.
-use crate::notation::cut;
 use crate::hits::counties_of;
+use crate::notation::cut;
 use geocode::{Query, QueryFault, hit_lines};
 use std::alloc::Global;
 use tl_segments::County;

@@ -16,14 +16,19 @@ pub fn is_said<A: Allocator>(county: &Result<County<A>, LoadFault>, expected: &s
 }
 
 /// Whether this is said of segments.
-pub fn are_said<A: Allocator>(segments: &[Segment<A>], expected: &str) -> bool {
+fn are_said<A: Allocator>(segments: &[Segment<A>], expected: &str) -> bool {
     let mut words = expected.split_terminator(' ');
     for segment in segments {
-        if say_ranges(segment, say_names(segment, words.next())) != Some("") {
+        if !is_segment(segment, words.next()) {
             return false;
         }
     }
     words.next().is_none()
+}
+
+/// Whether this is said of a segment.
+pub fn is_segment<A: Allocator>(segment: &Segment<A>, said: Option<&str>) -> bool {
+    say_ranges(segment, say_names(segment, said)) == Some("")
 }
 
 /// Says the TLID of a segment, and its alternate names.
