@@ -71,15 +71,15 @@ pub fn checks_rise()
         → Sound (λ x n. AreEdgesWithin n x) (compare higher comparison x y) (compare lower comparison m n) }
 {}
 
-/// What is known behind an instruction grows with what is known before it: where no check of an instruction fails in a state, none fails in
-/// a state below it, and what is known on the edges lies below too.
+/// What is known lower before an instruction gives what is known lower behind it: where no check of an instruction fails in a state, none
+/// fails in a state below it, and what is known on the edges lies below too.
 pub fn upward()
     ensures { (insn : Insn) (lower higher : AbstractState) (edges : Edges) → IsProper lower → IsProper higher → IsWithin lower higher
         → transfer higher insn ≡ Ok edges → (below : Edges) × (transfer lower insn ≡ Ok below) × AreEdgesWithin below edges }
 {}
 
-/// A code has at most one verdict: with an annotation that is good to its end it isn't refused, and it is refused at one place with one cause, or
-/// accepted with one list of areas.
+/// A code has at most one verdict: with an annotation that is good to its end it isn't refused, and it is refused at one place with one cause,
+/// or accepted with one list of areas.
 pub fn verdicts()
     ensures accepted { (code : List Insn) (place : ℕ) (cause : Cause) → HasGoodAnnotation code → IsRefusedAt code place cause → ⊥ }
     ensures refused { (code : List Insn) (place other : ℕ) (cause why : Cause) → IsRefusedAt code place cause → IsRefusedAt code other why
