@@ -20,10 +20,10 @@ CountsWrite (Ok taken) bytes old new =
     (0 < taken → new ≡ old) × (length bytes ≡ 0 → new ≡ old) × (taken ≡ 0 → 0 < length bytes → CountsFault WriteZero old new)
 CountsWrite (Err error) bytes old new = CountsFault Write old new
 
--- a flush that succeeds changes the count of flushes, and one that fails counts as a fault
+-- each flush changes the count of flushes, and one that fails that of failed calls too
 abbrev pub CountsFlush : {V E : Type 0} → Result V E → WriteCounts → WriteCounts → Type 0
 CountsFlush (Ok done) old new = (new.failed ≡ old.failed) × (new.empty ≡ old.empty) × (new.flushes ≢ old.flushes)
-CountsFlush (Err error) old new = CountsFault Write old new
+CountsFlush (Err error) old new = (new.failed ≢ old.failed) × (new.empty ≡ old.empty) × (new.flushes ≢ old.flushes)
 
 -- one more, where a count that is full goes back to 0
 abbrev pub next_count : ℕ → ℕ
@@ -49,7 +49,7 @@ AddsWrite (Err error) bytes old new = new ≡ with_fault Write old
 
 abbrev pub AddsFlush : {V E : Type 0} → Result V E → WriteCounts → WriteCounts → Type 0
 AddsFlush (Ok done) old new = new ≡ with_flush old
-AddsFlush (Err error) old new = new ≡ with_fault Write old
+AddsFlush (Err error) old new = new ≡ with_flush (with_fault Write old)
 
 -- a reader or a writer, and its counts
 pub record Counted (T : Type 0) : Type 0 where

@@ -1,7 +1,7 @@
 -- Readers and writers as contracts see them: one value each, before a call and after it.
 use Rattle.std.specs.Prelude.{ℕ, List, Option}
 
--- of a writer: its failed calls, its writes that were handed bytes and took none, and its flushes that succeeded
+-- of a writer: its failed calls, its writes that were handed bytes and took none, and its flushes, failed ones too
 pub record WriteCounts : Type 0 where
   pub failed : ℕ
   pub empty : ℕ

@@ -1,5 +1,5 @@
 -- A reader or writer that goes wrong in one call.
-use Rattle.std.specs.Prelude.{◌≡◌, ℕ, ◌-◌, ◌==◌, nat_lt, Bool, ◌&&◌, ◌||◌, not, Result, Ok, IsErr}
+use Rattle.std.specs.Prelude.{◌≡◌, ℕ, ◌-◌, ◌==◌, nat_lt, Bool, ◌&&◌, ◌||◌, not, min, if◌then◌else◌, Result, Ok, Err, IsErr}
 use Rattle.tl_fields.specs.Counted.{next_count}
 use Rattle.tl_fields.specs.declared.fuse.Burst.{Burst}
 use Rattle.tl_fields.specs.declared.fuse.Burst.TheVariants.{Fails, TakesNothing}
@@ -21,3 +21,12 @@ after_call fuse bytes = record fuse {
 abbrev pub GoesWrong : {E : Type 0} → Burst → Result ℕ E → Type 0
 GoesWrong (Fails kind) result = IsErr result
 GoesWrong TakesNothing result = result ≡ Ok 0
+
+-- how many bytes of a write that passes are handed on: no more than are left to take, and all once the fuse went wrong
+abbrev pub room : {T : Type 0} → Fuse T → ℕ → ℕ
+room fuse bytes = if fuse.is_blown then bytes else min bytes fuse.bytes_left
+
+-- how many bytes are left to take behind a write
+abbrev pub left_behind : {T E : Type 0} → Fuse T → Result ℕ E → ℕ
+left_behind fuse (Ok taken) = fuse.bytes_left - taken
+left_behind fuse (Err error) = fuse.bytes_left

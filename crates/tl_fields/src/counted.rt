@@ -40,7 +40,7 @@ pub trait CountedRead: Read {
 ///
 /// It serves the writing side as [`CountedRead`] does the reading side.
 pub trait CountedWrite: Write {
-    // How many writes and flushes failed, writes took none of their bytes, and flushes succeeded, each modulo 2^64.
+    // How many writes and flushes failed, writes took none of their bytes, and flushes there were, each modulo 2^64.
     ghost counts: { Self → WriteCounts };
 
     /// One write, with what `write` of [`Write`] says of its bytes.
@@ -131,7 +131,7 @@ impl<T> Counting<T> {
         self.empty_writes
     }
 
-    /// How many flushes succeeded, modulo 2^64.
+    /// How many flushes there were, failed ones too, modulo 2^64.
     pub fn flushes(&self) -> u64
         ensures { result ≡ self.now.counts.flushes }
     {
@@ -207,16 +207,12 @@ impl<T: Write> Write for Counting<T> {
         ensures failed_reads { self.new.failed_reads ≡ self.old.failed_reads }
         ensures exact { AddsFlush result self.old.counts self.new.counts }
     {
-        match self.inner.flush() {
-            Ok(()) => {
-                count_one(&mut self.flushes);
-                Ok(())
-            }
-            Err(error) => {
-                count_one(&mut self.failed_writes);
-                Err(error)
-            }
+        count_one(&mut self.flushes);
+        let result = self.inner.flush();
+        if result.is_err() {
+            count_one(&mut self.failed_writes);
         }
+        result
     }
 }
 

@@ -1,9 +1,10 @@
 //! Readers and writers that go wrong once, to try what stands on them.
-ghost use Rattle.std.specs.Prelude.{◌≡◌, ◌+◌, true, false, length, IsErr, IfOk};
+ghost use Rattle.std.specs.Prelude.{◌≡◌, ◌≤◌, take, true, false, length, IsErr, IfOk};
 ghost use Rattle.std.specs.Io.{ReadsAtMost, WritesAtMost};
 ghost use Rattle.std.specs.Io.KnownBytes.{Keeps, ReadConsumes, WriteAppends};
+ghost use Rattle.tl_fields.specs.Counted.{CountsFailure, CountsFlush, CountsWrite};
 
-use crate::counted::count_one;
+use crate::counted::{CountedRead, CountedWrite, count_one};
 use std::io;
 use std::io::{ErrorKind, Read, Write};
 
@@ -19,7 +20,8 @@ pub enum Burst {
 /// A reader or writer that passes so many calls, or takes so many bytes, then goes wrong in one call,
 /// and passes all after it.
 ///
-/// It counts its calls, so that a caller who tries a failed one again is seen.
+/// A call that it passes is one call of the inner device, whose counts show that it did what the device does; of one that goes
+/// wrong the device sees nothing. It counts its calls, so that a caller who tries a failed one again is seen.
 #[derive(Drop)]
 pub struct Fuse<T> {
     pub inner: T,
@@ -34,7 +36,7 @@ pub struct Fuse<T> {
 }
 
 impl<T> Fuse<T> {
-    ghost use Rattle.tl_fields.specs.Fuse.{after_call, is_due};
+    ghost use Rattle.tl_fields.specs.Fuse.{after_call, is_due, room};
 
     /// Passes so many calls, and then goes wrong.
     pub fn after_calls(inner: T, calls: u64, burst: Burst) -> Self
@@ -77,6 +79,17 @@ impl<T> Fuse<T> {
         is_due
     }
 
+    /// How many of these bytes a write hands on.
+    fn room(&self, bytes: usize) -> usize
+        ensures { result ≡ room self.now bytes }
+    {
+        if self.is_blown {
+            bytes
+        } else {
+            bytes.min(self.bytes_left)
+        }
+    }
+
     fn error(&self) -> io::Error {
         match self.burst {
             Burst::Fails(kind) => io::Error::from(kind),
@@ -85,7 +98,7 @@ impl<T> Fuse<T> {
     }
 }
 
-impl<T: Read> Read for Fuse<T> {
+impl<T: CountedRead> Read for Fuse<T> {
     ghost use Rattle.tl_fields.specs.Fuse.{after_call, is_due};
 
     ghost remaining = { λ fuse. T.remaining fuse.inner };
@@ -94,17 +107,19 @@ impl<T: Read> Read for Fuse<T> {
         ensures bound { ReadsAtMost result buf.new }
         ensures bytes { ReadConsumes (T.remaining self.old.inner) (T.remaining self.new.inner) result buf.new }
         ensures due { is_due self.old 0 ≡ true → IsErr result × (self.new ≡ after_call self.old 0) }
+        ensures passed { is_due self.old 0 ≡ false
+            → CountsFailure result (T.failed_reads self.old.inner) (T.failed_reads self.new.inner) }
         ensures counted { self.new ≡ record (after_call self.old 0) { inner = self.new.inner } }
     {
         if self.blows(0) {
             return Err(self.error());
         }
-        self.inner.read(buf)
+        self.inner.read_counted(buf)
     }
 }
 
-impl<T: Write> Write for Fuse<T> {
-    ghost use Rattle.tl_fields.specs.Fuse.{GoesWrong, after_call, is_due};
+impl<T: CountedWrite> Write for Fuse<T> {
+    ghost use Rattle.tl_fields.specs.Fuse.{GoesWrong, after_call, is_due, left_behind, room};
 
     ghost contents = { λ fuse. T.contents fuse.inner };
 
@@ -113,7 +128,11 @@ impl<T: Write> Write for Fuse<T> {
         ensures bytes { WriteAppends (T.contents self.old.inner) (T.contents self.new.inner) result buf.now }
         ensures due { is_due self.old (length buf.now) ≡ true
             → GoesWrong self.old.burst result × (self.new ≡ after_call self.old (length buf.now)) }
-        ensures room { self.old.is_blown ≡ false → IfOk result (λ taken. self.new.bytes_left + taken ≡ self.old.bytes_left) }
+        ensures passed { is_due self.old (length buf.now) ≡ false
+            → CountsWrite result (take (room self.old (length buf.now)) buf.now) (T.counts self.old.inner) (T.counts self.new.inner) }
+        ensures counted { self.new
+            ≡ record (after_call self.old (length buf.now)) { inner = self.new.inner; bytes_left = left_behind self.old result } }
+        ensures room { self.old.is_blown ≡ false → IfOk result (λ taken. taken ≤ self.old.bytes_left) }
     {
         if self.blows(buf.len()) {
             return match self.burst {
@@ -121,22 +140,21 @@ impl<T: Write> Write for Fuse<T> {
                 Burst::Fails(_) => Err(self.error()),
             };
         }
-        if self.is_blown {
-            return self.inner.write(buf);
-        }
-        let taken = self.inner.write(&buf[..buf.len().min(self.bytes_left)])?;
-        self.bytes_left -= taken;
+        let room = self.room(buf.len());
+        let taken = self.inner.write_counted(&buf[..room])?;
+        self.bytes_left = self.bytes_left.saturating_sub(taken);
         Ok(taken)
     }
 
     fn flush(&mut self) -> io::Result<()>
         ensures bytes { Keeps (T.contents self.old.inner) (T.contents self.new.inner) }
         ensures due { is_due self.old 0 ≡ true → IsErr result × (self.new ≡ after_call self.old 0) }
+        ensures passed { is_due self.old 0 ≡ false → CountsFlush result (T.counts self.old.inner) (T.counts self.new.inner) }
         ensures counted { self.new ≡ record (after_call self.old 0) { inner = self.new.inner } }
     {
         if self.blows(0) {
             return Err(self.error());
         }
-        self.inner.flush()
+        self.inner.flush_counted()
     }
 }
