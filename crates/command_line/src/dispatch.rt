@@ -2,6 +2,8 @@
 ghost use Rattle.std.specs.Prelude.{◌≡◌, ◌≢◌, ◌≤◌};
 ghost use Rattle.tl_fields.specs.Device.{writer};
 ghost use Rattle.commands.specs.Command.{IsDone, IsRefusal};
+ghost use Rattle.commands.specs.Files.{disk};
+ghost use Rattle.commands.specs.Unusable.{IsUnusable};
 ghost use Rattle.commands.specs.declared.request.Request.{Request};
 
 use crate::arguments::read_arguments;
@@ -28,6 +30,10 @@ pub fn command<F: Files, W: CountedWrite, E: CountedWrite>(
         (writer W.contents W.counts out.old) (writer W.contents W.counts out.new)
         (writer E.contents E.counts errors.old) (writer E.contents E.counts errors.new) }
     ensures usage { result ≡ 2 → out.new ≡ out.old }
+    ensures unusable { result ≡ 3 → (request : Request) × IsUnusable F.Reader.failed_reads request
+        (disk F.bytes F.failed_opens files.old) (disk F.bytes F.failed_opens files.new)
+        (writer W.contents W.counts out.old) (writer W.contents W.counts out.new)
+        (writer E.contents E.counts errors.old) (writer E.contents E.counts errors.new) }
     // An open that failed is never passed over.
     ensures opens { result ≢ 3 → F.failed_opens files.new ≡ F.failed_opens files.old }
 {

@@ -1,5 +1,8 @@
 //! What is wrong with the arguments of a command line.
-ghost use Rattle.std.specs.Prelude.{◌≡◌, ◌⊎◌};
+ghost use Rattle.std.specs.Prelude.{◌≡◌, ◌≢◌};
+ghost use Rattle.std.specs.IoError.{error_kind};
+ghost use Rattle.clap.specs.Values.{kind_of};
+ghost use Rattle.command_line.specs.declared.fault.ArgumentsFault.TheVariants.{Memory, NotUtf8, Usage};
 
 use crate::options::MOST_CODES;
 use clap::error::ErrorKind as UsageKind;
@@ -41,7 +44,8 @@ pub enum ArgumentsFault<'a> {
 impl ArgumentsFault<'_> {
     /// The exit status.
     pub fn status(&self) -> u8
-        ensures { (result ≡ 2) ⊎ (result ≡ 4) }
+        ensures usage { self.now ≢ ArgumentsFault.Memory → result ≡ 2 }
+        ensures memory { self.now ≡ ArgumentsFault.Memory → result ≡ 4 }
     {
         match self {
             ArgumentsFault::Memory => OUT_OF_MEMORY,
@@ -97,7 +101,8 @@ impl ArgumentsFault<'_> {
 
 // Of reading the arguments from the system: one that isn't UTF-8, or want of memory.
 impl From<io::Error> for ArgumentsFault<'_> {
-    ghost from_gives = { λ _ _. Unit {0} };
+    ghost from_gives = { λ error fault. (error_kind error ≡ ErrorKind.OutOfMemory → fault ≡ Memory)
+        × (error_kind error ≢ ErrorKind.OutOfMemory → fault ≡ NotUtf8) };
 
     fn from(error: io::Error) -> Self {
         match error.kind() {
@@ -108,7 +113,8 @@ impl From<io::Error> for ArgumentsFault<'_> {
 }
 
 impl From<clap::Error> for ArgumentsFault<'_> {
-    ghost from_gives = { λ _ _. Unit {0} };
+    ghost from_gives = { λ error fault. (kind_of error ≡ UsageKind.OutOfMemory → fault ≡ Memory)
+        × (kind_of error ≢ UsageKind.OutOfMemory → fault ≡ Usage error) };
 
     fn from(error: clap::Error) -> Self {
         match error.kind() {
@@ -119,7 +125,7 @@ impl From<clap::Error> for ArgumentsFault<'_> {
 }
 
 impl From<AllocError> for ArgumentsFault<'_> {
-    ghost from_gives = { λ _ _. Unit {0} };
+    ghost from_gives = { λ _ fault. fault ≡ Memory };
 
     fn from(_error: AllocError) -> Self {
         ArgumentsFault::Memory
@@ -127,7 +133,7 @@ impl From<AllocError> for ArgumentsFault<'_> {
 }
 
 impl<T: Drop> From<AllocFailed<T>> for ArgumentsFault<'_> {
-    ghost from_gives = { λ _ _. Unit {0} };
+    ghost from_gives = { λ _ fault. fault ≡ Memory };
 
     fn from(_error: AllocFailed<T>) -> Self {
         ArgumentsFault::Memory

@@ -1,5 +1,5 @@
 -- Counties loaded one after the other: what is known of the files stays.
-use Rattle.std.proofs.Common.{◌≡◌, ℕ, ◌+◌, ◌<◌, suc, List, [], ◌∷◌, ◌++◌, length, get_or, take, drop, map, Option, Bor, ap, sym, subst, ◌∙◌}
+use Rattle.std.proofs.Common.{◌≡◌, ℕ, ◌+◌, ◌<◌, suc, List, [], ◌∷◌, ◌++◌, length, get_or, take, drop, map, Option, Bor, ap, sym, subst, ◌∙◌, arith}
 use Rattle.std.proofs.Math.Seq.{drop-cons}
 use Rattle.std.proofs.lemmas.Grind.{take_at_read}
 use Rattle.std.proofs.lemmas.List.{map-append, take-append-drop}
@@ -8,6 +8,7 @@ use Rattle.std.specs.List.{AllZip}
 use Rattle.tl_segments.specs.County.{CountyParts, CountyReaders}
 use Rattle.commands.specs.Counties.{AreCountiesOf, IsCountyOf, IsRefusedCounty, TellsCounties, TellsCounty}
 use Rattle.commands.specs.County.{HoldCounty}
+use Rattle.commands.specs.Failure.{status}
 use Rattle.commands.specs.declared.failure.Failure.{Failure}
 use Rattle.commands.specs.declared.failure.Failure.TheVariants.{Refusal, File, CountyFile, NotUtf8, NoLine, Output}
 
@@ -88,3 +89,12 @@ tells_counties known later folder codes i d counties (CountyFile folder' code fi
 tells_counties known later folder codes i d counties (NotUtf8 name) same inside so_far told = tt
 tells_counties known later folder codes i d counties (NoLine line) same inside so_far told = tt
 tells_counties known later folder codes i d counties (Output error) same inside so_far told = tt
+
+-- want of memory tells nothing of them
+pub counties_wanting : (known : Known) (folder : List ℕ) (codes : List (List ℕ)) (failure : Failure) → status failure ≡ 4 → TellsCounties known folder codes failure
+counties_wanting known folder codes (Refusal refusal) is = λ one. absurd (omega (arith, is, one))
+counties_wanting known folder codes (File name error) is = tt
+counties_wanting known folder codes (CountyFile folder' code file error) is = tt
+counties_wanting known folder codes (NotUtf8 name) is = tt
+counties_wanting known folder codes (NoLine line) is = tt
+counties_wanting known folder codes (Output error) is = tt

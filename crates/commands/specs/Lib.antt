@@ -9,3 +9,4 @@ pub mod Verify
 pub mod Assemble
 pub mod Disassemble
 pub mod Command
+pub mod Unusable

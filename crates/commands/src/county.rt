@@ -1,17 +1,18 @@
 //! The files of a county (TIGER/Line 2006, record types 1, 4, 5 and 6), opened by name.
 ghost use Rattle.std.specs.Prelude.{◌≡◌, ◌≢◌, ℕ, List, IfErr, IfOk, string_bytes};
 ghost use Rattle.std.specs.Io.KnownBytes.{Keeps};
-ghost use Rattle.tl_fields.specs.Device.{writer};
+ghost use Rattle.tl_fields.specs.Device.{WriteCounts, writer};
 ghost use Rattle.extract.specs.Extracting.{IsOutcome};
 ghost use Rattle.tl_segments.specs.County.{IsCountyFault, LoadsCounty};
 ghost use Rattle.commands.specs.County.{HoldCounty, county_readers, file_name, name_end};
 ghost use Rattle.commands.specs.Failure.{TellsOpens, status};
-ghost use Rattle.commands.specs.Files.{input_remaining};
+ghost use Rattle.commands.specs.Files.{disk, input_remaining};
+ghost use Rattle.commands.specs.Unusable.{TellsCause};
 
 use crate::failure::Failure;
 use crate::files::{Files, Input, open, open_if_there};
 use extract::{ExtractFault, extract};
-use std::alloc::{AllocError, Global};
+use std::alloc::{AllocError, Allocator};
 use tl_fields::{CountedRead, CountedWrite};
 use tl_segments::{County, CountyFile, LoadFault};
 
@@ -26,7 +27,7 @@ pub struct CountyInputs<R> {
 
 impl<R: CountedRead> CountyInputs<R> {
     /// The county of the inputs, which are read to their ends, or up to the first fault.
-    pub fn load(&mut self, alloc: Global) -> Result<County<Global>, LoadFault>
+    pub fn load<A: Allocator + Copy>(&mut self, alloc: A) -> Result<County<A>, LoadFault>
         ensures ok { IfOk result (λ county. LoadsCounty county (county_readers R.remaining R.failed_reads self.old)
             (county_readers R.remaining R.failed_reads self.new)) }
         ensures err { IfErr result (λ fault. IsCountyFault fault (county_readers R.remaining R.failed_reads self.old)
@@ -42,9 +43,9 @@ impl<R: CountedRead> CountyInputs<R> {
     }
 
     /// Writes the extract of the inputs, and answers the number of its rows.
-    pub fn extract<W: CountedWrite>(
+    pub fn extract<A: Allocator + Copy, W: CountedWrite>(
         &mut self,
-        alloc: Global,
+        alloc: A,
         program: &[u8],
         out: &mut W,
     ) -> Result<u64, ExtractFault>
@@ -66,8 +67,8 @@ impl<R: CountedRead> CountyInputs<R> {
 
 /// Opens the files of a county in the folder of the data: those of types 1, 4, 5 and 6, in this order. There has to be a type 1 file; each
 /// of the others is an empty input where there is none.
-pub fn open_county<'a, F: Files>(
-    alloc: Global,
+pub fn open_county<'a, A: Allocator + Copy, F: Files>(
+    alloc: A,
     files: &mut F,
     folder: &'a str,
     code: &'a str,
@@ -77,6 +78,8 @@ pub fn open_county<'a, F: Files>(
     ensures stay { (other : List ℕ) → F.bytes files.new other ≡ F.bytes files.old other }
     ensures unusable { IfErr result (λ failure. (status failure ≢ 1) × (status failure ≢ 2)) }
     ensures opens { TellsOpens result (F.failed_opens files.old) (F.failed_opens files.new) }
+    ensures cause { (counts : WriteCounts) → IfErr result (TellsCause F.Reader.failed_reads
+        (disk F.bytes F.failed_opens files.old) (disk F.bytes F.failed_opens files.new) counts counts) }
 {
     let rt1 = match open_rt1(alloc, files, folder, code) {
         Ok(input) => input,
@@ -98,8 +101,8 @@ pub fn open_county<'a, F: Files>(
 }
 
 /// Opens the type 1 file, which has to be there.
-fn open_rt1<'a, F: Files>(
-    alloc: Global,
+fn open_rt1<'a, A: Allocator + Copy, F: Files>(
+    alloc: A,
     files: &mut F,
     folder: &'a str,
     code: &'a str,
@@ -109,6 +112,8 @@ fn open_rt1<'a, F: Files>(
     ensures stay { (other : List ℕ) → F.bytes files.new other ≡ F.bytes files.old other }
     ensures unusable { IfErr result (λ failure. (status failure ≢ 1) × (status failure ≢ 2)) }
     ensures opens { TellsOpens result (F.failed_opens files.old) (F.failed_opens files.new) }
+    ensures cause { (counts : WriteCounts) → IfErr result (TellsCause F.Reader.failed_reads
+        (disk F.bytes F.failed_opens files.old) (disk F.bytes F.failed_opens files.new) counts counts) }
 {
     let name = file_name(alloc, folder, code, CountyFile::Rt1)?;
     match open(files, name.as_str()) {
@@ -118,8 +123,8 @@ fn open_rt1<'a, F: Files>(
 }
 
 /// Opens a file whose lines are joined to those of type 1, where it is there.
-fn open_joined<'a, F: Files>(
-    alloc: Global,
+fn open_joined<'a, A: Allocator + Copy, F: Files>(
+    alloc: A,
     files: &mut F,
     folder: &'a str,
     code: &'a str,
@@ -130,6 +135,8 @@ fn open_joined<'a, F: Files>(
     ensures stay { (other : List ℕ) → F.bytes files.new other ≡ F.bytes files.old other }
     ensures unusable { IfErr result (λ failure. (status failure ≢ 1) × (status failure ≢ 2)) }
     ensures opens { TellsOpens result (F.failed_opens files.old) (F.failed_opens files.new) }
+    ensures cause { (counts : WriteCounts) → IfErr result (TellsCause F.Reader.failed_reads
+        (disk F.bytes F.failed_opens files.old) (disk F.bytes F.failed_opens files.new) counts counts) }
 {
     let name = file_name(alloc, folder, code, file)?;
     match open_if_there(files, name.as_str()) {
@@ -139,12 +146,12 @@ fn open_joined<'a, F: Files>(
 }
 
 /// The name of a county's file, in the folder of the data.
-fn file_name(
-    alloc: Global,
+fn file_name<A: Allocator>(
+    alloc: A,
     folder: &str,
     code: &str,
     file: CountyFile,
-) -> Result<String, AllocError>
+) -> Result<String<A>, AllocError>
     ensures { IfOk result (λ name. string_bytes name ≡ file_name folder.now code.now file) }
 {
     let mut name = String::from_str(alloc, folder)?;

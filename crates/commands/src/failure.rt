@@ -2,7 +2,7 @@
 ghost use Rattle.std.specs.Prelude.{◌≡◌, ◌≢◌, ◌∷◌, [], ◌++◌, IfErr, IfOk};
 ghost use Rattle.std.specs.Io.KnownBytes.{Appends};
 ghost use Rattle.tl_fields.specs.Device.{writer};
-ghost use Rattle.commands.specs.Failure.{Says, class_status, file_status, status};
+ghost use Rattle.commands.specs.Failure.{IsOfCountyFile, IsOfFile, Says, TellsWrite, class_status, file_status, status};
 
 use crate::county::name_end;
 use crate::files::FileFault;
@@ -63,7 +63,8 @@ impl<'a> Failure<'a> {
 
     /// What is wrong with the file of this name.
     pub fn of_file(name: &'a str, fault: FileFault) -> Self
-        ensures { status result ≡ file_status fault }
+        ensures status { status result ≡ file_status fault }
+        ensures file { IsOfFile name.entry fault result }
     {
         match fault {
             FileFault::Unusable(error) => Failure::File { name, error },
@@ -73,7 +74,8 @@ impl<'a> Failure<'a> {
 
     /// What is wrong with a county's file, in the folder of the data.
     pub fn of_county_file(data: &'a str, code: &'a str, file: CountyFile, fault: FileFault) -> Self
-        ensures { status result ≡ file_status fault }
+        ensures status { status result ≡ file_status fault }
+        ensures file { IsOfCountyFile «data».entry code.entry file fault result }
     {
         match fault {
             FileFault::Unusable(error) => Failure::CountyFile {
@@ -174,6 +176,8 @@ fn with_line_end(line: ArrayString<64>) -> ArrayVec<u8, 65>
 pub fn write<'a, W: CountedWrite>(out: &mut W, text: &[u8]) -> Result<(), Failure<'a>>
     ensures ok { IfOk result (λ _. Appends (W.contents out.old) (W.contents out.new) text.now × (W.counts out.new ≡ W.counts out.old)) }
     ensures err { IfErr result (λ failure. (status failure ≢ 1) × (status failure ≢ 2)) }
+    ensures fault { IfErr result (TellsWrite (W.counts out.old) (W.counts out.new)) }
+    ensures unflushed { (W.counts out.new).flushes ≡ (W.counts out.old).flushes }
 {
     match write_whole(out, text) {
         Ok(()) => Ok(()),

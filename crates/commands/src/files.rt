@@ -1,13 +1,16 @@
 //! The files that a command reads, by name.
-ghost use Rattle.std.specs.Prelude.{◌≡◌, ℕ, List, Option, IfOk, None, Ok, Some};
+ghost use Rattle.std.specs.Prelude.{◌≡◌, ◌≤◌, ◌<◌, ◌%◌, ℕ, List, ◌++◌, length, take, Option, IfOk, None, Ok, Some};
 ghost use Rattle.std.specs.Io.{ReadsAtMost};
 ghost use Rattle.std.specs.Io.KnownBytes.{Keeps, ReadConsumes};
 ghost use Rattle.tl_fields.specs.Counted.{CountsFailure};
-ghost use Rattle.commands.specs.Files.{TellsOpens, input_remaining};
+ghost use Rattle.tl_fields.specs.Device.{reader};
+ghost use Rattle.commands.specs.Files.{IsProgramIn, KeepsProgram, ReadsProgram, TellsFailure, TellsUse, input_remaining};
 ghost use Rattle.commands.specs.declared.files.FileFault.TheVariants.{Memory};
+ghost use Rattle.commands.specs.declared.files.TheConstants.{MOST_KEPT};
 
 use arrayvec::ArrayVec;
-use std::alloc::{AllocError, Global};
+use bpf_insn::WORD_LIMIT;
+use std::alloc::{AllocError, Allocator};
 use std::fs::File;
 use std::io::{BufReader, ErrorKind, Read};
 use std::{io, rt};
@@ -119,7 +122,7 @@ fn open_buffered<R: rt::Files + AllocGlobal>(
 pub fn open<F: Files>(files: &mut F, name: &str) -> Result<F::Reader, FileFault>
     ensures known { IfOk result (λ reader. Keeps (F.bytes files.old name.now) (F.Reader.remaining reader)) }
     ensures stay { (other : List ℕ) → F.bytes files.new other ≡ F.bytes files.old other }
-    ensures opens { TellsOpens result (F.failed_opens files.old) (F.failed_opens files.new) }
+    ensures opens { TellsFailure result (F.failed_opens files.old) (F.failed_opens files.new) }
 {
     match files.open(name) {
         Ok(reader) => Ok(reader),
@@ -132,7 +135,7 @@ pub fn open<F: Files>(files: &mut F, name: &str) -> Result<F::Reader, FileFault>
 pub fn open_if_there<F: Files>(files: &mut F, name: &str) -> Result<Input<F::Reader>, FileFault>
     ensures known { IfOk result (λ input. Keeps (F.bytes files.old name.now) (input_remaining F.Reader.remaining input)) }
     ensures stay { (other : List ℕ) → F.bytes files.new other ≡ F.bytes files.old other }
-    ensures opens { TellsOpens result (F.failed_opens files.old) (F.failed_opens files.new) }
+    ensures opens { TellsFailure result (F.failed_opens files.old) (F.failed_opens files.new) }
 {
     match files.open_if_there(name) {
         Ok(Some(reader)) => Ok(Input::Opened(reader)),
@@ -146,8 +149,12 @@ pub fn open_if_there<F: Files>(files: &mut F, name: &str) -> Result<Input<F::Rea
 const PIECE: usize = 4096;
 
 /// The bytes from where the reader stands to its end. No read is tried again.
-pub fn read_to_end<R: CountedRead>(alloc: Global, reader: &mut R) -> Result<Vec<u8>, FileFault>
-    ensures { IfOk result (λ bytes. Keeps (R.remaining reader.old) (Some bytes.items)) }
+pub fn read_to_end<A: Allocator, R: CountedRead>(
+    alloc: A,
+    reader: &mut R,
+) -> Result<Vec<u8, A>, FileFault>
+    ensures bytes { IfOk result (λ bytes. Keeps (R.remaining reader.old) (Some bytes.items)) }
+    ensures reads { TellsFailure result (R.failed_reads reader.old) (R.failed_reads reader.new) }
 {
     let mut bytes = Vec::new(alloc);
     for _ in 0..u64::MAX {
@@ -163,12 +170,90 @@ pub fn read_to_end<R: CountedRead>(alloc: Global, reader: &mut R) -> Result<Vec<
 }
 
 /// Opens a file and reads it to its end.
-pub fn read_file<F: Files>(alloc: Global, files: &mut F, name: &str) -> Result<Vec<u8>, FileFault>
+pub fn read_file<A: Allocator, F: Files>(
+    alloc: A,
+    files: &mut F,
+    name: &str,
+) -> Result<Vec<u8, A>, FileFault>
     ensures known { IfOk result (λ bytes. Keeps (F.bytes files.old name.now) (Some bytes.items)) }
-    ensures opens { TellsOpens result (F.failed_opens files.old) (F.failed_opens files.new) }
+    ensures uses { TellsUse F.Reader.failed_reads result (F.failed_opens files.old) (F.failed_opens files.new) }
 {
     match open(files, name) {
         Ok(mut reader) => read_to_end(alloc, &mut reader),
+        Err(fault) => Err(fault),
+    }
+}
+
+// So many bytes of a program are kept at most: it is refused where it has more than the limit of words.
+pub const MOST_KEPT: usize = 8 * (WORD_LIMIT + 1);
+
+/// Appends as much of what was read as is kept.
+fn keep<A: Allocator>(kept: &mut Vec<u8, A>, read: &[u8]) -> Result<(), AllocError>
+    ensures { (before : List ℕ) → kept.old.items ≡ take MOST_KEPT before
+        → IfOk result (λ _. kept.new.items ≡ take MOST_KEPT (before ++ read.now)) }
+{
+    let room = MOST_KEPT.saturating_sub(kept.len());
+    kept.extend_from_slice(&read[..room.min(read.len())])
+}
+
+/// Cuts the front of a program that is too long, of which so many bytes are left where it's divided by words, to the least that is.
+fn cut_behind<A: Allocator>(front: &mut Vec<u8, A>, remainder: usize)
+    requires small { remainder < 8 }
+    ensures { (program : List ℕ) → front.old.items ≡ take MOST_KEPT program → remainder ≡ length program % 8
+        → KeepsProgram program front.new.items × (length front.new.items ≤ MOST_KEPT) }
+{
+    if front.len() <= 8 * WORD_LIMIT {
+        return;
+    }
+    if remainder == 0 {
+        return;
+    }
+    front.truncate(8 * WORD_LIMIT + remainder);
+}
+
+/// The program from where the reader stands to its end. No read is tried again.
+///
+/// Of a program that is too long a front is kept, of which its refusal is told as of the whole: that it has too many words, or that its last one
+/// isn't whole. So a file of any length takes no more memory than the limit of words.
+pub fn read_program<A: Allocator, R: CountedRead>(
+    alloc: A,
+    input: &mut R,
+) -> Result<Vec<u8, A>, FileFault>
+    ensures program { IfOk result (λ kept. ReadsProgram kept.items
+        (reader R.remaining R.failed_reads input.old) (reader R.remaining R.failed_reads input.new)) }
+    ensures reads { TellsFailure result (R.failed_reads input.old) (R.failed_reads input.new) }
+{
+    let mut kept = Vec::with_capacity(alloc, MOST_KEPT)?;
+    let mut remainder = 0;
+    for _ in 0..u64::MAX {
+        let mut piece = [0; PIECE];
+        match input.read_counted(&mut piece) {
+            Ok(0) => {
+                cut_behind(&mut kept, remainder);
+                return Ok(kept);
+            }
+            Ok(count) => {
+                keep(&mut kept, &piece[..count])?;
+                remainder = (remainder + count) % 8;
+            }
+            Err(error) => return Err(FileFault::Unusable(error)),
+        }
+    }
+    // More bytes than a file has.
+    Err(FileFault::Memory)
+}
+
+/// Opens a program's file and reads it to its end.
+pub fn read_program_file<A: Allocator, F: Files>(
+    alloc: A,
+    files: &mut F,
+    name: &str,
+) -> Result<Vec<u8, A>, FileFault>
+    ensures known { IfOk result (λ kept. IsProgramIn (F.bytes files.old) name.now kept.items) }
+    ensures uses { TellsUse F.Reader.failed_reads result (F.failed_opens files.old) (F.failed_opens files.new) }
+{
+    match open(files, name) {
+        Ok(mut reader) => read_program(alloc, &mut reader),
         Err(fault) => Err(fault),
     }
 }

@@ -4,14 +4,16 @@ ghost use Rattle.std.specs.Io.KnownBytes.{Appends};
 ghost use Rattle.geocode.specs.HitLine.{hit_lines};
 ghost use Rattle.tl_fields.specs.Device.{writer};
 ghost use Rattle.commands.specs.Command.{IsCarriedOut};
-ghost use Rattle.commands.specs.Failure.{TellsOpens, status};
+ghost use Rattle.commands.specs.Failure.{TellsOpens, TellsWrite, status};
 ghost use Rattle.commands.specs.declared.request.Request.{Request};
+ghost use Rattle.commands.specs.Files.{disk};
+ghost use Rattle.commands.specs.Unusable.{TellsCause};
 
 use crate::counties::load_counties;
 use crate::failure::{Failure, write};
 use crate::files::Files;
 use geocode::{Hit, Query};
-use std::alloc::Global;
+use std::alloc::Allocator;
 use tl_fields::CountedWrite;
 
 /// What `geocode` is asked for.
@@ -26,9 +28,9 @@ pub struct Geocode<'a> {
 
 impl<'a> Geocode<'a> {
     /// Loads the counties, and then writes the lines of the hits.
-    pub fn carry_out<F: Files, W: CountedWrite>(
+    pub fn carry_out<A: Allocator + Copy, F: Files, W: CountedWrite>(
         self,
-        alloc: Global,
+        alloc: A,
         files: &mut F,
         out: &mut W,
     ) -> Result<(), Failure<'a>>
@@ -36,6 +38,9 @@ impl<'a> Geocode<'a> {
             (writer W.contents W.counts out.old) (writer W.contents W.counts out.new) }
         ensures usage { IfErr result (λ failure. status failure ≢ 2) }
         ensures opens { TellsOpens result (F.failed_opens files.old) (F.failed_opens files.new) }
+        ensures cause { IfErr result (TellsCause F.Reader.failed_reads (disk F.bytes F.failed_opens files.old) (disk F.bytes F.failed_opens files.new)
+            (W.counts out.old) (W.counts out.new)) }
+        ensures unflushed { (W.counts out.new).flushes ≡ (W.counts out.old).flushes }
     {
         let counties = match load_counties(alloc, files, self.data, self.codes.as_slice()) {
             Ok(counties) => counties,
@@ -51,6 +56,8 @@ fn write_lines<'a, W: CountedWrite>(out: &mut W, hits: &[Hit]) -> Result<(), Fai
     ensures written { IfOk result (λ _. Appends (W.contents out.old) (W.contents out.new) (hit_lines hits.now)) }
     ensures counts { IfOk result (λ _. W.counts out.new ≡ W.counts out.old) }
     ensures err { IfErr result (λ failure. (status failure ≢ 1) × (status failure ≢ 2)) }
+    ensures fault { IfErr result (TellsWrite (W.counts out.old) (W.counts out.new)) }
+    ensures unflushed { (W.counts out.new).flushes ≡ (W.counts out.old).flushes }
 {
     for hit in hits {
         let line = hit.line();

@@ -17,7 +17,7 @@ pub use assemble::Assemble;
 pub use counties::load_counties;
 pub use disassemble::Disassemble;
 pub use failure::{Failure, OUT_OF_MEMORY, UNUSABLE, USAGE};
-pub use files::{FileFault, Files, INPUT_BUFFER, SystemFiles, read_to_end};
+pub use files::{FileFault, Files, INPUT_BUFFER, SystemFiles, read_program, read_to_end};
 pub use geocoder::Geocode;
 pub use request::Request;
 pub use run::Run;

@@ -1,8 +1,10 @@
 //! What a command is asked for, done, and its exit status.
-ghost use Rattle.std.specs.Prelude.{◌≡◌, ◌≢◌, ◌≤◌, ◌⊎◌};
+ghost use Rattle.std.specs.Prelude.{◌≡◌, ◌≢◌, ◌≤◌, ◌⊎◌, IfErr};
 ghost use Rattle.tl_fields.specs.Device.{writer};
 ghost use Rattle.commands.specs.Command.{IsCarriedOut, IsDone, IsFlushed, IsRefusal, LacksLine};
 ghost use Rattle.commands.specs.Failure.{KeepsOnUsage, TellsOpens};
+ghost use Rattle.commands.specs.Files.{disk};
+ghost use Rattle.commands.specs.Unusable.{IsUnusable, TellsCause};
 
 use crate::assemble::Assemble;
 use crate::disassemble::Disassemble;
@@ -12,7 +14,7 @@ use crate::geocoder::Geocode;
 use crate::run::Run;
 use crate::trace::Trace;
 use crate::verify::Verify;
-use std::alloc::Global;
+use std::alloc::Allocator;
 use tl_fields::CountedWrite;
 
 /// What a command is asked for.
@@ -32,9 +34,9 @@ impl<'a> Request<'a> {
     /// 0 is done, also where no row was chosen; 1 refused; 2 a line that the file doesn't have; 3 a file or an output that can't be used, also a
     /// source that isn't UTF-8; 4 want of memory. But for 2, a flush of `out` has been tried by then. A write to `errors` that fails changes
     /// nothing.
-    pub fn answer<F: Files, W: CountedWrite, E: CountedWrite>(
+    pub fn answer<A: Allocator + Copy, F: Files, W: CountedWrite, E: CountedWrite>(
         self,
-        alloc: Global,
+        alloc: A,
         files: &mut F,
         out: &mut W,
         errors: &mut E,
@@ -47,6 +49,11 @@ impl<'a> Request<'a> {
             (writer E.contents E.counts errors.old) (writer E.contents E.counts errors.new) }
         ensures usage { result ≡ 2 → LacksLine self.entry (F.bytes files.old) }
         ensures untouched { result ≡ 2 → out.new ≡ out.old }
+        ensures unusable { result ≡ 3 → IsUnusable F.Reader.failed_reads self.entry
+            (disk F.bytes F.failed_opens files.old) (disk F.bytes F.failed_opens files.new)
+            (writer W.contents W.counts out.old) (writer W.contents W.counts out.new)
+            (writer E.contents E.counts errors.old) (writer E.contents E.counts errors.new) }
+        ensures flushed { result ≢ 2 → (W.counts out.new).flushes ≢ (W.counts out.old).flushes }
         // An open that failed is never passed over.
         ensures opens { result ≢ 3 → F.failed_opens files.new ≡ F.failed_opens files.old }
     {
@@ -66,9 +73,9 @@ impl<'a> Request<'a> {
     }
 
     /// Reads the files that are asked for, and writes what comes of them.
-    fn carry_out<F: Files, W: CountedWrite>(
+    fn carry_out<A: Allocator + Copy, F: Files, W: CountedWrite>(
         self,
-        alloc: Global,
+        alloc: A,
         files: &mut F,
         out: &mut W,
     ) -> Result<(), Failure<'a>>
@@ -76,6 +83,9 @@ impl<'a> Request<'a> {
             (writer W.contents W.counts out.old) (writer W.contents W.counts out.new) }
         ensures usage { KeepsOnUsage result out.old out.new }
         ensures opens { TellsOpens result (F.failed_opens files.old) (F.failed_opens files.new) }
+        ensures cause { IfErr result (TellsCause F.Reader.failed_reads (disk F.bytes F.failed_opens files.old) (disk F.bytes F.failed_opens files.new)
+            (W.counts out.old) (W.counts out.new)) }
+        ensures unflushed { (W.counts out.new).flushes ≡ (W.counts out.old).flushes }
     {
         match self {
             Request::Run(run) => run.carry_out(alloc, files, out),
@@ -92,6 +102,8 @@ impl<'a> Request<'a> {
 fn flush<W: CountedWrite, E: CountedWrite>(out: &mut W, errors: &mut E) -> u8
     ensures status { (result ≡ 0) ⊎ (result ≡ 3) }
     ensures done { result ≡ 0 → IsFlushed (writer W.contents W.counts out.old) (writer W.contents W.counts out.new) }
+    ensures failed { result ≡ 3 → (W.counts out.new).failed ≢ (W.counts out.old).failed }
+    ensures flushed { (W.counts out.new).flushes ≢ (W.counts out.old).flushes }
 {
     match out.flush_counted() {
         Ok(()) => DONE,

@@ -1,15 +1,17 @@
 //! `run`: the rows of the segments that a program chooses in a county's files.
-ghost use Rattle.std.specs.Prelude.{◌≢◌, IfErr};
+ghost use Rattle.std.specs.Prelude.{◌≢◌, ◌≡◌, IfErr};
 ghost use Rattle.tl_fields.specs.Device.{writer};
 ghost use Rattle.commands.specs.Command.{IsCarriedOut};
 ghost use Rattle.commands.specs.Failure.{TellsOpens, status};
 ghost use Rattle.commands.specs.declared.request.Request.{Request};
+ghost use Rattle.commands.specs.Files.{disk};
+ghost use Rattle.commands.specs.Unusable.{TellsCause};
 
 use crate::county::open_county;
 use crate::failure::Failure;
-use crate::files::{Files, open, read_to_end};
+use crate::files::{Files, open, read_program};
 use extract::Refusal;
-use std::alloc::Global;
+use std::alloc::Allocator;
 use tl_fields::CountedWrite;
 
 /// What `run` is asked for.
@@ -25,9 +27,9 @@ pub struct Run<'a> {
 
 impl<'a> Run<'a> {
     /// Opens the program and then the county's files, reads the program to its end, and writes the extract.
-    pub fn carry_out<F: Files, W: CountedWrite>(
+    pub fn carry_out<A: Allocator + Copy, F: Files, W: CountedWrite>(
         self,
-        alloc: Global,
+        alloc: A,
         files: &mut F,
         out: &mut W,
     ) -> Result<(), Failure<'a>>
@@ -35,6 +37,9 @@ impl<'a> Run<'a> {
             (writer W.contents W.counts out.old) (writer W.contents W.counts out.new) }
         ensures usage { IfErr result (λ failure. status failure ≢ 2) }
         ensures opens { TellsOpens result (F.failed_opens files.old) (F.failed_opens files.new) }
+        ensures cause { IfErr result (TellsCause F.Reader.failed_reads (disk F.bytes F.failed_opens files.old) (disk F.bytes F.failed_opens files.new)
+            (W.counts out.old) (W.counts out.new)) }
+        ensures unflushed { (W.counts out.new).flushes ≡ (W.counts out.old).flushes }
     {
         let mut program = match open(files, self.program) {
             Ok(program) => program,
@@ -44,7 +49,7 @@ impl<'a> Run<'a> {
             Ok(inputs) => inputs,
             Err(failure) => return Err(failure),
         };
-        let program = match read_to_end(alloc, &mut program) {
+        let program = match read_program(alloc, &mut program) {
             Ok(program) => program,
             Err(fault) => return Err(Failure::of_file(self.program, fault)),
         };

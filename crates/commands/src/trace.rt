@@ -1,21 +1,23 @@
 //! `trace`: what a program comes to on one segment of a county.
-ghost use Rattle.std.specs.Prelude.{◌≡◌, ◌≤◌, ◌+◌, [], ◌∷◌, ◌++◌, decimal, length, MatchOption};
-ghost use Rattle.tl_fields.specs.Device.{writer};
+ghost use Rattle.std.specs.Prelude.{◌≡◌, ◌≤◌, ◌+◌, ◌∷◌, ◌++◌, [], decimal, length, MatchOption, IfErr};
+ghost use Rattle.tl_fields.specs.Device.{WriteCounts, writer};
 ghost use Rattle.commands.specs.Command.{IsCarriedOut};
 ghost use Rattle.commands.specs.County.{county_readers};
 ghost use Rattle.commands.specs.Failure.{KeepsOnUsage, TellsOpens};
 ghost use Rattle.commands.specs.Trace.{EndsAs, HasNoLine, IsSegmentOfLine, outcome_line};
 ghost use Rattle.commands.specs.declared.request.Request.{Request};
+ghost use Rattle.commands.specs.Files.{Disk, disk};
+ghost use Rattle.commands.specs.Unusable.{TellsCause};
 
 use crate::county::{CountyInputs, open_county};
 use crate::failure::{Failure, write};
-use crate::files::{Files, open, read_to_end};
+use crate::files::{Files, open, read_program};
 use arrayvec::ArrayString;
 use bpf_insn::decode;
 use bpf_meaning::{Outcome, trace};
 use extract::Refusal;
 use itoa::Buffer;
-use std::alloc::{Allocator, Global};
+use std::alloc::Allocator;
 use tl_fields::{CountedRead, CountedWrite};
 use tl_segments::{County, Segment};
 
@@ -36,9 +38,9 @@ pub struct Trace<'a> {
 
 impl<'a> Trace<'a> {
     /// Opens the program and then the county's files, reads the program to its end and then the county, and writes the outcome.
-    pub fn carry_out<F: Files, W: CountedWrite>(
+    pub fn carry_out<A: Allocator + Copy, F: Files, W: CountedWrite>(
         self,
-        alloc: Global,
+        alloc: A,
         files: &mut F,
         out: &mut W,
     ) -> Result<(), Failure<'a>>
@@ -46,6 +48,9 @@ impl<'a> Trace<'a> {
             (writer W.contents W.counts out.old) (writer W.contents W.counts out.new) }
         ensures usage { KeepsOnUsage result out.old out.new }
         ensures opens { TellsOpens result (F.failed_opens files.old) (F.failed_opens files.new) }
+        ensures cause { IfErr result (TellsCause F.Reader.failed_reads (disk F.bytes F.failed_opens files.old) (disk F.bytes F.failed_opens files.new)
+            (W.counts out.old) (W.counts out.new)) }
+        ensures unflushed { (W.counts out.new).flushes ≡ (W.counts out.old).flushes }
     {
         let mut program = match open(files, self.program) {
             Ok(program) => program,
@@ -55,7 +60,7 @@ impl<'a> Trace<'a> {
             Ok(inputs) => inputs,
             Err(failure) => return Err(failure),
         };
-        let program = match read_to_end(alloc, &mut program) {
+        let program = match read_program(alloc, &mut program) {
             Ok(program) => program,
             Err(fault) => return Err(Failure::of_file(self.program, fault)),
         };
@@ -66,14 +71,15 @@ impl<'a> Trace<'a> {
     }
 
     /// What the program comes to on the segment. It needn't be one that is accepted.
-    fn outcome<R: CountedRead>(
+    fn outcome<A: Allocator + Copy, R: CountedRead>(
         self,
-        alloc: Global,
+        alloc: A,
         program: &[u8],
         inputs: &mut CountyInputs<R>,
     ) -> Result<Outcome, Failure<'a>>
-        ensures { EndsAs self.entry program.now (county_readers R.remaining R.failed_reads inputs.old)
+        ensures ends { EndsAs self.entry program.now (county_readers R.remaining R.failed_reads inputs.old)
             (county_readers R.remaining R.failed_reads inputs.new) result }
+        ensures cause { (disk disk' : Disk) (counts counts' : WriteCounts) → IfErr result (TellsCause R.failed_reads disk disk' counts counts') }
     {
         let code = match decode(alloc, program) {
             Ok(code) => code,

@@ -1,14 +1,16 @@
 //! `verify`: whether a program is accepted.
-ghost use Rattle.std.specs.Prelude.{◌≢◌, IfErr};
+ghost use Rattle.std.specs.Prelude.{◌≢◌, ◌≡◌, IfErr};
 ghost use Rattle.tl_fields.specs.Device.{writer};
 ghost use Rattle.commands.specs.Command.{IsCarriedOut};
 ghost use Rattle.commands.specs.Failure.{TellsOpens, status};
 ghost use Rattle.commands.specs.declared.request.Request.{Request};
+ghost use Rattle.commands.specs.Files.{disk};
+ghost use Rattle.commands.specs.Unusable.{TellsCause};
 
 use crate::failure::{Failure, write};
-use crate::files::{Files, read_file};
+use crate::files::{Files, read_program_file};
 use extract::{Refusal, accept};
-use std::alloc::Global;
+use std::alloc::Allocator;
 use tl_fields::CountedWrite;
 
 /// What `verify` is asked for.
@@ -20,9 +22,9 @@ pub struct Verify<'a> {
 
 impl<'a> Verify<'a> {
     /// Reads the program to its end, and says that it is accepted, if it is.
-    pub fn carry_out<F: Files, W: CountedWrite>(
+    pub fn carry_out<A: Allocator + Copy, F: Files, W: CountedWrite>(
         self,
-        alloc: Global,
+        alloc: A,
         files: &mut F,
         out: &mut W,
     ) -> Result<(), Failure<'a>>
@@ -30,8 +32,11 @@ impl<'a> Verify<'a> {
             (writer W.contents W.counts out.old) (writer W.contents W.counts out.new) }
         ensures usage { IfErr result (λ failure. status failure ≢ 2) }
         ensures opens { TellsOpens result (F.failed_opens files.old) (F.failed_opens files.new) }
+        ensures cause { IfErr result (TellsCause F.Reader.failed_reads (disk F.bytes F.failed_opens files.old) (disk F.bytes F.failed_opens files.new)
+            (W.counts out.old) (W.counts out.new)) }
+        ensures unflushed { (W.counts out.new).flushes ≡ (W.counts out.old).flushes }
     {
-        let program = match read_file(alloc, files, self.program) {
+        let program = match read_program_file(alloc, files, self.program) {
             Ok(program) => program,
             Err(fault) => return Err(Failure::of_file(self.program, fault)),
         };

@@ -1,0 +1,11 @@
+use Rattle.std.proofs.Common.{◌≡◌, ℕ, ◌%◌, List, length, take}
+use Rattle.std.specs.Io.KnownBytes.{Consumes}
+use Rattle.commands.specs.declared.files.TheConstants.{MOST_KEPT}
+use Rattle.commands.proofs.files.read_program.Given as goal
+
+-- so much was read, of which a front is kept, and no read has failed
+abbrev pub invariant-loop : goal.invariant-loop
+invariant-loop g l =
+    (taken : List ℕ) × Consumes (g.R.Read.remaining l.initial.input) (g.R.Read.remaining l.input) taken
+    × (l.kept.items ≡ take MOST_KEPT taken) × (l.remainder ≡ length taken % 8)
+    × (g.R.CountedRead.failed_reads l.input ≡ g.R.CountedRead.failed_reads l.initial.input)

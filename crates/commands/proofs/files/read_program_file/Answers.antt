@@ -1,0 +1,6 @@
+use Rattle.commands.proofs.UnusableLemmas.{used}
+use Rattle.commands.proofs.files.read_program_file.Goals as goal
+
+pub returns-in-Ok-clause-uses : goal.returns-in-Ok-clause-uses
+returns-in-Ok-clause-uses g c =
+    used g.F.Reader.CountedRead.failed_reads c.in-Ok.reader c.read_program.new.input c.read_program.result _ _ c.in-Ok.ensures.opens c.read_program.ensures.reads
