@@ -21,11 +21,13 @@
 # Then the rows of examples/verdicts, which are such programs; there a line that begins with `#` says what the rows below it are of. Each program is
 # also sent to the server, which has to say the same.
 #
-# Then the program over files and outputs that are missing, faulty or full, and the outcomes of a trace: each text of an error has to stand
-# in docs/refusals.md. And the table of crates/bpf_tests/src/generated.rt has to be what annotations.py writes.
+# Then the program over files that are missing or faulty, and the outcomes of a trace: each text of an error has to stand in docs/refusals.md. And the
+# table of crates/bpf_tests/src/generated.rt has to be what annotations.py writes.
 #
-# Prints what failed, and ends with 0 where nothing did, else with 1. It needs bash and coreutils, and takes less than a minute. The blocks ```http
-# need curl, and annotations.py needs python3.
+# At last exhaustion.sh, which stands beside it: the program without memory, room or descriptors enough.
+#
+# Prints what failed, and ends with 0 where nothing did, else with 1. It needs bash and coreutils, and takes less than two minutes. The blocks ```http
+# need curl, annotations.py needs python3, and exhaustion.sh both.
 
 set -u
 export LC_ALL=C
@@ -442,10 +444,6 @@ END
     try_shown 'error: 100000 CODEs are taken at most, and 100001 are given'
     try_shown 'error: --number is 1 to 11 digits, and "164-20" isn'\''t'
     try_shown 'error: --name is 1 to 30 bytes, and "" isn'\''t'
-    if [ -w /dev/full ]; then
-        try_case 3 0 'error: the output can'\''t be written: no space left' \
-            'extractd geocode --data "$county" --number 751 --name main 01001 > /dev/full'
-    fi
 }
 
 # The outcomes of `trace`, and what it can't be asked for.
@@ -483,10 +481,6 @@ END
     try_case 1 0 'refused 10 Empty' 'extractd trace --program nothing --data "$county" --line 1 --limit 1 01001'
     try_case 1 0 'refused 11 NotWhole' 'extractd trace --program bare.s --data "$county" --line 0 --limit 1 01001'
     try_case 3 0 'error: missing.bpf: not found' 'extractd trace --program missing.bpf --data "$county" --line 0 --limit 1 01001'
-    if [ -w /dev/full ]; then
-        try_case 3 0 'error: the output can'\''t be written: no space left' \
-            'extractd trace --program "$all" --data "$county" --line 1 --limit 1 01001 > /dev/full'
-    fi
 }
 
 try_cases() {
@@ -566,25 +560,6 @@ END
     fi
     try_shown 'error: FILE: permission denied'
 
-    # Outputs that can't be used.
-    if [ -w /dev/full ]; then
-        try_case 3 0 'refused 60 Write' 'extractd run --program "$all" --data "$county" 01001 > /dev/full'
-        try_case 3 0 'error: the output can'\''t be written: no space left' 'extractd verify --program "$all" > /dev/full'
-        try_case 3 0 'error: the output can'\''t be written: no space left' 'extractd dis --program "$all" > /dev/full'
-        try_case 1 0 'refused 10 Empty' 'extractd dis --program nothing > /dev/full'
-        try_case 2 0 '' 'extractd dis 2> /dev/full'
-    else
-        skip 'a full device (there is no /dev/full)'
-    fi
-    try_shown "error: the output can't be written: no space left"
-    # A pipe whose reader has ended.
-    exec 9> >(exec true)
-    wait $!
-    try_case 3 0 'refused 60 Write' 'extractd run --program "$all" --data "$county" 01001 >&9'
-    try_case 3 0 'error: the output can'\''t be written: broken pipe' 'extractd dis --program "$all" >&9'
-    exec 9>&-
-    try_shown "error: the output can't be written: broken pipe"
-
     try_counties
     try_traces
     try_geocodes
@@ -620,4 +595,5 @@ done
 try_long_program
 try_cases
 echo "$tried passed, $failed failed"
+"$top/examples/exhaustion.sh" "$program" || failed=$((failed + 1))
 [ $failed -eq 0 ]

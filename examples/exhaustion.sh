@@ -1,0 +1,723 @@
+#!/usr/bin/env bash
+# Tries how a built program ends where the system has no more to give: examples/exhaustion.sh PATH_TO_extractd
+#
+# Each command, and then the server, with too little of
+# - memory: in address spaces (`ulimit -v`) from far too small to ample it can't be started, or ends with 4 and `refused memory`, or does its work; files
+#   of a gibibyte, and sources without end;
+# - room: a full device, a file that may grow no further (`ulimit -f`), a pipe whose reader has ended, before or within the rows;
+# - the files themselves: FIFOs whose writer stops anywhere in a line, and files that shrink or grow while they are read;
+# - file descriptors (`ulimit -n`).
+# Looked at is the exit status, all of standard error, and all of standard output: it is whole only with status 0, else it is empty or, for `run`, a
+# beginning of the rows. Of the server, that what it refuses or can't send whole changes nothing, and that the next request gets the right reply whole.
+#
+# Prints what failed, and ends with 0 where nothing did, else with 1. It needs bash, coreutils and python3, and curl for the server, and takes less than
+# a minute, and 60 MB on the disk: files of a gibibyte are sparse.
+#
+# It leaves out:
+# - a program that can't be opened for want of descriptors: the loader needs one more before `main`, and hands it back;
+# - a read that fails half-way, and a device that is full half-way through a write of its own accord: crates/command_tests has each of them;
+# - a source of a gibibyte in ample memory: `asm` takes two gibibytes and five seconds for it. One of 16 MiB is tried;
+# - clients that say nothing or take nothing: the server waits 10 and 30 seconds for them. crates/server_tests has shorter limits;
+# - the system's own want of memory, where it kills what it likes.
+
+set -u
+export LC_ALL=C
+
+if [ $# -ne 1 ] || [ ! -x "$1" ] || [ -d "$1" ]; then
+    echo "usage: ${0##*/} PATH_TO_extractd" >&2
+    exit 1
+fi
+program=$(realpath "$1")
+top=$(realpath "$(dirname "$0")/..")
+tried=0 failed=0
+
+pass() { tried=$((tried + 1)); }
+fail() { failed=$((failed + 1)); printf 'FAILED: '; printf '%s\n' "$@"; }
+skip() { printf 'left out: %s\n' "$1"; }
+
+# The descriptors that the program inherits count among its own.
+for descriptor in {3..9}; do eval "exec $descriptor>&-"; done
+scratch=$(mktemp -d) || exit 1
+trap 'stop_server; rm -rf "$scratch"' EXIT
+mkdir "$scratch/bin" "$scratch/home"
+cp "$program" "$scratch/bin/extractd"
+export PATH="$scratch/bin:$PATH" HOME="$scratch/home"
+cd "$scratch" || exit 1
+# A write beyond `ulimit -f` is an error then, and no signal.
+trap '' XFSZ
+
+# limited LETTER NUMBER COMMAND..: becomes the command, under this limit of the shell's: `v` is KiB of addresses, `f` KiB of a file, `n` descriptors.
+printf '#!%s\nulimit -"$1" "$2" && shift 2 && exec "$@"\n' "$BASH" > bin/limited
+chmod 755 bin/limited
+
+# observe COMMAND: runs it. Its exit status is `status` then, its standard output the file `out`, and its standard error `text`, with a dot behind it so
+# that line ends count.
+observe() {
+    : > out
+    text=$(eval "{ $1; } 2>&1 > out < /dev/null"; code=$?; printf .; exit $code)
+    status=$?
+}
+
+# is_front SIZE FILE: whether `out` is the first SIZE bytes of the file, where `all` is the whole of it, and `rows` any number of rows.
+is_front() {
+    local size
+    size=$(stat -c %s out)
+    case $1 in
+    all) cmp -s out "$2" ;;
+    rows) [ $((size % 231)) = 0 ] && cmp -s -n "$size" out "$2" ;;
+    *) [ "$size" = "$1" ] && cmp -s -n "$size" out "$2" ;;
+    esac
+}
+
+# judge STATUS TEXT SIZE FILE COMMAND: whether what was observed of the command is as it should be. TEXT is a line, or empty for none.
+judge() {
+    if [ "$status" = "$1" ] && [ "$text" = "${2:+$2$'\n'}." ] && is_front "$3" "$4"; then pass; else
+        fail "$5" "should give status $1, $3 bytes of $4 and: $2" "and gives status $status, $(stat -c %s out) bytes and: ${text%.}"
+    fi
+}
+
+# try_case STATUS TEXT SIZE FILE COMMAND
+try_case() {
+    observe "$5"
+    judge "$@"
+}
+
+try_shown() {
+    case $(cat "$top/docs/refusals.md") in
+    *"\`$1\`"*) pass ;;
+    *) fail "docs/refusals.md doesn't show: $1" ;;
+    esac
+}
+
+# A county of 20,000 segments: 50 times what makes the example county, each time by other numbers but the first.
+make_large_county() {
+    python3 -B - "$top/examples" large <<'END'
+import sys
+from pathlib import Path
+
+sys.path.insert(0, sys.argv[1])
+from make_county import JOINED_SEED, SEED, Dice, county, joined, write
+
+chains = []
+for part in range(50):
+    for chain in county(Dice(SEED + part)):
+        for segment in chain:
+            segment["TLID"] = str(int(segment["TLID"]) + 10000 * part)
+        chains.append(chain)
+segments = [segment for chain in chains for segment in chain]
+write(Path(sys.argv[2]), (segments, *joined(Dice(JOINED_SEED), chains)))
+END
+}
+
+# rows_of FOLDER: the rows of all.bpf, which chooses each line, with a score of 0.
+rows_of() {
+    tr -d '\r' < "$1/TGR01001.RT1" | sed 's/^/0\t/'
+}
+
+# What is read, and what is right to be written of it.
+make_files() {
+    local doubling
+    cp "$top"/examples/*.bpf "$top"/examples/*.s .
+    mkdir small one
+    cp "$top"/examples/TGR01001.RT? small
+    cp "$top"/examples/one/TGR01001.RT? one
+    make_large_county || { fail 'make_county.py makes no large county'; exit 1; }
+    # The last segment has 4,995 alternate names, and each takes memory when its row is made.
+    mkdir late
+    cp small/TGR01001.RT1 small/TGR01001.RT5 late
+    printf "40006$(tail -n 1 small/TGR01001.RT1 | cut -b 6-15)%3d       5       5       5       5       5\r\n" {1..999} > late/TGR01001.RT4
+    : > nothing
+    for county in small one large late; do rows_of $county > $county.rows; done
+    echo accepted > accepted
+    printf 'exit 1 score 0\n' > traced
+    printf '107000151\tL\t-86475706\t32577369\n' > small.hits
+    extractd geocode --data large --number 1785 --name persimmon 01001 > large.hits
+    printf '\xb7\0\0\0\1\0\0\0\x95\0\0\0\0\0\0\0' > all.words
+    printf 'mov r0, 1\nexit\n' > all.text
+    # It chooses each segment, too, and asks how many names it has, so types 4, 5 and 6 are kept.
+    printf 'call 3\nmov r0, 1\nexit\n' > asking.s
+    extractd asm --source asking.s > asking.bpf
+    # Programs of 32,768 bytes, 32,769 and 32,776, of 16 MiB, and of a gibibyte and a byte more.
+    { yes 'mov r0, 1' | head -n 4095; echo exit; } > longest.s
+    extractd asm --source longest.s > longest.bpf
+    { cat longest.bpf; printf '\0'; } > byte_more.bpf
+    { cat longest.bpf; tail -c 8 all.bpf; } > word_more.bpf
+    cp longest.bpf many.bpf
+    for doubling in {1..9}; do cat many.bpf many.bpf > twice.bpf && mv twice.bpf many.bpf; done
+    truncate -s 1G gibibyte.bpf
+    truncate -s $((2 ** 30 + 1)) uneven.bpf
+}
+
+# outcome LIMIT SIZE FILE COMMAND: what comes of the command in so many KiB. SIZE is what may stand on its output where it's refused.
+outcome() {
+    observe "limited v $1 $4"
+    case $status in
+    0) [ "$text" = . ] && cmp -s out "$3" && result=right && return ;;
+    4) [ "$text" = $'refused memory\n.' ] && is_front "$2" "$3" && result=refused && return ;;
+    # The shell can't replace itself by the program; the loader finds no room for a library; the system ends it before it is loaded.
+    126 | 127 | 137 | 139) [ ! -s out ] && result=unstarted && return ;;
+    esac
+    result="status $status, $(stat -c %s out) bytes and: ${text%.}"
+}
+
+# Finds in `start` the least space, in pages of 4 KiB, in which the program comes to its `main`: `--version` ends with a status of its own, and in a
+# little less it is the loader that gives up. So what a signal or the loader ends in a larger space is a fault of the program's.
+find_start() {
+    local low=64 high=65536 middle
+    while [ $((high - low)) -gt 4 ]; do
+        middle=$(((low + high) / 8 * 4))
+        observe "limited v $middle extractd --version"
+        case $status in
+        2 | 4) high=$middle ;;
+        *) low=$middle ;;
+        esac
+    done
+    start=$high
+    observe "limited v $((start - 64)) extractd --version"
+    case $status:$text in
+    127:*'error while loading shared libraries'*) pass ;;
+    *) fail "extractd --version in $((start - 64)) KiB" "should be ended by the loader, and gives $status and: ${text%.}" ;;
+    esac
+}
+
+# try_space NAME SIZE FILE COMMAND: the command in spaces from far too small to ample. Its least one is in `least[NAME]` then, and in `before` how much
+# stood on its output at the most where it was refused.
+declare -A least=()
+try_space() {
+    local limit middle refused=0 right=0 extra
+    before=0
+    for limit in $((start / 8)) $((start / 4)) $((start / 2)) $((start * 4 / 5)) $((start - 64)); do
+        outcome $limit "$2" "$3" "$4"
+        if [ "$result" = unstarted ]; then pass; else fail "$4 in $limit KiB" "shouldn't be started, and gives $result"; fi
+    done
+    note() {
+        case $result in
+        refused) refused=$limit; [ "$(stat -c %s out)" -gt $before ] && before=$(stat -c %s out); pass ;;
+        right) pass ;;
+        *) fail "$4 in $limit KiB" "should be refused or right, and gives $result" ;;
+        esac
+    }
+    for ((extra = 8; extra <= 131072; extra *= 2)); do
+        limit=$((start + extra))
+        outcome $limit "$2" "$3" "$4"
+        note "$@"
+        if [ "$result" = right ]; then [ $right = 0 ] && right=$limit; elif [ $right != 0 ]; then
+            fail "$4" "is right in $right KiB, and gives $result in $limit KiB"
+        fi
+    done
+    # Between the largest of these spaces in which it's refused and the least in which it's right.
+    while [ $refused != 0 ] && [ $((right - refused)) -gt 4 ]; do
+        limit=$((refused + (right - refused) / 8 * 4))
+        outcome $limit "$2" "$3" "$4"
+        note "$@"
+        case $result in
+        refused) ;;
+        right) right=$limit ;;
+        *) break ;;
+        esac
+    done
+    if [ $refused != 0 ] && [ $right != 0 ]; then pass; else fail "$4" "should be refused in some space and right in some"; fi
+    least[$1]=$right
+}
+
+try_spaces() {
+    find_start
+    try_space verify 0 accepted 'extractd verify --program all.bpf'
+    try_space asm 0 all.words 'extractd asm --source all.text'
+    try_space dis 0 all.text 'extractd dis --program all.bpf'
+    try_space run rows small.rows 'extractd run --program all.bpf --data small 01001'
+    try_space trace 0 traced 'extractd trace --program all.bpf --data small --line 400 --limit 2 01001'
+    try_space geocode 0 small.hits 'extractd geocode --data small --number 1785 --name persimmon 01001'
+    try_space large_run rows large.rows 'extractd run --program asking.bpf --data large 01001'
+    try_space large_trace 0 traced 'extractd trace --program all.bpf --data large --line 20000 --limit 2 01001'
+    try_space large_geocode 0 large.hits 'extractd geocode --data large --number 1785 --name persimmon 01001'
+    # Memory that is wanting for the last segment alone: 399 rows stand before it.
+    try_space late_run rows late.rows 'extractd run --program asking.bpf --data late 01001'
+    if [ $before = $((399 * 231)) ]; then pass; else fail "run over late in too little memory" "should write 399 rows, and writes $before bytes at the most"; fi
+    if cmp -s -n "$(stat -c %s small.hits)" small.hits large.hits; then pass; else fail 'the large county has another hit first' "$(cat large.hits)"; fi
+}
+
+# Outputs with no room, or whose reader has ended.
+full="error: the output can't be written: no space left"
+broken="error: the output can't be written: broken pipe"
+too_large="error: the output can't be written: File too large (os error 27)"
+try_outputs() {
+    local command kib
+    # Less than the output's buffer of 64 KiB is handed on at the end; what `run` and a long `dis` write is more.
+    local run='extractd run --program all.bpf --data small 01001' dis='extractd dis --program longest.bpf'
+    local few=('extractd run --program all.bpf --data one 01001' 'extractd verify --program all.bpf' 'extractd dis --program all.bpf'
+        'extractd asm --source all.text' 'extractd trace --program all.bpf --data small --line 1 --limit 1 01001'
+        'extractd geocode --data small --number 751 --name main 01001')
+    if [ -w /dev/full ]; then
+        try_case 3 'refused 60 Write' 0 nothing "$run > /dev/full"
+        for command in "${few[@]}"; do try_case 3 "$full" 0 nothing "$command > /dev/full"; done
+        try_case 1 'refused 10 Empty' 0 nothing 'extractd dis --program nothing > /dev/full'
+        try_case 1 '' 0 nothing 'extractd dis --program nothing 2> /dev/full'
+        try_case 2 '' 0 nothing 'extractd dis 2> /dev/full'
+        try_case 3 '' 0 nothing "$run > /dev/full 2> /dev/full"
+    else
+        skip 'a full device (there is no /dev/full)'
+    fi
+    try_shown "$full"
+    # The file holds what goes into it, to the byte.
+    for kib in 1 63 64 65 1000 4400; do
+        try_case 3 'refused 60 Write' $((kib * 1024)) large.rows "limited f $kib extractd run --program all.bpf --data large 01001"
+    done
+    # Here it is the last rows that have no room, and they are still in the buffer.
+    try_case 3 "$too_large" $((4511 * 1024)) large.rows "limited f 4511 extractd run --program all.bpf --data large 01001"
+    try_case 0 '' all large.rows 'limited f 4512 extractd run --program all.bpf --data large 01001'
+    for command in "${few[@]}"; do try_case 3 "$too_large" 0 nothing "limited f 0 $command"; done
+    extractd dis --program longest.bpf > longest.text
+    try_case 3 "$too_large" 1024 longest.text "limited f 1 $dis"
+    try_case 3 "$too_large" 1024 longest.bpf "limited f 1 extractd asm --source longest.s"
+    try_case 3 "$too_large" 31744 longest.bpf "limited f 31 extractd asm --source longest.s"
+    try_case 0 '' all longest.bpf "limited f 32 extractd asm --source longest.s"
+    # A pipe whose reader has ended before.
+    exec 9> >(exec true)
+    wait $!
+    try_case 3 'refused 60 Write' 0 nothing "$run >&9"
+    for command in "${few[@]}"; do try_case 3 "$broken" 0 nothing "$command >&9"; done
+    exec 9>&-
+    try_shown "$broken"
+    # No output at all: its number is that of the first file that is opened, which is opened for reading.
+    try_case 3 'refused 60 Write' 0 nothing "$run >&-"
+    for command in "${few[@]}"; do
+        try_case 3 "error: the output can't be written: Bad file descriptor (os error 9)" 0 nothing "$command >&-"
+    done
+    try_case 0 '' all all.words 'cat all.bpf'
+    for size in 0 1 230 231 65536 65537 1000000 4000000; do try_reader $size; done
+}
+
+# try_reader SIZE: the reader of the rows takes so many bytes of them, and ends.
+try_reader() {
+    local command="extractd run --program all.bpf --data large 01001 | head -c $1" codes
+    extractd run --program all.bpf --data large 01001 2> err | head -c $1 > out
+    codes=("${PIPESTATUS[@]}")
+    status=${codes[0]} text=$(cat err; printf .)
+    judge 3 'refused 60 Write' $1 large.rows "$command"
+}
+
+# Programs and sources that are longer than memory.
+try_long_files() {
+    local command file text place options
+    local -A options=([run]=' --data small 01001' [verify]='' [dis]='' [trace]=' --data small --line 1 --limit 4096 01001')
+    for command in run verify dis trace; do
+        # What a small program needs, and less than a program of the greatest length twice beside it.
+        place="limited v $((least[$command] + 128))"
+        for file in word_more many gibibyte; do
+            try_case 1 'refused 12 TooLong' 0 nothing "$place extractd $command --program $file.bpf${options[$command]}"
+        done
+        for file in byte_more uneven; do
+            try_case 1 'refused 11 NotWhole' 0 nothing "$place extractd $command --program $file.bpf${options[$command]}"
+        done
+    done
+    # The greatest length itself.
+    try_case 0 '' all small.rows 'extractd run --program longest.bpf --data small 01001'
+    try_case 0 '' all accepted 'extractd verify --program longest.bpf'
+    try_case 0 '' all traced 'extractd trace --program longest.bpf --data small --line 1 --limit 4096 01001'
+    try_case 0 '' all longest.s 'extractd dis --program longest.bpf'
+    # A source is kept whole.
+    place="limited v $((least[asm] + 128))"
+    try_case 4 'refused memory' 0 nothing "$place extractd asm --source gibibyte.bpf"
+    try_case 4 'refused memory' 0 nothing "$place extractd asm --source <(yes 'mov r0, 1')"
+    try_case 4 'refused memory' 0 nothing "limited v $((least[asm] + 65536)) extractd asm --source <(yes 'mov r0, 1')"
+    try_case 1 'refused 20 line 1 Syntax' 0 nothing 'extractd asm --source <(head -c 16M /dev/zero)'
+    try_case 1 'refused 26 line 4097 CodeFault(12)' 0 nothing "extractd asm --source <(yes 'mov r0, 1' | head -c 16M)"
+}
+
+# Files that end where their writer stops, and files that change while they are read.
+try_changing_files() {
+    local type size status_wanted text_wanted rows
+    # By FIFOs: what is in a county's file up to any byte. A CR that no LF follows is a byte of its line.
+    while IFS='|' read -r type size status_wanted rows text_wanted; do
+        try_fifo "$type" "$size" "$status_wanted" "$text_wanted" "$rows"
+    done <<'END'
+1|0|0|0|
+1|1|1|0|refused 1 rt1 line 1 WrongLength
+1|227|1|0|refused 1 rt1 line 1 WrongLength
+1|228|0|1|
+1|229|1|0|refused 1 rt1 line 1 WrongLength
+1|230|0|1|
+1|231|1|1|refused 1 rt1 line 2 WrongLength
+1|65536|1|284|refused 1 rt1 line 285 WrongLength
+1|91770|0|399|
+1|91998|0|400|
+1|91999|1|399|refused 1 rt1 line 400 WrongLength
+1|92000|0|400|
+4|0|0|400|
+4|59|1|0|refused 1 rt4 line 1 WrongLength
+4|100|1|0|refused 1 rt4 line 2 WrongLength
+4|8338|0|400|
+5|58|0|400|
+5|100|1|0|refused 1 rt5 line 2 WrongLength
+6|78|0|400|
+6|100|1|0|refused 1 rt6 line 2 WrongLength
+END
+    printf '\xb7\0\0\0' > half_word.bpf
+    head -c 8 all.bpf > no_exit.bpf
+    try_case 1 'refused 11 NotWhole' 0 nothing 'extractd run --program <(cat half_word.bpf) --data small 01001'
+    try_case 1 'refused 33 place 0 LastNotExit' 0 nothing 'extractd run --program <(cat no_exit.bpf) --data small 01001'
+    try_case 0 '' all small.rows 'extractd run --program <(cat all.bpf) --data small 01001'
+    # A file of 4.6 MB, of which less than 200 KB are read before the rows are: 64 KiB stand in the pipe, in the output's buffer and in the input's.
+    try_held 1000000 1 'refused 1 rt1 line 4348 WrongLength' 4347 'truncate -s 1000000 held/TGR01001.RT1'
+    try_held 999810 0 '' 4347 'truncate -s 999810 held/TGR01001.RT1'
+    head -c 1000000 large/TGR01001.RT1 > beginning
+    try_held 1000000 0 '' 20000 'tail -c +1000001 large/TGR01001.RT1 >> held/TGR01001.RT1' beginning
+    # Less is left than was read already: where reading ends isn't said then, but that each row is of a whole line before there.
+    try_held 1000 1 'refused 1 rt1 line * WrongLength' '*' 'truncate -s 1000 held/TGR01001.RT1'
+}
+
+# try_fifo TYPE SIZE STATUS TEXT ROWS: the small county, whose file of the type is a FIFO that gets so many bytes. What is refused is so for `trace`
+# and `geocode` too, and without output.
+try_fifo() {
+    local file=fifo/TGR01001.RT$1
+    rm -rf fifo
+    cp -R small fifo
+    rm $file
+    mkfifo $file
+    through() { timeout 20 head -c "$size" "small/TGR01001.RT$type" > $file & eval "timeout 20 $1"; }
+    try_case $3 "$4" $(($5 * 231)) small.rows 'through "extractd run --program all.bpf --data fifo 01001"'
+    [ $3 = 0 ] && return
+    try_case $3 "$4" 0 nothing 'through "extractd trace --program all.bpf --data fifo --line 1 --limit 1 01001"'
+    try_case $3 "$4" 0 nothing 'through "extractd geocode --data fifo --number 1785 --name persimmon 01001"'
+}
+
+# try_held SIZE STATUS TEXT ROWS CHANGE [FILE]: changes a file of type 1, the large county's or FILE, while `run` is held by a full pipe.
+try_held() {
+    local size
+    rm -rf held pipe
+    mkdir held
+    cp "${6-large/TGR01001.RT1}" held/TGR01001.RT1
+    mkfifo pipe
+    timeout 60 extractd run --program all.bpf --data held 01001 > pipe 2> err &
+    exec 9< pipe
+    dd bs=1 count=1 status=none <&9 > out
+    eval "$5"
+    cat <&9 >> out
+    exec 9<&-
+    wait $!
+    status=$? text=$(cat err; printf .) size=$(stat -c %s out)
+    if [ "$4" != '*' ]; then
+        judge $2 "$3" $(($4 * 231)) large.rows "$5, within run"
+    elif [ $size -gt 0 ]; then
+        judge $2 "${3/'*'/$((size / 231 + 1))}" rows large.rows "$5, within run"
+    else
+        fail "$5, within run" "$(cat err)"
+    fi
+}
+
+# With how many descriptors a command is started, and what it says. The loader needs the fourth before `main`.
+try_descriptors() {
+    local number command status_wanted size file text_wanted
+    local -A commands=([verify]='extractd verify --program all.bpf' [asm]='extractd asm --source all.text' [dis]='extractd dis --program all.bpf'
+        [run]='extractd run --program all.bpf --data small 01001' [trace]='extractd trace --program all.bpf --data small --line 400 --limit 2 01001'
+        [geocode]='extractd geocode --data small --number 1785 --name persimmon 01001'
+        [serve]='extractd serve --data small --port 1 01001')
+    for command in "${!commands[@]}"; do
+        observe "limited n 3 ${commands[$command]}"
+        if [ $status = 127 ] && [ ! -s out ]; then pass; else
+            fail "${commands[$command]} with 3 descriptors" "shouldn't be started, and gives $status and: ${text%.}"
+        fi
+    done
+    while IFS='|' read -r number command status_wanted size file text_wanted; do
+        try_case $status_wanted "${text_wanted:+error: small/TGR01001.$text_wanted: Too many open files (os error 24)}" $size $file \
+            "limited n $number ${commands[$command]}"
+    done <<'END'
+4|verify|0|all|accepted|
+4|asm|0|all|all.words|
+4|dis|0|all|all.text|
+4|run|3|0|nothing|RT1
+5|run|3|0|nothing|RT4
+6|run|3|0|nothing|RT5
+7|run|3|0|nothing|RT6
+8|run|0|all|small.rows|
+4|trace|3|0|nothing|RT1
+5|trace|3|0|nothing|RT4
+6|trace|3|0|nothing|RT5
+7|trace|3|0|nothing|RT6
+8|trace|0|all|traced|
+4|geocode|3|0|nothing|RT4
+5|geocode|3|0|nothing|RT5
+6|geocode|3|0|nothing|RT6
+7|geocode|0|all|small.hits|
+4|serve|3|0|nothing|RT4
+5|serve|3|0|nothing|RT5
+6|serve|3|0|nothing|RT6
+END
+    # A county's files are closed before the next county's are opened.
+    try_case 0 '' all twice.hits 'cat small.hits small.hits > twice.hits; limited n 7 extractd geocode --data small --number 1785 --name persimmon 01001 01001'
+}
+
+server="" port=""
+stop_server() {
+    [ -z "$server" ] && return
+    kill "$server" 2> /dev/null
+    wait "$server" 2> /dev/null
+    server=""
+}
+
+# start_server FOLDER [COMMAND..]: serves its county at a free port, by way of the command. Where it ends before it listens, `status` and `text` say how.
+start_server() {
+    local folder=$1
+    shift
+    for _ in {1..20}; do
+        port=$((10000 + RANDOM % 20000))
+        : > said
+        "$@" extractd serve --data "$folder" --port $port 01001 > said 2> said.err < /dev/null &
+        server=$!
+        for _ in {1..400}; do
+            [ "$(cat said)" = "listening 127.0.0.1:$port" ] && return
+            kill -0 $server 2> /dev/null || break
+            sleep 0.02
+        done
+        kill $server 2> /dev/null
+        wait $server 2> /dev/null
+        status=$? text=$(cat said.err; printf .) server=""
+        [[ $text == *'Address already in use'* ]] || return 1
+    done
+    return 1
+}
+
+# ask NAME STATUS FILE CURL-ARGUMENTS: one request. Its reply has to be whole, by its Content-Length, and its body the file.
+ask() {
+    local name=$1 wanted=$2 file=$3 code got
+    shift 3
+    : > got
+    got=$(curl -s -m 60 -H 'Expect:' -o got -w '%{http_code}' "$@")
+    code=$?
+    if [ "$code: $got" = "0: $wanted" ] && cmp -s got "$file"; then pass; else
+        fail "$name" "should be $wanted and: $(head -c 80 "$file")" "and is $got (curl: $code) and: $(head -c 80 got)"
+    fi
+}
+
+# says NAME STATUS TEXT CURL-ARGUMENTS: the same, where the body is a line.
+says() {
+    local name=$1 wanted=$2
+    printf '%s\n' "$3" > wanted
+    shift 3
+    ask "$name" "$wanted" wanted "$@"
+}
+
+# turns COUNT: as many connections, each with a turn behind it.
+turns() { curl -s -m 60 -o /dev/null "http://127.0.0.1:$port/jobs/0?[1-$1]"; }
+
+# is_well NAME COUNTY [JOB FILE]: the server over the county still gives a verdict, hits, and the rows of a job, which stand in the file.
+is_well() {
+    local url=127.0.0.1:$port
+    says "$1, then a verdict" 200 accepted --data-binary @all.bpf $url/verify
+    ask "$1, then hits" 200 "$2.hits" "$url/geocode?number=1785&name=persimmon"
+    [ $# -lt 4 ] || ask "$1, then a job" 200 "$4" $url/jobs/$3
+}
+
+# job_is JOB NAME: the reply to a GET of the job is how far it is, and whole rows so far, all of them. Its program chooses each segment of the county.
+job_is() {
+    local code got
+    got=$(curl -s -m 60 -o got -w '%{http_code}' 127.0.0.1:$port/jobs/$1)
+    code=$?
+    read -r progress total < got
+    tail -n +2 got > out
+    if [ "$code: $got" = "0: 200" ] && is_front $((progress * 231)) $3.rows; then pass; else
+        fail "$2, then the job $1" "should be 200 and the rows of $progress segments" "and is $got (curl: $code) and $(stat -c %s out) bytes"
+    fi
+}
+
+# Standard output and standard error that can't be used.
+try_announcing() {
+    local output reason
+    while IFS='|' read -r output reason; do
+        for _ in {1..20}; do
+            eval "timeout 20 extractd serve --data small --port $((10000 + RANDOM % 20000)) 01001 $output < /dev/null" 2> err
+            status=$? text=$(cat err; printf .)
+            [[ $text == *'Address already in use'* ]] || break
+        done
+        : > out
+        judge 3 "$reason" 0 nothing "extractd serve $output"
+    done <<END
+> /dev/full|$full
+> /dev/full 2> /dev/full|
+>&9|$broken
+END
+}
+
+# Spaces from far too small to ample: the server isn't started, ends with 4, or listens. `least[serve_COUNTY]` is the least in which it listens.
+try_server_space() {
+    local limit middle refused=0 right=0 extra
+    look() {
+        if start_server $1 limited v $limit; then
+            stop_server
+            right=$limit
+            pass
+            return
+        fi
+        if [ $right = 0 ] || [ $limit -lt $right ]; then refused=$limit; fi
+        if [ "$status: $text" = $'4: refused memory\n.' ] && [ ! -s said ] && [ $refused = $limit ]; then pass; else
+            fail "serve over $1 in $limit KiB" "should be refused or listen, and gives $status and: ${text%.}"
+        fi
+    }
+    for ((extra = 8; extra <= 131072; extra *= 2)); do
+        limit=$((start + extra))
+        look $1
+        [ $right = 0 ] || break
+    done
+    for limit in $((right * 2)) $((right * 4)); do
+        middle=$right
+        look $1
+        right=$middle
+    done
+    while [ $refused != 0 ] && [ $((right - refused)) -gt 16 ]; do
+        limit=$((refused + (right - refused) / 8 * 4))
+        look $1
+    done
+    if [ $refused != 0 ] && [ $right != 0 ]; then pass; else fail "serve over $1" "should be refused in some space and listen in some"; fi
+    least[serve_$1]=$right
+}
+
+# Requests that take more memory than there is.
+try_server_memory() {
+    local url jobs id job progress total stood
+    head -c 1048576 /dev/zero > mebibyte
+    try_server_space small
+    # A body of a mebibyte, and jobs of long programs, over 400 segments.
+    start_server small limited v $((least[serve_small] + 1024)) || fail 'serve over small' "$text"
+    url=127.0.0.1:$port
+    says 'a large body' 503 'refused memory' --data-binary @mebibyte $url/verify
+    is_well 'a large body' small
+    says 'a large body' 503 'refused memory' --data-binary @mebibyte $url/jobs
+    for ((jobs = 0; jobs < 64; jobs++)); do
+        id=$(curl -s -m 60 --data-binary @longest.bpf $url/jobs)
+        [ "$id" = $((jobs + 1)) ] || break
+    done
+    if [ "$id" = 'refused memory' ] && [ $jobs -gt 2 ]; then pass; else fail "$jobs jobs of long programs" "and then: $id"; fi
+    says "the next job" 503 'refused memory' --data-binary @longest.bpf $url/jobs
+    for ((job = 1; job <= jobs; job++)); do job_is $job "$jobs jobs of long programs" small; done
+    is_well "$jobs jobs of long programs" small
+    # Two jobs less, and there is room for one again. The refused ones have used no id.
+    says 'a job is dropped' 200 dropped -X DELETE $url/jobs/1
+    says 'a job is dropped' 200 dropped -X DELETE $url/jobs/2
+    says 'a further job' 200 $((jobs + 1)) --data-binary @longest.bpf $url/jobs
+    says 'the dropped job' 404 'not found' $url/jobs/2
+    says 'a job that was refused' 404 'not found' $url/jobs/$((jobs + 2))
+    for ((job = 3; job <= jobs + 1; job++)); do job_is $job 'a further job' small; done
+    for ((job = 3; job <= jobs + 1; job++)); do says 'all jobs are dropped' 200 dropped -X DELETE $url/jobs/$job; done
+    says 'a job behind all' 200 $((jobs + 2)) --data-binary @all.bpf $url/jobs
+    turns 2
+    { echo 400 400; cat small.rows; } > finished
+    is_well 'a job behind all' small $((jobs + 2)) finished
+    stop_server
+
+    # All rows of 20,000 segments.
+    try_server_space large
+    start_server large limited v $((least[serve_large] + 4096)) || fail 'serve over large' "$text"
+    url=127.0.0.1:$port
+    says 'an extract' 503 'refused memory' --data-binary @all.bpf $url/extract
+    is_well 'an extract' large
+    ask 'a small extract' 200 house.rows --data-binary @house.bpf $url/extract
+    # A job goes on up to where its rows find no room, and stays there with whole rows.
+    says 'a long job' 200 1 --data-binary @all.bpf $url/jobs
+    turns 90
+    job_is 1 'a long job' large
+    stood=$progress
+    turns 10
+    job_is 1 'a long job that stands' large
+    if [ "$stood" = "$progress" ] && [ $progress -gt 0 ] && [ $progress -lt 20000 ]; then pass; else fail "a long job" "goes from $stood to $progress"; fi
+    says 'an extract' 503 'refused memory' --data-binary @all.bpf $url/extract
+    is_well 'an extract beside a job' large
+    says 'a job is dropped' 200 dropped -X DELETE $url/jobs/1
+    says 'a job of few rows' 200 2 --data-binary @house.bpf $url/jobs
+    turns 80
+    is_well 'a job of few rows' large 2 house.job
+    stop_server
+}
+
+# send BYTES: sends them on a new connection, `connection`, which stays open.
+send() { exec {connection}<> "/dev/tcp/127.0.0.1/$port" && printf "$@" >&$connection; }
+
+hang_up() { exec {connection}>&-; }
+
+# Clients that leave: before a request, within one, before the reply, and within it.
+try_clients() {
+    local url bytes
+    start_server large || fail 'serve over large' "$text"
+    url=127.0.0.1:$port
+    says 'a first job' 200 1 --data-binary @house.bpf $url/jobs
+    turns 80
+    is_well 'a first job' large 1 house.job
+    send ''
+    hang_up
+    is_well 'a client that says nothing' large 1 house.job
+    for bytes in 'P' 'POST /jobs HTTP/1.1\r\n' 'POST /jobs HTTP/1.1\r\nContent-Length: 16\r\n' 'POST /jobs HTTP/1.1\r\nContent-Length: 16\r\n\r\n' \
+        'POST /jobs HTTP/1.1\r\nContent-Length: 17\r\n\r\n\xb7\0\0\0\1\0\0\0\x95\0\0\0\0\0\0\0' 'DELETE /jobs/1 HTTP/1.1\r\n'; do
+        send "$bytes"
+        hang_up
+        is_well "a client that leaves behind $bytes" large 1 house.job
+    done
+    says 'a second job' 200 2 --data-binary @all.bpf $url/jobs
+    # A whole request is done, whether or not its client stays for the reply.
+    send 'POST /jobs HTTP/1.1\r\nContent-Length: 16\r\n\r\n\xb7\0\0\0\1\0\0\0\x95\0\0\0\0\0\0\0'
+    hang_up
+    says 'a fourth job' 200 4 --data-binary @all.bpf $url/jobs
+    send 'DELETE /jobs/3 HTTP/1.1\r\n\r\n'
+    hang_up
+    says 'the dropped job' 404 'not found' $url/jobs/3
+    says 'a job is dropped' 200 dropped -X DELETE $url/jobs/4
+    turns 80
+    { echo 20000 20000; cat large.rows; } > finished
+    is_well 'a second job' large 2 finished
+    # 4.6 MB are more than sockets hold, so the server is still writing when its client leaves.
+    for bytes in 'GET /jobs/2 HTTP/1.1\r\n\r\n' 'POST /extract HTTP/1.1\r\nContent-Length: 16\r\n\r\n\xb7\0\0\0\1\0\0\0\x95\0\0\0\0\0\0\0'; do
+        send "$bytes"
+        if [ "$(head -c 15 <&$connection)" = 'HTTP/1.1 200 OK' ]; then pass; else fail "no reply to $bytes"; fi
+        hang_up
+        is_well "a client that leaves within the reply to $bytes" large 2 finished
+    done
+    ask 'all rows' 200 large.rows --data-binary @all.bpf $url/extract
+    stop_server
+}
+
+# Descriptors for files and for one client at a time, and then none for a client.
+try_server_descriptors() {
+    start_server small limited n 7 || fail 'serve with 7 descriptors' "$text"
+    is_well 'serve with 7 descriptors' small
+    python3 -c 'import resource, sys; resource.prlimit(int(sys.argv[1]), resource.RLIMIT_NOFILE, (5, 5))' $server
+    is_well 'serve with 5 descriptors' small
+    python3 -c 'import resource, sys; resource.prlimit(int(sys.argv[1]), resource.RLIMIT_NOFILE, (4, 4))' $server
+    # The call that waits took its descriptor before: it still gets a client, and the next call fails.
+    observe "curl -s -m 20 127.0.0.1:$port/jobs/0"
+    case $status:$(cat out) in
+    '0:not found' | [1-9]*:) pass ;;
+    *) fail 'serve with 4 descriptors' "should give a whole reply or none, and gives $(head -c 80 out)" ;;
+    esac
+    timeout 20 tail --pid=$server -f /dev/null
+    kill $server 2> /dev/null
+    wait $server
+    status=$? text=$(cat said.err; printf .) server=""
+    : > out
+    judge 3 'error: no connection can be taken: Too many open files (os error 24)' 0 nothing 'serve with 4 descriptors'
+    if [ "$(cat said)" = "listening 127.0.0.1:$port" ]; then pass; else fail 'serve with 4 descriptors' "has written $(cat said)"; fi
+    try_shown 'error: no connection can be taken: REASON'
+}
+
+try_server() {
+    command -v curl > /dev/null || { skip 'the server (there is no curl here)'; return; }
+    extractd asm --source house_number.s > house.bpf
+    extractd run --program house.bpf --data large 01001 > house.rows
+    { echo 20000 20000; cat house.rows; } > house.job
+    exec 9> >(exec true)
+    wait $!
+    try_announcing
+    exec 9>&-
+    try_server_memory
+    try_clients
+    try_server_descriptors
+}
+
+command -v python3 > /dev/null || { skip "${0##*/} (there is no python3 here)"; exit 0; }
+make_files
+try_spaces
+try_outputs
+try_long_files
+try_changing_files
+try_descriptors
+try_server
+echo "$tried passed, $failed failed"
+[ $failed -eq 0 ]
