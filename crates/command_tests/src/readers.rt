@@ -19,8 +19,12 @@ fn file(alloc: Global) -> Result<Vec<u8>, AllocError> {
 }
 
 /// A device that fails in the call behind so many.
-fn device(bytes: &[u8], passed: u64) -> Fuse<&[u8]> {
-    Fuse::after_calls(bytes, passed, Burst::Fails(ErrorKind::Interrupted))
+fn device(bytes: &[u8], passed: u64) -> Fuse<Counting<&[u8]>> {
+    Fuse::after_calls(
+        Counting::new(bytes),
+        passed,
+        Burst::Fails(ErrorKind::Interrupted),
+    )
 }
 
 /// How many bytes are read one by one as they stand here, and what the read behind them gives, or nothing where it fails.

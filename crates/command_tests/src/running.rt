@@ -23,12 +23,13 @@ pub struct MemoryFile<'a> {
 }
 
 impl<'a> MemoryFile<'a> {
-    fn open(&self) -> io::Result<Counting<Fuse<&'a [u8]>>>
-        ensures { IfOk result (λ reader. reader.inner.inner.now ≡ self.now.bytes.now) }
+    fn open(&self) -> io::Result<Counting<Fuse<Counting<&'a [u8]>>>>
+        ensures { IfOk result (λ reader. reader.inner.inner.inner.now ≡ self.now.bytes.now) }
     {
         let Device { calls, burst, .. } = self.device;
         if self.is_open {
-            Ok(Counting::new(Fuse::after_calls(self.bytes, calls, burst)))
+            let bytes = Counting::new(self.bytes);
+            Ok(Counting::new(Fuse::after_calls(bytes, calls, burst)))
         } else {
             Err(io::Error::from(kind_of(burst)))
         }
@@ -61,14 +62,14 @@ impl<'a> MemoryFiles<'a> {
 }
 
 impl<'a> Files for MemoryFiles<'a> {
-    type Reader = Counting<Fuse<&'a [u8]>>;
+    type Reader = Counting<Fuse<Counting<&'a [u8]>>>;
 
     ghost bytes = { λ files name. option_map_or (λ file. Some file.bytes.now)
         (find (λ file. bytes_eq file.name.now name) files.files.now) (Some []) };
 
     ghost failed_opens = { λ files. files.failed_opens };
 
-    fn open(&mut self, name: &str) -> io::Result<Counting<Fuse<&'a [u8]>>> {
+    fn open(&mut self, name: &str) -> io::Result<Counting<Fuse<Counting<&'a [u8]>>>> {
         match self.open_if_there(name) {
             Ok(Some(reader)) => Ok(reader),
             Ok(None) => {
@@ -79,7 +80,10 @@ impl<'a> Files for MemoryFiles<'a> {
         }
     }
 
-    fn open_if_there(&mut self, name: &str) -> io::Result<Option<Counting<Fuse<&'a [u8]>>>> {
+    fn open_if_there(
+        &mut self,
+        name: &str,
+    ) -> io::Result<Option<Counting<Fuse<Counting<&'a [u8]>>>>> {
         let _ = self.opened.try_push_str(name);
         let _ = self.opened.try_push_str(" ");
         let Some(file) = self.file(name) else {
@@ -149,8 +153,8 @@ pub fn run(
     );
     Ok(Ending {
         status,
-        written: out.into_inner().inner.inner,
-        said: errors.into_inner().inner.inner,
+        written: out.into_inner().inner.into_inner().inner,
+        said: errors.into_inner().inner.into_inner().inner,
         opened: files.opened,
     })
 }

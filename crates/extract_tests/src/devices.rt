@@ -1,7 +1,7 @@
 //! Readers and writers that go wrong in mid-stream, and the order in which they are called.
 use crate::extracts::extract_of;
 use extract::{ExtractFault, extract};
-use fixtures::{Device, Files, Readers, bytes, cell, is_outcome, program, writer};
+use fixtures::{Device, Files, Readers, bytes, cell, is_outcome, program, taken, writer};
 use std::alloc::Global;
 use std::cell::Cell;
 use std::io;
@@ -47,7 +47,7 @@ fn stops_at(
     let given = extract_of(alloc, program, &mut readers, &mut out);
     given == Err(read_fault(file, lines))
         && readers.calls() == before.wrapping_add(call)
-        && out.get_ref().inner.inner.len() as u64 == lines.wrapping_mul(row)
+        && taken(&out).len() as u64 == lines.wrapping_mul(row)
 }
 
 /// Whether each read of a file of two lines is the last one where it fails, behind so many reads of other files, and the
@@ -137,12 +137,12 @@ fn is_cut_off(
     let mut readers = Readers::new(files, CountyFile::Rt1, Device::new(""));
     let mut out = writer(alloc, device);
     let given = extract_of(alloc, program, &mut readers, &mut out);
-    let fuse = out.get_ref();
     let (rows, reads) = calls_until(room as u64);
     let expected = if room < 462 { cell(row, 1) } else { "ok 2" };
     is_outcome(given.map_err(|fault| fault.line()), expected)
-        && text.get(..room) == Some(fuse.inner.inner.as_slice())
-        && (fuse.calls, readers.calls()) == (writes_of(device.step, room as u64, rows), reads)
+        && text.get(..room) == Some(taken(&out))
+        && (out.get_ref().calls, readers.calls())
+            == (writes_of(device.step, room as u64, rows), reads)
 }
 
 /// The device that is wrong with so much room, if there is one.

@@ -1,7 +1,9 @@
 //! Programs, the rows that they choose of a county's four files, and the rows themselves.
 use crate::extracts::extract_of;
 use extract::{row, row_text};
-use fixtures::{Device, Files, RT1, Readers, bytes, cell, is_outcome, program, table, writer};
+use fixtures::{
+    Device, Files, RT1, Readers, bytes, cell, is_outcome, program, table, taken, writer,
+};
 use std::alloc::{AllocError, Global};
 use std::test::Fail;
 use tl_fields::Counting;
@@ -135,10 +137,9 @@ fn has_outcome(alloc: Global, program: &[u8], files: &Files, row: &str, rows: &[
     let mut readers = Readers::new(files, CountyFile::Rt1, sound);
     let mut out = writer(alloc, sound);
     let given = extract_of(alloc, program, &mut readers, &mut out);
-    let fuse = out.get_ref();
     is_outcome(given.map_err(|fault| fault.line()), cell(row, 5))
-        && fuse.inner.inner.as_slice() == rows
-        && are_calls(cell(row, 7), readers.calls(), fuse.calls)
+        && taken(&out) == rows
+        && are_calls(cell(row, 7), readers.calls(), out.get_ref().calls)
 }
 
 /// Whether a cell has these numbers of reads and writes, or none.

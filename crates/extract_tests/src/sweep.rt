@@ -1,6 +1,8 @@
 //! Each allocation, each read and each write of an extract going wrong once.
 use crate::extracts::extract_of;
-use fixtures::{Device, Files, Readers, Refusing, bytes, cell, is_outcome, program, table, writer};
+use fixtures::{
+    Device, Files, Readers, Refusing, bytes, cell, is_outcome, program, table, taken, writer,
+};
 use std::alloc::Global;
 use std::test::Fail;
 use tl_segments::CountyFile;
@@ -56,7 +58,7 @@ fn is_answered(
     let given = extract_of(alloc, program, &mut readers, &mut out);
     let written = cell(row, 4).parse().unwrap_or(place);
     is_outcome(given.map_err(|fault| fault.line()), cell(row, 3))
-        && text.get(..written) == Some(out.get_ref().inner.inner.as_slice())
+        && text.get(..written) == Some(taken(&out))
 }
 
 /// The first call or byte at which a row is wrong in one of its ways, if there is one.
@@ -119,7 +121,7 @@ fn is_refused(
     let mut readers = Readers::new(files, CountyFile::Rt1, Device::new(""));
     let mut out = writer(alloc, Device::new(""));
     let given = extract_of(&heap, program, &mut readers, &mut out);
-    let written = out.get_ref().inner.inner.as_slice();
+    let written = taken(&out);
     let given = given.map_err(|fault| fault.line());
     let is_right = if heap.was_refused() {
         is_outcome(given, "memory") && rows.starts_with(written) && are_whole(written)

@@ -122,12 +122,16 @@ fn is_read(row: &str) -> bool {
     let mut room = BLANKS;
     let file = line_of(&mut room, LETTERS, 0, word);
     let burst = Burst::Fails(ErrorKind::BrokenPipe);
-    let mut reader = Counting::new(Fuse::after_calls(file, reads.parse().unwrap_or(0), burst));
+    let mut reader = Counting::new(Fuse::after_calls(
+        Counting::new(file),
+        reads.parse().unwrap_or(0),
+        burst,
+    ));
     let mut line = line_behind(others.parse().unwrap_or(0));
     let fault = read_line(&mut reader, &mut line).err();
     is_as_expected(fault, expected)
         && length.parse() == Ok(line.bytes().len())
-        && left.parse() == Ok(reader.get_ref().inner.len())
+        && left.parse() == Ok(reader.get_ref().inner.get_ref().len())
 }
 
 #[test]
