@@ -13,6 +13,8 @@ mod notation;
 #[cfg(test)]
 mod queries;
 #[cfg(test)]
+mod readers;
+#[cfg(test)]
 mod records;
 #[cfg(test)]
 mod segments;
