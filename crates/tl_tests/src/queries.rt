@@ -11,6 +11,8 @@ const QUERIES: &str = "\
 151|main|none|123456789\tL\t-86494898\t32405102 123456789\tL\t-86494898\t32405102
 00000000150|MAIN|00000036067|123456789\tR\t-86494898\t32405102 123456789\tR\t-86494898\t32405102
 151|main|36068|
+151|main|0|
+151|main|00000|
 151|name of street with 30 letters|none|
 |main|none|number
 +151|main|none|number

@@ -2,10 +2,10 @@
 use super::plain::{are_plain, say};
 use crate::files::files_of;
 use crate::notation::{behind_files, cut};
-use fixtures::{Device, Files, Readers, county, is_refusal};
+use fixtures::{Device, Files, Reader, Readers, county, is_refusal};
 use std::alloc::{Allocator, Global};
 use tl_records::{LineFault, LineFlaw};
-use tl_segments::{County, CountyFile, LoadFault, Segment};
+use tl_segments::{County, CountyFile, Index, LoadFault, Segment};
 
 /// Whether this is said of a county that was loaded.
 pub fn is_said<A: Allocator>(county: &Result<County<A>, LoadFault>, expected: &str) -> bool {
@@ -255,17 +255,55 @@ fn many_lines(rt: HostRuntime) {
     }
 }
 
+/// What reads a county's files, and how a read fails.
+#[derive(Clone, Copy)]
+struct Reading {
+    way: &'static str,
+    fault: &'static str,
+}
+
+const WAYS: [&str; 3] = ["county", "index", "check"];
+
+const FAULTS: [&str; 3] = ["interrupted", "blocked", "pipe"];
+
+/// The fault of a county: loaded as one, or with its segments made one by one, of an index or behind files that were only checked.
+fn fault_by(alloc: Global, way: &str, readers: &mut Readers<'_>) -> Option<LoadFault> {
+    let Readers { rt1, rt4, rt5, rt6 } = readers;
+    let index = match way {
+        "county" => return County::load(alloc, rt1, rt4, rt5, rt6).err(),
+        "index" => Index::load(alloc, rt4, rt5, rt6),
+        _ => Index::check(alloc, rt4, rt5, rt6).map(|_| Index::new(alloc)),
+    };
+    match index {
+        Ok(index) => segments_fault(&index, rt1),
+        Err(fault) => Some(fault),
+    }
+}
+
+fn segments_fault(index: &Index<Global>, rt1: &mut Reader<'_>) -> Option<LoadFault> {
+    let mut number = 0;
+    let mut segment = index.blank_segment();
+    for _ in 0..9 {
+        match index.next_segment(rt1, &mut number, &mut segment) {
+            Ok(Some(_)) => {}
+            Ok(None) => return None,
+            Err(fault) => return Some(fault),
+        }
+    }
+    None
+}
+
 /// The fault of a county one of whose readers passes so many calls and then fails once, and how many calls all of them got.
 fn fault_of(
     alloc: Global,
     files: &Files,
+    reading: Reading,
     failing: CountyFile,
     passing: u64,
 ) -> (Option<LoadFault>, u64) {
-    let device = Device::new("interrupted").at_call(passing.wrapping_add(1));
+    let device = Device::new(reading.fault).at_call(passing.wrapping_add(1));
     let mut readers = Readers::new(files, failing, device);
-    let Readers { rt1, rt4, rt5, rt6 } = &mut readers;
-    let fault = County::load(alloc, rt1, rt4, rt5, rt6).err();
+    let fault = fault_by(alloc, reading.way, &mut readers);
     (fault, readers.calls())
 }
 
@@ -281,6 +319,7 @@ const IN_ORDER: [(CountyFile, u64); 4] = [
 fn each_read_stops(
     alloc: Global,
     files: &Files,
+    reading: Reading,
     file: CountyFile,
     length: u64,
     before: u64,
@@ -294,7 +333,7 @@ fn each_read_stops(
         let fault = LineFault { line, flaw };
         let expected = LoadFault::Line { file, fault };
         let calls = before.wrapping_add(passing).wrapping_add(1);
-        if fault_of(alloc, files, file, passing) != (Some(expected), calls) {
+        if fault_of(alloc, files, reading, file, passing) != (Some(expected), calls) {
             return false;
         }
     }
@@ -302,10 +341,10 @@ fn each_read_stops(
 }
 
 /// The file at whose reads a county of two lines a file doesn't stop, if there is one.
-fn wrong_file(alloc: Global, files: &Files) -> Option<&'static str> {
+fn wrong_file(alloc: Global, files: &Files, reading: Reading) -> Option<&'static str> {
     let mut before: u64 = 0;
     for (file, length) in IN_ORDER {
-        if !each_read_stops(alloc, files, file, length, before) {
+        if !each_read_stops(alloc, files, reading, file, length, before) {
             return Some(file.name());
         }
         before = before.wrapping_add(length.wrapping_mul(2)).wrapping_add(1);
@@ -316,5 +355,10 @@ fn wrong_file(alloc: Global, files: &Files) -> Option<&'static str> {
 #[test]
 fn each_read_fails(rt: HostRuntime) {
     let files = files_of(rt.alloc(), "= =|= =|= =|= =").expect(&rt, "files");
-    assert_eq!(rt; wrong_file(rt.alloc(), &files), None);
+    for way in WAYS {
+        for fault in FAULTS {
+            let wrong = wrong_file(rt.alloc(), &files, Reading { way, fault });
+            assert_eq!(rt; wrong, None, "{way} {fault}");
+        }
+    }
 }

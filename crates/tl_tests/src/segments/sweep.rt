@@ -1,13 +1,14 @@
 //! Each growth of what loads, joins or finds refused once.
+use super::FURTHER;
 use super::counties::{is_said, is_segment};
 use crate::files::files_of;
 use crate::notation::behind_files;
 use fixtures::{Device, Files, RT1, Refusing, county, is_refusal, reader};
-use geocode::{find, hit_lines};
-use std::alloc::{Allocator, Global};
+use geocode::{Hit, Query, find, hit_lines};
+use std::alloc::{AllocError, Allocator, Global};
 use tl_fields::Counting;
 use tl_records::{Line, read_line, rt1};
-use tl_segments::{County, Index, LoadFault};
+use tl_segments::{County, Index, LoadFault, NAME_LENGTH, NAME_LIMIT, RANGE_LIMIT, Segment};
 
 // The lines of types 1, 4, 5 and 6, and what is said of the segments, or the refusal.
 const COUNTIES: &str = "\
@@ -175,17 +176,101 @@ fn no_memory(rt: HostRuntime) {
     assert!(rt; is_made_without_memory(rt.alloc()));
 }
 
-// Nine segments of Main Street, each with a further range, which a house number lies on too.
-const STREET: &str = "9:#|||123456789@7,101@27,199@38";
+const OAK: &[u8; NAME_LENGTH] = b"Oak                           ";
 
-/// How many growths of the hits of a house number are refused in turn, before there are eighteen.
-fn find_refusals<'a>(
-    heap: &'a Refusing<Global>,
-    counties: &[County<&'a Refusing<Global>>],
+/// Whether a segment got another name or another range.
+fn is_pushed(segment: &mut Segment<&Refusing<Global>>, part: &str) -> bool {
+    if segment.names() >= NAME_LIMIT as u64 || segment.ranges() >= RANGE_LIMIT as u64 {
+        return false;
+    }
+    match part {
+        "name" => segment.push_name(OAK).is_ok(),
+        _ => segment.push_range(FURTHER).is_ok(),
+    }
+}
+
+/// Whether a segment of Main Street has so many of these names or of these ranges.
+fn has_parts(segment: &Segment<&Refusing<Global>>, part: &str, count: u64) -> bool {
+    let (number, last) = match part {
+        "name" => (segment.names(), segment.name(count) == Some(OAK.as_slice())),
+        _ => (
+            segment.ranges().wrapping_sub(1),
+            segment
+                .range(count)
+                .is_some_and(|range| range.zipl == FURTHER.zipl),
+        ),
+    };
+    segment.bytes() == RT1.as_slice() && number == count && (last || count == 0)
+}
+
+/// How many growths of a further part of a segment are refused in turn, each behind which it is as it was.
+fn part_refusals(
+    heap: &Refusing<Global>,
+    segment: &mut Segment<&Refusing<Global>>,
+    part: &str,
+    count: u64,
 ) -> Option<u64> {
     for nth in 1..=u64::MAX {
         heap.refuse(nth);
-        let hits = find(heap, counties, 151, b"main", None);
+        let is_pushed = is_pushed(segment, part);
+        let count = if is_pushed {
+            count
+        } else {
+            count.wrapping_sub(1)
+        };
+        if is_pushed == heap.was_refused() || !has_parts(segment, part, count) {
+            return None;
+        }
+        if is_pushed {
+            return nth.checked_sub(1);
+        }
+    }
+    None
+}
+
+/// The same of twenty parts.
+fn parts_refusals(alloc: Global, part: &str) -> Option<u64> {
+    let heap = Refusing::new(alloc);
+    let mut segment = Segment::of(&heap, RT1);
+    let mut refused: u64 = 0;
+    for count in 1..=20 {
+        refused = refused.wrapping_add(part_refusals(&heap, &mut segment, part, count)?);
+    }
+    Some(refused)
+}
+
+#[test]
+fn parts(rt: HostRuntime) {
+    for part in ["name", "range"] {
+        let refused = parts_refusals(rt.alloc(), part).unwrap_or(0);
+        assert!(rt; refused > 1, "{part}: {refused}");
+    }
+}
+
+// Nine segments of Main Street, each with a further range, which a house number lies on too.
+const STREET: &str = "9:#|||123456789@7,101@27,199@38";
+
+/// The hits of a house number there, by the call itself or by a query.
+fn hits_by<'a>(
+    heap: &'a Refusing<Global>,
+    counties: &[County<&'a Refusing<Global>>],
+    way: &str,
+) -> Result<Vec<Hit, &'a Refusing<Global>>, AllocError> {
+    match Query::of(b"151", b"main", None) {
+        Ok(query) if way == "query" => query.find(heap, counties),
+        _ => find(heap, counties, 151, b"main", None),
+    }
+}
+
+/// How many growths of these hits are refused in turn, before there are eighteen.
+fn find_refusals<'a>(
+    heap: &'a Refusing<Global>,
+    counties: &[County<&'a Refusing<Global>>],
+    way: &str,
+) -> Option<u64> {
+    for nth in 1..=u64::MAX {
+        heap.refuse(nth);
+        let hits = hits_by(heap, counties, way);
         if !heap.was_refused() {
             return (hits.ok()?.len() == 18).then_some(nth.checked_sub(1)?);
         }
@@ -228,10 +313,10 @@ fn street<'a>(
 }
 
 /// How many growths of hits are refused.
-fn hit_refusals(alloc: Global) -> Option<u64> {
+fn hit_refusals(alloc: Global, way: &str) -> Option<u64> {
     let heap = Refusing::new(alloc);
     let counties = street(alloc, &heap)?;
-    find_refusals(&heap, &counties)
+    find_refusals(&heap, &counties, way)
 }
 
 /// How many growths of their lines are refused.
@@ -243,6 +328,9 @@ fn hit_line_refusals(alloc: Global) -> Option<u64> {
 
 #[test]
 fn hits(rt: HostRuntime) {
-    assert!(rt; hit_refusals(rt.alloc()).unwrap_or(0) > 0);
+    for way in ["call", "query"] {
+        let refused = hit_refusals(rt.alloc(), way).unwrap_or(0);
+        assert!(rt; refused > 0, "{way}");
+    }
     assert!(rt; hit_line_refusals(rt.alloc()).unwrap_or(0) > 0);
 }

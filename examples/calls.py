@@ -1,0 +1,286 @@
+#!/usr/bin/env python3
+"""Compares the table of public calls, examples/calls.txt, with the sources, and tells what is wrong.
+
+    python3 calls.py             each row that is wrong, and each call that has none; ends with 1 if there are any
+    python3 calls.py --list      the calls that the sources have, with what each may be refused for
+
+A call belongs in the table where its types let it take memory, read or write: it has an allocator, a reader or a writer, by a parameter or
+by the type that it is a method of, or its result may be want of memory. Then it has a row: its path, and a cell for each of `memory`, `read`
+and `write` that its types let it do. Such a cell ends with one of these:
+
+- the path of a sweep, as `tl_tests::segments::sweep::loads`: a test or a function which, itself or by the functions that it calls in its
+  crate and in `fixtures`, makes the call while each growth, each read or each write goes wrong in turn;
+- `none`, where the call does none of it whatever its types let it do, and behind it the path of the test that shows this, if there is one;
+- `Global`, where all memory comes of the global allocator, which no test makes refuse.
+
+A line that begins with two blanks goes on with the row above it, and one that begins with `#` is a comment.
+"""
+# Needs Python 3.8 or later, and nothing else.
+
+import re
+import sys
+from functools import lru_cache
+from pathlib import Path
+from typing import NamedTuple
+
+TOP = Path(__file__).resolve().parent.parent
+TABLE = Path(__file__).with_name("calls.txt")
+
+# What a bound, a type or a fault of a signature lets a call do.
+BOUNDS = {
+    "memory": r"\b(Allocator|AllocGlobal|Global|AllocError)\b",
+    "read": r"(?<!::)\b(Read|CountedRead|BufRead|Files)\b",
+    "write": r"(?<!::)\b(Write|CountedWrite)\b",
+}
+KINDS = list(BOUNDS)
+
+
+class Call(NamedTuple):
+    path: str
+    kinds: tuple
+    of_global: bool
+
+    def name(self):
+        return self.path.rpartition("::")[2]
+
+    def owner(self):
+        """The type or the trait that the call is a method of, if it has one."""
+        owner = self.path.split("::")[-2]
+        return owner if owner[0].isupper() else None
+
+
+class Item(NamedTuple):
+    """A function of a source file: the header of its `impl` or `trait`, if it stands in one, and its own signature."""
+
+    module: str
+    header: str
+    signature: str
+
+    def name(self):
+        return re.search(r"\bfn (\w+)", self.signature)[1]
+
+    def owner(self):
+        """The type or the trait that it is a method of."""
+        named = re.match(r"pub trait (\w+)", self.header) or re.search(r"(?:\bfor\s+|^impl(?:<.*?>)?\s+)(?:\w+::)*(\w+)", self.header)
+        for_type = re.search(r"\bfor (?:\w+::)*(\w+)", self.header)
+        return (for_type or named)[1] if self.header else None
+
+    def is_public(self):
+        return self.signature.startswith("pub fn") or bool(re.search(r"^pub trait| for ", self.header))
+
+
+# ---- The sources
+
+
+def libraries():
+    """The libraries of the repository that aren't for tests."""
+    names = re.findall(r"^(\w+)(?: staticlib)?:", (TOP / "crates.txt").read_text(), re.M)
+    return [name for name in names if not name.endswith("_tests") and name not in ("fixtures", "extractd")]
+
+
+@lru_cache(maxsize=None)
+def sources(crate):
+    """The files of a crate by the paths of their modules, without comments."""
+    root = TOP / "crates" / crate / "src"
+    files = {}
+    for path in sorted(root.rglob("*.rt")):
+        module = "::".join(path.relative_to(root).with_suffix("").parts)
+        files[module] = re.sub(r"^\s*//.*\n", "", path.read_text(), flags=re.M)
+    return files
+
+
+def items(module, text):
+    """The functions of a file, whose layout is that of the formatter."""
+    header, lines = "", iter(text.splitlines())
+    for line in lines:
+        if re.match(r"(unsafe )?impl\b|pub trait\b|trait\b", line):
+            header = head_of(line, lines)
+        elif line == "}":
+            header = ""
+        elif re.match(r"( {4})?(pub(\(\w+\))? )?(unsafe |const )*fn \w", line) and line.startswith("    ") == bool(header):
+            yield Item(module, header, head_of(line.strip(), lines))
+
+
+def head_of(line, lines):
+    """A header or a signature up to its clauses or its body."""
+    head = [line]
+    while not re.search(r"[{;]$", head[-1]):
+        following = next(lines).strip()
+        if re.match(r"(ensures|requires|ghost)\b|\{", following):
+            break
+        head.append(following)
+    return " ".join(head)
+
+
+def exports(crate):
+    """What a crate shows: the modules, and the names with the modules that they are of."""
+    text = sources(crate)["lib"]
+    modules = set(re.findall(r"^pub mod (\w+);", text, re.M))
+    names = set()
+    for module, listed, single in re.findall(r"^pub use (\w+)::(?:\{([^}]*)\}|(?:\w+::)*(\w+));", text, re.M):
+        names.update((module, name) for name in re.findall(r"\w+", listed or single))
+    return modules, names
+
+
+def faults():
+    """The faults of all libraries that may be want of memory."""
+    found = {"AllocError"}
+    for crate in libraries():
+        for text in sources(crate).values():
+            found.update(re.findall(r"^impl(?:<.*?>)? From<AllocError> for (\w+)", text, re.M))
+            for name, variants in re.findall(r"^pub enum (\w+)[^{]*\{(.*?)^\}", text, re.M | re.S):
+                if re.search(r"^    Memory,", variants, re.M):
+                    found.add(name)
+    return found
+
+
+def calls():
+    """The public calls that may take memory, read or write, by their paths."""
+    wanting = r"Result<.*\b(" + "|".join(faults()) + r")\b"
+    found = {}
+    for crate in libraries():
+        modules, names = exports(crate)
+        for module, text in sources(crate).items():
+            for item in items(module, text):
+                path = path_of(crate, item, modules, names)
+                kinds = kinds_of(item, wanting)
+                if path and kinds:
+                    found[path] = Call(path, kinds, is_of_global(item))
+    return found
+
+
+def path_of(crate, item, modules, names):
+    """The path of a function that is reached from the root, else nothing."""
+    owner = item.owner()
+    if not item.is_public() or re.search(r"\b(Display|Debug|Model) for\b", item.header):
+        return None
+    if owner:
+        shown = any(name == owner for _, name in names)
+        return f"{crate}::{owner}::{item.name()}" if shown else None
+    if item.module in modules:
+        return f"{crate}::{item.module}::{item.name()}"
+    shown = (item.module.split("::")[0], item.name()) in names
+    return f"{crate}::{item.name()}" if shown else None
+
+
+def kinds_of(item, wanting):
+    """What the types of a function let it do."""
+    types = f"{item.header} {item.signature}"
+    result = item.signature.partition("->")[2]
+    return tuple(kind for kind in KINDS if re.search(BOUNDS[kind], types) or kind == "memory" and re.search(wanting, result))
+
+
+def is_of_global(item):
+    return not re.search(r"\bAllocator\b", f"{item.header} {item.signature}")
+
+
+# ---- The table
+
+
+def rows():
+    """The rows of the table, with a path and cells."""
+    text = TABLE.read_text().replace("\n  ", " ")
+    for line in text.splitlines():
+        if line and not line.startswith("#"):
+            path, *cells = [cell.strip() for cell in line.split(";")]
+            yield path, cells
+
+
+def wrong_in(path, cells, found):
+    """What is wrong with a row."""
+    if path not in found:
+        yield "is no public call that may take memory, read or write"
+        return
+    call = found[path]
+    kinds = tuple(cell.split()[0] for cell in cells if cell)
+    if kinds != call.kinds:
+        yield f"may {', '.join(call.kinds)} by its types, and the row has {', '.join(kinds) or 'nothing'}"
+    for cell in cells:
+        wrong = wrong_with(call, *cell.split()[1:])
+        if wrong:
+            yield f"{cell}: {wrong}"
+
+
+def wrong_with(call, sweep="?", *shown):
+    """What is wrong with what a cell says behind its kind."""
+    if sweep == "none":
+        return reached(call, shown[0]) if shown else None
+    if sweep == "Global":
+        return None if call.of_global else "it takes memory of any allocator"
+    return reached(call, sweep)
+
+
+# ---- The sweeps
+
+
+@lru_cache(maxsize=None)
+def functions(crate):
+    """The functions of a crate: lists of their files and their texts, by their names."""
+    found = {}
+    for module, text in sources(crate).items():
+        for indent, name, body in re.findall(r"^( *)(?:pub(?:\(\w+\))? )?fn (\w+)(.*?\n\1\}$)", text, re.M | re.S):
+            found.setdefault(name, []).append((module, body))
+    return found
+
+
+def bodies(crate, module, name):
+    """The texts of the function that a name in a file means: of that file, or else of another one or of the tests' library."""
+    own = functions(crate).get(name, [])
+    here = [found for found in own if found[0] == module]
+    others = functions("fixtures").get(name, []) if crate != "fixtures" else []
+    return [(crate, *found) for found in here or own] + [("fixtures", *found) for found in others if not own]
+
+
+def closure(crate, module, name):
+    """The texts of a function and of all that it calls in its crate and in the tests' library, each with its file."""
+    waiting, seen = bodies(crate, module, name), []
+    while waiting:
+        found = waiting.pop()
+        if found not in seen:
+            seen.append(found)
+            for word in set(re.findall(r"\b[a-z]\w*\b", found[2])):
+                waiting.extend(bodies(found[0], found[1], word))
+    return seen
+
+
+def reached(call, sweep):
+    """What is wrong with the path of a sweep of a call."""
+    crate, *modules, name = sweep.split("::")
+    module = "::".join(modules)
+    if not sweep.strip("?") or name == "?":
+        return "it has no sweep yet"
+    if not (TOP / "crates" / crate / "src").is_dir() or module not in sources(crate):
+        return "there is no such file"
+    if not bodies(crate, module, name) or bodies(crate, module, name)[0][1] != module:
+        return "there is no such function in that file"
+    if not any(is_made(call, *found) for found in closure(crate, module, name)):
+        return f"it doesn't call {call.name()}"
+    return None
+
+
+def is_made(call, crate, module, body):
+    """Whether the text of a function makes a call, in a file that names what it is of."""
+    file, name, owner = sources(crate)[module], call.name(), call.owner()
+    if owner:
+        made = rf"\.{name}\(|\b{owner}(::<[^>]*>)?::{name}\b"
+        return bool(re.search(made, body) and re.search(rf"\b{owner}\b", file))
+    source = call.path.split("::")[0]
+    imported = re.search(rf"\b{source}::(\{{[^}}]*\b{name}\b|{name}\b)", file)
+    return bool(imported and re.search(rf"(?<![.\w]){name}\b", body))
+
+
+def main():
+    found = calls()
+    if sys.argv[1:] == ["--list"]:
+        print("\n".join(f"{call.path}; {'; '.join(call.kinds)}" for call in found.values()))
+        return 0
+    table = list(rows())
+    wrong = [f"{path} has no row" for path in found if path not in dict(table)]
+    for path, cells in table:
+        wrong.extend(f"{path} {text}" for text in wrong_in(path, cells, found))
+    print("".join(f"{line}\n" for line in wrong), end="")
+    return 1 if wrong else 0
+
+
+if __name__ == "__main__":
+    sys.exit(main())
