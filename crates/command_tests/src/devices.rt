@@ -80,6 +80,14 @@ extractd dis --program p.bpf; exit\n ! call 2 full; 3; error: the output can't b
   p.bpf: {asm exit}
 extractd asm --source p.s; {asm exit *4096}; 0;; p.s: {exit\n*4096}
 extractd asm --source p.s;; 1; refused 26 line 4097 CodeFault(12); p.s: {exit\n*4097}
+extractd verify --program p.bpf; accepted\n; 0;; p.bpf: {asm mov r0, 1*4095}{asm exit}
+extractd verify --program p.bpf;; 1; refused 12 TooLong; p.bpf: {asm mov r0, 1*4096}{asm exit}
+extractd run --program p.bpf --data d 01001; {0\trt1\n*3}; 0;; p.bpf: {asm mov r0, 1*4095}{asm exit};
+  d/TGR01001.RT1: {rt1\n*3}
+extractd trace --program p.bpf --data d --line 1 --limit 4096 01001; exit 1 score 0\n; 0;;
+  p.bpf: {asm mov r0, 1*4095}{asm exit}; d/TGR01001.RT1: {rt1}\n
+extractd trace --program p.bpf --data d --line 1 --limit 4095 01001; running\n; 0;;
+  p.bpf: {asm mov r0, 1*4095}{asm exit}; d/TGR01001.RT1: {rt1}\n
 extractd dis --program p.bpf; {exit\n*4096}; 0;; p.bpf: {asm exit *4096}
 extractd dis --program p.bpf;; 1; refused 12 TooLong; p.bpf: {asm exit *4097}
 extractd dis --program p.bpf;; 3; error: p.bpf: broken pipe; p.bpf: {asm exit *4096} ! call 9 pipe

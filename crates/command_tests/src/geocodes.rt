@@ -17,6 +17,9 @@ extractd geocode --data d --number 151 --name main --zip 0 01001; 7\tL\t-8649489
   d/TGR01001.RT1: {rt1}\n{rt1 TLID=7 ZIPL=00000}\n{rt1 TLID=8 ZIPL=00001}\n
 extractd geocode --data d --number 151 --name main --zip 00000 01001; 7\tL\t-86494898\t32405102\n; 0;;
   d/TGR01001.RT1: {rt1}\n{rt1 TLID=7 ZIPL=00000}\n{rt1 TLID=8 ZIPL=00001}\n
+extractd geocode --data d --number 151 --name main 01001 01003;
+  {123456789\tL\t-86494898\t32405102\n*600}{7\tL\t-86494898\t32405102\n*600}; 0;;
+  d/TGR01001.RT1: {rt1\n*600}; d/TGR01003.RT1: {rt1 TLID=7\n*600}
 extractd geocode --data d --number 151 --name mai 01001;; 0;; d/TGR01001.RT1: {rt1}\n
 extractd geocode --data d --number 151 --name Old_Main 01001; 123456789\tL\t-86494898\t32405102\n; 0;;
   d/TGR01001.RT1: {rt1 FENAME=Old_Main}\n{rt1 FENAME=OldMain}\n

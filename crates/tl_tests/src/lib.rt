@@ -18,3 +18,5 @@ mod readers;
 mod records;
 #[cfg(test)]
 mod segments;
+#[cfg(test)]
+mod sizes;
