@@ -112,31 +112,44 @@ const READS: &str = "1|x|0
 1|z|1
 0|z|1";
 
-/// Whether the next read is that of a row.
-fn is_read<R: Read>(reader: &mut Counting<R>, byte: &mut [u8], row: &str) -> bool {
+/// Whether the next read, by one of the two calls, is that of a row.
+fn is_read<R: Read>(reader: &mut Counting<R>, byte: &mut [u8], way: &str, row: &str) -> bool {
     let (given, rest) = cut(row);
     let (held, failures) = cut(rest);
-    let read = reader.read_counted(byte).ok();
-    read == given.parse().ok()
+    let read = match way {
+        "plain" => reader.read(byte),
+        _ => reader.read_counted(byte),
+    };
+    read.ok() == given.parse().ok()
         && *byte == *held.as_bytes()
         && failures.parse() == Ok(reader.failed_reads())
 }
 
-#[test]
-fn counts_of_a_reader(rt: HostRuntime) {
+/// The first row that isn't right by one of the two calls, or else what is wrong behind them.
+fn wrong_read(way: &str) -> Option<&'static str> {
     let inner = Counting::new(b"xyz".as_slice());
     let mut reader = Counting::new(Fuse::after_calls(inner, 1, FAILS));
     let mut byte = [0u8];
     for row in READS.lines() {
-        assert!(rt; is_read(&mut reader, &mut byte, row), "{row}");
+        if !is_read(&mut reader, &mut byte, way, row) {
+            return Some(row);
+        }
     }
     let others = (
         reader.failed_writes(),
         reader.empty_writes(),
         reader.flushes(),
     );
-    assert!(rt; others == (0, 0, 0) && reader.get_ref().calls == 5);
-    assert!(rt; reader.into_inner().inner.into_inner().is_empty());
+    let is_right = others == (0, 0, 0) && reader.get_ref().calls == 5;
+    let is_read = reader.into_inner().inner.into_inner().is_empty();
+    (!is_right || !is_read).then_some("behind them")
+}
+
+#[test]
+fn counts_of_a_reader(rt: HostRuntime) {
+    for way in ["counted", "plain"] {
+        assert_eq!(rt; wrong_read(way), None, "{way}");
+    }
 }
 
 // What is written, or `flush`; how many bytes of it are taken, if it succeeds; and the failed writes, the empty writes and the flushes counted.
@@ -153,14 +166,16 @@ flush|-|1|0|2
 flush|0|1|0|3
 flush|0|1|0|4";
 
-/// Whether the next write or flush is that of a row.
-fn is_write<W: Write>(writer: &mut Counting<W>, row: &str) -> bool {
+/// Whether the next write or flush, by one of the two calls of each, is that of a row.
+fn is_write<W: Write>(writer: &mut Counting<W>, way: &str, row: &str) -> bool {
     let (text, rest) = cut(row);
     let (taken, rest) = cut(rest);
     let (failed, rest) = cut(rest);
     let (empty, flushes) = cut(rest);
-    let written = match text {
-        "flush" => writer.flush_counted().ok().and(Some(0)),
+    let written = match (text, way) {
+        ("flush", "plain") => writer.flush().ok().and(Some(0)),
+        ("flush", _) => writer.flush_counted().ok().and(Some(0)),
+        (_, "plain") => writer.write(text.as_bytes()).ok(),
         _ => writer.write_counted(text.as_bytes()).ok(),
     };
     written == taken.parse().ok()
@@ -170,12 +185,12 @@ fn is_write<W: Write>(writer: &mut Counting<W>, row: &str) -> bool {
 }
 
 /// What four bytes of room hold after the writes of a table that all are right, and how many calls the device got.
-fn after_writes(table: &str) -> Option<([u8; 4], u64)> {
+fn after_writes(table: &str, way: &str) -> Option<([u8; 4], u64)> {
     let mut room = [0; 4];
     let inner: &mut [u8] = &mut room;
     let mut writer = Counting::new(Fuse::after_calls(Counting::new(inner), 1, FAILS));
     for row in table.lines() {
-        if !is_write(&mut writer, row) {
+        if !is_write(&mut writer, way, row) {
             return None;
         }
     }
@@ -185,8 +200,10 @@ fn after_writes(table: &str) -> Option<([u8; 4], u64)> {
 
 #[test]
 fn counts_of_a_writer(rt: HostRuntime) {
-    assert!(rt; after_writes(WRITES) == Some((*b"abcd", 7)));
-    assert!(rt; after_writes(FLUSHES) == Some(([0; 4], 4)));
+    for way in ["counted", "plain"] {
+        let room = (after_writes(WRITES, way), after_writes(FLUSHES, way));
+        assert!(rt; room == (Some((*b"abcd", 7)), Some(([0; 4], 4))), "{way}");
+    }
 }
 
 // Where the lines of a file of 466 bytes end: they have 0, 231, 230 and 2 bytes, and the last one has no end.
