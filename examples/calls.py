@@ -10,8 +10,10 @@ and `write` that its types let it do. Such a cell ends with one of these:
 
 - the path of a sweep, as `tl_tests::segments::sweep::loads`: a test or a function which, itself or by the functions that it calls in its
   crate and in `fixtures`, makes the call while each growth, each read or each write goes wrong in turn;
+- `by` and the path of another call, which makes this one, and whose sweep is that of both;
 - `none`, where the call does none of it whatever its types let it do, and behind it the path of the test that shows this, if there is one;
-- `Global`, where all memory comes of the global allocator, which no test makes refuse.
+- `Global`, where all memory comes of the global allocator, which no test makes refuse;
+- `system`, where it is the system that opens, reads or writes: examples/try.sh tries that on real files.
 
 A line that begins with two blanks goes on with the row above it, and one that begins with `#` is a comment.
 """
@@ -29,8 +31,8 @@ TABLE = Path(__file__).with_name("calls.txt")
 # What a bound, a type or a fault of a signature lets a call do.
 BOUNDS = {
     "memory": r"\b(Allocator|AllocGlobal|Global|AllocError)\b",
-    "read": r"(?<!::)\b(Read|CountedRead|BufRead|Files)\b",
-    "write": r"(?<!::)\b(Write|CountedWrite)\b",
+    "read": r"(?<!::)\b(Read|CountedRead|BufRead|Files|Service)\b",
+    "write": r"(?<!::)\b(Write|CountedWrite|Service)\b",
 }
 KINDS = list(BOUNDS)
 
@@ -152,7 +154,7 @@ def calls():
 def path_of(crate, item, modules, names):
     """The path of a function that is reached from the root, else nothing."""
     owner = item.owner()
-    if not item.is_public() or re.search(r"\b(Display|Debug|Model) for\b", item.header):
+    if not item.is_public() or re.search(r"\b(Display|Debug|Model|From<.*>) for\b", item.header):
         return None
     if owner:
         shown = any(name == owner for _, name in names)
@@ -201,12 +203,16 @@ def wrong_in(path, cells, found):
             yield f"{cell}: {wrong}"
 
 
-def wrong_with(call, sweep="?", *shown):
+def wrong_with(call, sweep="?", *more):
     """What is wrong with what a cell says behind its kind."""
     if sweep == "none":
-        return reached(call, shown[0]) if shown else None
+        return reached(call, more[0]) if more else None
     if sweep == "Global":
         return None if call.of_global else "it takes memory of any allocator"
+    if sweep == "system":
+        return None if call.owner() == "SystemFiles" else "it does nothing of the system"
+    if sweep == "by":
+        return None if makes(more[0], call) else f"{more[0]} doesn't make it"
     return reached(call, sweep)
 
 
@@ -223,24 +229,35 @@ def functions(crate):
     return found
 
 
-def bodies(crate, module, name):
-    """The texts of the function that a name in a file means: of that file, or else of another one or of the tests' library."""
+def bodies(crate, module, word, others):
+    """The texts of the functions that a word in a file may mean: any method, or a function of that file, or else of another one of the crate
+    or of other crates."""
+    name = word.lstrip(".")
     own = functions(crate).get(name, [])
-    here = [found for found in own if found[0] == module]
-    others = functions("fixtures").get(name, []) if crate != "fixtures" else []
-    return [(crate, *found) for found in here or own] + [("fixtures", *found) for found in others if not own]
+    here = [found for found in own if found[0] == module and name == word]
+    if own:
+        return [(crate, *found) for found in here or own]
+    return [(other, *found) for other in others for found in functions(other).get(name, [])]
 
 
-def closure(crate, module, name):
-    """The texts of a function and of all that it calls in its crate and in the tests' library, each with its file."""
-    waiting, seen = bodies(crate, module, name), []
+def closure(crate, module, name, others):
+    """The texts of a function and of all that it calls in its crate and in others, each with its file."""
+    waiting, seen = bodies(crate, module, name, ()), []
     while waiting:
         found = waiting.pop()
         if found not in seen:
             seen.append(found)
-            for word in set(re.findall(r"\b[a-z]\w*\b", found[2])):
-                waiting.extend(bodies(found[0], found[1], word))
+            for word in set(re.findall(r"\.?\b[a-z]\w*\b", found[2])):
+                waiting.extend(bodies(found[0], found[1], word, others))
     return seen
+
+
+def makes(path, call):
+    """Whether a call of another path makes this one, in its crate or in those that this one is of."""
+    crate, below = path.split("::")[0], (call.path.split("::")[0],)
+    name = path.rpartition("::")[2]
+    roots = [module for module, _ in functions(crate).get(name, [])]
+    return any(is_made(call, *found) for module in roots for found in closure(crate, module, name, below))
 
 
 def reached(call, sweep):
@@ -251,9 +268,9 @@ def reached(call, sweep):
         return "it has no sweep yet"
     if not (TOP / "crates" / crate / "src").is_dir() or module not in sources(crate):
         return "there is no such file"
-    if not bodies(crate, module, name) or bodies(crate, module, name)[0][1] != module:
+    if module not in [found[0] for found in functions(crate).get(name, [])]:
         return "there is no such function in that file"
-    if not any(is_made(call, *found) for found in closure(crate, module, name)):
+    if not any(is_made(call, *found) for found in closure(crate, module, name, ("fixtures",))):
         return f"it doesn't call {call.name()}"
     return None
 
@@ -261,10 +278,12 @@ def reached(call, sweep):
 def is_made(call, crate, module, body):
     """Whether the text of a function makes a call, in a file that names what it is of."""
     file, name, owner = sources(crate)[module], call.name(), call.owner()
+    source = call.path.split("::")[0]
     if owner:
         made = rf"\.{name}\(|\b{owner}(::<[^>]*>)?::{name}\b"
         return bool(re.search(made, body) and re.search(rf"\b{owner}\b", file))
-    source = call.path.split("::")[0]
+    if crate == source:
+        return bool(re.search(rf"(?<![.\w]){name}\(", body))
     imported = re.search(rf"\b{source}::(\{{[^}}]*\b{name}\b|{name}\b)", file)
     return bool(imported and re.search(rf"(?<![.\w]){name}\b", body))
 
