@@ -575,6 +575,14 @@ try_table() {
     fi
 }
 
+# The table of public calls, and what compares it with the sources.
+try_calls() {
+    command -v python3 > /dev/null || { skip "examples/calls.txt (there is no python3 here)"; return; }
+    if python3 examples/calls.py > "$scratch/calls"; then pass; else
+        fail "examples/calls.txt has other calls than the sources, or other sweeps" "$(head -n 20 "$scratch/calls")"
+    fi
+}
+
 # A program of 4,003 words, nearly all of them conditional jumps: of it `verify` and the server say the same, too.
 try_long_program() {
     mkdir -p "$scratch/long" && cd "$scratch/long" || exit 1
@@ -586,6 +594,7 @@ try_long_program() {
 
 cd "$top" || exit 1
 try_table
+try_calls
 for document in README.md docs/*.md examples/README.md; do
     try_document "$document"
 done
