@@ -1,259 +1,92 @@
-//! Codes and what comes of them. Each table has a row a line: what is expected, the program's text, and its words in hexadecimal.
-
-use crate::fixtures::{EXIT, code_of, cut, repeated};
+//! Codes and what comes of their jumps.
+use crate::codes::code_of;
 use bpf_flow::Flow;
-use bpf_insn::{Code, WORD_LIMIT, decode};
+use bpf_insn::{Code, WORD_LIMIT};
+use fixtures::cell;
 use std::alloc::Global;
 
-/// The first fault, as the refusal's line, or `ok`.
+// The first fault of a program, as the refusal's line, or `ok`.
 const FAULTS: &str = "\
-ok; exit; 9500000000000000
-ok; mov r0, 1 | exit; b700000001000000 9500000000000000
-ok; ja +0 | exit; 0500000000000000 9500000000000000
-ok; ja32 +0 | exit; 0600000000000000 9500000000000000
-ok; ja +1 | mov r0, 1 | exit; 0500010000000000 b700000001000000 9500000000000000
-ok; ja +2 | lddw r0, 0x1 | exit; 0500020000000000 1800000001000000 0000000000000000 9500000000000000
-ok; lddw r0, 0x1 | ja32 +1 | mov r0, 1 | exit; 1800000001000000 0000000000000000 0600000001000000 b700000001000000 9500000000000000
-ok; exit | jsle32 r0, r1, +0 | exit; 9500000000000000 de10000000000000 9500000000000000
-ok; jeq r0, r1, +2 | lddw r0, 0x1 | jlt32 r0, 5, +1 | exit | exit; 1d10020000000000 1800000001000000 0000000000000000 a600010005000000 9500000000000000 9500000000000000
-refused 30 place 0 BackwardJump; ja -2 | exit; 0500feff00000000 9500000000000000
-refused 30 place 0 BackwardJump; ja -32768 | exit; 0500008000000000 9500000000000000
-refused 30 place 0 BackwardJump; ja32 -2147483648 | exit; 0600000000000080 9500000000000000
-refused 30 place 1 BackwardJump; mov r0, 1 | ja -1 | exit; b700000001000000 0500ffff00000000 9500000000000000
-refused 30 place 1 BackwardJump; mov r0, 1 | ja32 -2 | exit; b700000001000000 06000000feffffff 9500000000000000
-refused 30 place 1 BackwardJump; mov r0, 1 | jeq r0, r1, -2 | exit; b700000001000000 1d10feff00000000 9500000000000000
-refused 30 place 2 BackwardJump; lddw r0, 0x1 | jlt32 r0, 5, -3 | exit; 1800000001000000 0000000000000000 a600fdff05000000 9500000000000000
-refused 30 place 2 BackwardJump; lddw r0, 0x1 | jlt32 r0, r1, -2 | exit; 1800000001000000 0000000000000000 ae10feff00000000 9500000000000000
-refused 30 place 0 BackwardJump; jset r0, r1, -32768 | exit; 4d10008000000000 9500000000000000
-refused 30 place 1 BackwardJump; exit | ja -2; 9500000000000000 0500feff00000000
-refused 30 place 0 BackwardJump; ja -1 | mov r0, 1; 0500ffff00000000 b700000001000000
-refused 30 place 0 BackwardJump; ja -1 | ja +5 | exit; 0500ffff00000000 0500050000000000 9500000000000000
-refused 31 place 0 OutOfProgram; ja +0; 0500000000000000
-refused 31 place 1 OutOfProgram; exit | ja +0; 9500000000000000 0500000000000000
-refused 31 place 2 OutOfProgram; lddw r0, 0x1 | jne r0, 0, +1 | exit; 1800000001000000 0000000000000000 5500010000000000 9500000000000000
-refused 31 place 0 OutOfProgram; ja +32767 | exit; 0500ff7f00000000 9500000000000000
-refused 31 place 0 OutOfProgram; ja32 +2147483647 | exit; 06000000ffffff7f 9500000000000000
-refused 31 place 0 OutOfProgram; jsgt32 r0, r1, +32767 | exit; 6e10ff7f00000000 9500000000000000
-refused 31 place 0 OutOfProgram; ja +5 | ja -1 | exit; 0500050000000000 0500ffff00000000 9500000000000000
-refused 31 place 0 OutOfProgram; ja +2 | lddw r0, 0x1; 0500020000000000 1800000001000000 0000000000000000
-refused 32 place 1 IntoWide; ja +0 | jge r0, 0, +3 | lddw r0, 0x1 | lddw r0, 0x1 | exit; 0500000000000000 3500030000000000 1800000001000000 0000000000000000 1800000001000000 0000000000000000 9500000000000000
-refused 32 place 0 IntoWide; ja +1 | lddw r0, 0x1; 0500010000000000 1800000001000000 0000000000000000
-refused 32 place 0 IntoWide; jset32 r0, 4, +1 | lddw r0, 0x1 | ja -1; 4600010004000000 1800000001000000 0000000000000000 0500ffff00000000
-refused 30 place 0 BackwardJump; jeq r0, 1, -1 | jne r0, r1, +1 | lddw r0, 0x1 | exit; 1500ffff01000000 5d10010000000000 1800000001000000 0000000000000000 9500000000000000
-refused 30 place 2 BackwardJump; lddw r0, 0x1 | jge r0, 1, -2 | ja +1 | lddw r0, 0x1; 1800000001000000 0000000000000000 3500feff01000000 0500010000000000 1800000001000000 0000000000000000
-refused 31 place 0 OutOfProgram; jsle r0, r1, +9 | ja +1 | lddw r0, 0x1 | exit; dd10090000000000 0500010000000000 1800000001000000 0000000000000000 9500000000000000
-refused 31 place 1 OutOfProgram; ja +0 | ja32 +9 | jgt r0, 1, -1 | mov r0, 1; 0500000000000000 0600000009000000 2500ffff01000000 b700000001000000
-refused 32 place 0 IntoWide; jslt r0, 1, +2 | jle32 r0, r1, +9 | lddw r0, 0x1 | exit; c500020001000000 be10090000000000 1800000001000000 0000000000000000 9500000000000000
-refused 32 place 0 IntoWide; ja +2 | ja -1 | lddw r0, 0x1 | mov r0, 1; 0500020000000000 0500ffff00000000 1800000001000000 0000000000000000 b700000001000000
-refused 33 place 1 LastNotExit; ja +0 | mov r0, 1; 0500000000000000 b700000001000000
-refused 31 place 1 OutOfProgram; exit | jsgt r0, 1, +0; 9500000000000000 6500000001000000
-refused 30 place 1 BackwardJump; exit | jlt32 r0, r1, -1; 9500000000000000 ae10ffff00000000
-refused 33 place 0 LastNotExit; mov r0, 1; b700000001000000
-refused 33 place 0 LastNotExit; lddw r0, 0x1; 1800000001000000 0000000000000000
-refused 33 place 1 LastNotExit; exit | mov r0, 1; 9500000000000000 b700000001000000
-refused 33 place 2 LastNotExit; lddw r0, 0x1 | lddw r0, 0x1; 1800000001000000 0000000000000000 1800000001000000 0000000000000000
-refused 33 place 3 LastNotExit; ja +2 | lddw r0, 0x1 | mov r0, 1; 0500020000000000 1800000001000000 0000000000000000 b700000001000000
-";
+ok; exit
+ok; mov r0, 1 | exit
+ok; ja +0 | exit
+ok; ja32 +0 | exit
+ok; ja +1 | mov r0, 1 | exit
+ok; ja +2 | lddw r0, 0x1 | exit
+ok; lddw r0, 0x1 | ja32 +1 | mov r0, 1 | exit
+ok; exit | jsle32 r0, r1, +0 | exit
+ok; jeq r0, r1, +2 | lddw r0, 0x1 | jlt32 r0, 5, +1 | exit | exit
+refused 30 place 0 BackwardJump; ja -2 | exit
+refused 30 place 0 BackwardJump; ja -32768 | exit
+refused 30 place 0 BackwardJump; ja32 -2147483648 | exit
+refused 30 place 1 BackwardJump; mov r0, 1 | ja -1 | exit
+refused 30 place 1 BackwardJump; mov r0, 1 | ja32 -2 | exit
+refused 30 place 1 BackwardJump; mov r0, 1 | jeq r0, r1, -2 | exit
+refused 30 place 2 BackwardJump; lddw r0, 0x1 | jlt32 r0, 5, -3 | exit
+refused 30 place 2 BackwardJump; lddw r0, 0x1 | jlt32 r0, r1, -2 | exit
+refused 30 place 0 BackwardJump; jset r0, r1, -32768 | exit
+refused 30 place 1 BackwardJump; exit | ja -2
+refused 30 place 0 BackwardJump; ja -1 | mov r0, 1
+refused 30 place 0 BackwardJump; ja -1 | ja +5 | exit
+refused 31 place 0 OutOfProgram; ja +0
+refused 31 place 1 OutOfProgram; exit | ja +0
+refused 31 place 2 OutOfProgram; lddw r0, 0x1 | jne r0, 0, +1 | exit
+refused 31 place 0 OutOfProgram; ja +32767 | exit
+refused 31 place 0 OutOfProgram; ja32 +2147483647 | exit
+refused 31 place 0 OutOfProgram; jsgt32 r0, r1, +32767 | exit
+refused 31 place 0 OutOfProgram; ja +5 | ja -1 | exit
+refused 31 place 0 OutOfProgram; ja +2 | lddw r0, 0x1
+refused 32 place 1 IntoWide; ja +0 | jge r0, 0, +3 | lddw r0, 0x1 | lddw r0, 0x1 | exit
+refused 32 place 0 IntoWide; ja +1 | lddw r0, 0x1
+refused 32 place 0 IntoWide; jset32 r0, 4, +1 | lddw r0, 0x1 | ja -1
+refused 30 place 0 BackwardJump; jeq r0, 1, -1 | jne r0, r1, +1 | lddw r0, 0x1 | exit
+refused 30 place 2 BackwardJump; lddw r0, 0x1 | jge r0, 1, -2 | ja +1 | lddw r0, 0x1
+refused 31 place 0 OutOfProgram; jsle r0, r1, +9 | ja +1 | lddw r0, 0x1 | exit
+refused 31 place 1 OutOfProgram; ja +0 | ja32 +9 | jgt r0, 1, -1 | mov r0, 1
+refused 32 place 0 IntoWide; jslt r0, 1, +2 | jle32 r0, r1, +9 | lddw r0, 0x1 | exit
+refused 32 place 0 IntoWide; ja +2 | ja -1 | lddw r0, 0x1 | mov r0, 1
+refused 33 place 1 LastNotExit; ja +0 | mov r0, 1
+refused 31 place 1 OutOfProgram; exit | jsgt r0, 1, +0
+refused 30 place 1 BackwardJump; exit | jlt32 r0, r1, -1
+refused 33 place 0 LastNotExit; mov r0, 1
+refused 33 place 0 LastNotExit; lddw r0, 0x1
+refused 33 place 1 LastNotExit; exit | mov r0, 1
+refused 33 place 2 LastNotExit; lddw r0, 0x1 | lddw r0, 0x1
+refused 33 place 3 LastNotExit; ja +2 | lddw r0, 0x1 | mov r0, 1";
 
-/// Each form of jump, with a wide load and EXIT behind it: it leads back, behind the end, to the wide load's second word, and to EXIT.
+// Each form of jump, without its distance.
 const JUMPS: &str = "\
-refused 30 place 0 BackwardJump; ja -1 | lddw r0, 0x1 | exit; 0500ffff00000000 1800000001000000 0000000000000000 9500000000000000
-refused 31 place 0 OutOfProgram; ja +3 | lddw r0, 0x1 | exit; 0500030000000000 1800000001000000 0000000000000000 9500000000000000
-refused 32 place 0 IntoWide; ja +1 | lddw r0, 0x1 | exit; 0500010000000000 1800000001000000 0000000000000000 9500000000000000
-ok; ja +2 | lddw r0, 0x1 | exit; 0500020000000000 1800000001000000 0000000000000000 9500000000000000
-refused 30 place 0 BackwardJump; ja32 -1 | lddw r0, 0x1 | exit; 06000000ffffffff 1800000001000000 0000000000000000 9500000000000000
-refused 31 place 0 OutOfProgram; ja32 +3 | lddw r0, 0x1 | exit; 0600000003000000 1800000001000000 0000000000000000 9500000000000000
-refused 32 place 0 IntoWide; ja32 +1 | lddw r0, 0x1 | exit; 0600000001000000 1800000001000000 0000000000000000 9500000000000000
-ok; ja32 +2 | lddw r0, 0x1 | exit; 0600000002000000 1800000001000000 0000000000000000 9500000000000000
-refused 30 place 0 BackwardJump; jeq r9, 4, -1 | lddw r0, 0x1 | exit; 1509ffff04000000 1800000001000000 0000000000000000 9500000000000000
-refused 31 place 0 OutOfProgram; jeq r9, 4, +3 | lddw r0, 0x1 | exit; 1509030004000000 1800000001000000 0000000000000000 9500000000000000
-refused 32 place 0 IntoWide; jeq r9, 4, +1 | lddw r0, 0x1 | exit; 1509010004000000 1800000001000000 0000000000000000 9500000000000000
-ok; jeq r9, 4, +2 | lddw r0, 0x1 | exit; 1509020004000000 1800000001000000 0000000000000000 9500000000000000
-refused 30 place 0 BackwardJump; jeq r9, r10, -1 | lddw r0, 0x1 | exit; 1da9ffff00000000 1800000001000000 0000000000000000 9500000000000000
-refused 31 place 0 OutOfProgram; jeq r9, r10, +3 | lddw r0, 0x1 | exit; 1da9030000000000 1800000001000000 0000000000000000 9500000000000000
-refused 32 place 0 IntoWide; jeq r9, r10, +1 | lddw r0, 0x1 | exit; 1da9010000000000 1800000001000000 0000000000000000 9500000000000000
-ok; jeq r9, r10, +2 | lddw r0, 0x1 | exit; 1da9020000000000 1800000001000000 0000000000000000 9500000000000000
-refused 30 place 0 BackwardJump; jgt r9, 4, -1 | lddw r0, 0x1 | exit; 2509ffff04000000 1800000001000000 0000000000000000 9500000000000000
-refused 31 place 0 OutOfProgram; jgt r9, 4, +3 | lddw r0, 0x1 | exit; 2509030004000000 1800000001000000 0000000000000000 9500000000000000
-refused 32 place 0 IntoWide; jgt r9, 4, +1 | lddw r0, 0x1 | exit; 2509010004000000 1800000001000000 0000000000000000 9500000000000000
-ok; jgt r9, 4, +2 | lddw r0, 0x1 | exit; 2509020004000000 1800000001000000 0000000000000000 9500000000000000
-refused 30 place 0 BackwardJump; jgt r9, r10, -1 | lddw r0, 0x1 | exit; 2da9ffff00000000 1800000001000000 0000000000000000 9500000000000000
-refused 31 place 0 OutOfProgram; jgt r9, r10, +3 | lddw r0, 0x1 | exit; 2da9030000000000 1800000001000000 0000000000000000 9500000000000000
-refused 32 place 0 IntoWide; jgt r9, r10, +1 | lddw r0, 0x1 | exit; 2da9010000000000 1800000001000000 0000000000000000 9500000000000000
-ok; jgt r9, r10, +2 | lddw r0, 0x1 | exit; 2da9020000000000 1800000001000000 0000000000000000 9500000000000000
-refused 30 place 0 BackwardJump; jge r9, 4, -1 | lddw r0, 0x1 | exit; 3509ffff04000000 1800000001000000 0000000000000000 9500000000000000
-refused 31 place 0 OutOfProgram; jge r9, 4, +3 | lddw r0, 0x1 | exit; 3509030004000000 1800000001000000 0000000000000000 9500000000000000
-refused 32 place 0 IntoWide; jge r9, 4, +1 | lddw r0, 0x1 | exit; 3509010004000000 1800000001000000 0000000000000000 9500000000000000
-ok; jge r9, 4, +2 | lddw r0, 0x1 | exit; 3509020004000000 1800000001000000 0000000000000000 9500000000000000
-refused 30 place 0 BackwardJump; jge r9, r10, -1 | lddw r0, 0x1 | exit; 3da9ffff00000000 1800000001000000 0000000000000000 9500000000000000
-refused 31 place 0 OutOfProgram; jge r9, r10, +3 | lddw r0, 0x1 | exit; 3da9030000000000 1800000001000000 0000000000000000 9500000000000000
-refused 32 place 0 IntoWide; jge r9, r10, +1 | lddw r0, 0x1 | exit; 3da9010000000000 1800000001000000 0000000000000000 9500000000000000
-ok; jge r9, r10, +2 | lddw r0, 0x1 | exit; 3da9020000000000 1800000001000000 0000000000000000 9500000000000000
-refused 30 place 0 BackwardJump; jset r9, 4, -1 | lddw r0, 0x1 | exit; 4509ffff04000000 1800000001000000 0000000000000000 9500000000000000
-refused 31 place 0 OutOfProgram; jset r9, 4, +3 | lddw r0, 0x1 | exit; 4509030004000000 1800000001000000 0000000000000000 9500000000000000
-refused 32 place 0 IntoWide; jset r9, 4, +1 | lddw r0, 0x1 | exit; 4509010004000000 1800000001000000 0000000000000000 9500000000000000
-ok; jset r9, 4, +2 | lddw r0, 0x1 | exit; 4509020004000000 1800000001000000 0000000000000000 9500000000000000
-refused 30 place 0 BackwardJump; jset r9, r10, -1 | lddw r0, 0x1 | exit; 4da9ffff00000000 1800000001000000 0000000000000000 9500000000000000
-refused 31 place 0 OutOfProgram; jset r9, r10, +3 | lddw r0, 0x1 | exit; 4da9030000000000 1800000001000000 0000000000000000 9500000000000000
-refused 32 place 0 IntoWide; jset r9, r10, +1 | lddw r0, 0x1 | exit; 4da9010000000000 1800000001000000 0000000000000000 9500000000000000
-ok; jset r9, r10, +2 | lddw r0, 0x1 | exit; 4da9020000000000 1800000001000000 0000000000000000 9500000000000000
-refused 30 place 0 BackwardJump; jne r9, 4, -1 | lddw r0, 0x1 | exit; 5509ffff04000000 1800000001000000 0000000000000000 9500000000000000
-refused 31 place 0 OutOfProgram; jne r9, 4, +3 | lddw r0, 0x1 | exit; 5509030004000000 1800000001000000 0000000000000000 9500000000000000
-refused 32 place 0 IntoWide; jne r9, 4, +1 | lddw r0, 0x1 | exit; 5509010004000000 1800000001000000 0000000000000000 9500000000000000
-ok; jne r9, 4, +2 | lddw r0, 0x1 | exit; 5509020004000000 1800000001000000 0000000000000000 9500000000000000
-refused 30 place 0 BackwardJump; jne r9, r10, -1 | lddw r0, 0x1 | exit; 5da9ffff00000000 1800000001000000 0000000000000000 9500000000000000
-refused 31 place 0 OutOfProgram; jne r9, r10, +3 | lddw r0, 0x1 | exit; 5da9030000000000 1800000001000000 0000000000000000 9500000000000000
-refused 32 place 0 IntoWide; jne r9, r10, +1 | lddw r0, 0x1 | exit; 5da9010000000000 1800000001000000 0000000000000000 9500000000000000
-ok; jne r9, r10, +2 | lddw r0, 0x1 | exit; 5da9020000000000 1800000001000000 0000000000000000 9500000000000000
-refused 30 place 0 BackwardJump; jsgt r9, 4, -1 | lddw r0, 0x1 | exit; 6509ffff04000000 1800000001000000 0000000000000000 9500000000000000
-refused 31 place 0 OutOfProgram; jsgt r9, 4, +3 | lddw r0, 0x1 | exit; 6509030004000000 1800000001000000 0000000000000000 9500000000000000
-refused 32 place 0 IntoWide; jsgt r9, 4, +1 | lddw r0, 0x1 | exit; 6509010004000000 1800000001000000 0000000000000000 9500000000000000
-ok; jsgt r9, 4, +2 | lddw r0, 0x1 | exit; 6509020004000000 1800000001000000 0000000000000000 9500000000000000
-refused 30 place 0 BackwardJump; jsgt r9, r10, -1 | lddw r0, 0x1 | exit; 6da9ffff00000000 1800000001000000 0000000000000000 9500000000000000
-refused 31 place 0 OutOfProgram; jsgt r9, r10, +3 | lddw r0, 0x1 | exit; 6da9030000000000 1800000001000000 0000000000000000 9500000000000000
-refused 32 place 0 IntoWide; jsgt r9, r10, +1 | lddw r0, 0x1 | exit; 6da9010000000000 1800000001000000 0000000000000000 9500000000000000
-ok; jsgt r9, r10, +2 | lddw r0, 0x1 | exit; 6da9020000000000 1800000001000000 0000000000000000 9500000000000000
-refused 30 place 0 BackwardJump; jsge r9, 4, -1 | lddw r0, 0x1 | exit; 7509ffff04000000 1800000001000000 0000000000000000 9500000000000000
-refused 31 place 0 OutOfProgram; jsge r9, 4, +3 | lddw r0, 0x1 | exit; 7509030004000000 1800000001000000 0000000000000000 9500000000000000
-refused 32 place 0 IntoWide; jsge r9, 4, +1 | lddw r0, 0x1 | exit; 7509010004000000 1800000001000000 0000000000000000 9500000000000000
-ok; jsge r9, 4, +2 | lddw r0, 0x1 | exit; 7509020004000000 1800000001000000 0000000000000000 9500000000000000
-refused 30 place 0 BackwardJump; jsge r9, r10, -1 | lddw r0, 0x1 | exit; 7da9ffff00000000 1800000001000000 0000000000000000 9500000000000000
-refused 31 place 0 OutOfProgram; jsge r9, r10, +3 | lddw r0, 0x1 | exit; 7da9030000000000 1800000001000000 0000000000000000 9500000000000000
-refused 32 place 0 IntoWide; jsge r9, r10, +1 | lddw r0, 0x1 | exit; 7da9010000000000 1800000001000000 0000000000000000 9500000000000000
-ok; jsge r9, r10, +2 | lddw r0, 0x1 | exit; 7da9020000000000 1800000001000000 0000000000000000 9500000000000000
-refused 30 place 0 BackwardJump; jlt r9, 4, -1 | lddw r0, 0x1 | exit; a509ffff04000000 1800000001000000 0000000000000000 9500000000000000
-refused 31 place 0 OutOfProgram; jlt r9, 4, +3 | lddw r0, 0x1 | exit; a509030004000000 1800000001000000 0000000000000000 9500000000000000
-refused 32 place 0 IntoWide; jlt r9, 4, +1 | lddw r0, 0x1 | exit; a509010004000000 1800000001000000 0000000000000000 9500000000000000
-ok; jlt r9, 4, +2 | lddw r0, 0x1 | exit; a509020004000000 1800000001000000 0000000000000000 9500000000000000
-refused 30 place 0 BackwardJump; jlt r9, r10, -1 | lddw r0, 0x1 | exit; ada9ffff00000000 1800000001000000 0000000000000000 9500000000000000
-refused 31 place 0 OutOfProgram; jlt r9, r10, +3 | lddw r0, 0x1 | exit; ada9030000000000 1800000001000000 0000000000000000 9500000000000000
-refused 32 place 0 IntoWide; jlt r9, r10, +1 | lddw r0, 0x1 | exit; ada9010000000000 1800000001000000 0000000000000000 9500000000000000
-ok; jlt r9, r10, +2 | lddw r0, 0x1 | exit; ada9020000000000 1800000001000000 0000000000000000 9500000000000000
-refused 30 place 0 BackwardJump; jle r9, 4, -1 | lddw r0, 0x1 | exit; b509ffff04000000 1800000001000000 0000000000000000 9500000000000000
-refused 31 place 0 OutOfProgram; jle r9, 4, +3 | lddw r0, 0x1 | exit; b509030004000000 1800000001000000 0000000000000000 9500000000000000
-refused 32 place 0 IntoWide; jle r9, 4, +1 | lddw r0, 0x1 | exit; b509010004000000 1800000001000000 0000000000000000 9500000000000000
-ok; jle r9, 4, +2 | lddw r0, 0x1 | exit; b509020004000000 1800000001000000 0000000000000000 9500000000000000
-refused 30 place 0 BackwardJump; jle r9, r10, -1 | lddw r0, 0x1 | exit; bda9ffff00000000 1800000001000000 0000000000000000 9500000000000000
-refused 31 place 0 OutOfProgram; jle r9, r10, +3 | lddw r0, 0x1 | exit; bda9030000000000 1800000001000000 0000000000000000 9500000000000000
-refused 32 place 0 IntoWide; jle r9, r10, +1 | lddw r0, 0x1 | exit; bda9010000000000 1800000001000000 0000000000000000 9500000000000000
-ok; jle r9, r10, +2 | lddw r0, 0x1 | exit; bda9020000000000 1800000001000000 0000000000000000 9500000000000000
-refused 30 place 0 BackwardJump; jslt r9, 4, -1 | lddw r0, 0x1 | exit; c509ffff04000000 1800000001000000 0000000000000000 9500000000000000
-refused 31 place 0 OutOfProgram; jslt r9, 4, +3 | lddw r0, 0x1 | exit; c509030004000000 1800000001000000 0000000000000000 9500000000000000
-refused 32 place 0 IntoWide; jslt r9, 4, +1 | lddw r0, 0x1 | exit; c509010004000000 1800000001000000 0000000000000000 9500000000000000
-ok; jslt r9, 4, +2 | lddw r0, 0x1 | exit; c509020004000000 1800000001000000 0000000000000000 9500000000000000
-refused 30 place 0 BackwardJump; jslt r9, r10, -1 | lddw r0, 0x1 | exit; cda9ffff00000000 1800000001000000 0000000000000000 9500000000000000
-refused 31 place 0 OutOfProgram; jslt r9, r10, +3 | lddw r0, 0x1 | exit; cda9030000000000 1800000001000000 0000000000000000 9500000000000000
-refused 32 place 0 IntoWide; jslt r9, r10, +1 | lddw r0, 0x1 | exit; cda9010000000000 1800000001000000 0000000000000000 9500000000000000
-ok; jslt r9, r10, +2 | lddw r0, 0x1 | exit; cda9020000000000 1800000001000000 0000000000000000 9500000000000000
-refused 30 place 0 BackwardJump; jsle r9, 4, -1 | lddw r0, 0x1 | exit; d509ffff04000000 1800000001000000 0000000000000000 9500000000000000
-refused 31 place 0 OutOfProgram; jsle r9, 4, +3 | lddw r0, 0x1 | exit; d509030004000000 1800000001000000 0000000000000000 9500000000000000
-refused 32 place 0 IntoWide; jsle r9, 4, +1 | lddw r0, 0x1 | exit; d509010004000000 1800000001000000 0000000000000000 9500000000000000
-ok; jsle r9, 4, +2 | lddw r0, 0x1 | exit; d509020004000000 1800000001000000 0000000000000000 9500000000000000
-refused 30 place 0 BackwardJump; jsle r9, r10, -1 | lddw r0, 0x1 | exit; dda9ffff00000000 1800000001000000 0000000000000000 9500000000000000
-refused 31 place 0 OutOfProgram; jsle r9, r10, +3 | lddw r0, 0x1 | exit; dda9030000000000 1800000001000000 0000000000000000 9500000000000000
-refused 32 place 0 IntoWide; jsle r9, r10, +1 | lddw r0, 0x1 | exit; dda9010000000000 1800000001000000 0000000000000000 9500000000000000
-ok; jsle r9, r10, +2 | lddw r0, 0x1 | exit; dda9020000000000 1800000001000000 0000000000000000 9500000000000000
-refused 30 place 0 BackwardJump; jeq32 r9, 4, -1 | lddw r0, 0x1 | exit; 1609ffff04000000 1800000001000000 0000000000000000 9500000000000000
-refused 31 place 0 OutOfProgram; jeq32 r9, 4, +3 | lddw r0, 0x1 | exit; 1609030004000000 1800000001000000 0000000000000000 9500000000000000
-refused 32 place 0 IntoWide; jeq32 r9, 4, +1 | lddw r0, 0x1 | exit; 1609010004000000 1800000001000000 0000000000000000 9500000000000000
-ok; jeq32 r9, 4, +2 | lddw r0, 0x1 | exit; 1609020004000000 1800000001000000 0000000000000000 9500000000000000
-refused 30 place 0 BackwardJump; jeq32 r9, r10, -1 | lddw r0, 0x1 | exit; 1ea9ffff00000000 1800000001000000 0000000000000000 9500000000000000
-refused 31 place 0 OutOfProgram; jeq32 r9, r10, +3 | lddw r0, 0x1 | exit; 1ea9030000000000 1800000001000000 0000000000000000 9500000000000000
-refused 32 place 0 IntoWide; jeq32 r9, r10, +1 | lddw r0, 0x1 | exit; 1ea9010000000000 1800000001000000 0000000000000000 9500000000000000
-ok; jeq32 r9, r10, +2 | lddw r0, 0x1 | exit; 1ea9020000000000 1800000001000000 0000000000000000 9500000000000000
-refused 30 place 0 BackwardJump; jgt32 r9, 4, -1 | lddw r0, 0x1 | exit; 2609ffff04000000 1800000001000000 0000000000000000 9500000000000000
-refused 31 place 0 OutOfProgram; jgt32 r9, 4, +3 | lddw r0, 0x1 | exit; 2609030004000000 1800000001000000 0000000000000000 9500000000000000
-refused 32 place 0 IntoWide; jgt32 r9, 4, +1 | lddw r0, 0x1 | exit; 2609010004000000 1800000001000000 0000000000000000 9500000000000000
-ok; jgt32 r9, 4, +2 | lddw r0, 0x1 | exit; 2609020004000000 1800000001000000 0000000000000000 9500000000000000
-refused 30 place 0 BackwardJump; jgt32 r9, r10, -1 | lddw r0, 0x1 | exit; 2ea9ffff00000000 1800000001000000 0000000000000000 9500000000000000
-refused 31 place 0 OutOfProgram; jgt32 r9, r10, +3 | lddw r0, 0x1 | exit; 2ea9030000000000 1800000001000000 0000000000000000 9500000000000000
-refused 32 place 0 IntoWide; jgt32 r9, r10, +1 | lddw r0, 0x1 | exit; 2ea9010000000000 1800000001000000 0000000000000000 9500000000000000
-ok; jgt32 r9, r10, +2 | lddw r0, 0x1 | exit; 2ea9020000000000 1800000001000000 0000000000000000 9500000000000000
-refused 30 place 0 BackwardJump; jge32 r9, 4, -1 | lddw r0, 0x1 | exit; 3609ffff04000000 1800000001000000 0000000000000000 9500000000000000
-refused 31 place 0 OutOfProgram; jge32 r9, 4, +3 | lddw r0, 0x1 | exit; 3609030004000000 1800000001000000 0000000000000000 9500000000000000
-refused 32 place 0 IntoWide; jge32 r9, 4, +1 | lddw r0, 0x1 | exit; 3609010004000000 1800000001000000 0000000000000000 9500000000000000
-ok; jge32 r9, 4, +2 | lddw r0, 0x1 | exit; 3609020004000000 1800000001000000 0000000000000000 9500000000000000
-refused 30 place 0 BackwardJump; jge32 r9, r10, -1 | lddw r0, 0x1 | exit; 3ea9ffff00000000 1800000001000000 0000000000000000 9500000000000000
-refused 31 place 0 OutOfProgram; jge32 r9, r10, +3 | lddw r0, 0x1 | exit; 3ea9030000000000 1800000001000000 0000000000000000 9500000000000000
-refused 32 place 0 IntoWide; jge32 r9, r10, +1 | lddw r0, 0x1 | exit; 3ea9010000000000 1800000001000000 0000000000000000 9500000000000000
-ok; jge32 r9, r10, +2 | lddw r0, 0x1 | exit; 3ea9020000000000 1800000001000000 0000000000000000 9500000000000000
-refused 30 place 0 BackwardJump; jset32 r9, 4, -1 | lddw r0, 0x1 | exit; 4609ffff04000000 1800000001000000 0000000000000000 9500000000000000
-refused 31 place 0 OutOfProgram; jset32 r9, 4, +3 | lddw r0, 0x1 | exit; 4609030004000000 1800000001000000 0000000000000000 9500000000000000
-refused 32 place 0 IntoWide; jset32 r9, 4, +1 | lddw r0, 0x1 | exit; 4609010004000000 1800000001000000 0000000000000000 9500000000000000
-ok; jset32 r9, 4, +2 | lddw r0, 0x1 | exit; 4609020004000000 1800000001000000 0000000000000000 9500000000000000
-refused 30 place 0 BackwardJump; jset32 r9, r10, -1 | lddw r0, 0x1 | exit; 4ea9ffff00000000 1800000001000000 0000000000000000 9500000000000000
-refused 31 place 0 OutOfProgram; jset32 r9, r10, +3 | lddw r0, 0x1 | exit; 4ea9030000000000 1800000001000000 0000000000000000 9500000000000000
-refused 32 place 0 IntoWide; jset32 r9, r10, +1 | lddw r0, 0x1 | exit; 4ea9010000000000 1800000001000000 0000000000000000 9500000000000000
-ok; jset32 r9, r10, +2 | lddw r0, 0x1 | exit; 4ea9020000000000 1800000001000000 0000000000000000 9500000000000000
-refused 30 place 0 BackwardJump; jne32 r9, 4, -1 | lddw r0, 0x1 | exit; 5609ffff04000000 1800000001000000 0000000000000000 9500000000000000
-refused 31 place 0 OutOfProgram; jne32 r9, 4, +3 | lddw r0, 0x1 | exit; 5609030004000000 1800000001000000 0000000000000000 9500000000000000
-refused 32 place 0 IntoWide; jne32 r9, 4, +1 | lddw r0, 0x1 | exit; 5609010004000000 1800000001000000 0000000000000000 9500000000000000
-ok; jne32 r9, 4, +2 | lddw r0, 0x1 | exit; 5609020004000000 1800000001000000 0000000000000000 9500000000000000
-refused 30 place 0 BackwardJump; jne32 r9, r10, -1 | lddw r0, 0x1 | exit; 5ea9ffff00000000 1800000001000000 0000000000000000 9500000000000000
-refused 31 place 0 OutOfProgram; jne32 r9, r10, +3 | lddw r0, 0x1 | exit; 5ea9030000000000 1800000001000000 0000000000000000 9500000000000000
-refused 32 place 0 IntoWide; jne32 r9, r10, +1 | lddw r0, 0x1 | exit; 5ea9010000000000 1800000001000000 0000000000000000 9500000000000000
-ok; jne32 r9, r10, +2 | lddw r0, 0x1 | exit; 5ea9020000000000 1800000001000000 0000000000000000 9500000000000000
-refused 30 place 0 BackwardJump; jsgt32 r9, 4, -1 | lddw r0, 0x1 | exit; 6609ffff04000000 1800000001000000 0000000000000000 9500000000000000
-refused 31 place 0 OutOfProgram; jsgt32 r9, 4, +3 | lddw r0, 0x1 | exit; 6609030004000000 1800000001000000 0000000000000000 9500000000000000
-refused 32 place 0 IntoWide; jsgt32 r9, 4, +1 | lddw r0, 0x1 | exit; 6609010004000000 1800000001000000 0000000000000000 9500000000000000
-ok; jsgt32 r9, 4, +2 | lddw r0, 0x1 | exit; 6609020004000000 1800000001000000 0000000000000000 9500000000000000
-refused 30 place 0 BackwardJump; jsgt32 r9, r10, -1 | lddw r0, 0x1 | exit; 6ea9ffff00000000 1800000001000000 0000000000000000 9500000000000000
-refused 31 place 0 OutOfProgram; jsgt32 r9, r10, +3 | lddw r0, 0x1 | exit; 6ea9030000000000 1800000001000000 0000000000000000 9500000000000000
-refused 32 place 0 IntoWide; jsgt32 r9, r10, +1 | lddw r0, 0x1 | exit; 6ea9010000000000 1800000001000000 0000000000000000 9500000000000000
-ok; jsgt32 r9, r10, +2 | lddw r0, 0x1 | exit; 6ea9020000000000 1800000001000000 0000000000000000 9500000000000000
-refused 30 place 0 BackwardJump; jsge32 r9, 4, -1 | lddw r0, 0x1 | exit; 7609ffff04000000 1800000001000000 0000000000000000 9500000000000000
-refused 31 place 0 OutOfProgram; jsge32 r9, 4, +3 | lddw r0, 0x1 | exit; 7609030004000000 1800000001000000 0000000000000000 9500000000000000
-refused 32 place 0 IntoWide; jsge32 r9, 4, +1 | lddw r0, 0x1 | exit; 7609010004000000 1800000001000000 0000000000000000 9500000000000000
-ok; jsge32 r9, 4, +2 | lddw r0, 0x1 | exit; 7609020004000000 1800000001000000 0000000000000000 9500000000000000
-refused 30 place 0 BackwardJump; jsge32 r9, r10, -1 | lddw r0, 0x1 | exit; 7ea9ffff00000000 1800000001000000 0000000000000000 9500000000000000
-refused 31 place 0 OutOfProgram; jsge32 r9, r10, +3 | lddw r0, 0x1 | exit; 7ea9030000000000 1800000001000000 0000000000000000 9500000000000000
-refused 32 place 0 IntoWide; jsge32 r9, r10, +1 | lddw r0, 0x1 | exit; 7ea9010000000000 1800000001000000 0000000000000000 9500000000000000
-ok; jsge32 r9, r10, +2 | lddw r0, 0x1 | exit; 7ea9020000000000 1800000001000000 0000000000000000 9500000000000000
-refused 30 place 0 BackwardJump; jlt32 r9, 4, -1 | lddw r0, 0x1 | exit; a609ffff04000000 1800000001000000 0000000000000000 9500000000000000
-refused 31 place 0 OutOfProgram; jlt32 r9, 4, +3 | lddw r0, 0x1 | exit; a609030004000000 1800000001000000 0000000000000000 9500000000000000
-refused 32 place 0 IntoWide; jlt32 r9, 4, +1 | lddw r0, 0x1 | exit; a609010004000000 1800000001000000 0000000000000000 9500000000000000
-ok; jlt32 r9, 4, +2 | lddw r0, 0x1 | exit; a609020004000000 1800000001000000 0000000000000000 9500000000000000
-refused 30 place 0 BackwardJump; jlt32 r9, r10, -1 | lddw r0, 0x1 | exit; aea9ffff00000000 1800000001000000 0000000000000000 9500000000000000
-refused 31 place 0 OutOfProgram; jlt32 r9, r10, +3 | lddw r0, 0x1 | exit; aea9030000000000 1800000001000000 0000000000000000 9500000000000000
-refused 32 place 0 IntoWide; jlt32 r9, r10, +1 | lddw r0, 0x1 | exit; aea9010000000000 1800000001000000 0000000000000000 9500000000000000
-ok; jlt32 r9, r10, +2 | lddw r0, 0x1 | exit; aea9020000000000 1800000001000000 0000000000000000 9500000000000000
-refused 30 place 0 BackwardJump; jle32 r9, 4, -1 | lddw r0, 0x1 | exit; b609ffff04000000 1800000001000000 0000000000000000 9500000000000000
-refused 31 place 0 OutOfProgram; jle32 r9, 4, +3 | lddw r0, 0x1 | exit; b609030004000000 1800000001000000 0000000000000000 9500000000000000
-refused 32 place 0 IntoWide; jle32 r9, 4, +1 | lddw r0, 0x1 | exit; b609010004000000 1800000001000000 0000000000000000 9500000000000000
-ok; jle32 r9, 4, +2 | lddw r0, 0x1 | exit; b609020004000000 1800000001000000 0000000000000000 9500000000000000
-refused 30 place 0 BackwardJump; jle32 r9, r10, -1 | lddw r0, 0x1 | exit; bea9ffff00000000 1800000001000000 0000000000000000 9500000000000000
-refused 31 place 0 OutOfProgram; jle32 r9, r10, +3 | lddw r0, 0x1 | exit; bea9030000000000 1800000001000000 0000000000000000 9500000000000000
-refused 32 place 0 IntoWide; jle32 r9, r10, +1 | lddw r0, 0x1 | exit; bea9010000000000 1800000001000000 0000000000000000 9500000000000000
-ok; jle32 r9, r10, +2 | lddw r0, 0x1 | exit; bea9020000000000 1800000001000000 0000000000000000 9500000000000000
-refused 30 place 0 BackwardJump; jslt32 r9, 4, -1 | lddw r0, 0x1 | exit; c609ffff04000000 1800000001000000 0000000000000000 9500000000000000
-refused 31 place 0 OutOfProgram; jslt32 r9, 4, +3 | lddw r0, 0x1 | exit; c609030004000000 1800000001000000 0000000000000000 9500000000000000
-refused 32 place 0 IntoWide; jslt32 r9, 4, +1 | lddw r0, 0x1 | exit; c609010004000000 1800000001000000 0000000000000000 9500000000000000
-ok; jslt32 r9, 4, +2 | lddw r0, 0x1 | exit; c609020004000000 1800000001000000 0000000000000000 9500000000000000
-refused 30 place 0 BackwardJump; jslt32 r9, r10, -1 | lddw r0, 0x1 | exit; cea9ffff00000000 1800000001000000 0000000000000000 9500000000000000
-refused 31 place 0 OutOfProgram; jslt32 r9, r10, +3 | lddw r0, 0x1 | exit; cea9030000000000 1800000001000000 0000000000000000 9500000000000000
-refused 32 place 0 IntoWide; jslt32 r9, r10, +1 | lddw r0, 0x1 | exit; cea9010000000000 1800000001000000 0000000000000000 9500000000000000
-ok; jslt32 r9, r10, +2 | lddw r0, 0x1 | exit; cea9020000000000 1800000001000000 0000000000000000 9500000000000000
-refused 30 place 0 BackwardJump; jsle32 r9, 4, -1 | lddw r0, 0x1 | exit; d609ffff04000000 1800000001000000 0000000000000000 9500000000000000
-refused 31 place 0 OutOfProgram; jsle32 r9, 4, +3 | lddw r0, 0x1 | exit; d609030004000000 1800000001000000 0000000000000000 9500000000000000
-refused 32 place 0 IntoWide; jsle32 r9, 4, +1 | lddw r0, 0x1 | exit; d609010004000000 1800000001000000 0000000000000000 9500000000000000
-ok; jsle32 r9, 4, +2 | lddw r0, 0x1 | exit; d609020004000000 1800000001000000 0000000000000000 9500000000000000
-refused 30 place 0 BackwardJump; jsle32 r9, r10, -1 | lddw r0, 0x1 | exit; dea9ffff00000000 1800000001000000 0000000000000000 9500000000000000
-refused 31 place 0 OutOfProgram; jsle32 r9, r10, +3 | lddw r0, 0x1 | exit; dea9030000000000 1800000001000000 0000000000000000 9500000000000000
-refused 32 place 0 IntoWide; jsle32 r9, r10, +1 | lddw r0, 0x1 | exit; dea9010000000000 1800000001000000 0000000000000000 9500000000000000
-ok; jsle32 r9, r10, +2 | lddw r0, 0x1 | exit; dea9020000000000 1800000001000000 0000000000000000 9500000000000000
-";
+ja; ja32;
+jeq r9, 4,; jeq r9, r10,; jeq32 r9, 4,; jeq32 r9, r10,;
+jgt r9, 4,; jgt r9, r10,; jgt32 r9, 4,; jgt32 r9, r10,;
+jge r9, 4,; jge r9, r10,; jge32 r9, 4,; jge32 r9, r10,;
+jset r9, 4,; jset r9, r10,; jset32 r9, 4,; jset32 r9, r10,;
+jne r9, 4,; jne r9, r10,; jne32 r9, 4,; jne32 r9, r10,;
+jsgt r9, 4,; jsgt r9, r10,; jsgt32 r9, 4,; jsgt32 r9, r10,;
+jsge r9, 4,; jsge r9, r10,; jsge32 r9, 4,; jsge32 r9, r10,;
+jlt r9, 4,; jlt r9, r10,; jlt32 r9, 4,; jlt32 r9, r10,;
+jle r9, 4,; jle r9, r10,; jle32 r9, 4,; jle32 r9, r10,;
+jslt r9, 4,; jslt r9, r10,; jslt32 r9, 4,; jslt32 r9, r10,;
+jsle r9, 4,; jsle r9, r10,; jsle32 r9, 4,; jsle32 r9, r10,";
 
-/// A place, the one behind its instruction, and where that jumps, or `none`.
+// What comes of a jump of this distance with a wide load and EXIT behind it: it leads back, behind the end, to the wide
+// load's second word, and to EXIT.
+const DISTANCES: &str = "\
+refused 30 place 0 BackwardJump; -1
+refused 31 place 0 OutOfProgram; +3
+refused 32 place 0 IntoWide; +1
+ok; +2";
+
+// A place, the one behind its instruction, and where that jumps, or `none`.
 const PLACES: &str = "\
-0 1 3; jeq r0, r1, +2 | lddw r0, 0x1 | ja +0 | exit; 1d10020000000000 1800000001000000 0000000000000000 0500000000000000 9500000000000000
-1 3 none; jeq r0, r1, +2 | lddw r0, 0x1 | ja +0 | exit; 1d10020000000000 1800000001000000 0000000000000000 0500000000000000 9500000000000000
-3 4 4; jeq r0, r1, +2 | lddw r0, 0x1 | ja +0 | exit; 1d10020000000000 1800000001000000 0000000000000000 0500000000000000 9500000000000000
-4 5 none; jeq r0, r1, +2 | lddw r0, 0x1 | ja +0 | exit; 1d10020000000000 1800000001000000 0000000000000000 0500000000000000 9500000000000000
-0 1 3; ja32 +2 | mov r0, 1 | jslt32 r0, 5, +0 | exit; 0600000002000000 b700000001000000 c600000005000000 9500000000000000
-1 2 none; ja32 +2 | mov r0, 1 | jslt32 r0, 5, +0 | exit; 0600000002000000 b700000001000000 c600000005000000 9500000000000000
-2 3 3; ja32 +2 | mov r0, 1 | jslt32 r0, 5, +0 | exit; 0600000002000000 b700000001000000 c600000005000000 9500000000000000
-3 4 none; ja32 +2 | mov r0, 1 | jslt32 r0, 5, +0 | exit; 0600000002000000 b700000001000000 c600000005000000 9500000000000000
-";
+0; 1; 3; jeq r0, r1, +2 | lddw r0, 0x1 | ja +0 | exit
+1; 3; none; jeq r0, r1, +2 | lddw r0, 0x1 | ja +0 | exit
+3; 4; 4; jeq r0, r1, +2 | lddw r0, 0x1 | ja +0 | exit
+4; 5; none; jeq r0, r1, +2 | lddw r0, 0x1 | ja +0 | exit
+0; 1; 3; ja32 +2 | mov r0, 1 | jslt32 r0, 5, +0 | exit
+1; 2; none; ja32 +2 | mov r0, 1 | jslt32 r0, 5, +0 | exit
+2; 3; 3; ja32 +2 | mov r0, 1 | jslt32 r0, 5, +0 | exit
+3; 4; none; ja32 +2 | mov r0, 1 | jslt32 r0, 5, +0 | exit";
 
 /// Whether a code has this refusal, or a flow where a row says `ok`.
 fn gives(code: Code<Global>, expected: &str) -> bool {
@@ -265,40 +98,56 @@ fn gives(code: Code<Global>, expected: &str) -> bool {
 
 #[test]
 fn faults(rt: HostRuntime) {
-    for row in FAULTS.lines().chain(JUMPS.lines()) {
-        let code = code_of(rt.alloc(), row).expect(&rt, row);
-        assert!(rt; gives(code, cut(row, "; ").0), "{row}");
+    for row in FAULTS.lines() {
+        let code = code_of(rt.alloc(), cell(row, 1)).expect(&rt, row);
+        assert!(rt; gives(code, cell(row, 0)), "{row}");
+    }
+}
+
+/// Whether a jump of each distance gives what its row says.
+fn is_jump(alloc: Global, jump: &str) -> Option<bool> {
+    for row in DISTANCES.lines() {
+        let distance = cell(row, 1);
+        let text = format!(in alloc; "{jump} {distance} | lddw r0, 0x1 | exit").ok()?;
+        if !gives(code_of(alloc, &text)?, cell(row, 0)) {
+            return Some(false);
+        }
+    }
+    Some(true)
+}
+
+#[test]
+fn jumps(rt: HostRuntime) {
+    for jump in JUMPS.split(';') {
+        assert!(rt; is_jump(rt.alloc(), jump.trim()) == Some(true), "{jump}");
     }
 }
 
 /// Whether a flow has the place behind and the target of a row at its place.
-fn has_place(flow: &Flow<Global>, places: &str) -> bool {
-    let (place, rest) = cut(places, " ");
-    let (next, target) = cut(rest, " ");
-    let place = place.parse().unwrap_or(usize::MAX);
-    flow.code().at(place).is_some()
-        && next.parse() == Ok(flow.next(place))
-        && (target == "none") == flow.target(place).is_none()
-        && target.parse().ok() == flow.target(place)
+fn has_place(flow: &Flow<Global>, row: &str) -> Option<bool> {
+    let place = cell(row, 0).parse().ok()?;
+    flow.code().at(place)?;
+    let target = cell(row, 2);
+    let is_target = match flow.target(place) {
+        Some(at) => target.parse() == Ok(at),
+        None => target == "none",
+    };
+    Some(is_target && cell(row, 1).parse() == Ok(flow.next(place)))
 }
 
 #[test]
 fn places(rt: HostRuntime) {
     for row in PLACES.lines() {
-        let code = code_of(rt.alloc(), row).expect(&rt, row);
+        let code = code_of(rt.alloc(), cell(row, 3)).expect(&rt, row);
         let flow = Flow::of(code).expect(&rt, row);
-        assert!(rt; has_place(&flow, cut(row, "; ").0), "{row}");
+        assert!(rt; has_place(&flow, row) == Some(true), "{row}");
     }
 }
-
-/// A jump to the next word.
-const JUMP: &[u8] = b"\x15\0\0\0\0\0\0\0";
 
 /// A program of the greatest length, all of whose instructions but the last are jumps to the next one, has a flow.
 #[test]
 fn as_many_jumps_as_fit(rt: HostRuntime) {
-    let program = repeated(rt.alloc(), b"", JUMP, 4_095, EXIT).expect(&rt, "memory");
-    let code = decode(rt.alloc(), &program).expect(&rt, "a code");
+    let code = code_of(rt.alloc(), "jeq r0, 0, +0 *4095 | exit").expect(&rt, "a code");
     let flow = Flow::of(code).expect(&rt, "a flow");
     assert!(rt; flow.into_code().words() == WORD_LIMIT);
 }

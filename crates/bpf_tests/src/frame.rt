@@ -1,59 +1,58 @@
 //! Maps beside those of a plain program over 512 truth values.
 ghost use Rattle.std.specs.Prelude.{◌<◌, ◌≤◌, ◌+◌, ◌^◌, IfSome};
 
-use crate::fixtures::cut;
 use bpf_frame::FrameMap;
 use bpf_insn::FRAME_LENGTH;
 use bpf_kinds::Order;
+use fixtures::cell;
 use std::mem::size_of;
 
 // What is marked in a map and in another, each by the first offset and how many; whether the first has the same marks as the other, more,
 // fewer or others; and the bytes that are written in both, by the first of each run and how many.
 const MAPS: &str = "\
-60+8;60+8;same;60+8
-0+512;0+512;same;0+512
-511+1;448+64;fewer;511+1
-64+0;;same;
-;0+512;fewer;
-0+0 511+0 512+0;0+512;fewer;
-60+8;60+9;fewer;60+8
-0+64;64+64;others;
-63+2;0+64 65+447;others;63+1
-0+512;511+1;more;511+1
-0+1;0+511;fewer;0+1
-0+1 2+1 4+1;1+1 3+1 5+1;others;
-60+8 68+4 72+8;63+14;more;63+14
-510+2 0+2;1+510;others;1+1 510+1
-128+64 120+20;127+66;others;127+65
-504+8;496+12;others;504+4
-508+4 504+4;504+8;same;504+8
-154+6 74+24 374+14 219+0;428+0 92+108 60+31 228+15 406+0;others;74+17 92+6 154+6
-136+13 147+30;185+0 381+0 61+52 508+3;others;
-476+29 370+7 184+1 307+126;459+19 74+1 168+4 500+0;others;476+2
-321+22 358+127;70+1 485+0 317+174 456+22 395+0;fewer;321+22 358+127
-0+65;0+64;more;0+64
-0+192;64+64;more;64+64
-0+64 128+64 256+64 384+64;64+64 192+64 320+64 448+64;others;
-63+1 64+1;63+2;same;63+2
-63+1;64+1;others;
-127+130;128+128;more;128+128
-447+65;448+64;more;448+64
-447+2;448+1 511+1;others;448+1
-448+1 511+1;448+64;fewer;448+1 511+1
-64+0 128+0 448+0;511+0 512+0;same;
-363+1 505+0 294+3 407+63 82+7;284+6 285+45 389+2 84+2 237+0;others;84+2 294+3
+60+8; 60+8; same; 60+8
+0+512; 0+512; same; 0+512
+511+1; 448+64; fewer; 511+1
+64+0;; same
+; 0+512; fewer
+0+0 511+0 512+0; 0+512; fewer
+60+8; 60+9; fewer; 60+8
+0+64; 64+64; others
+63+2; 0+64 65+447; others; 63+1
+0+512; 511+1; more; 511+1
+0+1; 0+511; fewer; 0+1
+0+1 2+1 4+1; 1+1 3+1 5+1; others
+60+8 68+4 72+8; 63+14; more; 63+14
+510+2 0+2; 1+510; others; 1+1 510+1
+128+64 120+20; 127+66; others; 127+65
+504+8; 496+12; others; 504+4
+508+4 504+4; 504+8; same; 504+8
+154+6 74+24 374+14 219+0; 428+0 92+108 60+31 228+15 406+0; others; 74+17 92+6 154+6
+136+13 147+30; 185+0 381+0 61+52 508+3; others
+476+29 370+7 184+1 307+126; 459+19 74+1 168+4 500+0; others; 476+2
+321+22 358+127; 70+1 485+0 317+174 456+22 395+0; fewer; 321+22 358+127
+0+65; 0+64; more; 0+64
+0+192; 64+64; more; 64+64
+0+64 128+64 256+64 384+64; 64+64 192+64 320+64 448+64; others
+63+1 64+1; 63+2; same; 63+2
+63+1; 64+1; others
+127+130; 128+128; more; 128+128
+447+65; 448+64; more; 448+64
+447+2; 448+1 511+1; others; 448+1
+448+1 511+1; 448+64; fewer; 448+1 511+1
+64+0 128+0 448+0; 511+0 512+0; same
+363+1 505+0 294+3 407+63 82+7; 284+6 285+45 389+2 84+2 237+0; others; 84+2 294+3
 ";
 
 /// Whether a row says how two maps are to each other, and what is written in both.
 fn is_map(row: &str) -> Option<bool> {
-    let (marks, rest) = cut(row, ";");
-    let (others, rest) = cut(rest, ";");
-    let (order, runs) = cut(rest, ";");
-    let ((map, _), (other, _), (_, written)) = (marked(marks)?, marked(others)?, marked(runs)?);
+    let (map, _) = marked(cell(row, 0))?;
+    let (other, _) = marked(cell(row, 1))?;
+    let (_, written) = marked(cell(row, 3))?;
     let mut joined = map.duplicate();
     joined.join_with(&other);
     Some(
-        order_of(&map, &other) == order
+        order_of(&map, &other) == cell(row, 2)
             && has_exactly(&map.join(&other), &written)
             && has_exactly(&other.join(&map), &written)
             && has_exactly(&joined, &written),
@@ -121,7 +120,7 @@ fn marked(text: &str) -> Option<(FrameMap, [bool; FRAME_LENGTH])> {
 fn run_of(text: &str) -> Option<(usize, usize)>
     ensures { IfSome result (λ run. (run.0 < 2 ^ 16) × (run.1 < 2 ^ 16)) }
 {
-    let (from, len) = cut(text, "+");
+    let (from, len) = text.split_once('+')?;
     Some((
         usize::from(from.parse::<u16>().ok()?),
         usize::from(len.parse::<u16>().ok()?),

@@ -1,8 +1,8 @@
 //! Verdicts on generated programs, which another tool finds in another way.
 
-use crate::fixtures::cut;
+use crate::codes::code_of;
 use crate::verify::has_verdict;
-use bpf_text::assemble;
+use fixtures::cell;
 use std::alloc::Global;
 
 // A row has the verdict and the program's text. `python3 examples/annotations.py` writes this constant, from the seed 5 that stands in it: it
@@ -349,13 +349,9 @@ accepted; call 3 | exit | mov r0, r10 | exit | exit
 
 /// Whether a row's verdict is that of its program.
 fn is_exact(alloc: Global, row: &str) -> bool {
-    let (verdict, text) = cut(row, "; ");
-    let Ok(lines) = text.replace(alloc, " | ", "\n") else {
-        return false;
-    };
-    match assemble(alloc, &lines) {
-        Ok(code) => has_verdict(alloc, code, verdict),
-        Err(_) => false,
+    match code_of(alloc, cell(row, 1)) {
+        Some(code) => has_verdict(alloc, code, cell(row, 0)),
+        None => false,
     }
 }
 

@@ -5,332 +5,333 @@ ghost use Rattle.bpf_kinds.specs.Interval.{IsProper};
 mod moving;
 mod narrowing;
 
-use crate::fixtures::{cut, hexadecimal, instruction_of};
+use crate::codes::instruction_of;
 use bpf_insn::Insn;
 use bpf_kinds::{Interval, Kind, Offsets, Order, alu, byte_swap, extend, load, negate};
+use fixtures::cell;
 use std::alloc::Global;
 
 // An instruction, its operands and the result, a row a line. Intervals are in hexadecimal, and one number stands for itself. Of each case each
 // operand has each of the numbers 0, 1, 2^31 - 1, 2^31, 2^32 - 1, 2^32, 2^63 - 1, 2^63 and 2^64 - 1 as an end, and each rule has its row.
 const RESULTS: &str = "\
-add r1, r2: 80000000-ffffffff 0-1 = 80000000-100000000
-add r1, r2: 8000000000000000-ffffffffffffffff 8000000000000000-ffffffffffffffff = 0-fffffffffffffffe
-add r1, r2: 7fffffff-100000000 7fffffff-80000000 = fffffffe-180000000
-add r1, r2: 1-7fffffffffffffff ffffffff-7fffffffffffffff = 100000000-fffffffffffffffe
-add r1, r2: 0-7fffffff 100000000-ffffffffffffffff = 0-ffffffffffffffff
-add r1, r2: 0 7fffffffffffffff = 7fffffffffffffff
-add32 r1, r2: 0-7fffffff 1-7fffffff = 1-fffffffe
-add32 r1, r2: 80000000-100000000 100000000-7fffffffffffffff = 0-ffffffff
-add32 r1, r2: 1-ffffffff ffffffffffffffff = 0-fffffffe
-add32 r1, r2: 8000000000000000 80000000-ffffffff = 80000000-ffffffff
-add32 r1, r2: 7fffffffffffffff-ffffffffffffffff 0-8000000000000000 = 0-ffffffff
-add32 r1, r2: 7fffffff ffffffff = 7ffffffe
-sub r1, r2: 7fffffffffffffff-ffffffffffffffff 7fffffff-80000000 = 7fffffff7fffffff-ffffffff80000000
-sub r1, r2: 1-80000000 ffffffff-7fffffffffffffff = 8000000000000002-ffffffff80000001
-sub r1, r2: 0-8000000000000000 8000000000000000-ffffffffffffffff = 0-ffffffffffffffff
-sub r1, r2: ffffffff-100000000 0-1 = fffffffe-100000000
-sub r1, r2: 7fffffff 100000000 = ffffffff7fffffff
-sub32 r1, r2: 0-7fffffff 80000000-ffffffff = 1-ffffffff
-sub32 r1, r2: ffffffff-7fffffffffffffff 1-7fffffffffffffff = 0-ffffffff
-sub32 r1, r2: 1-80000000 100000000 = 1-80000000
-sub32 r1, r2: ffffffffffffffff 0-7fffffff = 80000000-ffffffff
-sub32 r1, r2: 100000000-8000000000000000 8000000000000000-ffffffffffffffff = 0-ffffffff
-sub32 r1, r2: 8000000000000000 ffffffff = 1
-mul r1, r2: 0-7fffffff 0-80000000 = 0-3fffffff80000000
-mul r1, r2: 7fffffffffffffff-ffffffffffffffff 7fffffffffffffff-8000000000000000 = 0-ffffffffffffffff
-mul r1, r2: 1-80000000 7fffffff-ffffffff = 7fffffff-7fffffff80000000
-mul r1, r2: ffffffff-100000000 1-ffffffffffffffff = 0-ffffffffffffffff
-mul r1, r2: 8000000000000000 100000000 = 0
-mul32 r1, r2: 7fffffff-80000000 0-1 = 0-80000000
-mul32 r1, r2: 7fffffffffffffff-ffffffffffffffff 7fffffff-8000000000000000 = 0-ffffffff
-mul32 r1, r2: 8000000000000000 ffffffffffffffff = 0
-mul32 r1, r2: 1-100000000 100000000-7fffffffffffffff = 0-ffffffff
-mul32 r1, r2: 0-ffffffff 80000000-ffffffff = 0-ffffffff
-div r1, r2: 7fffffff-8000000000000000 80000000-ffffffffffffffff = 0-100000000
-div r1, r2: 1-7fffffffffffffff 0-7fffffffffffffff = 0-7fffffffffffffff
-div r1, r2: ffffffff-ffffffffffffffff ffffffff-100000000 = 0-100000001
-div r1, r2: 0-80000000 7fffffff-8000000000000000 = 0-1
-div r1, r2: 100000000 1 = 100000000
-div32 r1, r2: 1-7fffffffffffffff 7fffffff-ffffffff = 0-2
-div32 r1, r2: 0-80000000 80000000-100000000 = 0-80000000
-div32 r1, r2: ffffffffffffffff 7fffffffffffffff = 1
-div32 r1, r2: 7fffffff-100000000 0-1 = 0-ffffffff
-div32 r1, r2: ffffffff-8000000000000000 8000000000000000-ffffffffffffffff = 0-ffffffff
-sdiv r1, r2: 7fffffffffffffff-8000000000000000 1-7fffffffffffffff = 0-ffffffffffffffff
-sdiv r1, r2: 1-ffffffffffffffff 0-80000000 = 0-ffffffffffffffff
-sdiv r1, r2: 80000000-100000000 ffffffff-8000000000000000 = 0-ffffffffffffffff
-sdiv r1, r2: 0-ffffffff 100000000-ffffffffffffffff = 0-ffffffffffffffff
-sdiv r1, r2: 7fffffff 7fffffff = 1
-sdiv32 r1, r2: 80000000-ffffffffffffffff 7fffffffffffffff-8000000000000000 = 0-ffffffff
-sdiv32 r1, r2: 1-7fffffff 1-7fffffff = 0-ffffffff
-sdiv32 r1, r2: 7fffffffffffffff ffffffffffffffff = 1
-sdiv32 r1, r2: 0-ffffffff ffffffff-100000000 = 0-ffffffff
-sdiv32 r1, r2: 100000000-8000000000000000 0-80000000 = 0-ffffffff
-or r1, r2: ffffffff-100000000 100000000-7fffffffffffffff = 100000000-7fffffffffffffff
-or r1, r2: 7fffffffffffffff-8000000000000000 1-80000000 = 7fffffffffffffff-ffffffffffffffff
-or r1, r2: 1-80000000 ffffffff-ffffffffffffffff = ffffffff-ffffffffffffffff
-or r1, r2: 7fffffff-ffffffffffffffff 0-8000000000000000 = 7fffffff-ffffffffffffffff
-or r1, r2: 0 7fffffff = 7fffffff
-or32 r1, r2: 1-ffffffff 7fffffff-ffffffffffffffff = 1-ffffffff
-or32 r1, r2: 0-7fffffffffffffff 1-ffffffff = 1-ffffffff
-or32 r1, r2: ffffffffffffffff 100000000 = ffffffff
-or32 r1, r2: 7fffffff-80000000 0-8000000000000000 = 7fffffff-ffffffff
-or32 r1, r2: 100000000-8000000000000000 80000000-7fffffffffffffff = 0-ffffffff
-and r1, r2: ffffffff-7fffffffffffffff 1-7fffffff = 0-7fffffff
-and r1, r2: 0-100000000 ffffffff-7fffffffffffffff = 0-100000000
-and r1, r2: 7fffffff-8000000000000000 100000000-8000000000000000 = 0-8000000000000000
-and r1, r2: 1-80000000 80000000-ffffffffffffffff = 0-80000000
-and r1, r2: 100000000-ffffffffffffffff 0-ffffffff = 0-ffffffff
-and r1, r2: ffffffffffffffff 8000000000000000 = 8000000000000000
-and32 r1, r2: 1-7fffffff 0-1 = 0-1
-and32 r1, r2: 0-80000000 ffffffff-100000000 = 0-80000000
-and32 r1, r2: ffffffff-ffffffffffffffff 7fffffff-80000000 = 0-80000000
-and32 r1, r2: 7fffffffffffffff 7fffffffffffffff = ffffffff
-and32 r1, r2: 100000000-8000000000000000 8000000000000000-ffffffffffffffff = 0-ffffffff
-lsh r1, r2: 7fffffff-7fffffffffffffff 1 = fffffffe-fffffffffffffffe
-lsh r1, r2: 1-100000000 7fffffff-7fffffffffffffff = 0-ffffffffffffffff
-lsh r1, r2: 0-80000000 80000000 = 0-80000000
-lsh r1, r2: ffffffff-ffffffffffffffff 8000000000000000-ffffffffffffffff = 0-ffffffffffffffff
-lsh r1, r2: 1-8000000000000000 20 = 0-ffffffffffffffff
-lsh r1, r2: 1-ffffffffffffffff 0-ffffffff = 0-ffffffffffffffff
-lsh r1, r2: 100000000 100000000 = 100000000
-lsh r1, r2: ffffffff-100000000 40 = ffffffff-100000000
-lsh r1, r2: 1-3 5 = 20-60
-lsh r1, r2: 1-80000000 1f = 80000000-4000000000000000
-lsh r1, r2: 0-1 21 = 0-200000000
-lsh r1, r2: 0-1 3f = 0-8000000000000000
-lsh32 r1, r2: 0-1 1 = 0-2
-lsh32 r1, r2: 7fffffff-8000000000000000 80000000-100000000 = 0-ffffffff
-lsh32 r1, r2: 80000000-ffffffff 8000000000000000 = 80000000-ffffffff
-lsh32 r1, r2: 100000000-7fffffffffffffff 7fffffff = 0-ffffffff
-lsh32 r1, r2: ffffffffffffffff ffffffff = 80000000
-lsh32 r1, r2: 7fffffff-100000000 0-ffffffffffffffff = 0-ffffffff
-lsh32 r1, r2: 5-9 20 = 5-9
-lsh32 r1, r2: 100000005-100000009 40 = 5-9
-lsh32 r1, r2: 1-3 21 = 2-6
-lsh32 r1, r2: 0-1 5 = 0-20
-lsh32 r1, r2: 0-1 3f = 0-80000000
-lsh32 r1, r2: 0-1 7fffffffffffffff = 0-80000000
-lsh32 r1, r2: 0-1 1f = 0-80000000
-rsh r1, r2: 0-ffffffff 0-1 = 0-ffffffff
-rsh r1, r2: 80000000-8000000000000000 80000000-ffffffffffffffff = 0-8000000000000000
-rsh r1, r2: 7fffffffffffffff-ffffffffffffffff 1f = ffffffff-1ffffffff
-rsh r1, r2: 1-7fffffff ffffffff-8000000000000000 = 0-7fffffff
-rsh r1, r2: ffffffff-100000000 100000000 = ffffffff-100000000
-rsh r1, r2: 7fffffff 7fffffff-7fffffffffffffff = 0-7fffffff
-rsh r1, r2: 100000005-100000009 1 = 80000002-80000004
-rsh r1, r2: 1-8000000000000000 21 = 0-40000000
-rsh r1, r2: 7fffffff-8000000000000000 3f = 0-1
-rsh r1, r2: ffffffff-7fffffffffffffff 40 = ffffffff-7fffffffffffffff
-rsh r1, r2: 7fffffff-ffffffffffffffff 5 = 3ffffff-7ffffffffffffff
-rsh r1, r2: 80000000-ffffffffffffffff 20 = 0-ffffffff
-rsh r1, r2: 7fffffffffffffff 20 = 7fffffff
-rsh32 r1, r2: 7fffffff-80000000 1-7fffffffffffffff = 0-80000000
-rsh32 r1, r2: 1-ffffffffffffffff 5 = 0-7ffffff
-rsh32 r1, r2: ffffffff-7fffffffffffffff 8000000000000000 = 0-ffffffff
-rsh32 r1, r2: 100000000 ffffffff-100000000 = 0
-rsh32 r1, r2: 0-8000000000000000 7fffffff-80000000 = 0-ffffffff
-rsh32 r1, r2: 7fffffff 0-ffffffffffffffff = 0-7fffffff
-rsh32 r1, r2: 0-80000000 1 = 0-40000000
-rsh32 r1, r2: 0-80000000 20 = 0-80000000
-rsh32 r1, r2: ffffffff-ffffffffffffffff 21 = 0-7fffffff
-rsh32 r1, r2: 1-ffffffff 3f = 0-1
-rsh32 r1, r2: 1-80000000 1f = 0-1
-rsh32 r1, r2: 7fffffff-80000000 40 = 7fffffff-80000000
-rsh32 r1, r2: 7fffffffffffffff 40 = ffffffff
-mod r1, r2: 1-80000000 7fffffff-8000000000000000 = 0-80000000
-mod r1, r2: 100000000-7fffffffffffffff 100000000-7fffffffffffffff = 0-7ffffffffffffffe
-mod r1, r2: 7fffffff-ffffffff 0-80000000 = 0-ffffffff
-mod r1, r2: 0-ffffffffffffffff 1-ffffffffffffffff = 0-fffffffffffffffe
-mod r1, r2: 8000000000000000 ffffffff = 80000000
-mod32 r1, r2: 7fffffff-80000000 0-1 = 0-80000000
-mod32 r1, r2: 1-100000000 7fffffff-80000000 = 0-7fffffff
-mod32 r1, r2: 0-7fffffffffffffff 8000000000000000-ffffffffffffffff = 0-ffffffff
-mod32 r1, r2: ffffffffffffffff 100000000 = ffffffff
-mod32 r1, r2: ffffffff-8000000000000000 ffffffff-7fffffffffffffff = 0-ffffffff
-mod32 r1, r2: 0-80000000 7fffffff-ffffffff = 0-80000000
-smod r1, r2: 80000000-100000000 7fffffff-80000000 = 0-ffffffffffffffff
-smod r1, r2: 0-7fffffffffffffff 1-100000000 = 0-ffffffffffffffff
-smod r1, r2: 8000000000000000-ffffffffffffffff 0-ffffffffffffffff = 0-ffffffffffffffff
-smod r1, r2: 1-7fffffff ffffffff-8000000000000000 = 0-ffffffffffffffff
-smod r1, r2: ffffffff 7fffffffffffffff = ffffffff
-smod32 r1, r2: 80000000-ffffffffffffffff 7fffffff-ffffffffffffffff = 0-ffffffff
-smod32 r1, r2: 1-ffffffff 80000000-ffffffff = 0-ffffffff
-smod32 r1, r2: 7fffffffffffffff 8000000000000000 = ffffffff
-smod32 r1, r2: 0-8000000000000000 0-1 = 0-ffffffff
-smod32 r1, r2: 7fffffff-100000000 100000000-7fffffffffffffff = 0-ffffffff
-xor r1, r2: 0-7fffffffffffffff 7fffffff-100000000 = 0-7fffffffffffffff
-xor r1, r2: 7fffffff-80000000 0-80000000 = 0-ffffffff
-xor r1, r2: 1-ffffffff 1-7fffffffffffffff = 0-7fffffffffffffff
-xor r1, r2: 100000000-8000000000000000 ffffffff-8000000000000000 = 0-ffffffffffffffff
-xor r1, r2: ffffffffffffffff ffffffffffffffff = 0
-xor32 r1, r2: 0-7fffffff 0-1 = 0-7fffffff
-xor32 r1, r2: ffffffff-ffffffffffffffff ffffffff-7fffffffffffffff = 0-ffffffff
-xor32 r1, r2: 80000000-7fffffffffffffff ffffffffffffffff = 0-ffffffff
-xor32 r1, r2: 8000000000000000 7fffffff-8000000000000000 = 0-ffffffff
-xor32 r1, r2: 1-100000000 80000000-100000000 = 0-ffffffff
-xor32 r1, r2: 80000000 7fffffff = ffffffff
-mov r1, r2: 1-ffffffffffffffff ffffffff-7fffffffffffffff = ffffffff-7fffffffffffffff
-mov r1, r2: 7fffffff-7fffffffffffffff 8000000000000000-ffffffffffffffff = 8000000000000000-ffffffffffffffff
-mov r1, r2: 80000000-8000000000000000 1-80000000 = 1-80000000
-mov r1, r2: 0-100000000 0-100000000 = 0-100000000
-mov r1, r2: ffffffff 7fffffff = 7fffffff
-mov32 r1, r2: 0-8000000000000000 1-80000000 = 1-80000000
-mov32 r1, r2: 80000000-ffffffff 100000000-7fffffffffffffff = 0-ffffffff
-mov32 r1, r2: ffffffffffffffff ffffffffffffffff = ffffffff
-mov32 r1, r2: 100000000-7fffffffffffffff 0-7fffffff = 0-7fffffff
-mov32 r1, r2: 1-7fffffff ffffffff-8000000000000000 = 0-ffffffff
-arsh r1, r2: 80000000-ffffffff 1 = 40000000-7fffffff
-arsh r1, r2: 0-8000000000000000 0-ffffffffffffffff = 0-ffffffffffffffff
-arsh r1, r2: 1-7fffffffffffffff 8000000000000000 = 1-7fffffffffffffff
-arsh r1, r2: 7fffffff-ffffffffffffffff 7fffffffffffffff = 0-ffffffffffffffff
-arsh r1, r2: 100000000-ffffffffffffffff ffffffff-100000000 = 0-ffffffffffffffff
-arsh r1, r2: 8000000000000005-8000000000000009 21 = ffffffffc0000000
-arsh r1, r2: 8000000000000000-ffffffffffffffff 40 = 8000000000000000-ffffffffffffffff
-arsh r1, r2: 7fffffff-80000000 7fffffff-80000000 = 0-ffffffffffffffff
-arsh r1, r2: 100000000-7fffffffffffffff 5 = 8000000-3ffffffffffffff
-arsh r1, r2: 1-100000000 1f = 0-2
-arsh r1, r2: 0-7fffffffffffffff 20 = 0-7fffffff
-arsh r1, r2: 8000000000000005-8000000000000009 3f = ffffffffffffffff
-arsh r1, r2: ffffffff 0 = ffffffff
-arsh32 r1, r2: 0-7fffffff 1 = 0-3fffffff
-arsh32 r1, r2: 80000000-8000000000000000 ffffffff-ffffffffffffffff = 0-ffffffff
-arsh32 r1, r2: 1-7fffffffffffffff 7fffffffffffffff = 0-ffffffff
-arsh32 r1, r2: ffffffff-100000000 80000000-100000000 = 0-ffffffff
-arsh32 r1, r2: ffffffffffffffff 0 = ffffffff
-arsh32 r1, r2: 100000005-100000009 40 = 5-9
-arsh32 r1, r2: 80000000-ffffffff 21 = c0000000-ffffffff
-arsh32 r1, r2: 80000001-80000006 20 = 80000001-80000006
-arsh32 r1, r2: 80000000-8000000000000000 7fffffff-8000000000000000 = 0-ffffffff
-arsh32 r1, r2: 80000000-ffffffff 1f = ffffffff
-arsh32 r1, r2: 80000000-ffffffff 3f = ffffffff
-arsh32 r1, r2: 80000000-ffffffff 5 = fc000000-ffffffff
-neg r1: 8000000000000000 = 8000000000000000
-neg r1: 0-ffffffffffffffff = 0-ffffffffffffffff
-neg r1: 80 = ffffffffffffff80
-neg r1: 7fffffff-80000000 = 0-ffffffffffffffff
-neg r1: 100000000-7fffffffffffffff = 0-ffffffffffffffff
-neg r1: 1-ffffffff = 0-ffffffffffffffff
-neg r1: 100-17f = 0-ffffffffffffffff
-neg32 r1: 100000000 = 0
-neg32 r1: 7fffffff-8000000000000000 = 0-ffffffff
-neg32 r1: 80 = ffffff80
-neg32 r1: 80000000-ffffffffffffffff = 0-ffffffff
-neg32 r1: 0-1 = 0-ffffffff
-neg32 r1: ffffffff-7fffffffffffffff = 0-ffffffff
-neg32 r1: 100-17f = 0-ffffffff
-movsx8_32 r1, r2: 0 = 0
-movsx8_32 r1, r2: ffffffff-100000000 = 0-ffffffff
-movsx8_32 r1, r2: 1122334455667788 = ffffff88
-movsx8_32 r1, r2: 5-9 = 5-9
-movsx8_32 r1, r2: 1-ffffffffffffffff = 0-ffffffff
-movsx8_32 r1, r2: 7fffffff-80000000 = 0-ffffffff
-movsx8_32 r1, r2: 7fffffffffffffff-8000000000000000 = 0-ffffffff
-movsx8_32 r1, r2: 8000-ffff = 0-ffffffff
-movsx16_32 r1, r2: 1 = 1
-movsx16_32 r1, r2: 80000000-7fffffffffffffff = 0-ffffffff
-movsx16_32 r1, r2: 7f-80 = 7f-80
-movsx16_32 r1, r2: fedcba98 = ffffba98
-movsx16_32 r1, r2: 100000000-8000000000000000 = 0-ffffffff
-movsx16_32 r1, r2: 7fffffff-ffffffffffffffff = 0-ffffffff
-movsx16_32 r1, r2: 0-ffffffff = 0-ffffffff
-movsx16_32 r1, r2: 8000-ffff = 0-ffffffff
-movsx8 r1, r2: ffffffffffffffff = ffffffffffffffff
-movsx8 r1, r2: 0-1 = 0-1
-movsx8 r1, r2: 7fffffff-ffffffff = 0-ffffffffffffffff
-movsx8 r1, r2: 80 = ffffffffffffff80
-movsx8 r1, r2: 7fffffffffffffff-8000000000000000 = 0-ffffffffffffffff
-movsx8 r1, r2: 80000000-100000000 = 0-ffffffffffffffff
-movsx8 r1, r2: 100-17f = 0-7f
-movsx8 r1, r2: 7f-80 = 0-ffffffffffffffff
-movsx16 r1, r2: 8000000000000000 = 0
-movsx16 r1, r2: 0-1 = 0-1
-movsx16 r1, r2: 80000000-ffffffffffffffff = 0-ffffffffffffffff
-movsx16 r1, r2: 80 = 80
-movsx16 r1, r2: ffffffff-100000000 = 0-ffffffffffffffff
-movsx16 r1, r2: 7fffffff-7fffffffffffffff = 0-ffffffffffffffff
-movsx16 r1, r2: 1122334455667788-112233445566778f = 7788-778f
-movsx16 r1, r2: 8000-ffff = 0-ffffffffffffffff
-movsx32 r1, r2: 1-7fffffff = 1-7fffffff
-movsx32 r1, r2: ffffffff = ffffffffffffffff
-movsx32 r1, r2: 80000000-7fffffffffffffff = 0-ffffffffffffffff
-movsx32 r1, r2: 80 = 80
-movsx32 r1, r2: 0-ffffffffffffffff = 0-ffffffffffffffff
-movsx32 r1, r2: 100000000-8000000000000000 = 0-ffffffffffffffff
-movsx32 r1, r2: 1122334455667788-112233445566778f = 55667788-5566778f
-le16 r1: 1 = 1
-le16 r1: ffffffff-ffffffffffffffff = 0-ffff
-le16 r1: 8000000000000000 = 0
-le16 r1: 80000000-7fffffffffffffff = 0-ffff
-le16 r1: 0-100000000 = 0-ffff
-le16 r1: 80 = 80
-le16 r1: 7fffffff = ffff
-le32 r1: 7fffffffffffffff = ffffffff
-le32 r1: 1-8000000000000000 = 0-ffffffff
-le32 r1: 0 = 0
-le32 r1: 7fffffff-80000000 = 7fffffff-80000000
-le32 r1: 100000000-ffffffffffffffff = 0-ffffffff
-le32 r1: 100000005-100000009 = 5-9
-le32 r1: ffffffff = ffffffff
-le64 r1: 1-ffffffff = 1-ffffffff
-le64 r1: 0-7fffffffffffffff = 0-7fffffffffffffff
-le64 r1: 100000000 = 100000000
-le64 r1: 8000000000000000-ffffffffffffffff = 8000000000000000-ffffffffffffffff
-le64 r1: 80 = 80
-le64 r1: 7fffffff-80000000 = 7fffffff-80000000
-be16 r1: 7fffffffffffffff = ffff
-be16 r1: 8000000000000000-ffffffffffffffff = 0-ffff
-be16 r1: 0 = 0
-be16 r1: 7fffffff-ffffffff = 0-ffff
-be16 r1: 1-100000000 = 0-ffff
-be16 r1: 1122334455667788 = 8877
-be16 r1: 80000000 = 0
-be16 r1: 8000-ffff = 0-ffff
-be32 r1: 100000000 = 0
-be32 r1: 7fffffff-8000000000000000 = 0-ffffffff
-be32 r1: 0 = 0
-be32 r1: ffffffff-7fffffffffffffff = 0-ffffffff
-be32 r1: 80000000-ffffffffffffffff = 0-ffffffff
-be32 r1: 1122334455667788 = 88776655
-be32 r1: 1 = 1000000
-be32 r1: 100-17f = 0-ffffffff
-be64 r1: fedcba98 = 98badcfe00000000
-be64 r1: 7fffffff-100000000 = 0-ffffffffffffffff
-be64 r1: 0 = 0
-be64 r1: 1-7fffffffffffffff = 0-ffffffffffffffff
-be64 r1: 80000000-ffffffffffffffff = 0-ffffffffffffffff
-be64 r1: ffffffff-8000000000000000 = 0-ffffffffffffffff
-be64 r1: 100000005-100000009 = 0-ffffffffffffffff
-swap16 r1: 1 = 100
-swap16 r1: ffffffff-8000000000000000 = 0-ffff
-swap16 r1: 7fffffffffffffff = ffff
-swap16 r1: 0-80000000 = 0-ffff
-swap16 r1: 100000000-ffffffffffffffff = 0-ffff
-swap16 r1: fedcba98 = 98ba
-swap16 r1: 7fffffff = ffff
-swap16 r1: 7f-80 = 0-ffff
-swap32 r1: 80000000 = 80
-swap32 r1: ffffffff-7fffffffffffffff = 0-ffffffff
-swap32 r1: 80 = 80000000
-swap32 r1: 7fffffff-100000000 = 0-ffffffff
-swap32 r1: 8000000000000000-ffffffffffffffff = 0-ffffffff
-swap32 r1: 0-1 = 0-ffffffff
-swap32 r1: 1122334455667788-112233445566778f = 0-ffffffff
-swap64 r1: 8000000000000000 = 80
-swap64 r1: 100000000-ffffffffffffffff = 0-ffffffffffffffff
-swap64 r1: 0 = 0
-swap64 r1: 1-7fffffffffffffff = 0-ffffffffffffffff
-swap64 r1: 7fffffff-80000000 = 0-ffffffffffffffff
-swap64 r1: fedcba98 = 98badcfe00000000
-swap64 r1: ffffffff = ffffffff00000000
-swap64 r1: 1122334455667788-112233445566778f = 0-ffffffffffffffff
-ldxb r1, [r2+0]: 0 = 0-ff
-ldxh r1, [r2+0]: 0 = 0-ffff
-ldxw r1, [r2+0]: 0 = 0-ffffffff
-ldxdw r1, [r2+0]: 0 = 0-ffffffffffffffff
-ldxsb r1, [r2+0]: 0 = 0-ffffffffffffffff
-ldxsh r1, [r2+0]: 0 = 0-ffffffffffffffff
-ldxsw r1, [r2+0]: 0 = 0-ffffffffffffffff
+add r1, r2; 80000000-ffffffff 0-1; 80000000-100000000
+add r1, r2; 8000000000000000-ffffffffffffffff 8000000000000000-ffffffffffffffff; 0-fffffffffffffffe
+add r1, r2; 7fffffff-100000000 7fffffff-80000000; fffffffe-180000000
+add r1, r2; 1-7fffffffffffffff ffffffff-7fffffffffffffff; 100000000-fffffffffffffffe
+add r1, r2; 0-7fffffff 100000000-ffffffffffffffff; 0-ffffffffffffffff
+add r1, r2; 0 7fffffffffffffff; 7fffffffffffffff
+add32 r1, r2; 0-7fffffff 1-7fffffff; 1-fffffffe
+add32 r1, r2; 80000000-100000000 100000000-7fffffffffffffff; 0-ffffffff
+add32 r1, r2; 1-ffffffff ffffffffffffffff; 0-fffffffe
+add32 r1, r2; 8000000000000000 80000000-ffffffff; 80000000-ffffffff
+add32 r1, r2; 7fffffffffffffff-ffffffffffffffff 0-8000000000000000; 0-ffffffff
+add32 r1, r2; 7fffffff ffffffff; 7ffffffe
+sub r1, r2; 7fffffffffffffff-ffffffffffffffff 7fffffff-80000000; 7fffffff7fffffff-ffffffff80000000
+sub r1, r2; 1-80000000 ffffffff-7fffffffffffffff; 8000000000000002-ffffffff80000001
+sub r1, r2; 0-8000000000000000 8000000000000000-ffffffffffffffff; 0-ffffffffffffffff
+sub r1, r2; ffffffff-100000000 0-1; fffffffe-100000000
+sub r1, r2; 7fffffff 100000000; ffffffff7fffffff
+sub32 r1, r2; 0-7fffffff 80000000-ffffffff; 1-ffffffff
+sub32 r1, r2; ffffffff-7fffffffffffffff 1-7fffffffffffffff; 0-ffffffff
+sub32 r1, r2; 1-80000000 100000000; 1-80000000
+sub32 r1, r2; ffffffffffffffff 0-7fffffff; 80000000-ffffffff
+sub32 r1, r2; 100000000-8000000000000000 8000000000000000-ffffffffffffffff; 0-ffffffff
+sub32 r1, r2; 8000000000000000 ffffffff; 1
+mul r1, r2; 0-7fffffff 0-80000000; 0-3fffffff80000000
+mul r1, r2; 7fffffffffffffff-ffffffffffffffff 7fffffffffffffff-8000000000000000; 0-ffffffffffffffff
+mul r1, r2; 1-80000000 7fffffff-ffffffff; 7fffffff-7fffffff80000000
+mul r1, r2; ffffffff-100000000 1-ffffffffffffffff; 0-ffffffffffffffff
+mul r1, r2; 8000000000000000 100000000; 0
+mul32 r1, r2; 7fffffff-80000000 0-1; 0-80000000
+mul32 r1, r2; 7fffffffffffffff-ffffffffffffffff 7fffffff-8000000000000000; 0-ffffffff
+mul32 r1, r2; 8000000000000000 ffffffffffffffff; 0
+mul32 r1, r2; 1-100000000 100000000-7fffffffffffffff; 0-ffffffff
+mul32 r1, r2; 0-ffffffff 80000000-ffffffff; 0-ffffffff
+div r1, r2; 7fffffff-8000000000000000 80000000-ffffffffffffffff; 0-100000000
+div r1, r2; 1-7fffffffffffffff 0-7fffffffffffffff; 0-7fffffffffffffff
+div r1, r2; ffffffff-ffffffffffffffff ffffffff-100000000; 0-100000001
+div r1, r2; 0-80000000 7fffffff-8000000000000000; 0-1
+div r1, r2; 100000000 1; 100000000
+div32 r1, r2; 1-7fffffffffffffff 7fffffff-ffffffff; 0-2
+div32 r1, r2; 0-80000000 80000000-100000000; 0-80000000
+div32 r1, r2; ffffffffffffffff 7fffffffffffffff; 1
+div32 r1, r2; 7fffffff-100000000 0-1; 0-ffffffff
+div32 r1, r2; ffffffff-8000000000000000 8000000000000000-ffffffffffffffff; 0-ffffffff
+sdiv r1, r2; 7fffffffffffffff-8000000000000000 1-7fffffffffffffff; 0-ffffffffffffffff
+sdiv r1, r2; 1-ffffffffffffffff 0-80000000; 0-ffffffffffffffff
+sdiv r1, r2; 80000000-100000000 ffffffff-8000000000000000; 0-ffffffffffffffff
+sdiv r1, r2; 0-ffffffff 100000000-ffffffffffffffff; 0-ffffffffffffffff
+sdiv r1, r2; 7fffffff 7fffffff; 1
+sdiv32 r1, r2; 80000000-ffffffffffffffff 7fffffffffffffff-8000000000000000; 0-ffffffff
+sdiv32 r1, r2; 1-7fffffff 1-7fffffff; 0-ffffffff
+sdiv32 r1, r2; 7fffffffffffffff ffffffffffffffff; 1
+sdiv32 r1, r2; 0-ffffffff ffffffff-100000000; 0-ffffffff
+sdiv32 r1, r2; 100000000-8000000000000000 0-80000000; 0-ffffffff
+or r1, r2; ffffffff-100000000 100000000-7fffffffffffffff; 100000000-7fffffffffffffff
+or r1, r2; 7fffffffffffffff-8000000000000000 1-80000000; 7fffffffffffffff-ffffffffffffffff
+or r1, r2; 1-80000000 ffffffff-ffffffffffffffff; ffffffff-ffffffffffffffff
+or r1, r2; 7fffffff-ffffffffffffffff 0-8000000000000000; 7fffffff-ffffffffffffffff
+or r1, r2; 0 7fffffff; 7fffffff
+or32 r1, r2; 1-ffffffff 7fffffff-ffffffffffffffff; 1-ffffffff
+or32 r1, r2; 0-7fffffffffffffff 1-ffffffff; 1-ffffffff
+or32 r1, r2; ffffffffffffffff 100000000; ffffffff
+or32 r1, r2; 7fffffff-80000000 0-8000000000000000; 7fffffff-ffffffff
+or32 r1, r2; 100000000-8000000000000000 80000000-7fffffffffffffff; 0-ffffffff
+and r1, r2; ffffffff-7fffffffffffffff 1-7fffffff; 0-7fffffff
+and r1, r2; 0-100000000 ffffffff-7fffffffffffffff; 0-100000000
+and r1, r2; 7fffffff-8000000000000000 100000000-8000000000000000; 0-8000000000000000
+and r1, r2; 1-80000000 80000000-ffffffffffffffff; 0-80000000
+and r1, r2; 100000000-ffffffffffffffff 0-ffffffff; 0-ffffffff
+and r1, r2; ffffffffffffffff 8000000000000000; 8000000000000000
+and32 r1, r2; 1-7fffffff 0-1; 0-1
+and32 r1, r2; 0-80000000 ffffffff-100000000; 0-80000000
+and32 r1, r2; ffffffff-ffffffffffffffff 7fffffff-80000000; 0-80000000
+and32 r1, r2; 7fffffffffffffff 7fffffffffffffff; ffffffff
+and32 r1, r2; 100000000-8000000000000000 8000000000000000-ffffffffffffffff; 0-ffffffff
+lsh r1, r2; 7fffffff-7fffffffffffffff 1; fffffffe-fffffffffffffffe
+lsh r1, r2; 1-100000000 7fffffff-7fffffffffffffff; 0-ffffffffffffffff
+lsh r1, r2; 0-80000000 80000000; 0-80000000
+lsh r1, r2; ffffffff-ffffffffffffffff 8000000000000000-ffffffffffffffff; 0-ffffffffffffffff
+lsh r1, r2; 1-8000000000000000 20; 0-ffffffffffffffff
+lsh r1, r2; 1-ffffffffffffffff 0-ffffffff; 0-ffffffffffffffff
+lsh r1, r2; 100000000 100000000; 100000000
+lsh r1, r2; ffffffff-100000000 40; ffffffff-100000000
+lsh r1, r2; 1-3 5; 20-60
+lsh r1, r2; 1-80000000 1f; 80000000-4000000000000000
+lsh r1, r2; 0-1 21; 0-200000000
+lsh r1, r2; 0-1 3f; 0-8000000000000000
+lsh32 r1, r2; 0-1 1; 0-2
+lsh32 r1, r2; 7fffffff-8000000000000000 80000000-100000000; 0-ffffffff
+lsh32 r1, r2; 80000000-ffffffff 8000000000000000; 80000000-ffffffff
+lsh32 r1, r2; 100000000-7fffffffffffffff 7fffffff; 0-ffffffff
+lsh32 r1, r2; ffffffffffffffff ffffffff; 80000000
+lsh32 r1, r2; 7fffffff-100000000 0-ffffffffffffffff; 0-ffffffff
+lsh32 r1, r2; 5-9 20; 5-9
+lsh32 r1, r2; 100000005-100000009 40; 5-9
+lsh32 r1, r2; 1-3 21; 2-6
+lsh32 r1, r2; 0-1 5; 0-20
+lsh32 r1, r2; 0-1 3f; 0-80000000
+lsh32 r1, r2; 0-1 7fffffffffffffff; 0-80000000
+lsh32 r1, r2; 0-1 1f; 0-80000000
+rsh r1, r2; 0-ffffffff 0-1; 0-ffffffff
+rsh r1, r2; 80000000-8000000000000000 80000000-ffffffffffffffff; 0-8000000000000000
+rsh r1, r2; 7fffffffffffffff-ffffffffffffffff 1f; ffffffff-1ffffffff
+rsh r1, r2; 1-7fffffff ffffffff-8000000000000000; 0-7fffffff
+rsh r1, r2; ffffffff-100000000 100000000; ffffffff-100000000
+rsh r1, r2; 7fffffff 7fffffff-7fffffffffffffff; 0-7fffffff
+rsh r1, r2; 100000005-100000009 1; 80000002-80000004
+rsh r1, r2; 1-8000000000000000 21; 0-40000000
+rsh r1, r2; 7fffffff-8000000000000000 3f; 0-1
+rsh r1, r2; ffffffff-7fffffffffffffff 40; ffffffff-7fffffffffffffff
+rsh r1, r2; 7fffffff-ffffffffffffffff 5; 3ffffff-7ffffffffffffff
+rsh r1, r2; 80000000-ffffffffffffffff 20; 0-ffffffff
+rsh r1, r2; 7fffffffffffffff 20; 7fffffff
+rsh32 r1, r2; 7fffffff-80000000 1-7fffffffffffffff; 0-80000000
+rsh32 r1, r2; 1-ffffffffffffffff 5; 0-7ffffff
+rsh32 r1, r2; ffffffff-7fffffffffffffff 8000000000000000; 0-ffffffff
+rsh32 r1, r2; 100000000 ffffffff-100000000; 0
+rsh32 r1, r2; 0-8000000000000000 7fffffff-80000000; 0-ffffffff
+rsh32 r1, r2; 7fffffff 0-ffffffffffffffff; 0-7fffffff
+rsh32 r1, r2; 0-80000000 1; 0-40000000
+rsh32 r1, r2; 0-80000000 20; 0-80000000
+rsh32 r1, r2; ffffffff-ffffffffffffffff 21; 0-7fffffff
+rsh32 r1, r2; 1-ffffffff 3f; 0-1
+rsh32 r1, r2; 1-80000000 1f; 0-1
+rsh32 r1, r2; 7fffffff-80000000 40; 7fffffff-80000000
+rsh32 r1, r2; 7fffffffffffffff 40; ffffffff
+mod r1, r2; 1-80000000 7fffffff-8000000000000000; 0-80000000
+mod r1, r2; 100000000-7fffffffffffffff 100000000-7fffffffffffffff; 0-7ffffffffffffffe
+mod r1, r2; 7fffffff-ffffffff 0-80000000; 0-ffffffff
+mod r1, r2; 0-ffffffffffffffff 1-ffffffffffffffff; 0-fffffffffffffffe
+mod r1, r2; 8000000000000000 ffffffff; 80000000
+mod32 r1, r2; 7fffffff-80000000 0-1; 0-80000000
+mod32 r1, r2; 1-100000000 7fffffff-80000000; 0-7fffffff
+mod32 r1, r2; 0-7fffffffffffffff 8000000000000000-ffffffffffffffff; 0-ffffffff
+mod32 r1, r2; ffffffffffffffff 100000000; ffffffff
+mod32 r1, r2; ffffffff-8000000000000000 ffffffff-7fffffffffffffff; 0-ffffffff
+mod32 r1, r2; 0-80000000 7fffffff-ffffffff; 0-80000000
+smod r1, r2; 80000000-100000000 7fffffff-80000000; 0-ffffffffffffffff
+smod r1, r2; 0-7fffffffffffffff 1-100000000; 0-ffffffffffffffff
+smod r1, r2; 8000000000000000-ffffffffffffffff 0-ffffffffffffffff; 0-ffffffffffffffff
+smod r1, r2; 1-7fffffff ffffffff-8000000000000000; 0-ffffffffffffffff
+smod r1, r2; ffffffff 7fffffffffffffff; ffffffff
+smod32 r1, r2; 80000000-ffffffffffffffff 7fffffff-ffffffffffffffff; 0-ffffffff
+smod32 r1, r2; 1-ffffffff 80000000-ffffffff; 0-ffffffff
+smod32 r1, r2; 7fffffffffffffff 8000000000000000; ffffffff
+smod32 r1, r2; 0-8000000000000000 0-1; 0-ffffffff
+smod32 r1, r2; 7fffffff-100000000 100000000-7fffffffffffffff; 0-ffffffff
+xor r1, r2; 0-7fffffffffffffff 7fffffff-100000000; 0-7fffffffffffffff
+xor r1, r2; 7fffffff-80000000 0-80000000; 0-ffffffff
+xor r1, r2; 1-ffffffff 1-7fffffffffffffff; 0-7fffffffffffffff
+xor r1, r2; 100000000-8000000000000000 ffffffff-8000000000000000; 0-ffffffffffffffff
+xor r1, r2; ffffffffffffffff ffffffffffffffff; 0
+xor32 r1, r2; 0-7fffffff 0-1; 0-7fffffff
+xor32 r1, r2; ffffffff-ffffffffffffffff ffffffff-7fffffffffffffff; 0-ffffffff
+xor32 r1, r2; 80000000-7fffffffffffffff ffffffffffffffff; 0-ffffffff
+xor32 r1, r2; 8000000000000000 7fffffff-8000000000000000; 0-ffffffff
+xor32 r1, r2; 1-100000000 80000000-100000000; 0-ffffffff
+xor32 r1, r2; 80000000 7fffffff; ffffffff
+mov r1, r2; 1-ffffffffffffffff ffffffff-7fffffffffffffff; ffffffff-7fffffffffffffff
+mov r1, r2; 7fffffff-7fffffffffffffff 8000000000000000-ffffffffffffffff; 8000000000000000-ffffffffffffffff
+mov r1, r2; 80000000-8000000000000000 1-80000000; 1-80000000
+mov r1, r2; 0-100000000 0-100000000; 0-100000000
+mov r1, r2; ffffffff 7fffffff; 7fffffff
+mov32 r1, r2; 0-8000000000000000 1-80000000; 1-80000000
+mov32 r1, r2; 80000000-ffffffff 100000000-7fffffffffffffff; 0-ffffffff
+mov32 r1, r2; ffffffffffffffff ffffffffffffffff; ffffffff
+mov32 r1, r2; 100000000-7fffffffffffffff 0-7fffffff; 0-7fffffff
+mov32 r1, r2; 1-7fffffff ffffffff-8000000000000000; 0-ffffffff
+arsh r1, r2; 80000000-ffffffff 1; 40000000-7fffffff
+arsh r1, r2; 0-8000000000000000 0-ffffffffffffffff; 0-ffffffffffffffff
+arsh r1, r2; 1-7fffffffffffffff 8000000000000000; 1-7fffffffffffffff
+arsh r1, r2; 7fffffff-ffffffffffffffff 7fffffffffffffff; 0-ffffffffffffffff
+arsh r1, r2; 100000000-ffffffffffffffff ffffffff-100000000; 0-ffffffffffffffff
+arsh r1, r2; 8000000000000005-8000000000000009 21; ffffffffc0000000
+arsh r1, r2; 8000000000000000-ffffffffffffffff 40; 8000000000000000-ffffffffffffffff
+arsh r1, r2; 7fffffff-80000000 7fffffff-80000000; 0-ffffffffffffffff
+arsh r1, r2; 100000000-7fffffffffffffff 5; 8000000-3ffffffffffffff
+arsh r1, r2; 1-100000000 1f; 0-2
+arsh r1, r2; 0-7fffffffffffffff 20; 0-7fffffff
+arsh r1, r2; 8000000000000005-8000000000000009 3f; ffffffffffffffff
+arsh r1, r2; ffffffff 0; ffffffff
+arsh32 r1, r2; 0-7fffffff 1; 0-3fffffff
+arsh32 r1, r2; 80000000-8000000000000000 ffffffff-ffffffffffffffff; 0-ffffffff
+arsh32 r1, r2; 1-7fffffffffffffff 7fffffffffffffff; 0-ffffffff
+arsh32 r1, r2; ffffffff-100000000 80000000-100000000; 0-ffffffff
+arsh32 r1, r2; ffffffffffffffff 0; ffffffff
+arsh32 r1, r2; 100000005-100000009 40; 5-9
+arsh32 r1, r2; 80000000-ffffffff 21; c0000000-ffffffff
+arsh32 r1, r2; 80000001-80000006 20; 80000001-80000006
+arsh32 r1, r2; 80000000-8000000000000000 7fffffff-8000000000000000; 0-ffffffff
+arsh32 r1, r2; 80000000-ffffffff 1f; ffffffff
+arsh32 r1, r2; 80000000-ffffffff 3f; ffffffff
+arsh32 r1, r2; 80000000-ffffffff 5; fc000000-ffffffff
+neg r1; 8000000000000000; 8000000000000000
+neg r1; 0-ffffffffffffffff; 0-ffffffffffffffff
+neg r1; 80; ffffffffffffff80
+neg r1; 7fffffff-80000000; 0-ffffffffffffffff
+neg r1; 100000000-7fffffffffffffff; 0-ffffffffffffffff
+neg r1; 1-ffffffff; 0-ffffffffffffffff
+neg r1; 100-17f; 0-ffffffffffffffff
+neg32 r1; 100000000; 0
+neg32 r1; 7fffffff-8000000000000000; 0-ffffffff
+neg32 r1; 80; ffffff80
+neg32 r1; 80000000-ffffffffffffffff; 0-ffffffff
+neg32 r1; 0-1; 0-ffffffff
+neg32 r1; ffffffff-7fffffffffffffff; 0-ffffffff
+neg32 r1; 100-17f; 0-ffffffff
+movsx8_32 r1, r2; 0; 0
+movsx8_32 r1, r2; ffffffff-100000000; 0-ffffffff
+movsx8_32 r1, r2; 1122334455667788; ffffff88
+movsx8_32 r1, r2; 5-9; 5-9
+movsx8_32 r1, r2; 1-ffffffffffffffff; 0-ffffffff
+movsx8_32 r1, r2; 7fffffff-80000000; 0-ffffffff
+movsx8_32 r1, r2; 7fffffffffffffff-8000000000000000; 0-ffffffff
+movsx8_32 r1, r2; 8000-ffff; 0-ffffffff
+movsx16_32 r1, r2; 1; 1
+movsx16_32 r1, r2; 80000000-7fffffffffffffff; 0-ffffffff
+movsx16_32 r1, r2; 7f-80; 7f-80
+movsx16_32 r1, r2; fedcba98; ffffba98
+movsx16_32 r1, r2; 100000000-8000000000000000; 0-ffffffff
+movsx16_32 r1, r2; 7fffffff-ffffffffffffffff; 0-ffffffff
+movsx16_32 r1, r2; 0-ffffffff; 0-ffffffff
+movsx16_32 r1, r2; 8000-ffff; 0-ffffffff
+movsx8 r1, r2; ffffffffffffffff; ffffffffffffffff
+movsx8 r1, r2; 0-1; 0-1
+movsx8 r1, r2; 7fffffff-ffffffff; 0-ffffffffffffffff
+movsx8 r1, r2; 80; ffffffffffffff80
+movsx8 r1, r2; 7fffffffffffffff-8000000000000000; 0-ffffffffffffffff
+movsx8 r1, r2; 80000000-100000000; 0-ffffffffffffffff
+movsx8 r1, r2; 100-17f; 0-7f
+movsx8 r1, r2; 7f-80; 0-ffffffffffffffff
+movsx16 r1, r2; 8000000000000000; 0
+movsx16 r1, r2; 0-1; 0-1
+movsx16 r1, r2; 80000000-ffffffffffffffff; 0-ffffffffffffffff
+movsx16 r1, r2; 80; 80
+movsx16 r1, r2; ffffffff-100000000; 0-ffffffffffffffff
+movsx16 r1, r2; 7fffffff-7fffffffffffffff; 0-ffffffffffffffff
+movsx16 r1, r2; 1122334455667788-112233445566778f; 7788-778f
+movsx16 r1, r2; 8000-ffff; 0-ffffffffffffffff
+movsx32 r1, r2; 1-7fffffff; 1-7fffffff
+movsx32 r1, r2; ffffffff; ffffffffffffffff
+movsx32 r1, r2; 80000000-7fffffffffffffff; 0-ffffffffffffffff
+movsx32 r1, r2; 80; 80
+movsx32 r1, r2; 0-ffffffffffffffff; 0-ffffffffffffffff
+movsx32 r1, r2; 100000000-8000000000000000; 0-ffffffffffffffff
+movsx32 r1, r2; 1122334455667788-112233445566778f; 55667788-5566778f
+le16 r1; 1; 1
+le16 r1; ffffffff-ffffffffffffffff; 0-ffff
+le16 r1; 8000000000000000; 0
+le16 r1; 80000000-7fffffffffffffff; 0-ffff
+le16 r1; 0-100000000; 0-ffff
+le16 r1; 80; 80
+le16 r1; 7fffffff; ffff
+le32 r1; 7fffffffffffffff; ffffffff
+le32 r1; 1-8000000000000000; 0-ffffffff
+le32 r1; 0; 0
+le32 r1; 7fffffff-80000000; 7fffffff-80000000
+le32 r1; 100000000-ffffffffffffffff; 0-ffffffff
+le32 r1; 100000005-100000009; 5-9
+le32 r1; ffffffff; ffffffff
+le64 r1; 1-ffffffff; 1-ffffffff
+le64 r1; 0-7fffffffffffffff; 0-7fffffffffffffff
+le64 r1; 100000000; 100000000
+le64 r1; 8000000000000000-ffffffffffffffff; 8000000000000000-ffffffffffffffff
+le64 r1; 80; 80
+le64 r1; 7fffffff-80000000; 7fffffff-80000000
+be16 r1; 7fffffffffffffff; ffff
+be16 r1; 8000000000000000-ffffffffffffffff; 0-ffff
+be16 r1; 0; 0
+be16 r1; 7fffffff-ffffffff; 0-ffff
+be16 r1; 1-100000000; 0-ffff
+be16 r1; 1122334455667788; 8877
+be16 r1; 80000000; 0
+be16 r1; 8000-ffff; 0-ffff
+be32 r1; 100000000; 0
+be32 r1; 7fffffff-8000000000000000; 0-ffffffff
+be32 r1; 0; 0
+be32 r1; ffffffff-7fffffffffffffff; 0-ffffffff
+be32 r1; 80000000-ffffffffffffffff; 0-ffffffff
+be32 r1; 1122334455667788; 88776655
+be32 r1; 1; 1000000
+be32 r1; 100-17f; 0-ffffffff
+be64 r1; fedcba98; 98badcfe00000000
+be64 r1; 7fffffff-100000000; 0-ffffffffffffffff
+be64 r1; 0; 0
+be64 r1; 1-7fffffffffffffff; 0-ffffffffffffffff
+be64 r1; 80000000-ffffffffffffffff; 0-ffffffffffffffff
+be64 r1; ffffffff-8000000000000000; 0-ffffffffffffffff
+be64 r1; 100000005-100000009; 0-ffffffffffffffff
+swap16 r1; 1; 100
+swap16 r1; ffffffff-8000000000000000; 0-ffff
+swap16 r1; 7fffffffffffffff; ffff
+swap16 r1; 0-80000000; 0-ffff
+swap16 r1; 100000000-ffffffffffffffff; 0-ffff
+swap16 r1; fedcba98; 98ba
+swap16 r1; 7fffffff; ffff
+swap16 r1; 7f-80; 0-ffff
+swap32 r1; 80000000; 80
+swap32 r1; ffffffff-7fffffffffffffff; 0-ffffffff
+swap32 r1; 80; 80000000
+swap32 r1; 7fffffff-100000000; 0-ffffffff
+swap32 r1; 8000000000000000-ffffffffffffffff; 0-ffffffff
+swap32 r1; 0-1; 0-ffffffff
+swap32 r1; 1122334455667788-112233445566778f; 0-ffffffff
+swap64 r1; 8000000000000000; 80
+swap64 r1; 100000000-ffffffffffffffff; 0-ffffffffffffffff
+swap64 r1; 0; 0
+swap64 r1; 1-7fffffffffffffff; 0-ffffffffffffffff
+swap64 r1; 7fffffff-80000000; 0-ffffffffffffffff
+swap64 r1; fedcba98; 98badcfe00000000
+swap64 r1; ffffffff; ffffffff00000000
+swap64 r1; 1122334455667788-112233445566778f; 0-ffffffffffffffff
+ldxb r1, [r2+0]; 0; 0-ff
+ldxh r1, [r2+0]; 0; 0-ffff
+ldxw r1, [r2+0]; 0; 0-ffffffff
+ldxdw r1, [r2+0]; 0; 0-ffffffffffffffff
+ldxsb r1, [r2+0]; 0; 0-ffffffffffffffff
+ldxsh r1, [r2+0]; 0; 0-ffffffffffffffff
+ldxsw r1, [r2+0]; 0; 0-ffffffffffffffff
 ";
 
 /// An interval from its two ends, or from its one number.
@@ -338,8 +339,8 @@ fn interval(text: &str) -> Option<Interval>
     ensures { IfSome result IsProper }
 {
     let (low, high) = text.split_once('-').unwrap_or((text, text));
-    let low = hexadecimal(low)?;
-    let high = hexadecimal(high)?;
+    let low = u64::from_str_radix(low, 16).ok()?;
+    let high = u64::from_str_radix(high, 16).ok()?;
     if low <= high {
         Some(Interval { low, high })
     } else {
@@ -368,11 +369,11 @@ fn result_of(instruction: Insn, x: Interval, y: Interval) -> Option<Interval>
 
 /// Whether an instruction has the result of a row.
 fn is_result(alloc: Global, row: &str) -> Option<bool> {
-    let (line, rest) = cut(row, ": ");
-    let (operands, want) = cut(rest, " = ");
+    let operands = cell(row, 1);
     let (x, y) = operands.split_once(' ').unwrap_or((operands, operands));
-    let given = result_of(instruction_of(alloc, line)?, interval(x)?, interval(y)?)?;
-    Some(given == interval(want)?)
+    let instruction = instruction_of(alloc, cell(row, 0))?;
+    let given = result_of(instruction, interval(x)?, interval(y)?)?;
+    Some(given == interval(cell(row, 2))?)
 }
 
 #[test]

@@ -3,7 +3,7 @@
 #![tactic(auto)]
 
 #[cfg(test)]
-mod fixtures;
+mod codes;
 #[cfg(test)]
 mod flow;
 #[cfg(test)]
@@ -20,6 +20,8 @@ mod kinds;
 mod machine;
 #[cfg(test)]
 mod meaning;
+#[cfg(test)]
+mod segments;
 #[cfg(test)]
 mod text;
 #[cfg(test)]

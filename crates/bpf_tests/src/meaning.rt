@@ -1,330 +1,343 @@
-//! Programs worked by hand, or by another tool, on a record whose bytes are known. Each table has a row a line: what comes of the program,
-//! its text, and its words in hexadecimal. What comes of it is its answer, the refusal where it's stuck, or `running`.
-
-use crate::fixtures::{RECORD, code_of, cut, is_exit, put};
+//! Programs worked by hand, or by another tool, on a record whose bytes are known. What comes of one is its answer, with a
+//! score that isn't 0, the refusal where it's stuck, or `running`.
+use crate::codes::code_of;
+use crate::segments::county_of;
 use bpf_insn::{Code, Value};
 use bpf_meaning::{Outcome, State, step, trace};
-use std::alloc::{AllocError, Global};
-use tl_segments::{Range, Segment};
+use fixtures::{RT1, cell, table};
+use std::alloc::Global;
+use std::test::Fail;
+use tl_segments::Segment;
 
+// What comes of a program.
 pub const OUTCOMES: &str = concat!(
     // Operations, jumps and memory.
     "\
-1; mov r0, 1; b700000001000000 9500000000000000
-0; mov r0, -1 | add r0, 1; b7000000ffffffff 0700000001000000 9500000000000000
-1; mov r0, 1 | exit | ldxb r0, [r9+0]; b700000001000000 9500000000000000 7190000000000000 9500000000000000
-48; ldxb r0, [r1+227]; 7110e30000000000 9500000000000000
-0; ldxb r0, [r1+55] | add r0, -65; 7110370000000000 07000000bfffffff 9500000000000000
-0; mov r0, 7 | div r0, 0; b700000007000000 3700000000000000 9500000000000000
-7; mov r0, 7 | mod r0, 0; b700000007000000 9700000000000000 9500000000000000
-7; lddw r0, 0x100000007 | mod32 r0, 0; 1800000007000000 0000000001000000 9400000000000000 9500000000000000
-0; mov32 r2, -1 | mov r0, 0 | jne r2, -1, +1 | mov r0, 1; b4020000ffffffff b700000000000000 55020100ffffffff b700000001000000 9500000000000000
-1; mov32 r2, -1 | mov r0, 0 | jne32 r2, -1, +1 | mov r0, 1; b4020000ffffffff b700000000000000 56020100ffffffff b700000001000000 9500000000000000
-34935; lddw r0, 0x1122334455667788 | be16 r0; 1800000088776655 0000000044332211 dc00000010000000 9500000000000000
-1432778632; lddw r0, 0x1122334455667788 | le32 r0; 1800000088776655 0000000044332211 d400000020000000 9500000000000000
-18446744073709551612; mov r0, -13 | sdiv r0, 3; b7000000f3ffffff 3700010003000000 9500000000000000
-9223372036854775808; lddw r0, 0x8000000000000000 | sdiv r0, -1; 1800000000000000 0000000000000080 37000100ffffffff 9500000000000000
-0; lddw r0, 0x8000000000000000 | smod r0, -1; 1800000000000000 0000000000000080 97000100ffffffff 9500000000000000
-0; mov r0, 10 | div r0, -1; b70000000a000000 37000000ffffffff 9500000000000000
-6; mov r0, 3 | lsh r0, 65; b700000003000000 6700000041000000 9500000000000000
-4160749568; lddw r0, 0x80000000 | arsh32 r0, 4; 1800000000000080 0000000000000000 c400000004000000 9500000000000000
-18446744073709551488; mov r1, 128 | movsx8 r0, r1; b701000080000000 bf10080000000000 9500000000000000
-4294967168; mov r1, 128 | movsx8_32 r0, r1; b701000080000000 bc10080000000000 9500000000000000
-2289526357; lddw r0, 0x1122334455667788 | swap32 r0; 1800000088776655 0000000044332211 d700000020000000 9500000000000000
-4294967295; mov r0, 1 | neg32 r0; b700000001000000 8400000000000000 9500000000000000
-18446744073709551615; stb [r10-1], -1 | ldxsb r0, [r10-1]; 720affffffffffff 91a0ffff00000000 9500000000000000
-255; stb [r10-1], -1 | ldxb r0, [r10-1]; 720affffffffffff 71a0ffff00000000 9500000000000000
-18446744073709551615; stdw [r10-8], -1 | ldxdw r0, [r10-8]; 7a0af8ffffffffff 79a0f8ff00000000 9500000000000000
-18446744073709551615; mov r1, -13 | smod r1, 3 | mov r0, r1; b7010000f3ffffff 9701010003000000 bf10000000000000 9500000000000000
-0; mov r2, 1 | stxdw [r10-8], r2 | ldxw r3, [r10-8] | ldxw r0, [r10-4]; b702000001000000 7b2af8ff00000000 61a3f8ff00000000 61a0fcff00000000 9500000000000000
-48; mov r2, 1 | add r2, -1 | add r1, r2 | ldxb r0, [r1+227]; b702000001000000 07020000ffffffff 0f21000000000000 7110e30000000000 9500000000000000
-48; mov r2, -1 | add r1, r2 | ldxb r0, [r1+228]; b7020000ffffffff 0f21000000000000 7110e40000000000 9500000000000000
-1; mov r0, 1 | ja +1 | ldxb r0, [r9+0]; b700000001000000 0500010000000000 7190000000000000 9500000000000000
-65; mov r3, r1 | ldxb r0, [r3+55]; bf13000000000000 7130370000000000 9500000000000000
-65; mov r3, 55 | add r3, r1 | ldxb r0, [r3+0]; b703000037000000 0f13000000000000 7130000000000000 9500000000000000
-65; add r1, 60 | sub r1, 5 | ldxb r0, [r1+0]; 070100003c000000 1701000005000000 7110000000000000 9500000000000000
-65; mov r2, -55 | sub r1, r2 | ldxb r0, [r1+0]; b7020000c9ffffff 1f21000000000000 7110000000000000 9500000000000000
-5; mov r1, 5 | mov r0, r1; b701000005000000 bf10000000000000 9500000000000000
-3; mov r0, 3 | jeq r0, 4, +9; b700000003000000 1500090004000000 9500000000000000
-3; mov r0, 3 | jeq r0, 4, -9; b700000003000000 1500f7ff04000000 9500000000000000
-7; mov r0, 3 | jset32 r0, 4, +1 | lddw r0, 7; b700000003000000 4600010004000000 1800000007000000 0000000000000000 9500000000000000
-3; mov r0, 3 | ja +2 | lddw r0, 7; b700000003000000 0500020000000000 1800000007000000 0000000000000000 9500000000000000
-2; mov r0, 1 | ja +2 | mov r0, 2 | exit | ja -3; b700000001000000 0500020000000000 b700000002000000 9500000000000000 0500fdff00000000 9500000000000000
-2; mov r0, 1 | ja32 +2 | mov r0, 2 | exit | ja32 -3; b700000001000000 0600000002000000 b700000002000000 9500000000000000 06000000fdffffff 9500000000000000
-1; mov r2, 5 | mov r3, -1 | mov r0, 0 | jsgt r2, r3, +1 | exit | mov r0, 1; b702000005000000 b7030000ffffffff b700000000000000 6d32010000000000 9500000000000000 b700000001000000 9500000000000000
-0; mov r2, 5 | mov r3, -1 | mov r0, 0 | jgt r2, r3, +1 | exit | mov r0, 1; b702000005000000 b7030000ffffffff b700000000000000 2d32010000000000 9500000000000000 b700000001000000 9500000000000000
+1; mov r0, 1 | exit
+0; mov r0, -1 | add r0, 1 | exit
+1; mov r0, 1 | exit | ldxb r0, [r9+0] | exit
+48; ldxb r0, [r1+227] | exit
+0; ldxb r0, [r1+55] | add r0, -65 | exit
+0; mov r0, 7 | div r0, 0 | exit
+7; mov r0, 7 | mod r0, 0 | exit
+7; lddw r0, 0x100000007 | mod32 r0, 0 | exit
+0; mov32 r2, -1 | mov r0, 0 | jne r2, -1, +1 | mov r0, 1 | exit
+1; mov32 r2, -1 | mov r0, 0 | jne32 r2, -1, +1 | mov r0, 1 | exit
+34935; lddw r0, 0x1122334455667788 | be16 r0 | exit
+1432778632; lddw r0, 0x1122334455667788 | le32 r0 | exit
+18446744073709551612; mov r0, -13 | sdiv r0, 3 | exit
+9223372036854775808; lddw r0, 0x8000000000000000 | sdiv r0, -1 | exit
+0; lddw r0, 0x8000000000000000 | smod r0, -1 | exit
+0; mov r0, 10 | div r0, -1 | exit
+6; mov r0, 3 | lsh r0, 65 | exit
+4160749568; lddw r0, 0x80000000 | arsh32 r0, 4 | exit
+18446744073709551488; mov r1, 128 | movsx8 r0, r1 | exit
+4294967168; mov r1, 128 | movsx8_32 r0, r1 | exit
+2289526357; lddw r0, 0x1122334455667788 | swap32 r0 | exit
+4294967295; mov r0, 1 | neg32 r0 | exit
+18446744073709551615; stb [r10-1], -1 | ldxsb r0, [r10-1] | exit
+255; stb [r10-1], -1 | ldxb r0, [r10-1] | exit
+18446744073709551615; stdw [r10-8], -1 | ldxdw r0, [r10-8] | exit
+18446744073709551615; mov r1, -13 | smod r1, 3 | mov r0, r1 | exit
+0; mov r2, 1 | stxdw [r10-8], r2 | ldxw r3, [r10-8] | ldxw r0, [r10-4] | exit
+48; mov r2, 1 | add r2, -1 | add r1, r2 | ldxb r0, [r1+227] | exit
+48; mov r2, -1 | add r1, r2 | ldxb r0, [r1+228] | exit
+1; mov r0, 1 | ja +1 | ldxb r0, [r9+0] | exit
+65; mov r3, r1 | ldxb r0, [r3+55] | exit
+65; mov r3, 55 | add r3, r1 | ldxb r0, [r3+0] | exit
+65; add r1, 60 | sub r1, 5 | ldxb r0, [r1+0] | exit
+65; mov r2, -55 | sub r1, r2 | ldxb r0, [r1+0] | exit
+5; mov r1, 5 | mov r0, r1 | exit
+3; mov r0, 3 | jeq r0, 4, +9 | exit
+3; mov r0, 3 | jeq r0, 4, -9 | exit
+7; mov r0, 3 | jset32 r0, 4, +1 | lddw r0, 7 | exit
+3; mov r0, 3 | ja +2 | lddw r0, 7 | exit
+2; mov r0, 1 | ja +2 | mov r0, 2 | exit | ja -3 | exit
+2; mov r0, 1 | ja32 +2 | mov r0, 2 | exit | ja32 -3 | exit
+1; mov r2, 5 | mov r3, -1 | mov r0, 0 | jsgt r2, r3, +1 | exit | mov r0, 1 | exit
+0; mov r2, 5 | mov r3, -1 | mov r0, 0 | jgt r2, r3, +1 | exit | mov r0, 1 | exit
 ",
     // Each operation in both widths, at 0, 1, all ones, and the least and the greatest signed numbers.
     "\
-9223372036854775808; lddw r0, 0x7fffffffffffffff | lddw r2, 0x1 | add r0, r2; 18000000ffffffff 00000000ffffff7f 1802000001000000 0000000000000000 0f20000000000000 9500000000000000
-4294967295; lddw r0, 0x0 | lddw r2, 0xffffffffffffffff | add32 r0, r2; 1800000000000000 0000000000000000 18020000ffffffff 00000000ffffffff 0c20000000000000 9500000000000000
-9223372036854775809; lddw r0, 0x8000000000000000 | lddw r2, 0xffffffffffffffff | sub r0, r2; 1800000000000000 0000000000000080 18020000ffffffff 00000000ffffffff 1f20000000000000 9500000000000000
-1; lddw r0, 0xffffffff80000000 | lddw r2, 0x7fffffff | sub32 r0, r2; 1800000000000080 00000000ffffffff 18020000ffffff7f 0000000000000000 1c20000000000000 9500000000000000
-1; lddw r0, 0xffffffffffffffff | lddw r2, 0xffffffffffffffff | mul r0, r2; 18000000ffffffff 00000000ffffffff 18020000ffffffff 00000000ffffffff 2f20000000000000 9500000000000000
-0; lddw r0, 0x8000000080000000 | lddw r2, 0x100000000 | mul32 r0, r2; 1800000000000080 0000000000000080 1802000000000000 0000000001000000 2c20000000000000 9500000000000000
-0; lddw r0, 0x0 | lddw r2, 0xffffffffffffffff | div r0, r2; 1800000000000000 0000000000000000 18020000ffffffff 00000000ffffffff 3f20000000000000 9500000000000000
-4294967295; lddw r0, 0x7fffffffffffffff | lddw r2, 0x1 | div32 r0, r2; 18000000ffffffff 00000000ffffff7f 1802000001000000 0000000000000000 3c20000000000000 9500000000000000
-18446744073709551615; lddw r0, 0xffffffff80000000 | lddw r2, 0x7fffffff | sdiv r0, r2; 1800000000000080 00000000ffffffff 18020000ffffff7f 0000000000000000 3f20010000000000 9500000000000000
-0; lddw r0, 0x8000000000000000 | lddw r2, 0xffffffffffffffff | sdiv32 r0, r2; 1800000000000000 0000000000000080 18020000ffffffff 00000000ffffffff 3c20010000000000 9500000000000000
-9223372043297226752; lddw r0, 0x8000000080000000 | lddw r2, 0x100000000 | or r0, r2; 1800000000000080 0000000000000080 1802000000000000 0000000001000000 4f20000000000000 9500000000000000
-4294967295; lddw r0, 0xffffffffffffffff | lddw r2, 0xffffffffffffffff | or32 r0, r2; 18000000ffffffff 00000000ffffffff 18020000ffffffff 00000000ffffffff 4c20000000000000 9500000000000000
-1; lddw r0, 0x7fffffffffffffff | lddw r2, 0x1 | and r0, r2; 18000000ffffffff 00000000ffffff7f 1802000001000000 0000000000000000 5f20000000000000 9500000000000000
-0; lddw r0, 0x0 | lddw r2, 0xffffffffffffffff | and32 r0, r2; 1800000000000000 0000000000000000 18020000ffffffff 00000000ffffffff 5c20000000000000 9500000000000000
-0; lddw r0, 0x8000000000000000 | lddw r2, 0xffffffffffffffff | lsh r0, r2; 1800000000000000 0000000000000080 18020000ffffffff 00000000ffffffff 6f20000000000000 9500000000000000
-0; lddw r0, 0xffffffff80000000 | lddw r2, 0x7fffffff | lsh32 r0, r2; 1800000000000080 00000000ffffffff 18020000ffffff7f 0000000000000000 6c20000000000000 9500000000000000
-1; lddw r0, 0xffffffffffffffff | lddw r2, 0xffffffffffffffff | rsh r0, r2; 18000000ffffffff 00000000ffffffff 18020000ffffffff 00000000ffffffff 7f20000000000000 9500000000000000
-2147483648; lddw r0, 0x8000000080000000 | lddw r2, 0x100000000 | rsh32 r0, r2; 1800000000000080 0000000000000080 1802000000000000 0000000001000000 7c20000000000000 9500000000000000
-0; lddw r0, 0x0 | lddw r2, 0xffffffffffffffff | mod r0, r2; 1800000000000000 0000000000000000 18020000ffffffff 00000000ffffffff 9f20000000000000 9500000000000000
-0; lddw r0, 0x7fffffffffffffff | lddw r2, 0x1 | mod32 r0, r2; 18000000ffffffff 00000000ffffff7f 1802000001000000 0000000000000000 9c20000000000000 9500000000000000
-18446744073709551615; lddw r0, 0xffffffff80000000 | lddw r2, 0x7fffffff | smod r0, r2; 1800000000000080 00000000ffffffff 18020000ffffff7f 0000000000000000 9f20010000000000 9500000000000000
-0; lddw r0, 0x8000000000000000 | lddw r2, 0xffffffffffffffff | smod32 r0, r2; 1800000000000000 0000000000000080 18020000ffffffff 00000000ffffffff 9c20010000000000 9500000000000000
-9223372043297226752; lddw r0, 0x8000000080000000 | lddw r2, 0x100000000 | xor r0, r2; 1800000000000080 0000000000000080 1802000000000000 0000000001000000 af20000000000000 9500000000000000
-0; lddw r0, 0xffffffffffffffff | lddw r2, 0xffffffffffffffff | xor32 r0, r2; 18000000ffffffff 00000000ffffffff 18020000ffffffff 00000000ffffffff ac20000000000000 9500000000000000
-1; lddw r0, 0x7fffffffffffffff | lddw r2, 0x1 | mov r0, r2; 18000000ffffffff 00000000ffffff7f 1802000001000000 0000000000000000 bf20000000000000 9500000000000000
-4294967295; lddw r0, 0x0 | lddw r2, 0xffffffffffffffff | mov32 r0, r2; 1800000000000000 0000000000000000 18020000ffffffff 00000000ffffffff bc20000000000000 9500000000000000
-18446744073709551615; lddw r0, 0x8000000000000000 | lddw r2, 0xffffffffffffffff | arsh r0, r2; 1800000000000000 0000000000000080 18020000ffffffff 00000000ffffffff cf20000000000000 9500000000000000
-4294967295; lddw r0, 0xffffffff80000000 | lddw r2, 0x7fffffff | arsh32 r0, r2; 1800000000000080 00000000ffffffff 18020000ffffff7f 0000000000000000 cc20000000000000 9500000000000000
+9223372036854775808; lddw r0, 0x7fffffffffffffff | lddw r2, 0x1 | add r0, r2 | exit
+4294967295; lddw r0, 0x0 | lddw r2, 0xffffffffffffffff | add32 r0, r2 | exit
+9223372036854775809; lddw r0, 0x8000000000000000 | lddw r2, 0xffffffffffffffff | sub r0, r2 | exit
+1; lddw r0, 0xffffffff80000000 | lddw r2, 0x7fffffff | sub32 r0, r2 | exit
+1; lddw r0, 0xffffffffffffffff | lddw r2, 0xffffffffffffffff | mul r0, r2 | exit
+0; lddw r0, 0x8000000080000000 | lddw r2, 0x100000000 | mul32 r0, r2 | exit
+0; lddw r0, 0x0 | lddw r2, 0xffffffffffffffff | div r0, r2 | exit
+4294967295; lddw r0, 0x7fffffffffffffff | lddw r2, 0x1 | div32 r0, r2 | exit
+18446744073709551615; lddw r0, 0xffffffff80000000 | lddw r2, 0x7fffffff | sdiv r0, r2 | exit
+0; lddw r0, 0x8000000000000000 | lddw r2, 0xffffffffffffffff | sdiv32 r0, r2 | exit
+9223372043297226752; lddw r0, 0x8000000080000000 | lddw r2, 0x100000000 | or r0, r2 | exit
+4294967295; lddw r0, 0xffffffffffffffff | lddw r2, 0xffffffffffffffff | or32 r0, r2 | exit
+1; lddw r0, 0x7fffffffffffffff | lddw r2, 0x1 | and r0, r2 | exit
+0; lddw r0, 0x0 | lddw r2, 0xffffffffffffffff | and32 r0, r2 | exit
+0; lddw r0, 0x8000000000000000 | lddw r2, 0xffffffffffffffff | lsh r0, r2 | exit
+0; lddw r0, 0xffffffff80000000 | lddw r2, 0x7fffffff | lsh32 r0, r2 | exit
+1; lddw r0, 0xffffffffffffffff | lddw r2, 0xffffffffffffffff | rsh r0, r2 | exit
+2147483648; lddw r0, 0x8000000080000000 | lddw r2, 0x100000000 | rsh32 r0, r2 | exit
+0; lddw r0, 0x0 | lddw r2, 0xffffffffffffffff | mod r0, r2 | exit
+0; lddw r0, 0x7fffffffffffffff | lddw r2, 0x1 | mod32 r0, r2 | exit
+18446744073709551615; lddw r0, 0xffffffff80000000 | lddw r2, 0x7fffffff | smod r0, r2 | exit
+0; lddw r0, 0x8000000000000000 | lddw r2, 0xffffffffffffffff | smod32 r0, r2 | exit
+9223372043297226752; lddw r0, 0x8000000080000000 | lddw r2, 0x100000000 | xor r0, r2 | exit
+0; lddw r0, 0xffffffffffffffff | lddw r2, 0xffffffffffffffff | xor32 r0, r2 | exit
+1; lddw r0, 0x7fffffffffffffff | lddw r2, 0x1 | mov r0, r2 | exit
+4294967295; lddw r0, 0x0 | lddw r2, 0xffffffffffffffff | mov32 r0, r2 | exit
+18446744073709551615; lddw r0, 0x8000000000000000 | lddw r2, 0xffffffffffffffff | arsh r0, r2 | exit
+4294967295; lddw r0, 0xffffffff80000000 | lddw r2, 0x7fffffff | arsh32 r0, r2 | exit
 ",
     // Loads and stores of each size, across the borders of each other.
     "\
-17; lddw r2, 0x8877665544332211 | stxdw [r10-16], r2 | ldxb r0, [r10-16]; 1802000011223344 0000000055667788 7b2af0ff00000000 71a0f0ff00000000 9500000000000000
-136; lddw r2, 0x8877665544332211 | stxdw [r10-16], r2 | ldxb r0, [r10-9]; 1802000011223344 0000000055667788 7b2af0ff00000000 71a0f7ff00000000 9500000000000000
-18446744073709551496; lddw r2, 0x8877665544332211 | stxdw [r10-16], r2 | ldxsb r0, [r10-9]; 1802000011223344 0000000055667788 7b2af0ff00000000 91a0f7ff00000000 9500000000000000
-17; lddw r2, 0x8877665544332211 | stxdw [r10-16], r2 | ldxsb r0, [r10-16]; 1802000011223344 0000000055667788 7b2af0ff00000000 91a0f0ff00000000 9500000000000000
-13090; lddw r2, 0x8877665544332211 | stxdw [r10-16], r2 | ldxh r0, [r10-15]; 1802000011223344 0000000055667788 7b2af0ff00000000 69a0f1ff00000000 9500000000000000
-18446744073709521015; lddw r2, 0x8877665544332211 | stxdw [r10-16], r2 | ldxsh r0, [r10-10]; 1802000011223344 0000000055667788 7b2af0ff00000000 89a0f6ff00000000 9500000000000000
-8721; lddw r2, 0x8877665544332211 | stxdw [r10-16], r2 | ldxsh r0, [r10-16]; 1802000011223344 0000000055667788 7b2af0ff00000000 89a0f0ff00000000 9500000000000000
-2003195204; lddw r2, 0x8877665544332211 | stxdw [r10-16], r2 | ldxw r0, [r10-13]; 1802000011223344 0000000055667788 7b2af0ff00000000 61a0f3ff00000000 9500000000000000
-18446744071704110677; lddw r2, 0x8877665544332211 | stxdw [r10-16], r2 | ldxsw r0, [r10-12]; 1802000011223344 0000000055667788 7b2af0ff00000000 81a0f4ff00000000 9500000000000000
-1430532898; lddw r2, 0x8877665544332211 | stxdw [r10-16], r2 | ldxsw r0, [r10-15]; 1802000011223344 0000000055667788 7b2af0ff00000000 81a0f1ff00000000 9500000000000000
-9833440827789222417; lddw r2, 0x8877665544332211 | stxdw [r10-16], r2 | ldxdw r0, [r10-16]; 1802000011223344 0000000055667788 7b2af0ff00000000 79a0f0ff00000000 9500000000000000
-9833515887782994449; lddw r2, 0x8877665544332211 | stxdw [r10-16], r2 | lddw r3, 0xeeddccbbaa998877 | stxw [r10-14], r3 | ldxdw r0, [r10-16]; 1802000011223344 0000000055667788 7b2af0ff00000000 18030000778899aa 00000000bbccddee 633af2ff00000000 79a0f0ff00000000 9500000000000000
-9838244594090975761; lddw r2, 0x8877665544332211 | stxdw [r10-16], r2 | lddw r3, 0xeeddccbbaa998877 | stxh [r10-11], r3 | ldxdw r0, [r10-16]; 1802000011223344 0000000055667788 7b2af0ff00000000 18030000778899aa 00000000bbccddee 6b3af5ff00000000 79a0f0ff00000000 9500000000000000
-8608461729144447505; lddw r2, 0x8877665544332211 | stxdw [r10-16], r2 | lddw r3, 0xeeddccbbaa998877 | stxb [r10-9], r3 | ldxdw r0, [r10-16]; 1802000011223344 0000000055667788 7b2af0ff00000000 18030000778899aa 00000000bbccddee 733af7ff00000000 79a0f0ff00000000 9500000000000000
-3684526722958906692; lddw r2, 0x8877665544332211 | stxdw [r10-16], r2 | stxdw [r10-8], r2 | ldxdw r0, [r10-13]; 1802000011223344 0000000055667788 7b2af0ff00000000 7b2af8ff00000000 79a0f3ff00000000 9500000000000000
-18446744067409143381; lddw r2, 0x8877665544332211 | stxdw [r10-16], r2 | stw [r10-8], -2 | ldxdw r0, [r10-12]; 1802000011223344 0000000055667788 7b2af0ff00000000 620af8fffeffffff 79a0f4ff00000000 9500000000000000
-857870900; lddw r2, 0x8877665544332211 | stxdw [r10-16], r2 | sth [r10-17], 0x1234 | ldxw r0, [r10-17]; 1802000011223344 0000000055667788 7b2af0ff00000000 6a0aefff34120000 61a0efff00000000 9500000000000000
-18446744073680466722; lddw r2, 0x8877665544332211 | stxdw [r10-16], r2 | stb [r10-12], -2 | ldxsw r0, [r10-15]; 1802000011223344 0000000055667788 7b2af0ff00000000 720af4fffeffffff 81a0f1ff00000000 9500000000000000
-9833440461572800513; lddw r2, 0x8877665544332211 | stxdw [r10-16], r2 | stdw [r10-19], 0x1020304 | ldxdw r0, [r10-16]; 1802000011223344 0000000055667788 7b2af0ff00000000 7a0aedff04030201 79a0f0ff00000000 9500000000000000
-34; lddw r2, 0x8877665544332211 | stxdw [r10-16], r2 | stxh [r10-512], r2 | ldxb r0, [r10-511]; 1802000011223344 0000000055667788 7b2af0ff00000000 6b2a00fe00000000 71a001fe00000000 9500000000000000
-18446744071562067968; stdw [r10-512], -2147483648 | ldxdw r0, [r10-512]; 7a0a00fe00000080 79a000fe00000000 9500000000000000
-65534; sth [r10-2], -2 | ldxh r0, [r10-2]; 6a0afefffeffffff 69a0feff00000000 9500000000000000
-4294967294; stw [r10-4], -2 | ldxw r0, [r10-4]; 620afcfffeffffff 61a0fcff00000000 9500000000000000
-12849; ldxh r0, [r1+6]; 6910060000000000 9500000000000000
-808464432; ldxw r0, [r1+224]; 6110e00000000000 9500000000000000
-3472328296244720179; ldxdw r0, [r1+220]; 7910dc0000000000 9500000000000000
-3616707392864006193; ldxdw r0, [r1+0]; 7910000000000000 9500000000000000
+17; lddw r2, 0x8877665544332211 | stxdw [r10-16], r2 | ldxb r0, [r10-16] | exit
+136; lddw r2, 0x8877665544332211 | stxdw [r10-16], r2 | ldxb r0, [r10-9] | exit
+18446744073709551496; lddw r2, 0x8877665544332211 | stxdw [r10-16], r2 | ldxsb r0, [r10-9] | exit
+17; lddw r2, 0x8877665544332211 | stxdw [r10-16], r2 | ldxsb r0, [r10-16] | exit
+13090; lddw r2, 0x8877665544332211 | stxdw [r10-16], r2 | ldxh r0, [r10-15] | exit
+18446744073709521015; lddw r2, 0x8877665544332211 | stxdw [r10-16], r2 | ldxsh r0, [r10-10] | exit
+8721; lddw r2, 0x8877665544332211 | stxdw [r10-16], r2 | ldxsh r0, [r10-16] | exit
+2003195204; lddw r2, 0x8877665544332211 | stxdw [r10-16], r2 | ldxw r0, [r10-13] | exit
+18446744071704110677; lddw r2, 0x8877665544332211 | stxdw [r10-16], r2 | ldxsw r0, [r10-12] | exit
+1430532898; lddw r2, 0x8877665544332211 | stxdw [r10-16], r2 | ldxsw r0, [r10-15] | exit
+9833440827789222417; lddw r2, 0x8877665544332211 | stxdw [r10-16], r2 | ldxdw r0, [r10-16] | exit
+9833515887782994449; lddw r2, 0x8877665544332211 | stxdw [r10-16], r2 | lddw r3, 0xeeddccbbaa998877 |
+  stxw [r10-14], r3 | ldxdw r0, [r10-16] | exit
+9838244594090975761; lddw r2, 0x8877665544332211 | stxdw [r10-16], r2 | lddw r3, 0xeeddccbbaa998877 |
+  stxh [r10-11], r3 | ldxdw r0, [r10-16] | exit
+8608461729144447505; lddw r2, 0x8877665544332211 | stxdw [r10-16], r2 | lddw r3, 0xeeddccbbaa998877 | stxb [r10-9], r3 |
+  ldxdw r0, [r10-16] | exit
+3684526722958906692; lddw r2, 0x8877665544332211 | stxdw [r10-16], r2 | stxdw [r10-8], r2 | ldxdw r0, [r10-13] | exit
+18446744067409143381; lddw r2, 0x8877665544332211 | stxdw [r10-16], r2 | stw [r10-8], -2 | ldxdw r0, [r10-12] | exit
+857870900; lddw r2, 0x8877665544332211 | stxdw [r10-16], r2 | sth [r10-17], 0x1234 | ldxw r0, [r10-17] | exit
+18446744073680466722; lddw r2, 0x8877665544332211 | stxdw [r10-16], r2 | stb [r10-12], -2 | ldxsw r0, [r10-15] | exit
+9833440461572800513; lddw r2, 0x8877665544332211 | stxdw [r10-16], r2 | stdw [r10-19], 0x1020304 | ldxdw r0, [r10-16] |
+  exit
+34; lddw r2, 0x8877665544332211 | stxdw [r10-16], r2 | stxh [r10-512], r2 | ldxb r0, [r10-511] | exit
+18446744071562067968; stdw [r10-512], -2147483648 | ldxdw r0, [r10-512] | exit
+65534; sth [r10-2], -2 | ldxh r0, [r10-2] | exit
+4294967294; stw [r10-4], -2 | ldxw r0, [r10-4] | exit
+12849; ldxh r0, [r1+6] | exit
+808464432; ldxw r0, [r1+224] | exit
+3472328296244720179; ldxdw r0, [r1+220] | exit
+3616707392864006193; ldxdw r0, [r1+0] | exit
 ",
     // Each cause with its place, and which one comes first.
     "\
-refused 31 place 0 OutOfProgram; mov r0, 1; b700000001000000
-refused 31 place 0 OutOfProgram; ja +0; 0500000000000000
-refused 31 place 1 OutOfProgram; mov r0, 1 | ja -3; b700000001000000 0500fdff00000000
-refused 31 place 0 OutOfProgram; ja -32768 | exit; 0500008000000000 9500000000000000
-refused 31 place 0 OutOfProgram; ja32 2147483647 | exit; 06000000ffffff7f 9500000000000000
-refused 31 place 1 OutOfProgram; mov r0, 1 | jeq r0, 1, +1 | exit; b700000001000000 1500010001000000 9500000000000000
-refused 44 place 0 OutOfBounds; ldxb r0, [r1+228]; 7110e40000000000
-refused 32 place 0 IntoWide; ja +1 | lddw r0, 1 | exit; 0500010000000000 1800000001000000 0000000000000000 9500000000000000
-refused 32 place 2 IntoWide; lddw r0, 1 | ja32 -2; 1800000001000000 0000000000000000 06000000feffffff
-refused 40 place 0 ReadsNothing(3); add r3, 1 | exit; 0703000001000000 9500000000000000
-refused 40 place 0 ReadsNothing(2); add r2, r3 | exit; 0f32000000000000 9500000000000000
-refused 40 place 0 ReadsNothing(3); add r1, r3 | exit; 0f31000000000000 9500000000000000
-refused 40 place 0 ReadsNothing(4); mov r0, r4 | exit; bf40000000000000 9500000000000000
-refused 40 place 0 ReadsNothing(4); movsx8 r0, r4 | exit; bf40080000000000 9500000000000000
-refused 40 place 0 ReadsNothing(5); neg r5 | exit; 8705000000000000 9500000000000000
-refused 40 place 0 ReadsNothing(6); be16 r6 | exit; dc06000010000000 9500000000000000
-refused 40 place 0 ReadsNothing(7); jeq r7, r1, +0 | exit; 1d17000000000000 9500000000000000
-refused 40 place 0 ReadsNothing(8); jeq r1, r8, +0 | exit; 1d81000000000000 9500000000000000
-refused 40 place 0 ReadsNothing(9); ldxb r0, [r9+0] | exit; 7190000000000000 9500000000000000
-refused 40 place 0 ReadsNothing(9); stb [r9+0], 1 | exit; 7209000001000000 9500000000000000
-refused 40 place 0 ReadsNothing(2); stxb [r10+0], r2 | exit; 732a000000000000 9500000000000000
-refused 40 place 0 ReadsNothing(0); exit; 9500000000000000
-refused 41 place 0 PointerArithmetic; add32 r1, 1 | exit; 0401000001000000 9500000000000000
-refused 41 place 0 PointerArithmetic; mov32 r0, r1 | exit; bc10000000000000 9500000000000000
-refused 41 place 0 PointerArithmetic; add r1, r10 | exit; 0fa1000000000000 9500000000000000
-refused 41 place 0 PointerArithmetic; sub r1, r1 | exit; 1f11000000000000 9500000000000000
-refused 41 place 1 PointerArithmetic; mov r2, 5 | sub r2, r1 | exit; b702000005000000 1f12000000000000 9500000000000000
-refused 41 place 0 PointerArithmetic; div r1, 0 | exit; 3701000000000000 9500000000000000
-refused 41 place 1 PointerArithmetic; mov r2, 5 | div r2, r1 | exit; b702000005000000 3f12000000000000 9500000000000000
-refused 41 place 0 PointerArithmetic; neg r1 | exit; 8701000000000000 9500000000000000
-refused 41 place 0 PointerArithmetic; swap16 r1 | exit; d701000010000000 9500000000000000
-refused 41 place 0 PointerArithmetic; movsx32 r0, r1 | exit; bf10200000000000 9500000000000000
-refused 41 place 0 PointerArithmetic; add r1, 32768 | exit; 0701000000800000 9500000000000000
-refused 41 place 0 PointerArithmetic; add r1, -32769 | exit; 07010000ff7fffff 9500000000000000
-refused 41 place 0 PointerArithmetic; sub r1, 32768 | exit; 1701000000800000 9500000000000000
-refused 41 place 0 PointerArithmetic; sub r1, -32769 | exit; 17010000ff7fffff 9500000000000000
-refused 42 place 1 LeavesArea; add r1, 32767 | add r1, 1 | exit; 07010000ff7f0000 0701000001000000 9500000000000000
-refused 42 place 1 LeavesArea; add r1, -32768 | add r1, -1 | exit; 070100000080ffff 07010000ffffffff 9500000000000000
-refused 42 place 0 LeavesArea; sub r1, -32768 | exit; 170100000080ffff 9500000000000000
-refused 42 place 1 LeavesArea; sub r1, 32767 | sub r1, 2 | exit; 17010000ff7f0000 1701000002000000 9500000000000000
-refused 43 place 1 NotPointer; mov r2, 5 | ldxb r0, [r2+0] | exit; b702000005000000 7120000000000000 9500000000000000
-refused 43 place 1 NotPointer; mov r2, 5 | stxb [r2+0], r3 | exit; b702000005000000 7332000000000000 9500000000000000
-refused 44 place 0 OutOfBounds; ldxb r0, [r1+228] | exit; 7110e40000000000 9500000000000000
-refused 44 place 0 OutOfBounds; ldxh r0, [r1+227] | exit; 6910e30000000000 9500000000000000
-refused 44 place 0 OutOfBounds; ldxb r0, [r1-1] | exit; 7110ffff00000000 9500000000000000
-refused 44 place 1 OutOfBounds; add r1, -32768 | ldxb r0, [r1-32768] | exit; 070100000080ffff 7110008000000000 9500000000000000
-refused 44 place 0 OutOfBounds; ldxb r0, [r10+0] | exit; 71a0000000000000 9500000000000000
-refused 44 place 0 OutOfBounds; ldxdw r0, [r10-7] | exit; 79a0f9ff00000000 9500000000000000
-refused 44 place 0 OutOfBounds; ldxb r0, [r10-513] | exit; 71a0fffd00000000 9500000000000000
-refused 44 place 0 OutOfBounds; stb [r10+0], 1 | exit; 720a000001000000 9500000000000000
-refused 44 place 0 OutOfBounds; stw [r10-3], 1 | exit; 620afdff01000000 9500000000000000
-refused 44 place 0 OutOfBounds; stdw [r10-513], 1 | exit; 7a0afffd01000000 9500000000000000
-refused 45 place 0 UnwrittenFrame; ldxb r0, [r10-8] | exit; 71a0f8ff00000000 9500000000000000
-refused 45 place 1 UnwrittenFrame; stw [r10-8], 1 | ldxdw r0, [r10-8] | exit; 620af8ff01000000 79a0f8ff00000000 9500000000000000
-refused 45 place 2 UnwrittenFrame; mov r2, 1 | stxdw [r10-8], r2 | ldxdw r0, [r10-12] | exit; b702000001000000 7b2af8ff00000000 79a0f4ff00000000 9500000000000000
-refused 46 place 0 WritesRecord; stb [r1+0], 1 | exit; 7201000001000000 9500000000000000
-refused 46 place 0 WritesRecord; stxb [r1+228], r2 | exit; 7321e40000000000 9500000000000000
-refused 47 place 0 StoresPointer; stxw [r10-8], r1 | exit; 631af8ff00000000 9500000000000000
-refused 47 place 0 StoresPointer; stxdw [r10+0], r10 | exit; 7baa000000000000 9500000000000000
-refused 48 place 1 ComparesPointer; mov r0, 0 | jeq r1, 0, +0 | exit; b700000000000000 1501000000000000 9500000000000000
-refused 48 place 1 ComparesPointer; mov r0, 0 | jne r0, r1, +0 | exit; b700000000000000 5d10000000000000 9500000000000000
-refused 51 place 1 ExitNotNumber; mov r0, r1 | exit; bf10000000000000 9500000000000000
+refused 31 place 0 OutOfProgram; mov r0, 1
+refused 31 place 0 OutOfProgram; ja +0
+refused 31 place 1 OutOfProgram; mov r0, 1 | ja -3
+refused 31 place 0 OutOfProgram; ja -32768 | exit
+refused 31 place 0 OutOfProgram; ja32 +2147483647 | exit
+refused 31 place 1 OutOfProgram; mov r0, 1 | jeq r0, 1, +1 | exit
+refused 44 place 0 OutOfBounds; ldxb r0, [r1+228]
+refused 32 place 0 IntoWide; ja +1 | lddw r0, 1 | exit
+refused 32 place 2 IntoWide; lddw r0, 1 | ja32 -2
+refused 40 place 0 ReadsNothing(3); add r3, 1 | exit
+refused 40 place 0 ReadsNothing(2); add r2, r3 | exit
+refused 40 place 0 ReadsNothing(3); add r1, r3 | exit
+refused 40 place 0 ReadsNothing(4); mov r0, r4 | exit
+refused 40 place 0 ReadsNothing(4); movsx8 r0, r4 | exit
+refused 40 place 0 ReadsNothing(5); neg r5 | exit
+refused 40 place 0 ReadsNothing(6); be16 r6 | exit
+refused 40 place 0 ReadsNothing(7); jeq r7, r1, +0 | exit
+refused 40 place 0 ReadsNothing(8); jeq r1, r8, +0 | exit
+refused 40 place 0 ReadsNothing(9); ldxb r0, [r9+0] | exit
+refused 40 place 0 ReadsNothing(9); stb [r9+0], 1 | exit
+refused 40 place 0 ReadsNothing(2); stxb [r10+0], r2 | exit
+refused 40 place 0 ReadsNothing(0); exit
+refused 41 place 0 PointerArithmetic; add32 r1, 1 | exit
+refused 41 place 0 PointerArithmetic; mov32 r0, r1 | exit
+refused 41 place 0 PointerArithmetic; add r1, r10 | exit
+refused 41 place 0 PointerArithmetic; sub r1, r1 | exit
+refused 41 place 1 PointerArithmetic; mov r2, 5 | sub r2, r1 | exit
+refused 41 place 0 PointerArithmetic; div r1, 0 | exit
+refused 41 place 1 PointerArithmetic; mov r2, 5 | div r2, r1 | exit
+refused 41 place 0 PointerArithmetic; neg r1 | exit
+refused 41 place 0 PointerArithmetic; swap16 r1 | exit
+refused 41 place 0 PointerArithmetic; movsx32 r0, r1 | exit
+refused 41 place 0 PointerArithmetic; add r1, 32768 | exit
+refused 41 place 0 PointerArithmetic; add r1, -32769 | exit
+refused 41 place 0 PointerArithmetic; sub r1, 32768 | exit
+refused 41 place 0 PointerArithmetic; sub r1, -32769 | exit
+refused 42 place 1 LeavesArea; add r1, 32767 | add r1, 1 | exit
+refused 42 place 1 LeavesArea; add r1, -32768 | add r1, -1 | exit
+refused 42 place 0 LeavesArea; sub r1, -32768 | exit
+refused 42 place 1 LeavesArea; sub r1, 32767 | sub r1, 2 | exit
+refused 43 place 1 NotPointer; mov r2, 5 | ldxb r0, [r2+0] | exit
+refused 43 place 1 NotPointer; mov r2, 5 | stxb [r2+0], r3 | exit
+refused 44 place 0 OutOfBounds; ldxb r0, [r1+228] | exit
+refused 44 place 0 OutOfBounds; ldxh r0, [r1+227] | exit
+refused 44 place 0 OutOfBounds; ldxb r0, [r1-1] | exit
+refused 44 place 1 OutOfBounds; add r1, -32768 | ldxb r0, [r1-32768] | exit
+refused 44 place 0 OutOfBounds; ldxb r0, [r10+0] | exit
+refused 44 place 0 OutOfBounds; ldxdw r0, [r10-7] | exit
+refused 44 place 0 OutOfBounds; ldxb r0, [r10-513] | exit
+refused 44 place 0 OutOfBounds; stb [r10+0], 1 | exit
+refused 44 place 0 OutOfBounds; stw [r10-3], 1 | exit
+refused 44 place 0 OutOfBounds; stdw [r10-513], 1 | exit
+refused 45 place 0 UnwrittenFrame; ldxb r0, [r10-8] | exit
+refused 45 place 1 UnwrittenFrame; stw [r10-8], 1 | ldxdw r0, [r10-8] | exit
+refused 45 place 2 UnwrittenFrame; mov r2, 1 | stxdw [r10-8], r2 | ldxdw r0, [r10-12] | exit
+refused 46 place 0 WritesRecord; stb [r1+0], 1 | exit
+refused 46 place 0 WritesRecord; stxb [r1+228], r2 | exit
+refused 47 place 0 StoresPointer; stxw [r10-8], r1 | exit
+refused 47 place 0 StoresPointer; stxdw [r10+0], r10 | exit
+refused 48 place 1 ComparesPointer; mov r0, 0 | jeq r1, 0, +0 | exit
+refused 48 place 1 ComparesPointer; mov r0, 0 | jne r0, r1, +0 | exit
+refused 51 place 1 ExitNotNumber; mov r0, r1 | exit
 ",
     // Each cause of calls of helper functions.
     "\
-refused 49 place 0 UnknownHelper; call 0 | exit; 8500000000000000 9500000000000000
-refused 49 place 0 UnknownHelper; call 10; 850000000a000000
-refused 49 place 0 UnknownHelper; call -2147483648 | exit; 8500000000000080 9500000000000000
-refused 49 place 0 UnknownHelper; call -1 | exit; 85000000ffffffff 9500000000000000
-refused 31 place 0 OutOfProgram; call 3; 8500000003000000
-refused 40 place 1 ReadsNothing(1); call 3 | call 1 | exit; 8500000003000000 8500000001000000 9500000000000000
-refused 50 place 0 BadArgument(1); call 1 | exit; 8500000001000000 9500000000000000
-refused 50 place 1 BadArgument(1); mov r1, r10 | call 1 | exit; bfa1000000000000 8500000001000000 9500000000000000
-refused 50 place 1 BadArgument(1); mov r1, 17 | call 1 | exit; b701000011000000 8500000001000000 9500000000000000
-refused 50 place 1 BadArgument(1); mov r1, -1 | call 1 | exit; b7010000ffffffff 8500000001000000 9500000000000000
-refused 40 place 1 ReadsNothing(1); call 3 | call 2 | exit; 8500000003000000 8500000002000000 9500000000000000
-refused 50 place 0 BadArgument(1); call 2 | exit; 8500000002000000 9500000000000000
-refused 50 place 1 BadArgument(1); mov r1, r10 | call 2 | exit; bfa1000000000000 8500000002000000 9500000000000000
-refused 50 place 1 BadArgument(1); mov r1, 17 | call 2 | exit; b701000011000000 8500000002000000 9500000000000000
-refused 40 place 1 ReadsNothing(1); call 3 | call 5 | exit; 8500000003000000 8500000005000000 9500000000000000
-refused 50 place 0 BadArgument(1); call 5 | exit; 8500000005000000 9500000000000000
-refused 50 place 1 BadArgument(1); mov r1, r10 | call 5 | exit; bfa1000000000000 8500000005000000 9500000000000000
-refused 40 place 1 ReadsNothing(2); mov r1, 0 | call 5 | exit; b701000000000000 8500000005000000 9500000000000000
-refused 50 place 2 BadArgument(2); mov r2, r1 | mov r1, 0 | call 5 | exit; bf12000000000000 b701000000000000 8500000005000000 9500000000000000
-refused 50 place 2 BadArgument(2); mov r1, 0 | mov r2, r10 | call 5 | exit; b701000000000000 bfa2000000000000 8500000005000000 9500000000000000
-refused 40 place 1 ReadsNothing(1); call 3 | call 6 | exit; 8500000003000000 8500000006000000 9500000000000000
-refused 50 place 0 BadArgument(1); call 6 | exit; 8500000006000000 9500000000000000
-refused 50 place 1 BadArgument(1); mov r1, r10 | call 6 | exit; bfa1000000000000 8500000006000000 9500000000000000
-refused 40 place 1 ReadsNothing(2); mov r1, 0 | call 6 | exit; b701000000000000 8500000006000000 9500000000000000
-refused 50 place 2 BadArgument(2); mov r1, 0 | mov r2, 0 | call 6 | exit; b701000000000000 b702000000000000 8500000006000000 9500000000000000
-refused 50 place 2 BadArgument(2); mov r2, r1 | mov r1, 0 | call 6 | exit; bf12000000000000 b701000000000000 8500000006000000 9500000000000000
-refused 40 place 2 ReadsNothing(3); mov r1, 0 | mov r2, r10 | call 6 | exit; b701000000000000 bfa2000000000000 8500000006000000 9500000000000000
-refused 50 place 3 BadArgument(3); mov r3, r1 | mov r1, 0 | mov r2, r10 | call 6 | exit; bf13000000000000 b701000000000000 bfa2000000000000 8500000006000000 9500000000000000
-refused 50 place 3 BadArgument(3); mov r1, 0 | mov r2, r10 | mov r3, r10 | call 6 | exit; b701000000000000 bfa2000000000000 bfa3000000000000 8500000006000000 9500000000000000
-refused 50 place 3 BadArgument(3); mov r1, 0 | mov r2, r10 | mov r3, 0 | call 6 | exit; b701000000000000 bfa2000000000000 b703000000000000 8500000006000000 9500000000000000
-refused 50 place 3 BadArgument(3); mov r1, 0 | mov r2, r10 | mov r3, 31 | call 6 | exit; b701000000000000 bfa2000000000000 b70300001f000000 8500000006000000 9500000000000000
-refused 40 place 1 ReadsNothing(1); call 3 | call 7 | exit; 8500000003000000 8500000007000000 9500000000000000
-refused 50 place 0 BadArgument(1); call 7 | exit; 8500000007000000 9500000000000000
-refused 50 place 1 BadArgument(1); mov r1, r10 | call 7 | exit; bfa1000000000000 8500000007000000 9500000000000000
-refused 40 place 1 ReadsNothing(2); mov r1, 0 | call 7 | exit; b701000000000000 8500000007000000 9500000000000000
-refused 50 place 2 BadArgument(2); mov r1, 0 | mov r2, 0 | call 7 | exit; b701000000000000 b702000000000000 8500000007000000 9500000000000000
-refused 50 place 2 BadArgument(2); mov r2, r1 | mov r1, 0 | call 7 | exit; bf12000000000000 b701000000000000 8500000007000000 9500000000000000
-refused 40 place 2 ReadsNothing(3); mov r1, 0 | mov r2, r10 | call 7 | exit; b701000000000000 bfa2000000000000 8500000007000000 9500000000000000
-refused 50 place 3 BadArgument(3); mov r3, r1 | mov r1, 0 | mov r2, r10 | call 7 | exit; bf13000000000000 b701000000000000 bfa2000000000000 8500000007000000 9500000000000000
-refused 50 place 3 BadArgument(3); mov r1, 0 | mov r2, r10 | mov r3, r10 | call 7 | exit; b701000000000000 bfa2000000000000 bfa3000000000000 8500000007000000 9500000000000000
-refused 50 place 3 BadArgument(3); mov r1, 0 | mov r2, r10 | mov r3, 0 | call 7 | exit; b701000000000000 bfa2000000000000 b703000000000000 8500000007000000 9500000000000000
-refused 50 place 5 BadArgument(3); stw [r10-4], 0x6e69616d | mov r1, 0 | mov r2, r10 | add r2, -4 | mov r3, 31 | call 7 | exit; 620afcff6d61696e b701000000000000 bfa2000000000000 07020000fcffffff b70300001f000000 8500000007000000 9500000000000000
-refused 40 place 1 ReadsNothing(1); call 3 | call 8 | exit; 8500000003000000 8500000008000000 9500000000000000
-refused 50 place 0 BadArgument(1); call 8 | exit; 8500000008000000 9500000000000000
-refused 50 place 1 BadArgument(1); mov r1, r10 | call 8 | exit; bfa1000000000000 8500000008000000 9500000000000000
-refused 40 place 1 ReadsNothing(1); call 3 | call 9 | exit; 8500000003000000 8500000009000000 9500000000000000
-refused 50 place 0 BadArgument(1); call 9 | exit; 8500000009000000 9500000000000000
-refused 50 place 1 BadArgument(1); mov r1, r10 | call 9 | exit; bfa1000000000000 8500000009000000 9500000000000000
-refused 50 place 1 BadArgument(1); mov r1, 4 | call 9 | exit; b701000004000000 8500000009000000 9500000000000000
-refused 50 place 1 BadArgument(1); mov r1, -1 | call 9 | exit; b7010000ffffffff 8500000009000000 9500000000000000
-refused 44 place 3 OutOfBounds; mov r1, 0 | mov r2, r10 | mov r3, 1 | call 6 | exit; b701000000000000 bfa2000000000000 b703000001000000 8500000006000000 9500000000000000
-refused 44 place 4 OutOfBounds; mov r1, 0 | mov r2, r10 | add r2, -29 | mov r3, 30 | call 6 | exit; b701000000000000 bfa2000000000000 07020000e3ffffff b70300001e000000 8500000006000000 9500000000000000
-refused 44 place 4 OutOfBounds; mov r1, 0 | mov r2, r10 | add r2, -513 | mov r3, 1 | call 6 | exit; b701000000000000 bfa2000000000000 07020000fffdffff b703000001000000 8500000006000000 9500000000000000
-refused 44 place 4 OutOfBounds; mov r1, 0 | mov r2, r10 | add r2, -513 | mov r3, 30 | call 6 | exit; b701000000000000 bfa2000000000000 07020000fffdffff b70300001e000000 8500000006000000 9500000000000000
-refused 44 place 3 OutOfBounds; mov r1, 0 | mov r2, r10 | mov r3, 1 | call 7 | exit; b701000000000000 bfa2000000000000 b703000001000000 8500000007000000 9500000000000000
-refused 44 place 4 OutOfBounds; mov r1, 0 | mov r2, r10 | add r2, -29 | mov r3, 30 | call 7 | exit; b701000000000000 bfa2000000000000 07020000e3ffffff b70300001e000000 8500000007000000 9500000000000000
-refused 44 place 4 OutOfBounds; mov r1, 0 | mov r2, r10 | add r2, -513 | mov r3, 1 | call 7 | exit; b701000000000000 bfa2000000000000 07020000fffdffff b703000001000000 8500000007000000 9500000000000000
-refused 45 place 5 UnwrittenFrame; sth [r10-2], 0 | mov r1, 0 | mov r2, r10 | add r2, -3 | mov r3, 3 | call 7 | exit; 6a0afeff00000000 b701000000000000 bfa2000000000000 07020000fdffffff b703000003000000 8500000007000000 9500000000000000
-refused 45 place 6 UnwrittenFrame; stb [r10-3], 0 | stb [r10-1], 0 | mov r1, 0 | mov r2, r10 | add r2, -3 | mov r3, 3 | call 7 | exit; 720afdff00000000 720affff00000000 b701000000000000 bfa2000000000000 07020000fdffffff b703000003000000 8500000007000000 9500000000000000
-refused 45 place 5 UnwrittenFrame; sth [r10-3], 0 | mov r1, 0 | mov r2, r10 | add r2, -3 | mov r3, 3 | call 7 | exit; 6a0afdff00000000 b701000000000000 bfa2000000000000 07020000fdffffff b703000003000000 8500000007000000 9500000000000000
-refused 45 place 4 UnwrittenFrame; mov r1, 0 | mov r2, r10 | add r2, -4 | mov r3, 4 | call 7 | exit; b701000000000000 bfa2000000000000 07020000fcffffff b703000004000000 8500000007000000 9500000000000000
-refused 45 place 5 UnwrittenFrame; mov r1, 0 | mov r2, r10 | add r2, -4 | mov r3, 3 | call 6 | ldxw r0, [r10-4] | exit; b701000000000000 bfa2000000000000 07020000fcffffff b703000003000000 8500000006000000 61a0fcff00000000 9500000000000000
-refused 40 place 1 ReadsNothing(1); call 3 | mov r0, r1 | exit; 8500000003000000 bf10000000000000 9500000000000000
-refused 40 place 2 ReadsNothing(2); mov r2, 1 | call 3 | mov r0, r2 | exit; b702000001000000 8500000003000000 bf20000000000000 9500000000000000
-refused 40 place 2 ReadsNothing(3); mov r3, 1 | call 3 | mov r0, r3 | exit; b703000001000000 8500000003000000 bf30000000000000 9500000000000000
-refused 40 place 2 ReadsNothing(4); mov r4, 1 | call 3 | mov r0, r4 | exit; b704000001000000 8500000003000000 bf40000000000000 9500000000000000
-refused 40 place 2 ReadsNothing(5); mov r5, 1 | call 3 | mov r0, r5 | exit; b705000001000000 8500000003000000 bf50000000000000 9500000000000000
-refused 40 place 6 ReadsNothing(1); stw [r10-4], 0x6e69616d | mov r1, 0 | mov r2, r10 | add r2, -4 | mov r3, 4 | call 7 | mov r0, r1 | exit; 620afcff6d61696e b701000000000000 bfa2000000000000 07020000fcffffff b703000004000000 8500000007000000 bf10000000000000 9500000000000000
+refused 49 place 0 UnknownHelper; call 0 | exit
+refused 49 place 0 UnknownHelper; call 10
+refused 49 place 0 UnknownHelper; call -2147483648 | exit
+refused 49 place 0 UnknownHelper; call -1 | exit
+refused 31 place 0 OutOfProgram; call 3
+refused 40 place 1 ReadsNothing(1); call 3 | call 1 | exit
+refused 50 place 0 BadArgument(1); call 1 | exit
+refused 50 place 1 BadArgument(1); mov r1, r10 | call 1 | exit
+refused 50 place 1 BadArgument(1); mov r1, 17 | call 1 | exit
+refused 50 place 1 BadArgument(1); mov r1, -1 | call 1 | exit
+refused 40 place 1 ReadsNothing(1); call 3 | call 2 | exit
+refused 50 place 0 BadArgument(1); call 2 | exit
+refused 50 place 1 BadArgument(1); mov r1, r10 | call 2 | exit
+refused 50 place 1 BadArgument(1); mov r1, 17 | call 2 | exit
+refused 40 place 1 ReadsNothing(1); call 3 | call 5 | exit
+refused 50 place 0 BadArgument(1); call 5 | exit
+refused 50 place 1 BadArgument(1); mov r1, r10 | call 5 | exit
+refused 40 place 1 ReadsNothing(2); mov r1, 0 | call 5 | exit
+refused 50 place 2 BadArgument(2); mov r2, r1 | mov r1, 0 | call 5 | exit
+refused 50 place 2 BadArgument(2); mov r1, 0 | mov r2, r10 | call 5 | exit
+refused 40 place 1 ReadsNothing(1); call 3 | call 6 | exit
+refused 50 place 0 BadArgument(1); call 6 | exit
+refused 50 place 1 BadArgument(1); mov r1, r10 | call 6 | exit
+refused 40 place 1 ReadsNothing(2); mov r1, 0 | call 6 | exit
+refused 50 place 2 BadArgument(2); mov r1, 0 | mov r2, 0 | call 6 | exit
+refused 50 place 2 BadArgument(2); mov r2, r1 | mov r1, 0 | call 6 | exit
+refused 40 place 2 ReadsNothing(3); mov r1, 0 | mov r2, r10 | call 6 | exit
+refused 50 place 3 BadArgument(3); mov r3, r1 | mov r1, 0 | mov r2, r10 | call 6 | exit
+refused 50 place 3 BadArgument(3); mov r1, 0 | mov r2, r10 | mov r3, r10 | call 6 | exit
+refused 50 place 3 BadArgument(3); mov r1, 0 | mov r2, r10 | mov r3, 0 | call 6 | exit
+refused 50 place 3 BadArgument(3); mov r1, 0 | mov r2, r10 | mov r3, 31 | call 6 | exit
+refused 40 place 1 ReadsNothing(1); call 3 | call 7 | exit
+refused 50 place 0 BadArgument(1); call 7 | exit
+refused 50 place 1 BadArgument(1); mov r1, r10 | call 7 | exit
+refused 40 place 1 ReadsNothing(2); mov r1, 0 | call 7 | exit
+refused 50 place 2 BadArgument(2); mov r1, 0 | mov r2, 0 | call 7 | exit
+refused 50 place 2 BadArgument(2); mov r2, r1 | mov r1, 0 | call 7 | exit
+refused 40 place 2 ReadsNothing(3); mov r1, 0 | mov r2, r10 | call 7 | exit
+refused 50 place 3 BadArgument(3); mov r3, r1 | mov r1, 0 | mov r2, r10 | call 7 | exit
+refused 50 place 3 BadArgument(3); mov r1, 0 | mov r2, r10 | mov r3, r10 | call 7 | exit
+refused 50 place 3 BadArgument(3); mov r1, 0 | mov r2, r10 | mov r3, 0 | call 7 | exit
+refused 50 place 5 BadArgument(3); stw [r10-4], 0x6e69616d | mov r1, 0 | mov r2, r10 | add r2, -4 | mov r3, 31 |
+  call 7 | exit
+refused 40 place 1 ReadsNothing(1); call 3 | call 8 | exit
+refused 50 place 0 BadArgument(1); call 8 | exit
+refused 50 place 1 BadArgument(1); mov r1, r10 | call 8 | exit
+refused 40 place 1 ReadsNothing(1); call 3 | call 9 | exit
+refused 50 place 0 BadArgument(1); call 9 | exit
+refused 50 place 1 BadArgument(1); mov r1, r10 | call 9 | exit
+refused 50 place 1 BadArgument(1); mov r1, 4 | call 9 | exit
+refused 50 place 1 BadArgument(1); mov r1, -1 | call 9 | exit
+refused 44 place 3 OutOfBounds; mov r1, 0 | mov r2, r10 | mov r3, 1 | call 6 | exit
+refused 44 place 4 OutOfBounds; mov r1, 0 | mov r2, r10 | add r2, -29 | mov r3, 30 | call 6 | exit
+refused 44 place 4 OutOfBounds; mov r1, 0 | mov r2, r10 | add r2, -513 | mov r3, 1 | call 6 | exit
+refused 44 place 4 OutOfBounds; mov r1, 0 | mov r2, r10 | add r2, -513 | mov r3, 30 | call 6 | exit
+refused 44 place 3 OutOfBounds; mov r1, 0 | mov r2, r10 | mov r3, 1 | call 7 | exit
+refused 44 place 4 OutOfBounds; mov r1, 0 | mov r2, r10 | add r2, -29 | mov r3, 30 | call 7 | exit
+refused 44 place 4 OutOfBounds; mov r1, 0 | mov r2, r10 | add r2, -513 | mov r3, 1 | call 7 | exit
+refused 45 place 5 UnwrittenFrame; sth [r10-2], 0 | mov r1, 0 | mov r2, r10 | add r2, -3 | mov r3, 3 | call 7 | exit
+refused 45 place 6 UnwrittenFrame; stb [r10-3], 0 | stb [r10-1], 0 | mov r1, 0 | mov r2, r10 | add r2, -3 | mov r3, 3 |
+  call 7 | exit
+refused 45 place 5 UnwrittenFrame; sth [r10-3], 0 | mov r1, 0 | mov r2, r10 | add r2, -3 | mov r3, 3 | call 7 | exit
+refused 45 place 4 UnwrittenFrame; mov r1, 0 | mov r2, r10 | add r2, -4 | mov r3, 4 | call 7 | exit
+refused 45 place 5 UnwrittenFrame; mov r1, 0 | mov r2, r10 | add r2, -4 | mov r3, 3 | call 6 | ldxw r0, [r10-4] | exit
+refused 40 place 1 ReadsNothing(1); call 3 | mov r0, r1 | exit
+refused 40 place 2 ReadsNothing(2); mov r2, 1 | call 3 | mov r0, r2 | exit
+refused 40 place 2 ReadsNothing(3); mov r3, 1 | call 3 | mov r0, r3 | exit
+refused 40 place 2 ReadsNothing(4); mov r4, 1 | call 3 | mov r0, r4 | exit
+refused 40 place 2 ReadsNothing(5); mov r5, 1 | call 3 | mov r0, r5 | exit
+refused 40 place 6 ReadsNothing(1); stw [r10-4], 0x6e69616d | mov r1, 0 | mov r2, r10 | add r2, -4 | mov r3, 4 |
+  call 7 | mov r0, r1 | exit
 ",
     // What comes of calls on a segment with two alternate names and a further range.
     "\
-123456789; mov r1, 0 | call 1 | exit; b701000000000000 8500000001000000 9500000000000000
-36067; mov r1, 6 | call 1 | exit; b701000006000000 8500000001000000 9500000000000000
-0; mov r1, 16 | call 1 | exit; b701000010000000 8500000001000000 9500000000000000
-1; mov r1, 6 | call 2 | exit; b701000006000000 8500000002000000 9500000000000000
-0; mov r1, 16 | call 2 | exit; b701000010000000 8500000002000000 9500000000000000
-2; call 3 | exit; 8500000003000000 9500000000000000
-2; call 4 | exit; 8500000004000000 9500000000000000
-1; mov r1, 0 | mov r2, 101 | call 5 | exit; b701000000000000 b702000065000000 8500000005000000 9500000000000000
-2; mov r1, 1 | mov r2, 300 | call 5 | exit; b701000001000000 b70200002c010000 8500000005000000 9500000000000000
-0; mov r1, 1 | mov r2, 101 | call 5 | exit; b701000001000000 b702000065000000 8500000005000000 9500000000000000
-0; mov r1, 2 | mov r2, 300 | call 5 | exit; b701000002000000 b70200002c010000 8500000005000000 9500000000000000
-0; mov r1, -1 | mov r2, -1 | call 5 | exit; b7010000ffffffff b7020000ffffffff 8500000005000000 9500000000000000
-1852399949; mov r1, 0 | mov r2, r10 | add r2, -4 | mov r3, 4 | call 6 | ldxw r0, [r10-4] | exit; b701000000000000 bfa2000000000000 07020000fcffffff b703000004000000 8500000006000000 61a0fcff00000000 9500000000000000
-544042053; mov r1, 1 | mov r2, r10 | add r2, -4 | mov r3, 4 | call 6 | ldxw r0, [r10-4] | exit; b701000001000000 bfa2000000000000 07020000fcffffff b703000004000000 8500000006000000 61a0fcff00000000 9500000000000000
-538976288; mov r1, 3 | mov r2, r10 | add r2, -4 | mov r3, 4 | call 6 | ldxw r0, [r10-4] | exit; b701000003000000 bfa2000000000000 07020000fcffffff b703000004000000 8500000006000000 61a0fcff00000000 9500000000000000
-1; mov r1, 2 | mov r2, r10 | add r2, -4 | mov r3, 4 | call 6 | exit; b701000002000000 bfa2000000000000 07020000fcffffff b703000004000000 8500000006000000 9500000000000000
-0; mov r1, 3 | mov r2, r10 | add r2, -4 | mov r3, 4 | call 6 | exit; b701000003000000 bfa2000000000000 07020000fcffffff b703000004000000 8500000006000000 9500000000000000
-0; mov r1, -1 | mov r2, r10 | add r2, -4 | mov r3, 4 | call 6 | exit; b7010000ffffffff bfa2000000000000 07020000fcffffff b703000004000000 8500000006000000 9500000000000000
-77; mov r1, 0 | mov r2, r10 | add r2, -1 | mov r3, 1 | call 6 | ldxb r0, [r10-1] | exit; b701000000000000 bfa2000000000000 07020000ffffffff b703000001000000 8500000006000000 71a0ffff00000000 9500000000000000
-77; mov r1, 0 | mov r2, r10 | add r2, -512 | mov r3, 30 | call 6 | ldxb r0, [r10-512] | exit; b701000000000000 bfa2000000000000 0702000000feffff b70300001e000000 8500000006000000 71a000fe00000000 9500000000000000
-32; mov r1, 0 | mov r2, r10 | add r2, -30 | mov r3, 30 | call 6 | ldxb r0, [r10-1] | exit; b701000000000000 bfa2000000000000 07020000e2ffffff b70300001e000000 8500000006000000 71a0ffff00000000 9500000000000000
-1291845633; stw [r10-4], 1 | mov r1, 0 | mov r2, r10 | add r2, -1 | mov r3, 1 | call 6 | ldxw r0, [r10-4] | exit; 620afcff01000000 b701000000000000 bfa2000000000000 07020000ffffffff b703000001000000 8500000006000000 61a0fcff00000000 9500000000000000
-1; stw [r10-4], 0x6e69616d | mov r1, 0 | mov r2, r10 | add r2, -4 | mov r3, 4 | call 7 | exit; 620afcff6d61696e b701000000000000 bfa2000000000000 07020000fcffffff b703000004000000 8500000007000000 9500000000000000
-0; stw [r10-4], 0x6e69616d | mov r1, 1 | mov r2, r10 | add r2, -4 | mov r3, 4 | call 7 | exit; 620afcff6d61696e b701000001000000 bfa2000000000000 07020000fcffffff b703000004000000 8500000007000000 9500000000000000
-1; stw [r10-4], 0x204d4c45 | mov r1, 1 | mov r2, r10 | add r2, -4 | mov r3, 3 | call 7 | exit; 620afcff454c4d20 b701000001000000 bfa2000000000000 07020000fcffffff b703000003000000 8500000007000000 9500000000000000
-0; stw [r10-4], 0x6e69616d | mov r1, 3 | mov r2, r10 | add r2, -4 | mov r3, 4 | call 7 | exit; 620afcff6d61696e b701000003000000 bfa2000000000000 07020000fcffffff b703000004000000 8500000007000000 9500000000000000
-1; stb [r10-1], 77 | mov r1, 0 | mov r2, r10 | add r2, -30 | mov r3, 30 | call 6 | mov r1, 0 | mov r2, r10 | add r2, -30 | mov r3, 30 | call 7 | exit; 720affff4d000000 b701000000000000 bfa2000000000000 07020000e2ffffff b70300001e000000 8500000006000000 b701000000000000 bfa2000000000000 07020000e2ffffff b70300001e000000 8500000007000000 9500000000000000
-0 score 7; mov r1, 7 | call 8 | exit; b701000007000000 8500000008000000 9500000000000000
-1 score 9; mov r1, 7 | call 8 | mov r1, 9 | call 8 | mov r0, 1 | exit; b701000007000000 8500000008000000 b701000009000000 8500000008000000 b700000001000000 9500000000000000
-18446744073709551615 score 18446744073709551615; mov r1, -13 | smod r1, 3 | mov r6, r1 | call 8 | mov r0, r6 | exit; b7010000f3ffffff 9701010003000000 bf16000000000000 8500000008000000 bf60000000000000 9500000000000000
-18446744073623051616 score 18446744073623051616; mov r1, 0 | call 9 | mov r1, r0 | mov r6, r0 | call 8 | mov r0, r6 | exit; b701000000000000 8500000009000000 bf01000000000000 bf06000000000000 8500000008000000 bf60000000000000 9500000000000000
-32410000; mov r1, 3 | call 9 | exit; b701000003000000 8500000009000000 9500000000000000
-11; mov r6, 5 | mov r9, 6 | call 3 | mov r0, r6 | add r0, r9 | exit; b706000005000000 b709000006000000 8500000003000000 bf60000000000000 0f90000000000000 9500000000000000
-49; mov r6, r1 | call 3 | ldxb r0, [r6+0] | exit; bf16000000000000 8500000003000000 7160000000000000 9500000000000000
+123456789; mov r1, 0 | call 1 | exit
+36067; mov r1, 6 | call 1 | exit
+0; mov r1, 16 | call 1 | exit
+1; mov r1, 6 | call 2 | exit
+0; mov r1, 16 | call 2 | exit
+2; call 3 | exit
+2; call 4 | exit
+1; mov r1, 0 | mov r2, 101 | call 5 | exit
+2; mov r1, 1 | mov r2, 300 | call 5 | exit
+0; mov r1, 1 | mov r2, 101 | call 5 | exit
+0; mov r1, 2 | mov r2, 300 | call 5 | exit
+0; mov r1, -1 | mov r2, -1 | call 5 | exit
+1852399949; mov r1, 0 | mov r2, r10 | add r2, -4 | mov r3, 4 | call 6 | ldxw r0, [r10-4] | exit
+544042053; mov r1, 1 | mov r2, r10 | add r2, -4 | mov r3, 4 | call 6 | ldxw r0, [r10-4] | exit
+538976288; mov r1, 3 | mov r2, r10 | add r2, -4 | mov r3, 4 | call 6 | ldxw r0, [r10-4] | exit
+1; mov r1, 2 | mov r2, r10 | add r2, -4 | mov r3, 4 | call 6 | exit
+0; mov r1, 3 | mov r2, r10 | add r2, -4 | mov r3, 4 | call 6 | exit
+0; mov r1, -1 | mov r2, r10 | add r2, -4 | mov r3, 4 | call 6 | exit
+77; mov r1, 0 | mov r2, r10 | add r2, -1 | mov r3, 1 | call 6 | ldxb r0, [r10-1] | exit
+77; mov r1, 0 | mov r2, r10 | add r2, -512 | mov r3, 30 | call 6 | ldxb r0, [r10-512] | exit
+32; mov r1, 0 | mov r2, r10 | add r2, -30 | mov r3, 30 | call 6 | ldxb r0, [r10-1] | exit
+1291845633; stw [r10-4], 1 | mov r1, 0 | mov r2, r10 | add r2, -1 | mov r3, 1 | call 6 | ldxw r0, [r10-4] | exit
+1; stw [r10-4], 0x6e69616d | mov r1, 0 | mov r2, r10 | add r2, -4 | mov r3, 4 | call 7 | exit
+0; stw [r10-4], 0x6e69616d | mov r1, 1 | mov r2, r10 | add r2, -4 | mov r3, 4 | call 7 | exit
+1; stw [r10-4], 0x204d4c45 | mov r1, 1 | mov r2, r10 | add r2, -4 | mov r3, 3 | call 7 | exit
+0; stw [r10-4], 0x6e69616d | mov r1, 3 | mov r2, r10 | add r2, -4 | mov r3, 4 | call 7 | exit
+1; stb [r10-1], 77 | mov r1, 0 | mov r2, r10 | add r2, -30 | mov r3, 30 | call 6 | mov r1, 0 | mov r2, r10 |
+  add r2, -30 | mov r3, 30 | call 7 | exit
+0 score 7; mov r1, 7 | call 8 | exit
+1 score 9; mov r1, 7 | call 8 | mov r1, 9 | call 8 | mov r0, 1 | exit
+18446744073709551615 score 18446744073709551615; mov r1, -13 | smod r1, 3 | mov r6, r1 | call 8 | mov r0, r6 | exit
+18446744073623051616 score 18446744073623051616; mov r1, 0 | call 9 | mov r1, r0 | mov r6, r0 | call 8 | mov r0, r6 |
+  exit
+32410000; mov r1, 3 | call 9 | exit
+11; mov r6, 5 | mov r9, 6 | call 3 | mov r0, r6 | add r0, r9 | exit
+49; mov r6, r1 | call 3 | ldxb r0, [r6+0] | exit
 "
 );
 
-/// What comes of calls on records with these addresses: FRADDL, TOADDL, FRADDR and TOADDR, which stand behind it.
-const ADDRESSES: &str = "\
-1;         199        101                      ; mov r1, 0 | mov r2, 151 | call 5 | exit; b701000000000000 b702000097000000 8500000005000000 9500000000000000
-0;         199        101                      ; mov r1, 0 | mov r2, 150 | call 5 | exit; b701000000000000 b702000096000000 8500000005000000 9500000000000000
-1;         100        199                      ; mov r1, 0 | mov r2, 150 | call 5 | exit; b701000000000000 b702000096000000 8500000005000000 9500000000000000
-3;         101        199        101        199; mov r1, 0 | mov r2, 151 | call 5 | exit; b701000000000000 b702000097000000 8500000005000000 9500000000000000
-0;      164-20     164-20                      ; mov r1, 1 | call 2 | exit; b701000001000000 8500000002000000 9500000000000000
-0;      164-20     164-20                      ; mov r1, 1 | call 1 | exit; b701000001000000 8500000001000000 9500000000000000
-0;      164-20     164-20                      ; mov r1, 0 | mov r2, 164 | call 5 | exit; b701000000000000 b7020000a4000000 8500000005000000 9500000000000000
-";
+// The files of a segment with two alternate names and one further range.
+const NAMED: &str = r"{rt1}\n; {rt4 FEAT2=8}\n; {rt5 FENAME=Elm}\n{rt5 FEAT=8}\n;
+  {rt6 FRADDR=200 TOADDR=300 ZIPL=36068 ZIPR=36068}\n";
 
-/// How many steps a program takes: the limit stands before the text.
+// What comes of calls on records with these addresses.
+const ADDRESSES: &str =
+    r"1; mov r1, 0 | mov r2, 151 | call 5 | exit; {rt1 FRADDL=199 TOADDL=101 FRADDR= TOADDR=}\n
+0; mov r1, 0 | mov r2, 150 | call 5 | exit; {rt1 FRADDL=199 TOADDL=101 FRADDR= TOADDR=}\n
+1; mov r1, 0 | mov r2, 150 | call 5 | exit; {rt1 FRADDL=100 TOADDL=199 FRADDR= TOADDR=}\n
+3; mov r1, 0 | mov r2, 151 | call 5 | exit; {rt1 FRADDL=101 TOADDL=199 FRADDR=101 TOADDR=199}\n
+0; mov r1, 1 | call 2 | exit; {rt1 FRADDL=164-20 TOADDL=164-20 FRADDR= TOADDR=}\n
+0; mov r1, 1 | call 1 | exit; {rt1 FRADDL=164-20 TOADDL=164-20 FRADDR= TOADDR=}\n
+0; mov r1, 0 | mov r2, 164 | call 5 | exit; {rt1 FRADDL=164-20 TOADDL=164-20 FRADDR= TOADDR=}\n";
+
+// How many steps a program takes: the limit stands before it.
 const LIMITS: &str = "\
-0; 8; mov r0, 3 | add r0, -1 | jne r0, 0, -2 | exit; b700000003000000 07000000ffffffff 5500feff00000000 9500000000000000
-running; 7; mov r0, 3 | add r0, -1 | jne r0, 0, -2 | exit; b700000003000000 07000000ffffffff 5500feff00000000 9500000000000000
-running; 0; mov r0, 1; b700000001000000
-refused 31 place 0 OutOfProgram; 1; mov r0, 1; b700000001000000
-running; 0; ja -1; 0500ffff00000000
-running; 1000; ja -1; 0500ffff00000000
-running; 1; mov r0, 1 | exit; b700000001000000 9500000000000000
-1; 2; mov r0, 1 | exit; b700000001000000 9500000000000000
-1; 18446744073709551615; mov r0, 1 | exit; b700000001000000 9500000000000000
-1; 2; lddw r0, 1 | exit; 1800000001000000 0000000000000000 9500000000000000
-refused 40 place 0 ReadsNothing(0); 1; exit; 9500000000000000
-running; 0; exit; 9500000000000000
-";
+0; 8; mov r0, 3 | add r0, -1 | jne r0, 0, -2 | exit
+running; 7; mov r0, 3 | add r0, -1 | jne r0, 0, -2 | exit
+running; 0; mov r0, 1
+refused 31 place 0 OutOfProgram; 1; mov r0, 1
+running; 0; ja -1
+running; 1000; ja -1
+running; 1; mov r0, 1 | exit
+1; 2; mov r0, 1 | exit
+1; 18446744073709551615; mov r0, 1 | exit
+1; 2; lddw r0, 1 | exit
+refused 40 place 0 ReadsNothing(0); 1; exit
+running; 0; exit";
 
-/// What register 0 holds at the end, and the place, which stands before the text.
+// What register 0 holds at the end, and the place there.
 const ENDS: &str = "\
-empty; 0; mov r0, 1; b700000001000000
-1; 1; mov r0, 1 | exit; b700000001000000 9500000000000000
-1; 1; mov r0, 1 | ldxb r0, [r1+228] | exit; b700000001000000 7110e40000000000 9500000000000000
-1; 1; mov r0, 1 | stb [r10-1], 1; b700000001000000 720affff01000000
-1; 1; mov r0, 1 | jeq r0, 1, -3 | exit; b700000001000000 1500fdff01000000 9500000000000000
-";
+empty; 0; mov r0, 1
+1; 1; mov r0, 1 | exit
+1; 1; mov r0, 1 | ldxb r0, [r1+228] | exit
+1; 1; mov r0, 1 | stb [r10-1], 1
+1; 1; mov r0, 1 | jeq r0, 1, -3 | exit";
 
 /// Whether so many steps of a code on a segment come to what a row expects.
 fn comes_to(segment: &Segment<Global>, code: &Code<Global>, limit: u64, expected: &str) -> bool {
@@ -335,53 +348,45 @@ fn comes_to(segment: &Segment<Global>, code: &Code<Global>, limit: u64, expected
     }
 }
 
-/// A segment with two alternate names and one further range.
-fn named_segment(alloc: Global) -> Result<Segment<Global>, AllocError> {
-    let mut segment = Segment::of(alloc, RECORD);
-    segment.push_name(b"Elm                           ")?;
-    segment.push_name(b"Oak                           ")?;
-    segment.push_range(FURTHER)?;
-    Ok(segment)
+/// Whether these are the answer and the score of a cell. A score of 0 isn't written.
+pub fn is_exit(cell: &str, answer: u64, score: u64) -> bool {
+    let (wanted, wanted_score) = cell.split_once(" score ").unwrap_or((cell, "0"));
+    wanted.parse() == Ok(answer) && wanted_score.parse() == Ok(score)
 }
 
-const FURTHER: Range<'static> = Range {
-    fraddl: b"        201",
-    toaddl: b"        299",
-    fraddr: b"        200",
-    toaddr: b"        300",
-    zipl: b"36068",
-    zipr: b"36068",
-};
-
 #[test]
-fn outcomes(rt: HostRuntime) {
-    let segment = named_segment(rt.alloc()).expect(&rt, "memory");
-    for row in OUTCOMES.lines() {
-        let code = code_of(rt.alloc(), row).expect(&rt, row);
-        assert!(rt; comes_to(&segment, &code, 20, cut(row, "; ").0), "{row}");
+fn outcomes(rt: HostRuntime) -> Result<(), Fail> {
+    let county = county_of(rt.alloc(), NAMED, 0).ok_or("county")?;
+    let segment = county.segments().first().ok_or("segment")?;
+    for row in table(rt.alloc(), OUTCOMES)?.lines() {
+        let code = code_of(rt.alloc(), cell(row, 1)).expect(&rt, row);
+        assert!(rt; comes_to(segment, &code, 20, cell(row, 0)), "{row}");
     }
+    Ok(())
+}
+
+/// Whether a row's program comes to what the row says on the segment of its line.
+fn is_answered(alloc: Global, row: &str) -> Option<bool> {
+    let county = county_of(alloc, row, 2)?;
+    let segment = county.segments().first()?;
+    let code = code_of(alloc, cell(row, 1))?;
+    Some(comes_to(segment, &code, 20, cell(row, 0)))
 }
 
 #[test]
 fn addresses(rt: HostRuntime) {
     for row in ADDRESSES.lines() {
-        let (expected, addresses) = cut(row, "; ");
-        let mut record = *RECORD;
-        put(&mut record, 58, cut(addresses, ";").0);
-        let segment = Segment::of(rt.alloc(), &record);
-        let code = code_of(rt.alloc(), row).expect(&rt, row);
-        assert!(rt; comes_to(&segment, &code, 20, expected), "{row}");
+        assert!(rt; is_answered(rt.alloc(), row) == Some(true), "{row}");
     }
 }
 
 #[test]
 fn limits(rt: HostRuntime) {
-    let segment = Segment::of(rt.alloc(), RECORD);
+    let segment = Segment::of(rt.alloc(), RT1);
     for row in LIMITS.lines() {
-        let (expected, limit) = cut(row, "; ");
-        let limit = cut(limit, ";").0.parse().expect(&rt, row);
-        let code = code_of(rt.alloc(), row).expect(&rt, row);
-        assert!(rt; comes_to(&segment, &code, limit, expected), "{row}");
+        let limit = cell(row, 1).parse().expect(&rt, row);
+        let code = code_of(rt.alloc(), cell(row, 2)).expect(&rt, row);
+        assert!(rt; comes_to(&segment, &code, limit, cell(row, 0)), "{row}");
     }
 }
 
@@ -402,18 +407,17 @@ fn is_value(value: Value, text: &str) -> bool {
 
 /// Whether a code that has ended is at the place of a row with the row's answer, and has written no byte of the frame.
 fn has_end(state: &State, row: &str) -> bool {
-    let (answer, rest) = cut(row, "; ");
-    is_value(state.registers[0], answer)
-        && cut(rest, "; ").0.parse() == Ok(state.place)
+    is_value(state.registers[0], cell(row, 0))
+        && cell(row, 1).parse() == Ok(state.place)
         && state.frame.load(511, 1).is_none()
 }
 
 /// A program that has ended leaves the state as it was.
 #[test]
 fn an_end_keeps_the_state(rt: HostRuntime) {
-    let segment = Segment::of(rt.alloc(), RECORD);
+    let segment = Segment::of(rt.alloc(), RT1);
     for row in ENDS.lines() {
-        let code = code_of(rt.alloc(), row).expect(&rt, row);
+        let code = code_of(rt.alloc(), cell(row, 2)).expect(&rt, row);
         let mut state = State::start();
         run_on(&code, &segment, &mut state);
         assert!(rt; has_end(&state, row), "{row}");

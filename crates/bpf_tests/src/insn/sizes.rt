@@ -1,43 +1,42 @@
 //! How many words a program may have, and codes that are built and not read.
-use crate::fixtures::{EXIT, bytes_of, cut, is_written, repeated};
-use bpf_insn::{CodeBuilder, CodeFault, Insn, WORD_LIMIT, WritableRegister, decode};
+use crate::codes::is_written;
+use bpf_insn::{Code, CodeBuilder, CodeFault, Insn, WORD_LIMIT, WritableRegister, decode};
+use fixtures::{cell, program};
 use std::alloc::Global;
 
-// Words, how often they are repeated, what stands behind them, and what it gives: how many instructions and words, or a refusal.
-const SIZES: &str = "95 0 0 0 0 0 0 0 | 1 | | 1 1
-95 0 0 0 0 0 0 0 | 4095 | | 4095 4095
-95 0 0 0 0 0 0 0 | 4096 | | 4096 4096
-95 0 0 0 0 0 0 0 | 4096 | 0 | refused 11 NotWhole
-95 0 0 0 0 0 0 0 | 4096 | 95 0 0 0 0 0 0 0 | refused 12 TooLong
-18 0 0 0 0 0 0 0 0 0 0 0 0 0 0 0 | 1 | | 1 2
-18 0 0 0 0 0 0 0 0 0 0 0 0 0 0 0 | 2048 | | 2048 4096
-18 0 0 0 0 0 0 0 0 0 0 0 0 0 0 0 | 2047 | 95 0 0 0 0 0 0 0 | 2048 4095
-18 0 0 0 0 0 0 0 0 0 0 0 0 0 0 0 | 2047 | 18 0 0 0 0 0 0 0 | refused 17 place 4094 CutWide
-18 0 0 0 0 0 0 0 0 0 0 0 0 0 0 0 | 2048 | 95 0 0 0 0 0 0 0 | refused 12 TooLong";
+// Words, and what they give: how many instructions and words, or a refusal.
+const SIZES: &str = "\
+hex 9500000000000000; 1 1
+hex 9500000000000000 *4095; 4095 4095
+hex 9500000000000000 *4096; 4096 4096
+hex 9500000000000000 *4096 | hex 00; refused 11 NotWhole
+hex 9500000000000000 *4097; refused 12 TooLong
+hex 1800000000000000 0000000000000000; 1 2
+hex 1800000000000000 0000000000000000 *2048; 2048 4096
+hex 1800000000000000 0000000000000000 *2047 | hex 9500000000000000; 2048 4095
+hex 1800000000000000 0000000000000000 *2047 | hex 1800000000000000; refused 17 place 4094 CutWide
+hex 1800000000000000 0000000000000000 *2048 | hex 9500000000000000; refused 12 TooLong";
 
-/// Whether bytes are a code of so many instructions and words, or are refused with this line.
+/// Whether bytes are a code of so many instructions and words, which is written as the same bytes, or are refused with this
+/// line.
 fn gives_size(alloc: Global, bytes: &[u8], want: &str) -> bool {
-    let (instructions, words) = cut(want, " ");
     match decode(alloc, bytes) {
-        Ok(code) => {
-            instructions.parse() == Ok(code.instructions().len())
-                && words.parse() == Ok(code.words())
-        }
+        Ok(code) => has_size(&code, want) && is_written(alloc, &code, bytes),
         Err(fault) => fault.line().as_str() == want,
     }
+}
+
+/// Whether a code has so many instructions and words.
+fn has_size(code: &Code<Global>, size: &str) -> bool {
+    let (instructions, words) = size.split_once(' ').unwrap_or(("", ""));
+    instructions.parse() == Ok(code.instructions().len()) && words.parse() == Ok(code.words())
 }
 
 #[test]
 fn sizes(rt: HostRuntime) {
     for row in SIZES.lines() {
-        let (words, rest) = cut(row, " | ");
-        let (count, rest) = cut(rest, " | ");
-        let (end, want) = cut(rest, "| ");
-        let words = bytes_of(rt.alloc(), words).expect(&rt, row);
-        let end = bytes_of(rt.alloc(), end).expect(&rt, row);
-        let count = count.parse().expect(&rt, row);
-        let bytes = repeated(rt.alloc(), b"", &words, count, &end).expect(&rt, row);
-        assert!(rt; gives_size(rt.alloc(), &bytes, want), "{row}");
+        let bytes = program(rt.alloc(), cell(row, 0)).expect(&rt, row);
+        assert!(rt; gives_size(rt.alloc(), &bytes, cell(row, 1)), "{row}");
     }
 }
 
@@ -85,7 +84,7 @@ fn limit(rt: HostRuntime) {
         builder.push(WIDE),
     );
     assert!(rt; last == (Ok(()), Err(CodeFault::TooLong), Err(CodeFault::TooLong)));
-    let bytes = repeated(rt.alloc(), b"", EXIT, 4_096, b"").expect(&rt, "memory");
+    let bytes = program(rt.alloc(), "exit *4096").expect(&rt, "a program");
     assert!(rt; builds(rt.alloc(), builder, (4_096, 4_096), &bytes));
 }
 

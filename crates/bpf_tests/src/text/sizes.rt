@@ -1,35 +1,65 @@
 //! Texts up to the limit of words and past it, and long texts.
 use super::gives;
-use crate::fixtures::cut;
+use crate::codes::is_written;
+use bpf_text::{assemble, assemble_source, disassemble_program};
+use fixtures::{bytes, cell, program};
 use std::alloc::{AllocError, Global};
+use std::test::Fail;
 
-// How many lines a text has, of which every so many is `exit` and the others are comments; what stands behind them; and how many words it
-// has, or its refusal.
-const SIZES: &str = "4096|1||4096
-4097|1||refused 26 line 4097 CodeFault(12)
-70000|1000||70
-69999|1000|frob|refused 21 line 70000 UnknownMnemonic";
-
-/// So many lines, every so many of them `exit` and the others a comment, and what stands behind them.
-fn lines(alloc: Global, count: u32, step: u32, end: &str) -> Result<String, AllocError> {
-    let mut text = String::new(alloc);
-    for line in 1..=count {
-        let is_exit = line.is_multiple_of(step);
-        text.push_str(if is_exit { "exit\n" } else { "; nothing\n" })?;
-    }
-    text.push_str(end)?;
-    Ok(text)
-}
+// Texts, and how many words each has, or its refusal.
+const SIZES: &str = r"{exit\n*4096}; 4096
+{exit\n*4097}; refused 26 line 4097 CodeFault(12)
+{\x3b nothing\n*69930}{exit\n*70}; 70
+{\x3b nothing\n*69930}{exit\n*69}frob; refused 21 line 70000 UnknownMnemonic";
 
 #[test]
 fn sizes(rt: HostRuntime) {
     for row in SIZES.lines() {
-        let (count, rest) = cut(row, "|");
-        let (step, rest) = cut(rest, "|");
-        let (end, want) = cut(rest, "|");
-        let count = count.parse().expect(&rt, row);
-        let step = step.parse().expect(&rt, row);
-        let text = lines(rt.alloc(), count, step, end).expect(&rt, row);
-        assert!(rt; gives(rt.alloc(), &text, want), "{row}");
+        assert!(rt; gives(rt.alloc(), cell(row, 0), cell(row, 1)), "{row}");
     }
+}
+
+// Lines as the disassembler writes them, and how often a program has room for each.
+const LINES: &str = "\
+exit; 4096
+lddw r9, 0x1122334455667788; 2048
+stdw [r10-32768], -2147483648; 4096
+jsgt32 r10, -2147483648, -32768; 4096
+movsx16_32 r9, r10; 4096
+ja32 +2147483647; 4096";
+
+/// Whether so many lines mean the program of these words, and are written of it.
+fn is_turned(alloc: Global, row: &str) -> Option<bool> {
+    let (line, count) = (cell(row, 0), cell(row, 1));
+    let text = bytes(alloc, &format!(in alloc; r"{{{line}\n*{count}}}").ok()?).ok()?;
+    let words = program(alloc, &format!(in alloc; "{line} *{count}").ok()?)?;
+    let assembled = assemble_source(alloc, &text).ok()?;
+    let disassembled = disassemble_program(alloc, &words).ok()?;
+    Some(assembled.as_slice() == words.as_slice() && disassembled.as_bytes() == text.as_slice())
+}
+
+#[test]
+fn long_texts(rt: HostRuntime) {
+    for row in LINES.lines() {
+        assert!(rt; is_turned(rt.alloc(), row) == Some(true), "{row}");
+    }
+}
+
+/// A text of so many jumps, each to the label behind it, and EXIT.
+fn labels(alloc: Global, jumps: u32) -> Result<String, AllocError> {
+    let mut text = String::new(alloc);
+    for number in 0..jumps {
+        text.push_str(&format!(in alloc; "ja to_{number}\nto_{number}:\n")?)?;
+    }
+    text.push_str("exit")?;
+    Ok(text)
+}
+
+#[test]
+fn as_many_labels_as_fit(rt: HostRuntime) -> Result<(), Fail> {
+    let text = labels(rt.alloc(), 4095)?;
+    let words = program(rt.alloc(), "ja +0 *4095 | exit").ok_or("words")?;
+    let code = assemble(rt.alloc(), &text).expect(&rt, "a code");
+    assert!(rt; is_written(rt.alloc(), &code, &words));
+    Ok(())
 }
