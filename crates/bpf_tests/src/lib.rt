@@ -23,6 +23,8 @@ mod meaning;
 #[cfg(test)]
 mod segments;
 #[cfg(test)]
+mod sweep;
+#[cfg(test)]
 mod text;
 #[cfg(test)]
 mod verify;
