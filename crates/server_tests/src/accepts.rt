@@ -1,5 +1,5 @@
 //! Accepts that fail, and connections behind one another.
-use crate::fixtures::{Exchange, Exchanges, client_that, name_of, receive, short_limits};
+use crate::exchange::{Exchange, Exchanges, client_that, name_of, receive, short_limits};
 use server::{Close, serve_next};
 use std::cell::Cell;
 use std::io;
@@ -61,7 +61,7 @@ fn failed(rt: HostRuntime) -> Result<(), Fail> {
     listener.set_nonblocking(true)?;
     let mut service = Exchanges::new(EXCHANGE, &[b'r'; 50]);
     let fault = serve_next(&listener, &rt, &short_limits(), &mut service).err();
-    assert_eq!(rt; name_of(fault.map(|error| error.kind())), "none waits");
+    assert_eq!(rt; name_of(fault.map(|error| error.kind())), "blocked");
     assert_eq!(rt; (service.served, service.turns), (0, 0));
     Ok(())
 }

@@ -1,7 +1,6 @@
 //! What becomes of clients, by the system's clock.
-use crate::fixtures::{
-    Exchange, Exchanges, cell, client_that, name_of, number, receive, short_limits,
-};
+use crate::exchange::{Exchange, Exchanges, client_that, name_of, number, receive, short_limits};
+use fixtures::cell;
 use server::{Close, serve_next};
 use std::io;
 use std::net::{TcpListener, TcpStream};

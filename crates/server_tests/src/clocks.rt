@@ -1,7 +1,8 @@
 //! Clients that are slow, by a clock that goes on in steps.
-use crate::fixtures::{
-    Exchange, Exchanges, SteppingClock, cell, client_that, name_of, number, short_limits,
+use crate::exchange::{
+    Exchange, Exchanges, SteppingClock, client_that, name_of, number, short_limits,
 };
+use fixtures::cell;
 use server::{Close, Limits, serve_next};
 use std::io;
 use std::net::{TcpListener, TcpStream};

@@ -9,7 +9,7 @@ mod clients;
 #[cfg(test)]
 mod clocks;
 #[cfg(test)]
-mod fixtures;
+mod exchange;
 #[cfg(test)]
 mod http;
 #[cfg(test)]

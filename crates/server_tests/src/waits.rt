@@ -1,5 +1,6 @@
 //! How long calls may wait, by the program's limits.
-use crate::fixtures::{cell, number};
+use crate::exchange::number;
+use fixtures::cell;
 use server::{Limits, wait_left};
 use std::test::Fail;
 use std::time::Duration;

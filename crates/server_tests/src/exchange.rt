@@ -1,4 +1,5 @@
-//! A service, a client, a clock, and the notation of the tables.
+//! A service, a client and a clock.
+use fixtures::cell;
 use server::{Close, Limits, Service};
 use std::cell::Cell;
 use std::io;
@@ -7,24 +8,20 @@ use std::net::{Shutdown, TcpStream};
 use std::time::{Clock, Duration};
 use tl_fields::{CountedRead, CountedWrite};
 
-/// The text of a cell, or nothing where the row has no such cell.
-pub fn cell(row: &str, place: usize) -> &str {
-    row.split(';').nth(place).unwrap_or("").trim()
-}
-
 /// The number in a cell.
 pub fn number(row: &str, place: usize) -> usize {
     cell(row, place).parse().unwrap_or(usize::MAX)
 }
 
-/// What the tables call a fault.
+/// What the tables call a fault: as those of devices, but for two that devices don't have, the end of the input, and a client
+/// that is gone, of which the system says one or the other.
 pub fn name_of(fault: Option<ErrorKind>) -> &'static str {
     match fault {
         None => "none",
         Some(ErrorKind::UnexpectedEof) => "end",
         Some(ErrorKind::TimedOut) => "late",
         Some(ErrorKind::BrokenPipe | ErrorKind::ConnectionReset) => "gone",
-        Some(ErrorKind::WouldBlock) => "none waits",
+        Some(ErrorKind::WouldBlock) => "blocked",
         Some(_) => "other",
     }
 }
