@@ -1,5 +1,7 @@
 //! The examples of docs/http.md in its order, row for row: examples/try.sh compares the document with the tables, and sends it to the program.
 use crate::tables::{wrong_in_script, wrong_in_table};
+use fixtures::table;
+use std::test::Fail;
 
 // The blocks with whole replies, an empty line between: the county, then each request of curl and its reply. Turns are those behind the connections.
 //
@@ -41,26 +43,29 @@ one
 PUT /jobs/1{curl} => =405 Method Not Allowed; text/plain; 19; method not allowed\n; GET, DELETE";
 
 #[test]
-fn blocks(rt: HostRuntime) {
-    for script in BLOCKS.split("\n\n") {
+fn blocks(rt: HostRuntime) -> Result<(), Fail> {
+    for script in table(rt.alloc(), BLOCKS)?.split("\n\n") {
         assert_eq!(rt; wrong_in_script(rt.alloc(), script, 1), Ok(None));
     }
+    Ok(())
 }
 
 // The block of which parts of the replies are shown, between the last two of those. Any 400 segments stand for the example county.
-const TURNS: &str = r"{line*400}
+const TURNS: &str = r"{rt1\n*400}
 POST /jobs{curl} >> {every} => 200 text 1\n
 turn => 256 400
-GET /jobs/1{curl} => 200 octets 256 400\n{row*256}
+GET /jobs/1{curl} => 200 octets 256 400\n{0\trt1\n*256}
 turn => 400 400
-GET /jobs/1{curl} => 200 octets 400 400\n{row*400}
+GET /jobs/1{curl} => 200 octets 400 400\n{0\trt1\n*400}
 turn => none
-GET /jobs/1{curl} => 200 octets 400 400\n{row*400}
+GET /jobs/1{curl} => 200 octets 400 400\n{0\trt1\n*400}
 DELETE /jobs/1{curl} => 200 text dropped\n";
 
 #[test]
-fn turns(rt: HostRuntime) {
-    assert_eq!(rt; wrong_in_script(rt.alloc(), TURNS, 17), Ok(None));
+fn turns(rt: HostRuntime) -> Result<(), Fail> {
+    let script = table(rt.alloc(), TURNS)?;
+    assert_eq!(rt; wrong_in_script(rt.alloc(), &script, 17), Ok(None));
+    Ok(())
 }
 
 // The requests that are shown byte for byte.
@@ -100,12 +105,14 @@ GET /jobs/0 HTTP/1.1\r\n => 400
 GET /jobs/0 HTTP/1.1\r\nX: {a*8192} => 400
 GET /jobs/0 HTTP/1.1\r\n{X: a\r\n*64}\r\n => 404
 GET /jobs/0 HTTP/1.1\r\n{X: a\r\n*65}\r\n => 400
-POST /verify HTTP/1.1\r\nContent-Length: 16\r\n\r\n\xb7\x00\x00\x00\x01\x00\x00\x00\x95\x00\x00\x00\x00\x00\x00 => 400
+POST /verify HTTP/1.1\r\nContent-Length: 16\r\n\r\n{asm mov r0, 1 | hex 95000000000000} => 400
 POST /verify HTTP/1.1\r\nContent-Length: 0016\r\n\r\n{every}any other bytes => 200 text accepted\n";
 
 #[test]
-fn requests(rt: HostRuntime) {
-    for table in [REQUESTS, ENDS] {
-        assert_eq!(rt; wrong_in_table(rt.alloc(), table), Ok(None));
+fn requests(rt: HostRuntime) -> Result<(), Fail> {
+    for rows in [REQUESTS, ENDS] {
+        let rows = table(rt.alloc(), rows)?;
+        assert_eq!(rt; wrong_in_table(rt.alloc(), &rows), Ok(None));
     }
+    Ok(())
 }

@@ -1,5 +1,7 @@
 //! Heads that are none, and what methods and targets get.
 use crate::tables::wrong_in_table;
+use fixtures::table;
+use std::test::Fail;
 
 // First the head's limits and what stands before it; then its lines; methods; targets; versions; and headers.
 const HEADS: &str = r"\r => 400
@@ -34,7 +36,7 @@ POST /verify HTTP/1.1\r\n{A: b\r\n*63}Content-Length: 16\r\n\r\n{every} => 200 t
 POST /verify HTTP/1.1\r\nContent-Length: 16\r\n{A: b\r\n*63}\r\n{every} => 200 text accepted\n
 POST /verify HTTP/1.1\r\n{A: b\r\n*64}Content-Length: 16\r\n\r\n{every} => 400
 POST /verify HTTP/1.1\r\nContent-Length: 16\r\n{A: b\r\n*64}\r\n{every} => 400
-GET /jobs/1 HTTP/1.1\r\n{A:\r\n*64}\r\n => 200 octets 1 1\n{row}
+GET /jobs/1 HTTP/1.1\r\n{A:\r\n*64}\r\n => 200 octets 1 1\n0\t{rt1}\n
 GET /jobs/1 HTTP/1.1\r\n{A:\r\n*65}\r\n => 400
 GET /jobs/1 HTTP/1.1\r\n{A:\r\n*1000}\r\n => 400
 GET /nothing HTTP/1.1\r\n{A:\r\n*65}\r\n => 400
@@ -76,8 +78,8 @@ Delete /jobs/1{end} => 405 GET, DELETE
 GETDELETE /jobs/1{end} => 405 GET, DELETE
 9!#$%&'+-.^_`|~ /verify{end} => 405 POST
 {A*1000} /verify{end} => 405 POST
- /verify{end} => 400
-  /verify{end} => 400
+\x20/verify{end} => 400
+\x20 /verify{end} => 400
 \tPOST /verify HTTP/1.1 >> {every} => 400
 POST\t/verify HTTP/1.1 >> {every} => 400
 POST  /verify HTTP/1.1 >> {every} => 400
@@ -126,8 +128,8 @@ POST /verify? HTTP/1.1 >> {every} => 200 text accepted\n
 POST /verify?x=1&y#/z?%zz HTTP/1.1 >> {every} => 200 text accepted\n
 POST /verify?\xe2\x82\xac HTTP/1.1 >> {every} => 200 text accepted\n
 POST /verify?{x*8000} HTTP/1.1 >> {every} => 200 text accepted\n
-GET /jobs/1?{end} => 200 octets 1 1\n{row}
-GET /jobs/1?/2{end} => 200 octets 1 1\n{row}
+GET /jobs/1?{end} => 200 octets 1 1\n0\t{rt1}\n
+GET /jobs/1?/2{end} => 200 octets 1 1\n0\t{rt1}\n
 GET /jobs?/1{end} => 405 POST
 GET /jobs/?1{end} => 404
 GET /jobs//{end} => 404
@@ -162,8 +164,8 @@ GET /jobs/1 x{end} => 400
 GET /jobs/1\r\n\r\n => 400
 GET /jobs/1 \r\n\r\n => 400
 GET /jobs/1\n => 400
-GET /jobs/1 HTTP/1.0\r\n\r\n => 200 octets 1 1\n{row}
-GET /jobs/1 HTTP/1.0\n\n => 200 octets 1 1\n{row}
+GET /jobs/1 HTTP/1.0\r\n\r\n => 200 octets 1 1\n0\t{rt1}\n
+GET /jobs/1 HTTP/1.0\n\n => 200 octets 1 1\n0\t{rt1}\n
 POST /verify HTTP/1.0 >> {every} => 200 text accepted\n
 GET /jobs/1 HTTP/0.9\r\n\r\n => 400
 GET /jobs/1 HTTP/1.2\r\n\r\n => 400
@@ -202,17 +204,22 @@ GET /jobs/1 HTTP/1.1\r\nA: b\x1fc\r\n\r\n => 400
 GET /jobs/1 HTTP/1.1\r\nA: b\x7fc\r\n\r\n => 400
 GET /jobs/1 HTTP/1.1\r\nA: b\rc\r\n\r\n => 400
 GET /jobs/1 HTTP/1.1\r\n\r\r\n => 400
-GET /jobs/1 HTTP/1.1\r\nA: \x80\xff\xc3\xa9\r\n\r\n => 200 octets 1 1\n{row}
-GET /jobs/1 HTTP/1.1\r\nA: b\tc d \t\r\nB:\r\nC: \r\nD:e\r\n\r\n => 200 octets 1 1\n{row}
-GET /jobs/1 HTTP/1.1\r\n9!#$%&'+-.^_`|~: :\r\n\r\n => 200 octets 1 1\n{row}
-GET /jobs/1 HTTP/1.1\r\nHost: a\r\nHost: b\r\nConnection: keep-alive, upgrade\r\nUpgrade: h2c\r\n\r\n => 200 octets 1 1\n{row}
-GET /jobs/1 HTTP/1.1\r\nRange: bytes=0-1\r\nAccept-Encoding: gzip\r\nAccept: image/png\r\nIf-None-Match: *\r\n\r\n => 200 octets 1 1\n{row}
+GET /jobs/1 HTTP/1.1\r\nA: \x80\xff\xc3\xa9\r\n\r\n => 200 octets 1 1\n0\t{rt1}\n
+GET /jobs/1 HTTP/1.1\r\nA: b\tc d \t\r\nB:\r\nC: \r\nD:e\r\n\r\n => 200 octets 1 1\n0\t{rt1}\n
+GET /jobs/1 HTTP/1.1\r\n9!#$%&'+-.^_`|~: :\r\n\r\n => 200 octets 1 1\n0\t{rt1}\n
+GET /jobs/1 HTTP/1.1\r\nHost: a\r\nHost: b\r\nConnection: keep-alive, upgrade\r\nUpgrade: h2c\r\n\r\n
+  => 200 octets 1 1\n0\t{rt1}\n
+GET /jobs/1 HTTP/1.1\r\nRange: bytes=0-1\r\nAccept-Encoding: gzip\r\nAccept: image/png\r\nIf-None-Match: *\r\n\r\n
+  => 200 octets 1 1\n0\t{rt1}\n
 POST /verify HTTP/1.1\r\nExpect: 100-continue\r\nContent-Length: 16\r\n\r\n{every} => 200 text accepted\n
-POST /verify HTTP/1.1\r\nExpect: x\r\nContent-Type: image/png\r\nContent-Encoding: gzip\r\nContent-Length: 8\r\n\r\n{stuck} => 422 refused 40 place 0 ReadsNothing(0)
-GET /jobs/1 HTTP/1.1\r\n\r\nGET /jobs/2 HTTP/1.1\r\n\r\n => 200 octets 1 1\n{row}
-GET /jobs/1 HTTP/1.1\r\n\r\n{\xff*20000} => 200 octets 1 1\n{row}";
+POST /verify HTTP/1.1\r\nExpect: x\r\nContent-Type: image/png\r\nContent-Encoding: gzip\r\nContent-Length:
+  8\r\n\r\n{stuck} => 422 refused 40 place 0 ReadsNothing(0)
+GET /jobs/1 HTTP/1.1\r\n\r\nGET /jobs/2 HTTP/1.1\r\n\r\n => 200 octets 1 1\n0\t{rt1}\n
+GET /jobs/1 HTTP/1.1\r\n\r\n{\xff*20000} => 200 octets 1 1\n0\t{rt1}\n";
 
 #[test]
-fn heads(rt: HostRuntime) {
-    assert_eq!(rt; wrong_in_table(rt.alloc(), HEADS), Ok(None));
+fn heads(rt: HostRuntime) -> Result<(), Fail> {
+    let table = table(rt.alloc(), HEADS)?;
+    assert_eq!(rt; wrong_in_table(rt.alloc(), &table), Ok(None));
+    Ok(())
 }

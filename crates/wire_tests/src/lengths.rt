@@ -1,9 +1,11 @@
 //! The lengths of bodies, and what comes first of what is wrong.
 use crate::tables::wrong_in_table;
+use fixtures::table;
+use std::test::Fail;
 
 // First lengths that are numbers, and then none; two; the names of headers; transfer codings; bodies; other methods; and what comes first.
-const LENGTHS: &str =
-    r"POST /verify HTTP/1.1\r\nContent-Length: 16\r\n\r\n{every} => 200 text accepted\n
+const LENGTHS: &str = r"POST /verify HTTP/1.1\r\nContent-Length: 16\r\n\r\n{every}
+  => 200 text accepted\n
 POST /verify HTTP/1.1\r\nContent-Length:16\r\n\r\n{every} => 200 text accepted\n
 POST /verify HTTP/1.1\r\nContent-Length: \t  16 \t\r\n\r\n{every} => 200 text accepted\n
 POST /verify HTTP/1.1\r\nContent-Length: 0000000000000000000000000000000016\r\n\r\n{every} => 200 text accepted\n
@@ -12,7 +14,8 @@ POST /verify HTTP/1.1\r\nContent-Length: 0\r\n\r\n => 422 refused 10 Empty
 POST /verify HTTP/1.1\r\nContent-Length: 000\r\n\r\n{every} => 422 refused 10 Empty
 POST /verify HTTP/1.1\r\nContent-Length: 1048576\r\n\r\n{every*65536} => 422 refused 12 TooLong
 POST /verify HTTP/1.1\r\nContent-Length: 1048575\r\n\r\n{every*65536} => 422 refused 11 NotWhole
-POST /verify HTTP/1.1\r\nContent-Length: 1048577\r\n\r\n{every*100} => =413 Payload Too Large; text/plain; 10; too large\n
+POST /verify HTTP/1.1\r\nContent-Length: 1048577\r\n\r\n{every*100}
+  => =413 Payload Too Large; text/plain; 10; too large\n
 POST /verify HTTP/1.1\r\nContent-Length: 00000001048577\r\n\r\n => 413
 POST /verify HTTP/1.1\r\nContent-Length: 4294967312\r\n\r\n{every} => 413
 POST /verify HTTP/1.1\r\nContent-Length: 18446744073709551616\r\n\r\n{every} => 413
@@ -89,14 +92,17 @@ POST /assemble HTTP/1.1\r\nContent-Length: 5\r\n\r\nexit => 400
 POST /jobs HTTP/1.1\r\nContent-Length: 17\r\n\r\n{every} => 400
 POST /verify HTTP/1.1\r\nContent-Length: 8\r\n\r\n{every} => 422 refused 33 place 0 LastNotExit
 POST /verify HTTP/1.1\r\nContent-Length: 16\r\n\r\n{every}\x00 => 200 text accepted\n
-POST /verify HTTP/1.1\r\nContent-Length: 16\r\n\r\n{every}POST /jobs HTTP/1.1\r\nContent-Length: 16\r\n\r\n{every} => 200 text accepted\n
+POST /verify HTTP/1.1\r\nContent-Length: 16\r\n\r\n{every}POST /jobs HTTP/1.1\r\nContent-Length: 16\r\n\r\n{every}
+  => 200 text accepted\n
 POST /verify HTTP/1.1\r\nContent-Length: 16\r\n\r\n{every*4000} => 200 text accepted\n
 POST /assemble HTTP/1.1\r\nContent-Length: 4\r\n\r\nexit 1 => 200 octets {stuck}
 POST /verify HTTP/1.1\r\nContent-Length: 32768\r\n\r\n{every*2048}{stuck} => 200 text accepted\n
-GET /jobs/1 HTTP/1.1\r\nContent-Length: 5\r\n\r\n => 200 octets 1 1\n{row}
-GET /jobs/1 HTTP/1.1\r\nContent-Length: x\r\nContent-Length:\r\nTransfer-Encoding: chunked\r\n\r\n => 200 octets 1 1\n{row}
-GET /jobs/1 HTTP/1.1\r\nContent-Length: {9*30}\r\n\r\n => 200 octets 1 1\n{row}
-GET /geocode?number=151&name=main HTTP/1.1\r\nTransfer-Encoding:\r\nContent-Length: -1\r\n\r\n => 200 text 123456789\tL\t-86494898\t32405102\n
+GET /jobs/1 HTTP/1.1\r\nContent-Length: 5\r\n\r\n => 200 octets 1 1\n0\t{rt1}\n
+GET /jobs/1 HTTP/1.1\r\nContent-Length: x\r\nContent-Length:\r\nTransfer-Encoding: chunked\r\n\r\n
+  => 200 octets 1 1\n0\t{rt1}\n
+GET /jobs/1 HTTP/1.1\r\nContent-Length: {9*30}\r\n\r\n => 200 octets 1 1\n0\t{rt1}\n
+GET /geocode?number=151&name=main HTTP/1.1\r\nTransfer-Encoding:\r\nContent-Length: -1\r\n\r\n
+  => 200 text 123456789\tL\t-86494898\t32405102\n
 GET /geocode HTTP/1.1\r\nContent-Length: 1048577\r\n\r\n => 400
 DELETE /jobs/2 HTTP/1.1\r\nContent-Length: 5\r\n\r\n => 404
 DELETE /jobs/2 HTTP/1.1\r\nContent-Length: x\r\nContent-Length: 1048577\r\nTransfer-Encoding: chunked\r\n\r\n => 404
@@ -120,6 +126,8 @@ POST /jobs HTTP/1.1\r\nContent-Length: 9\r\n\r\n{stuck} => 400
 POST /assemble HTTP/1.1\r\nContent-Length: 2\r\n\r\n\xff => 400";
 
 #[test]
-fn lengths(rt: HostRuntime) {
-    assert_eq!(rt; wrong_in_table(rt.alloc(), LENGTHS), Ok(None));
+fn lengths(rt: HostRuntime) -> Result<(), Fail> {
+    let table = table(rt.alloc(), LENGTHS)?;
+    assert_eq!(rt; wrong_in_table(rt.alloc(), &table), Ok(None));
+    Ok(())
 }

@@ -7,13 +7,11 @@ mod devices;
 #[cfg(test)]
 mod examples;
 #[cfg(test)]
-mod fixtures;
-#[cfg(test)]
 mod heads;
 #[cfg(test)]
 mod lengths;
 #[cfg(test)]
-mod memory;
+mod notation;
 #[cfg(test)]
 mod queries;
 #[cfg(test)]
@@ -25,6 +23,6 @@ mod scripts;
 #[cfg(test)]
 mod serving;
 #[cfg(test)]
-mod tables;
+mod sweep;
 #[cfg(test)]
-mod verdicts;
+mod tables;

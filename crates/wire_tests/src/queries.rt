@@ -1,9 +1,11 @@
 //! What the route of the geocoder answers.
 use crate::tables::{wrong_in_script, wrong_in_table};
+use fixtures::table;
+use std::test::Fail;
 
 // Queries over Main Street, which has 101 to 199 on its left and 100 to 198 on its right.
-const QUERIES: &str =
-    r"GET /geocode?number=151&name=main&zip=36067{end} => 200 text 123456789\tL\t-86494898\t32405102\n
+const QUERIES: &str = r"GET /geocode?number=151&name=main&zip=36067{end}
+  => 200 text 123456789\tL\t-86494898\t32405102\n
 GET /geocode?number=151&name=main{end} => 200 text 123456789\tL\t-86494898\t32405102\n
 GET /geocode?number=150&name=main&zip=36067{end} => 200 text 123456789\tR\t-86494898\t32405102\n
 GET /geocode?number=101&name=MAIN{end} => 200 text 123456789\tL\t-86500000\t32400000\n
@@ -110,46 +112,56 @@ POST /geocode?number=151&name=main HTTP/1.1 >> number=151&name=main => 405 GET
 HEAD /geocode?number=151&name=main{end} => 405 GET";
 
 #[test]
-fn queries(rt: HostRuntime) {
-    assert_eq!(rt; wrong_in_table(rt.alloc(), QUERIES), Ok(None));
+fn queries(rt: HostRuntime) -> Result<(), Fail> {
+    let table = table(rt.alloc(), QUERIES)?;
+    assert_eq!(rt; wrong_in_table(rt.alloc(), &table), Ok(None));
+    Ok(())
 }
 
-// Counties, and what queries over them find: addresses that go down; ends exchanged; an end without a latitude; a second range on the left, of no ZIP code;
-// an alternate name; two counties; no county.
-const COUNTIES: &str = r"{..66}199{69..77}101{80..}\n
+// Counties, and what queries over them find: addresses that go down; ends exchanged; an end without a latitude; a second
+// range on the left, of no ZIP code; an alternate name; three counties; more than a thousand hits; no county.
+const COUNTIES: &str = r"{rt1 FRADDL=________199 TOADDL=________101}\n
 GET /geocode?number=151&name=main{end} => 200 text 123456789\tL\t-86495103\t32404897\n
 GET /geocode?number=152&name=main{end} => 200 text 123456789\tR\t-86494694\t32405306\n
 
-{..190}{209..228}{190..209}\n
+{rt1 FRLONG=-086490000 FRLAT=+32410000 TOLONG=-086500000 TOLAT=+32400000}\n
 GET /geocode?number=151&name=main{end} => 200 text 123456789\tL\t-86495102\t32404898\n
 
-{..200}{ *9}{209..}\n
+{rt1 FRLAT=}\n
 GET /geocode?number=151&name=main{end} => 200 text 123456789\tL\t-\t-\n
 
-{line};;; 60006 123456789  1        101        199{ *36}\n
-GET /geocode?number=151&name=main{end} => 200 text 123456789\tL\t-86494898\t32405102\n123456789\tL\t-86494898\t32405102\n
+{rt1}\n;;; {rt6 FRADDL=________101 TOADDL=________199 ZIPL=}\n
+GET /geocode?number=151&name=main{end}
+  => 200 text 123456789\tL\t-86494898\t32405102\n123456789\tL\t-86494898\t32405102\n
 GET /geocode?number=151&name=main&zip=36067{end} => 200 text 123456789\tL\t-86494898\t32405102\n
 GET /geocode?number=150&name=main{end} => 200 text 123456789\tR\t-86494898\t32405102\n
 
-{line}; 40006 123456789  1       7{ *32}\n; 50006            7  Old Mill{ *28}\n
+{rt1}\n; {rt4}\n; {rt5 FENAME=Old_Mill}\n
 GET /geocode?number=151&name=old+mill{end} => 200 text 123456789\tL\t-86494898\t32405102\n
 GET /geocode?number=151&name=OLD%20MILL&zip=36067{end} => 200 text 123456789\tL\t-86494898\t32405102\n
 GET /geocode?number=151&name=main{end} => 200 text 123456789\tL\t-86494898\t32405102\n
 GET /geocode?number=151&name=old{end} => 200 text
 
-{..5}0000000042{15..}\n{line} | {line*0} | {..5}0000000007{15..107}7{108..}\n
-GET /geocode?number=151&name=main{end} => 200 text 42\tL\t-86494898\t32405102\n123456789\tL\t-86494898\t32405102\n7\tL\t-86494898\t32405102\n
-GET /geocode?number=151&name=main&zip=36067{end} => 200 text 42\tL\t-86494898\t32405102\n123456789\tL\t-86494898\t32405102\n
+{rt1 TLID=0000000042}\n{rt1}\n | {rt1\n*0} | {rt1 TLID=0000000007 ZIPL=37067}\n
+GET /geocode?number=151&name=main{end}
+  => 200 text 42\tL\t-86494898\t32405102\n123456789\tL\t-86494898\t32405102\n7\tL\t-86494898\t32405102\n
+GET /geocode?number=151&name=main&zip=36067{end}
+  => 200 text 42\tL\t-86494898\t32405102\n123456789\tL\t-86494898\t32405102\n
 GET /geocode?number=151&name=main&zip=37067{end} => 200 text 7\tL\t-86494898\t32405102\n
-GET /geocode?number=150&name=main&zip=36067{end} => 200 text 42\tR\t-86494898\t32405102\n123456789\tR\t-86494898\t32405102\n7\tR\t-86494898\t32405102\n
+GET /geocode?number=150&name=main&zip=36067{end}
+  => 200 text 42\tR\t-86494898\t32405102\n123456789\tR\t-86494898\t32405102\n7\tR\t-86494898\t32405102\n
+
+{rt1\n*600} | {rt1\n*500}
+GET /geocode?number=151&name=main{end} => 200 text {123456789\tL\t-86494898\t32405102\n*1100}
 
 -
 GET /geocode?number=151&name=main{end} => 200 text
 GET /geocode?number=151{end} => 400";
 
 #[test]
-fn counties(rt: HostRuntime) {
-    for script in COUNTIES.split("\n\n") {
+fn counties(rt: HostRuntime) -> Result<(), Fail> {
+    for script in table(rt.alloc(), COUNTIES)?.split("\n\n") {
         assert_eq!(rt; wrong_in_script(rt.alloc(), script, 1), Ok(None));
     }
+    Ok(())
 }

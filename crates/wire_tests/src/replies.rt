@@ -1,5 +1,6 @@
 //! Replies as the tables have them.
-use crate::fixtures::{bytes_of, cell};
+use crate::notation::bytes_of;
+use fixtures::cell;
 use std::alloc::{AllocError, Global};
 use wire::WireFault;
 
@@ -32,8 +33,8 @@ pub fn fault_of(said: &str) -> Option<WireFault> {
     }
 }
 
-/// The reply that a text says: all of it behind `=`, else its status, and what goes with it: for 200 `text` or `octets` and the body, for 405 the
-/// methods that are allowed, for 422 and 503 the line. Where it says a fault there is none.
+/// The reply that a text says: all of it behind `=`, else its status, and what goes with it: for 200 `text` or `octets` and
+/// the body, for 405 the methods that are allowed, for 422 and 503 the line. Where it says a fault there is none.
 pub fn reply_of(alloc: Global, said: &str) -> Result<Vec<u8>, AllocError> {
     if let Some(cells) = said.strip_prefix('=') {
         return whole_reply(alloc, cells);
@@ -51,7 +52,8 @@ pub fn reply_of(alloc: Global, said: &str) -> Result<Vec<u8>, AllocError> {
     laid_out(alloc, cells.as_str(), body.as_slice())
 }
 
-/// The reply all of which is in these cells: the status and its phrase, what the body is, its length, itself, and the methods that are allowed, if any.
+/// The reply all of which is in these cells: the status and its phrase, what the body is, its length, itself, and the methods
+/// that are allowed, if any.
 fn whole_reply(alloc: Global, cells: &str) -> Result<Vec<u8>, AllocError> {
     let body = bytes_of(alloc, cell(cells, 3))?;
     laid_out(alloc, cells, body.as_slice())

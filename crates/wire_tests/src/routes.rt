@@ -1,8 +1,12 @@
 //! What the routes of programs answer.
 use crate::tables::{wrong_in_script, wrong_in_table};
+use fixtures::table;
+use std::test::Fail;
 
+// Words stand in hexadecimal where they are what is tested. Three programs are as long as one may be.
 const PROGRAMS: &str = r"POST /verify HTTP/1.1 >> {every} => 200 text accepted\n
 POST /verify HTTP/1.1 >> {roads} => 200 text accepted\n
+POST /verify HTTP/1.1 >> {asm mov r0, 1 *4095 | exit} => 200 text accepted\n
 POST /verify HTTP/1.1 >> {every*2048} => 200 text accepted\n
 POST /verify HTTP/1.1 >> => 422 refused 10 Empty
 POST /verify HTTP/1.1 >> \x95\x00\x00\x00\x00\x00\x00 => 422 refused 11 NotWhole
@@ -19,7 +23,7 @@ POST /verify HTTP/1.1 >> {stuck} => 422 refused 40 place 0 ReadsNothing(0)
 POST /verify HTTP/1.1 >> {beyond} => 422 refused 44 place 0 OutOfBounds
 POST /verify HTTP/1.1 >> {argument} => 422 refused 50 place 5 BadArgument(3)
 POST /verify HTTP/1.1 >> {pointer} => 422 refused 51 place 1 ExitNotNumber
-POST /assemble HTTP/1.1 >> mov r0, 1\nexit\n => 200 octets {every}
+POST /assemble HTTP/1.1 >> mov r0, 1\nexit\n => 200 octets {asm hex b700000001000000 9500000000000000}
 POST /assemble HTTP/1.1 >> mov r0, 1\r\nexit => 200 octets {every}
 POST /assemble HTTP/1.1 >> ; r\xc3\xa9sum\xc3\xa9\n exit ; \xe2\x82\xac => 200 octets {stuck}
 POST /assemble HTTP/1.1 >> => 422 refused 26 line 1 CodeFault(10)
@@ -34,7 +38,7 @@ POST /assemble HTTP/1.1 >> ja out\nexit\n => 422 refused 23 line 1 UnknownLabel
 POST /assemble HTTP/1.1 >> out:\nexit\nout:\n => 422 refused 24 line 3 DoubleLabel
 POST /assemble HTTP/1.1 >> exit\nmov r10, 1\n => 422 refused 26 line 2 CodeFault(18)
 POST /assemble HTTP/1.1 >> mov r0, 1\nja -1\nexit\n => 200 octets {backward}
-POST /disassemble HTTP/1.1 >> {every} => 200 text mov r0, 1\nexit\n
+POST /disassemble HTTP/1.1 >> {asm hex b700000001000000 9500000000000000} => 200 text mov r0, 1\nexit\n
 POST /disassemble HTTP/1.1 >> {stuck} => 200 text exit\n
 POST /disassemble HTTP/1.1 >> {backward} => 200 text mov r0, 1\nja -1\nexit\n
 POST /disassemble HTTP/1.1 >> {wide} => 200 text ja +1\nlddw r0, 0x0000000000000001\nexit\n
@@ -43,17 +47,20 @@ POST /disassemble HTTP/1.1 >> \x95 => 422 refused 11 NotWhole
 POST /disassemble HTTP/1.1 >> {every*2048}{stuck} => 422 refused 12 TooLong
 POST /disassemble HTTP/1.1 >> {unknown} => 422 refused 13 place 0 UnknownOpcode
 POST /disassemble HTTP/1.1 >> {cut} => 422 refused 17 place 1 CutWide
-POST /extract HTTP/1.1 >> {every} => 200 octets {row}
-POST /extract HTTP/1.1 >> {scored} => 200 octets 18446744073709551615\t{line}
+POST /extract HTTP/1.1 >> {every} => 200 octets 0\t{rt1}\n
+POST /extract HTTP/1.1 >> {scored} => 200 octets 18446744073709551615\t{rt1}\n
 POST /extract HTTP/1.1 >> {never} => 200 octets
+POST /extract HTTP/1.1 >> {asm mov r0, 1 *4095 | exit} => 200 octets 0\t{rt1}\n
 POST /extract HTTP/1.1 >> => 422 refused 10 Empty
 POST /extract HTTP/1.1 >> {stuck}\x00 => 422 refused 11 NotWhole
 POST /extract HTTP/1.1 >> {backward} => 422 refused 30 place 1 BackwardJump
 POST /extract HTTP/1.1 >> {stuck} => 422 refused 40 place 0 ReadsNothing(0)";
 
 #[test]
-fn programs(rt: HostRuntime) {
-    assert_eq!(rt; wrong_in_table(rt.alloc(), PROGRAMS), Ok(None));
+fn programs(rt: HostRuntime) -> Result<(), Fail> {
+    let table = table(rt.alloc(), PROGRAMS)?;
+    assert_eq!(rt; wrong_in_table(rt.alloc(), &table), Ok(None));
+    Ok(())
 }
 
 // The counties, and what an extract over them has. The last are of as many segments as a job's turn has, and of one more.
@@ -61,26 +68,27 @@ const COUNTIES: &str = r"-
 POST /extract HTTP/1.1 >> {every} => 200 octets
 POST /extract HTTP/1.1 >> {stuck} => 422 refused 40 place 0 ReadsNothing(0)
 
-{line*0}
+{rt1\n*0}
 POST /extract HTTP/1.1 >> {every} => 200 octets
 
-{line}{line}
-POST /extract HTTP/1.1 >> {every} => 200 octets {row}{row}
+{rt1\n*2}
+POST /extract HTTP/1.1 >> {every} => 200 octets {0\trt1\n*2}
 POST /extract HTTP/1.1 >> {never} => 200 octets
 
-{..55}H01{58..}\n{line} | {line*0} | {line}{..55}   {58..}\n
-POST /extract HTTP/1.1 >> {roads} => 200 octets {row*2}
-POST /extract HTTP/1.1 >> {every} => 200 octets 0\t{..55}H01{58..}\n{row*2}0\t{..55}   {58..}\n
+{rt1 CFCC=H01}\n{rt1}\n | {rt1\n*0} | {rt1}\n{rt1 CFCC=}\n
+POST /extract HTTP/1.1 >> {roads} => 200 octets {0\trt1\n*2}
+POST /extract HTTP/1.1 >> {every} => 200 octets 0\t{rt1 CFCC=H01}\n{0\trt1\n*2}0\t{rt1 CFCC=}\n
 
-{line*256}
-POST /extract HTTP/1.1 >> {every} => 200 octets {row*256}
+{rt1\n*256}
+POST /extract HTTP/1.1 >> {every} => 200 octets {0\trt1\n*256}
 
-{line*200} | {line*57}
-POST /extract HTTP/1.1 >> {every} => 200 octets {row*257}";
+{rt1\n*200} | {rt1\n*57}
+POST /extract HTTP/1.1 >> {every} => 200 octets {0\trt1\n*257}";
 
 #[test]
-fn counties(rt: HostRuntime) {
-    for script in COUNTIES.split("\n\n") {
+fn counties(rt: HostRuntime) -> Result<(), Fail> {
+    for script in table(rt.alloc(), COUNTIES)?.split("\n\n") {
         assert_eq!(rt; wrong_in_script(rt.alloc(), script, 1), Ok(None));
     }
+    Ok(())
 }

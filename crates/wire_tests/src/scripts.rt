@@ -1,10 +1,12 @@
 //! Requests and turns that follow each other.
 use crate::tables::wrong_in_script;
+use fixtures::table;
+use std::test::Fail;
 
 // Scripts with an empty line between: the counties, and then requests and turns, each with what comes of it.
 //
 // The first has what an id is and isn't. Then come jobs side by side over two counties, and jobs over no segments.
-const SCRIPTS: &str = r"{line}{line}
+const SCRIPTS: &str = r"{rt1\n*2}
 turn => none
 GET /jobs/1{end} => 404
 DELETE /jobs/1{end} => 404
@@ -13,10 +15,10 @@ GET /jobs/1{end} => =200 OK; application/octet-stream; 4; 0 2\n
 GET /jobs/1{end} => 200 octets 0 2\n
 GET /jobs/1{end} => 200 octets 0 2\n
 turn => 2 2
-GET /jobs/1{end} => 200 octets 2 2\n{row*2}
-GET /jobs/01{end} => 200 octets 2 2\n{row*2}
-GET /jobs/1?x=y{end} => 200 octets 2 2\n{row*2}
-GET /jobs/00000000000000000001{end} => 200 octets 2 2\n{row*2}
+GET /jobs/1{end} => 200 octets 2 2\n{0\trt1\n*2}
+GET /jobs/01{end} => 200 octets 2 2\n{0\trt1\n*2}
+GET /jobs/1?x=y{end} => 200 octets 2 2\n{0\trt1\n*2}
+GET /jobs/00000000000000000001{end} => 200 octets 2 2\n{0\trt1\n*2}
 GET /jobs/000000000000000000001{end} => 404
 GET /jobs/0{end} => 404
 GET /jobs/00{end} => 404
@@ -56,7 +58,7 @@ POST /jobs HTTP/1.1\r\n\r\n{every} => 411
 GET /jobs/2{end} => 404
 POST /jobs HTTP/1.1 >> {scored} => 200 text 2\n
 GET /jobs/2{end} => 200 octets 0 2\n
-GET /jobs/1{end} => 200 octets 2 2\n{row*2}
+GET /jobs/1{end} => 200 octets 2 2\n{0\trt1\n*2}
 DELETE /jobs/1{end} => 200 text dropped\n
 GET /jobs/1{end} => 404
 DELETE /jobs/1{end} => 404
@@ -64,18 +66,18 @@ GET /jobs/01{end} => 404
 PUT /jobs/1{end} => 405 GET, DELETE
 GET /jobs/2{end} => 200 octets 0 2\n
 turn => 2 2
-GET /jobs/2{end} => 200 octets 2 2\n{scored_row*2}
+GET /jobs/2{end} => 200 octets 2 2\n{18446744073709551615\trt1\n*2}
 POST /jobs HTTP/1.1 >> {every} => 200 text 3\n
 DELETE /jobs/02 HTTP/1.1\r\nContent-Length: x\r\nTransfer-Encoding: chunked\r\n\r\n => 200 text dropped\n
 GET /jobs/2{end} => 404
 GET /jobs/3{end} => 200 octets 0 2\n
 
-{line} | {line*0} | {..55}H01{58..}\n{line}
+{rt1}\n | {rt1\n*0} | {rt1 CFCC=H01}\n{rt1}\n
 POST /jobs HTTP/1.1 >> {roads} => 200 text 1\n
 POST /jobs HTTP/1.1 >> {never} => 200 text 2\n
 POST /jobs HTTP/1.1 >> {every} => 200 text 3\n
 turn => 3 3
-GET /jobs/1{end} => 200 octets 3 3\n{row*2}
+GET /jobs/1{end} => 200 octets 3 3\n{0\trt1\n*2}
 GET /jobs/2{end} => 200 octets 0 3\n
 turn => 3 3
 GET /jobs/2{end} => 200 octets 3 3\n
@@ -83,9 +85,10 @@ DELETE /jobs/3{end} => 200 text dropped\n
 turn => none
 POST /jobs HTTP/1.1 >> {scored} => 200 text 4\n
 turn => 3 3
-GET /jobs/4{end} => 200 octets 3 3\n{scored_row}18446744073709551615\t{..55}H01{58..}\n{scored_row}
+GET /jobs/4{end}
+  => 200 octets 3 3\n18446744073709551615\t{rt1}\n18446744073709551615\t{rt1 CFCC=H01}\n18446744073709551615\t{rt1}\n
 GET /jobs/3{end} => 404
-GET /jobs/1{end} => 200 octets 3 3\n{row*2}
+GET /jobs/1{end} => 200 octets 3 3\n{0\trt1\n*2}
 
 -
 POST /jobs HTTP/1.1 >> {every} => 200 text 1\n
@@ -99,45 +102,61 @@ GET /jobs/2{end} => 200 octets 0 0\n
 turn => none";
 
 #[test]
-fn scripts(rt: HostRuntime) {
-    for script in SCRIPTS.split("\n\n") {
+fn scripts(rt: HostRuntime) -> Result<(), Fail> {
+    for script in table(rt.alloc(), SCRIPTS)?.split("\n\n") {
         assert_eq!(rt; wrong_in_script(rt.alloc(), script, 1), Ok(None));
     }
+    Ok(())
 }
 
 // Two jobs side by side over 600 segments, with a refused program between them.
-const TURNS: &str = r"{line*600}
+const TURNS: &str = r"{rt1\n*600}
 POST /jobs HTTP/1.1 >> {every} => 200 text 1\n
 GET /jobs/1{end} => 200 octets 0 600\n
 GET /jobs/1{end} => 200 octets 0 600\n
 turn => 256 600
-GET /jobs/1{end} => =200 OK; application/octet-stream; 59144; 256 600\n{row*256}
-GET /jobs/01{end} => 200 octets 256 600\n{row*256}
+GET /jobs/1{end} => =200 OK; application/octet-stream; 59144; 256 600\n{0\trt1\n*256}
+GET /jobs/01{end} => 200 octets 256 600\n{0\trt1\n*256}
 POST /jobs HTTP/1.1 >> {stuck} => 422 refused 40 place 0 ReadsNothing(0)
 POST /jobs HTTP/1.1 >> {scored} => 200 text 2\n
 turn => 256 600
-GET /jobs/1{end} => 200 octets 256 600\n{row*256}
-GET /jobs/2{end} => 200 octets 256 600\n{scored_row*256}
+GET /jobs/1{end} => 200 octets 256 600\n{0\trt1\n*256}
+GET /jobs/2{end} => 200 octets 256 600\n{18446744073709551615\trt1\n*256}
 turn => 512 600
-GET /jobs/1{end} => 200 octets 512 600\n{row*512}
+GET /jobs/1{end} => 200 octets 512 600\n{0\trt1\n*512}
 turn => 512 600
 turn => 600 600
-GET /jobs/1{end} => 200 octets 600 600\n{row*600}
+GET /jobs/1{end} => 200 octets 600 600\n{0\trt1\n*600}
 DELETE /jobs/1{end} => 200 text dropped\n
 GET /jobs/1{end} => 404
-GET /jobs/2{end} => 200 octets 512 600\n{scored_row*512}
+GET /jobs/2{end} => 200 octets 512 600\n{18446744073709551615\trt1\n*512}
 turn => 600 600
 turn => none
-GET /jobs/2{end} => 200 octets 600 600\n{scored_row*600}
-POST /extract HTTP/1.1 >> {every} => 200 octets {row*600}";
+GET /jobs/2{end} => 200 octets 600 600\n{18446744073709551615\trt1\n*600}
+POST /extract HTTP/1.1 >> {every} => 200 octets {0\trt1\n*600}";
 
 #[test]
-fn turns(rt: HostRuntime) {
-    assert_eq!(rt; wrong_in_script(rt.alloc(), TURNS, 17), Ok(None));
+fn turns(rt: HostRuntime) -> Result<(), Fail> {
+    let script = table(rt.alloc(), TURNS)?;
+    assert_eq!(rt; wrong_in_script(rt.alloc(), &script, 17), Ok(None));
+    Ok(())
+}
+
+// A program of as many words as one may have.
+const LONG: &str = r"{rt1\n*2}
+POST /jobs HTTP/1.1 >> {asm mov r0, 1 *4095 | exit} => 200 text 1\n
+turn => 2 2
+GET /jobs/1{end} => 200 octets 2 2\n{0\trt1\n*2}";
+
+#[test]
+fn long(rt: HostRuntime) -> Result<(), Fail> {
+    let script = table(rt.alloc(), LONG)?;
+    assert_eq!(rt; wrong_in_script(rt.alloc(), &script, 409), Ok(None));
+    Ok(())
 }
 
 // What is asked where as many jobs are open as may be: a body is looked at before that, and a program behind.
-const FULL: &str = r"{line}
+const FULL: &str = r"{rt1}\n
 jobs => 64
 POST /jobs HTTP/1.1 >> {every} => 503 refused 70 Full
 POST /jobs HTTP/1.1 >> {stuck} => 503 refused 70 Full
@@ -162,11 +181,13 @@ POST /jobs HTTP/1.1 >> {two} => 503 refused 70 Full
 GET /jobs/17{end} => 404
 GET /jobs/65{end} => 200 octets 0 1\n
 turn => 1 1
-GET /jobs/1{end} => 200 octets 1 1\n{row}
+GET /jobs/1{end} => 200 octets 1 1\n0\t{rt1}\n
 GET /jobs/2{end} => 200 octets 0 1\n
 POST /jobs HTTP/1.1 >> {two} => 503 refused 70 Full";
 
 #[test]
-fn full(rt: HostRuntime) {
-    assert_eq!(rt; wrong_in_script(rt.alloc(), FULL, 7), Ok(None));
+fn full(rt: HostRuntime) -> Result<(), Fail> {
+    let script = table(rt.alloc(), FULL)?;
+    assert_eq!(rt; wrong_in_script(rt.alloc(), &script, 7), Ok(None));
+    Ok(())
 }

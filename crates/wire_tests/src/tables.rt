@@ -1,7 +1,8 @@
 //! Tables of requests, with what comes of them.
-use crate::fixtures::{bytes_of, state_of};
+use crate::notation::{bytes_of, state_of};
 use crate::replies::{fault_of, reply_of};
-use crate::serving::{BYTES, SOUND, WHOLE, Way, serve};
+use crate::serving::serve;
+use fixtures::Device;
 use jobs::Reply;
 use std::alloc::{AllocError, Allocator, Global};
 use wire::{State, WireFault};
@@ -25,8 +26,9 @@ pub enum Row<'a> {
     },
 }
 
-/// The row that a text is: `turn`, `jobs` where there is no job yet, or a request, and behind `=>` what comes of it: of `jobs` the last one's id. Where
-/// `>>` stands in a request, the length of the body behind it is announced in the head's last line.
+/// The row that a text is: `turn`, `jobs` where there is no job yet, or a request, and behind `=>` what comes of it: of
+/// `jobs` the last one's id. Where `>>` stands in a request, the length of the body behind it is announced in the head's
+/// last line.
 pub fn row_of<'a>(alloc: Global, text: &'a str) -> Result<Row<'a>, AllocError> {
     let (asked, said) = text.split_once(" => ").unwrap_or((text, ""));
     if asked == "turn" {
@@ -80,11 +82,11 @@ pub fn is_replied<A: Allocator + Copy>(
     alloc: Global,
     state: &mut State<A>,
     request: &[u8],
-    way: Way,
+    way: Device,
     fault: Option<WireFault>,
     reply: &[u8],
 ) -> bool {
-    let served = serve(alloc, state, request, way, SOUND);
+    let served = serve(alloc, state, request, way, Device::new(""));
     served.given.err() == fault
         && served.written.as_slice() == reply
         && served.writes <= writes_of(reply.len())
@@ -116,7 +118,7 @@ fn opens_jobs<A: Allocator + Copy>(
     alloc: Global,
     state: &mut State<A>,
     last: u64,
-    way: Way,
+    way: Device,
 ) -> Result<bool, AllocError> {
     let request = request_of(alloc, "POST /jobs{end} >> {every}")?;
     for id in 1..=last {
@@ -134,7 +136,7 @@ pub fn is_right<A: Allocator + Copy>(
     alloc: Global,
     state: &mut State<A>,
     row: &Row<'_>,
-    way: Way,
+    way: Device,
 ) -> bool {
     match row {
         Row::Turn { said, .. } => is_turned(alloc, state, said),
@@ -170,7 +172,7 @@ pub fn wrong_row<'a, A: Allocator + Copy>(
     alloc: Global,
     state: &mut State<A>,
     rows: &[Row<'a>],
-    way: Way,
+    way: Device,
 ) -> Option<&'a str> {
     for row in rows {
         if !is_right(alloc, state, row, way) {
@@ -180,15 +182,15 @@ pub fn wrong_row<'a, A: Allocator + Copy>(
     None
 }
 
-// What is asked before each table of requests that change nothing, so that a job is there; behind each request; and behind all ways of one. Behind the
-// table no id was used.
+// What is asked before each table of requests that change nothing, so that a job is there; behind each request; and behind
+// all ways of one. Behind the table no id was used.
 const BEFORE: &str = r"POST /jobs HTTP/1.1 >> {every} => 200 text 1\n
 turn => 1 1";
 
 const BEHIND_EACH: &str = r"POST /verify HTTP/1.1 >> {every} => 200 text accepted\n";
 
 const BEHIND_ALL: &str = r"turn => none
-GET /jobs/1{end} => 200 octets 1 1\n{row}";
+GET /jobs/1{end} => 200 octets 1 1\n0\t{rt1}\n";
 
 const BEHIND_TABLE: &str = r"POST /jobs HTTP/1.1 >> {two} => 200 text 2\n";
 
@@ -212,9 +214,13 @@ fn stride_of(length: usize) -> usize {
 }
 
 /// The finest way in which a request of this length comes: a byte a read, or some of a long one.
-fn finest(length: usize) -> Way {
-    let step = if length <= LONGEST { 1 } else { 61 };
-    Way { cut: 0, step }
+fn finest(length: usize) -> Device {
+    Device::new(if length <= LONGEST { "by 1" } else { "by 61" })
+}
+
+/// All that there is room for in one read.
+pub fn whole() -> Device {
+    Device::new("")
 }
 
 /// Whether a row is right in a way, and so are these rows behind it.
@@ -222,10 +228,10 @@ fn is_right_before(
     alloc: Global,
     state: &mut State<Global>,
     row: &Row<'_>,
-    way: Way,
+    way: Device,
     behind: &[Row<'_>],
 ) -> bool {
-    is_right(alloc, state, row, way) && wrong_row(alloc, state, behind, WHOLE).is_none()
+    is_right(alloc, state, row, way) && wrong_row(alloc, state, behind, whole()).is_none()
 }
 
 /// Whether a row is right in all ways, each time with these rows behind it.
@@ -237,10 +243,7 @@ fn is_right_in_all_ways(
 ) -> bool {
     let length = row.length();
     for cut in 0..length {
-        let way = Way {
-            cut,
-            step: usize::MAX,
-        };
+        let way = whole().cut_at(cut);
         if is_tried(cut, length) && !is_right_before(alloc, state, row, way, behind) {
             return false;
         }
@@ -259,7 +262,7 @@ fn wrong_in_rows<'a>(
     for text in table.lines() {
         let row = row_of(alloc, text)?;
         if !is_right_in_all_ways(alloc, state, &row, &behind_each)
-            || wrong_row(alloc, state, &behind_all, WHOLE).is_some()
+            || wrong_row(alloc, state, &behind_all, whole()).is_some()
         {
             return Ok(Some(text));
         }
@@ -269,12 +272,12 @@ fn wrong_in_rows<'a>(
 
 /// The first wrong row of a table of requests that change nothing, over a county of one line of Main Street, if there is one.
 pub fn wrong_in_table<'a>(alloc: Global, table: &'a str) -> Result<Option<&'a str>, AllocError> {
-    let Some(mut state) = state_of(alloc, alloc, "{line}") else {
+    let Some(mut state) = state_of(alloc, alloc, r"{rt1}\n") else {
         return Ok(Some("no state"));
     };
-    let before = wrong_row(alloc, &mut state, &rows_of(alloc, BEFORE)?, WHOLE);
+    let before = wrong_row(alloc, &mut state, &rows_of(alloc, BEFORE)?, whole());
     let within = wrong_in_rows(alloc, &mut state, table)?;
-    let behind = wrong_row(alloc, &mut state, &rows_of(alloc, BEHIND_TABLE)?, WHOLE);
+    let behind = wrong_row(alloc, &mut state, &rows_of(alloc, BEHIND_TABLE)?, whole());
     Ok(before.or(within).or(behind))
 }
 
@@ -283,7 +286,7 @@ fn wrong_in_way<'a>(
     alloc: Global,
     counties: &'a str,
     rows: &[Row<'a>],
-    way: Way,
+    way: Device,
 ) -> Option<&'a str> {
     match state_of(alloc, alloc, counties) {
         Some(mut state) => wrong_row(alloc, &mut state, rows, way),
@@ -291,8 +294,8 @@ fn wrong_in_way<'a>(
     }
 }
 
-/// The first row of a script that is wrong in some way, if there is one: the script's first line has the counties, and each other row follows what was
-/// asked before. Every cut by so many is tried.
+/// The first row of a script that is wrong in some way, if there is one: the script's first line has the counties, and each
+/// other row follows what was asked before. Every cut by so many is tried.
 pub fn wrong_in_script<'a>(
     alloc: Global,
     script: &'a str,
@@ -302,14 +305,11 @@ pub fn wrong_in_script<'a>(
     let rows = rows_of(alloc, table)?;
     let longest = rows.iter().map(|row| row.length()).max().unwrap_or(0);
     for number in 0..longest.min(LONGEST) {
-        let way = Way {
-            cut: number.saturating_mul(stride),
-            step: usize::MAX,
-        };
+        let way = whole().cut_at(number.saturating_mul(stride));
         let is_within = way.cut < longest;
         if is_within && let Some(wrong) = wrong_in_way(alloc, counties, &rows, way) {
             return Ok(Some(wrong));
         }
     }
-    Ok(wrong_in_way(alloc, counties, &rows, BYTES))
+    Ok(wrong_in_way(alloc, counties, &rows, Device::new("by 1")))
 }

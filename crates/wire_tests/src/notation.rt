@@ -1,0 +1,79 @@
+//! What the tables name beside the common notation, and states over counties.
+use fixtures::{Files, bytes, county};
+use jobs::COUNTY_LIMIT;
+use std::alloc::{AllocError, Allocator, Global};
+use tl_segments::County;
+use wire::State;
+
+// The end of a head without headers, and of one with those of curl, whose version doesn't matter.
+const END: &str = r" HTTP/1.1\r\n\r\n";
+
+const CURL: &str =
+    r" HTTP/1.1\r\nHost: 127.0.0.1:8080\r\nUser-Agent: curl/8.5.0\r\nAccept: */*\r\n\r\n";
+
+// The segment of examples/one, and its county.
+const LANTERN: &str =
+    "10006 107000725 A  Lantern{ *23}Ct    A61{ *8}201{ *8}299{ *22}00  36067{ *19}\
+    01010010019010190101{ *10}505055050502070002070015951123-086629875+32411825-086629750+32412484";
+
+const ONE: &str = "{lantern}\\r\\n; \
+    40006 107000725  1     130     133{ *24}\\r\\n; \
+    5000601001     130  Old Lantern{ *19}Ct    \\r\\n5000601001     133  County Road 67{ *22}\\r\\n; \
+    60006 107000725  1       3901       3999{ *22}01  36067     \\r\\n";
+
+// The program examples/not_water.s, and its text.
+const NOT_WATER: &str = "{asm ldxb r0, [r1+55] | add r0, -72 | exit}";
+
+const NOT_WATER_TEXT: &str = "\
+; every segment that isn't hydrography
+ldxb r0, [r1+55]    ; the first letter of its class
+add r0, -72         ; H is 72: 0 for hydrography alone
+exit
+";
+
+const NAMES: [(&str, &str); 5] = [
+    ("{end}", END),
+    ("{curl}", CURL),
+    ("{lantern}", LANTERN),
+    ("{not_water}", NOT_WATER),
+    ("{not_water.s}", NOT_WATER_TEXT),
+];
+
+/// A text in the common notation, without these names.
+fn spelled_out(alloc: Global, text: &str) -> Result<String, AllocError> {
+    let mut spelled = String::from_str(alloc, text)?;
+    for (name, meant) in NAMES {
+        spelled = spelled.replace(alloc, name, meant)?;
+    }
+    Ok(spelled)
+}
+
+/// The bytes of a text.
+pub fn bytes_of(alloc: Global, text: &str) -> Result<Vec<u8>, AllocError> {
+    bytes(alloc, &spelled_out(alloc, text)?)
+}
+
+/// The counties of these files of types 1, 4, 5 and 6, which `;` parts, with `|` between counties; that of examples/one; or none, `-`.
+pub fn counties_of<A: Allocator + Copy>(
+    alloc: A,
+    files: Global,
+    text: &str,
+) -> Option<Vec<County<A>, A>> {
+    let text = if text == "one" { ONE } else { text };
+    let text = spelled_out(files, text).ok()?;
+    let mut counties = Vec::new(alloc);
+    for cells in text.split('|').filter(|cells| *cells != "-") {
+        let files = Files::new(files, cells, 0).ok()?;
+        counties.push(county(alloc, &files).ok()?).ok()?;
+    }
+    Some(counties)
+}
+
+/// A state over counties.
+pub fn state_of<A: Allocator + Copy>(alloc: A, files: Global, counties: &str) -> Option<State<A>> {
+    let counties = counties_of(alloc, files, counties)?;
+    if counties.len() > COUNTY_LIMIT {
+        return None;
+    }
+    State::new(files, alloc, counties).ok()
+}
