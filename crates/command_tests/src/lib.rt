@@ -20,4 +20,6 @@ mod running;
 #[cfg(test)]
 mod runs;
 #[cfg(test)]
+mod sweep;
+#[cfg(test)]
 mod verdicts;

@@ -9,10 +9,10 @@ use tl_fields::{Buffered, Burst, CountedRead, Counting, Fuse};
 // More bytes than the buffer has, and no multiple of a piece.
 const LENGTH: u32 = 200_001;
 
-/// Each place of the file, modulo 251.
-fn file(alloc: Global) -> Result<Vec<u8>, AllocError> {
+/// The places of so many bytes, modulo 251.
+pub fn places(alloc: Global, length: u32) -> Result<Vec<u8>, AllocError> {
     let mut bytes = Vec::new(alloc);
-    for place in 0..LENGTH {
+    for place in 0..length {
         bytes.push((place % 251) as u8)?;
     }
     Ok(bytes)
@@ -96,7 +96,7 @@ const OUTCOMES: [(u64, &str, Outcome); 11] = [
 
 #[test]
 fn devices(rt: HostRuntime) -> Result<(), Fail> {
-    let file = file(rt.alloc())?;
+    let file = places(rt.alloc(), LENGTH)?;
     for (passed, way, wanted) in OUTCOMES {
         let outcome = outcome_of(rt.alloc(), &file, passed, way)?;
         assert!(rt; outcome == wanted, "{passed} {way}");

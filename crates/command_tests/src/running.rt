@@ -7,7 +7,7 @@ ghost use Rattle.std.specs.Str.{bytes_eq};
 use arrayvec::ArrayString;
 use command_line::command;
 use commands::Files;
-use fixtures::{Device, bytes, writer};
+use fixtures::{Device, Writer, bytes, writer};
 use std::alloc::{AllocError, Global};
 use std::io;
 use std::io::ErrorKind;
@@ -54,6 +54,14 @@ pub struct MemoryFiles<'a> {
 }
 
 impl<'a> MemoryFiles<'a> {
+    pub fn new(files: &'a [MemoryFile<'a>]) -> Self {
+        MemoryFiles {
+            files,
+            failed_opens: 0,
+            opened: ArrayString::new(),
+        }
+    }
+
     fn file(&self, name: &str) -> Option<MemoryFile<'a>>
         ensures { result ≡ find (λ file. bytes_eq file.name.now name.now) self.now.files.now }
     {
@@ -107,11 +115,24 @@ pub struct Ending {
     pub status: u8,
     pub written: Vec<u8>,
     pub said: Vec<u8>,
+    /// How many flushes of the output there were.
+    pub flushes: u64,
     /// The names that were to be opened, with a blank behind each.
     pub opened: ArrayString<128>,
 }
 
 impl Ending {
+    /// The one with this status, by what it left of the files and the outputs.
+    pub fn of(status: u8, files: MemoryFiles<'_>, out: Writer, errors: Writer) -> Self {
+        Ending {
+            status,
+            flushes: out.flushes(),
+            written: out.into_inner().inner.into_inner().inner,
+            said: errors.into_inner().inner.into_inner().inner,
+            opened: files.opened,
+        }
+    }
+
     /// Whether the status is that of a cell, and these bytes are written.
     pub fn is_with(&self, status: &str, written: &[u8]) -> bool {
         Ok(self.status) == status.parse() && self.written.as_slice() == written
@@ -137,11 +158,7 @@ pub fn run(
 ) -> Result<Ending, AllocError> {
     let line = words_of(alloc, line)?;
     let arguments: Vec<&str> = line.split('\x1f').skip(1).collect(alloc)?;
-    let mut files = MemoryFiles {
-        files,
-        failed_opens: 0,
-        opened: ArrayString::new(),
-    };
+    let mut files = MemoryFiles::new(files);
     let mut out = writer(alloc, Device::new(fault_in(out)));
     let mut errors = writer(alloc, Device::new(fault_in(errors)));
     let status = command(
@@ -151,12 +168,7 @@ pub fn run(
         &mut out,
         &mut errors,
     );
-    Ok(Ending {
-        status,
-        written: out.into_inner().inner.into_inner().inner,
-        said: errors.into_inner().inner.into_inner().inner,
-        opened: files.opened,
-    })
+    Ok(Ending::of(status, files, out, errors))
 }
 
 /// The words of a line, with a separator of units between them.
