@@ -1,7 +1,9 @@
 //! What is wrong with the arguments of a command line.
 ghost use Rattle.std.specs.Prelude.{◌≡◌, ◌≢◌};
 ghost use Rattle.std.specs.IoError.{error_kind};
+ghost use Rattle.std.specs.declared.io.ErrorKind.TheVariants as io_kind;
 ghost use Rattle.clap.specs.Values.{kind_of};
+ghost use Rattle.clap.specs.declared.error.kind.ErrorKind.TheVariants as usage_kind;
 ghost use Rattle.command_line.specs.declared.fault.ArgumentsFault.TheVariants.{Memory, NotUtf8, Usage};
 
 use crate::options::MOST_CODES;
@@ -101,8 +103,8 @@ impl ArgumentsFault<'_> {
 
 // Of reading the arguments from the system: one that isn't UTF-8, or want of memory.
 impl From<io::Error> for ArgumentsFault<'_> {
-    ghost from_gives = { λ error fault. (error_kind error ≡ ErrorKind.OutOfMemory → fault ≡ Memory)
-        × (error_kind error ≢ ErrorKind.OutOfMemory → fault ≡ NotUtf8) };
+    ghost from_gives = { λ error fault. (error_kind error ≡ io_kind.OutOfMemory → fault ≡ Memory)
+        × (error_kind error ≢ io_kind.OutOfMemory → fault ≡ NotUtf8) };
 
     fn from(error: io::Error) -> Self {
         match error.kind() {
@@ -113,8 +115,8 @@ impl From<io::Error> for ArgumentsFault<'_> {
 }
 
 impl From<clap::Error> for ArgumentsFault<'_> {
-    ghost from_gives = { λ error fault. (kind_of error ≡ UsageKind.OutOfMemory → fault ≡ Memory)
-        × (kind_of error ≢ UsageKind.OutOfMemory → fault ≡ Usage error) };
+    ghost from_gives = { λ error fault. (kind_of error ≡ usage_kind.OutOfMemory → fault ≡ Memory)
+        × (kind_of error ≢ usage_kind.OutOfMemory → fault ≡ Usage error) };
 
     fn from(error: clap::Error) -> Self {
         match error.kind() {

@@ -1,0 +1,4 @@
+use Rattle.command_line.proofs.dispatch.command.Goals as goal
+
+pub returns-in-Ok-clause-unusable : goal.returns-in-Ok-clause-unusable
+returns-in-Ok-clause-unusable g c = λ three. (c.in-Ok.request, c.answer.ensures.unusable three)
