@@ -9,6 +9,8 @@ mod examples;
 #[cfg(test)]
 mod heads;
 #[cfg(test)]
+mod http;
+#[cfg(test)]
 mod lengths;
 #[cfg(test)]
 mod notation;
