@@ -29,7 +29,7 @@ use Rattle.extract.specs.declared.refusal.Refusal as of_library
 use Rattle.commands.specs.County.{county_readers}
 use Rattle.commands.specs.Failure.{IsOfCountyFile, IsOfFile, Says, SaysLine, TellsWrite, class_status, refusal_status, status}
 use Rattle.commands.specs.Files.{CountsFileFault, Disk, HasFailedRead, TellsFailure, TellsUse, input_failed_reads}
-use Rattle.commands.specs.Unusable.{IsUnusable, TellsCause, TellsDevice, of_open, of_read, of_source, of_write}
+use Rattle.commands.specs.Unusable.{IsUnusable, TellsCause, TellsDevice, of_open, of_read, of_source, of_write, source_of}
 use Rattle.commands.specs.declared.request.Request.{Request}
 use Rattle.commands.specs.declared.county.CountyInputs.{CountyInputs}
 use Rattle.commands.specs.declared.failure.Failure.{Failure}
@@ -133,10 +133,10 @@ module _ {R : Type 0} (failed_reads : R → ℕ) where
   of_county_inputs remaining old new (of_rt5 fails) = (old.rt5, new.rt5, fails)
   of_county_inputs remaining old new (of_rt6 fails) = (old.rt6, new.rt6, fails)
 
-  module _ (disk disk' : Disk) (counts counts' : WriteCounts) where
+  module _ (source : Option (List ℕ)) (disk disk' : Disk) (counts counts' : WriteCounts) where
     -- a refusal that is of no device
     pub no_device_told : (number : Option ℕ) (line : List ℕ) (refusal : of_library.Refusal) → IsNoDevice number → IsRefusalWith number line refusal
-        → TellsCause failed_reads disk disk' counts counts' (Refusal refusal)
+        → TellsCause failed_reads source disk disk' counts counts' (Refusal refusal)
     no_device_told number line refusal none is = record {
       read = λ five. absurd (no_device number (Some 5) none refl (sym is.is_number ∙ five));
       write = λ fault sixty. absurd (no_device number _ none (write_class fault) (sym is.is_number ∙ sixty));
@@ -144,14 +144,14 @@ module _ {R : Type 0} (failed_reads : R → ℕ) where
 
     -- a file's refusal, where 5 tells of a read
     pub load_told : (of : LoadFault) (line : List ℕ) (refusal : of_library.Refusal) → (load_number.number of ≡ Some 5 → HasFailedRead failed_reads)
-        → IsRefusalWith (load_number.number of) line refusal → TellsCause failed_reads disk disk' counts counts' (Refusal refusal)
+        → IsRefusalWith (load_number.number of) line refusal → TellsCause failed_reads source disk disk' counts counts' (Refusal refusal)
     load_told of line refusal reads is = record {
       read = λ five. reads (sym is.is_number ∙ five);
       write = λ fault sixty. absurd (load_write of fault (sym is.is_number ∙ sixty));
     }
 
     -- want of memory
-    pub memory_told : (failure : Failure) → status failure ≡ 4 → TellsCause failed_reads disk disk' counts counts' failure
+    pub memory_told : (failure : Failure) → status failure ≡ 4 → TellsCause failed_reads source disk disk' counts counts' failure
     memory_told (Refusal refusal) is = record {
       read = λ five. absurd (omega (arith, is, ap refusal_status five));
       write = λ fault sixty. absurd (wrong fault (sym is ∙ ap refusal_status sixty));
@@ -168,20 +168,20 @@ module _ {R : Type 0} (failed_reads : R → ℕ) where
 
     -- a file that can't be opened, or be read to its end
     pub open_told : (name : Bor (List ℕ)) (of : FileFault) (failure : Failure) → IsOfFile name of failure
-        → CountsFileFault of disk.failed_opens disk'.failed_opens → TellsCause failed_reads disk disk' counts counts' failure
+        → CountsFileFault of disk.failed_opens disk'.failed_opens → TellsCause failed_reads source disk disk' counts counts' failure
     open_told name (fault.Unusable error) failure is fails =
-        subst (λ failure. TellsCause failed_reads disk disk' counts counts' failure) (sym is) (inl fails)
+        subst (λ failure. TellsCause failed_reads source disk disk' counts counts' failure) (sym is) (inl fails)
     open_told name fault.Memory failure is fails = memory_told failure is
 
     pub read_told : (name : Bor (List ℕ)) (of : FileFault) (failure : Failure) (before after : R) → IsOfFile name of failure
-        → CountsFileFault of (failed_reads before) (failed_reads after) → TellsCause failed_reads disk disk' counts counts' failure
+        → CountsFileFault of (failed_reads before) (failed_reads after) → TellsCause failed_reads source disk disk' counts counts' failure
     read_told name (fault.Unusable error) failure before after is fails =
-        subst (λ failure. TellsCause failed_reads disk disk' counts counts' failure) (sym is) (inr (input.Opened before, input.Opened after, fails))
+        subst (λ failure. TellsCause failed_reads source disk disk' counts counts' failure) (sym is) (inr (input.Opened before, input.Opened after, fails))
     read_told name fault.Memory failure before after is fails = memory_told failure is
 
     -- a write that failed or took no byte
-    pub write_told : (failure : Failure) → TellsWrite counts counts' failure → TellsCause failed_reads disk disk' counts counts' failure
-    write_told failure is = subst (λ failure. TellsCause failed_reads disk disk' counts counts' failure) (sym is.is_refusal) (record {
+    pub write_told : (failure : Failure) → TellsWrite counts counts' failure → TellsCause failed_reads source disk disk' counts counts' failure
+    write_told failure is = subst (λ failure. TellsCause failed_reads source disk disk' counts counts' failure) (sym is.is_refusal) (record {
       read = λ five. absurd (write_number is.fault (sym is.is_of.is_number ∙ five));
       write = λ fault sixty.
           let same : is.fault ≡ fault = one_write is.fault fault (sym is.is_of.is_number ∙ sixty) in
@@ -189,7 +189,7 @@ module _ {R : Type 0} (failed_reads : R → ℕ) where
     })
 
     -- whatever writing gave
-    pub written_told : {T : Type 0} (result : Result T Failure) → IfErr result (TellsWrite counts counts') → IfErr result (TellsCause failed_reads disk disk' counts counts')
+    pub written_told : {T : Type 0} (result : Result T Failure) → IfErr result (TellsWrite counts counts') → IfErr result (TellsCause failed_reads source disk disk' counts counts')
     written_told (Ok value) told = tt
     written_told (Err failure) told = write_told failure told
 
@@ -197,7 +197,7 @@ module _ {R : Type 0} (failed_reads : R → ℕ) where
     pub extract_told : (remaining : R → Option (List ℕ)) (old new : CountyInputs R) (program : List ℕ) (of : ExtractFault) (out out' : Writer) (refusal : of_library.Refusal)
         → out.counts ≡ counts → out'.counts ≡ counts'
         → IsOutcome program (Err of) (county_readers remaining failed_reads old) (county_readers remaining failed_reads new) out out'
-        → IsRefusalWith (extract_fault.number of) (extract_fault.line of) refusal → TellsCause failed_reads disk disk' counts counts' (Refusal refusal)
+        → IsRefusalWith (extract_fault.number of) (extract_fault.line of) refusal → TellsCause failed_reads source disk disk' counts counts' (Refusal refusal)
     extract_told remaining old new program (extract.Program of) out out' refusal before behind is with =
         no_device_told _ _ refusal (program_class of) with
     extract_told remaining old new program (extract.Load of) out out' refusal before behind is with =
@@ -218,16 +218,16 @@ module _ {R : Type 0} (failed_reads : R → ℕ) where
         memory_told (Refusal refusal) (ap refusal_status with.is_number)
 
   -- the same of files of which as much is known, and before which as many opens had failed
-  pub told_as : (first disk disk' : Disk) (counts counts' : WriteCounts) (failure : Failure) → ((name : List ℕ) → disk.known name ≡ first.known name)
-      → disk.failed_opens ≡ first.failed_opens → TellsCause failed_reads disk disk' counts counts' failure
-      → TellsCause failed_reads first disk' counts counts' failure
-  told_as first disk disk' counts counts' (Refusal refusal) same opens told = told
-  told_as first disk disk' counts counts' (File name error) same opens told = subst (λ failed. (disk'.failed_opens ≢ failed) ⊎ HasFailedRead failed_reads) opens told
-  told_as first disk disk' counts counts' (CountyFile folder code file error) same opens told = subst (λ failed. disk'.failed_opens ≢ failed) opens told
-  told_as first disk disk' counts counts' (NotUtf8 name) same opens told =
-      (told.0, subst (λ bytes. Keeps bytes (Some told.0)) (same name.now) told.1, told.2)
-  told_as first disk disk' counts counts' (NoLine line) same opens told = tt
-  told_as first disk disk' counts counts' (Output error) same opens told = told
+  pub told_as : (source : Option (List ℕ)) (first disk disk' : Disk) (counts counts' : WriteCounts) (failure : Failure) → ((name : List ℕ) → disk.known name ≡ first.known name)
+      → disk.failed_opens ≡ first.failed_opens → TellsCause failed_reads source disk disk' counts counts' failure
+      → TellsCause failed_reads source first disk' counts counts' failure
+  told_as source first disk disk' counts counts' (Refusal refusal) same opens told = told
+  told_as source first disk disk' counts counts' (File name error) same opens told = subst (λ failed. (disk'.failed_opens ≢ failed) ⊎ HasFailedRead failed_reads) opens told
+  told_as source first disk disk' counts counts' (CountyFile folder code file error) same opens told = subst (λ failed. disk'.failed_opens ≢ failed) opens told
+  told_as source first disk disk' counts counts' (NotUtf8 name) same opens told =
+      (told.0, (told.1.0, subst (λ bytes. Keeps bytes (Some told.1.0)) (same name.now) told.1.1, told.1.2))
+  told_as source first disk disk' counts counts' (NoLine line) same opens told = tt
+  told_as source first disk disk' counts counts' (Output error) same opens told = told
 
 -- a file is opened, and then read
 pub used : {R T : Type 0} (failed_reads : R → ℕ) (before after : R) (result : Result T FileFault) (failed failed' : ℕ) → failed' ≡ failed
@@ -260,7 +260,7 @@ device_number (Some n) is = by_five (eqb_tells n 5)
 
 -- what is unusable where the status is 3, behind a flush that was tried
 pub unusable_told : {R : Type 0} (failed_reads : R → ℕ) (request : Request) (disk disk' : Disk) (out out' errors errors' : Writer) (unflushed : WriteCounts)
-    (failure : Failure) (flush : Result (Unit {0}) Error) → TellsCause failed_reads disk disk' out.counts unflushed failure → Says failure errors errors'
+    (failure : Failure) (flush : Result (Unit {0}) Error) → TellsCause failed_reads (source_of request) disk disk' out.counts unflushed failure → Says failure errors errors'
     → CountsFlush flush unflushed out'.counts → status failure ≡ 3 → IsUnusable failed_reads request disk disk' out out' errors errors'
 unusable_told failed_reads request disk disk' out out' errors errors' unflushed (Refusal refusal) flush told says flushed is =
     by_number (device_number refusal.number is)
@@ -274,7 +274,7 @@ unusable_told failed_reads request disk disk' out out' errors errors' unflushed 
 unusable_told failed_reads request disk disk' out out' errors errors' unflushed (File name error) flush (inl opens) says flushed is = of_open opens
 unusable_told failed_reads request disk disk' out out' errors errors' unflushed (File name error) flush (inr reads) says flushed is = of_read reads
 unusable_told failed_reads request disk disk' out out' errors errors' unflushed (CountyFile folder code file error) flush told says flushed is = of_open told
-unusable_told failed_reads request disk disk' out out' errors errors' unflushed (NotUtf8 name) flush told says flushed is = of_source name.now told
+unusable_told failed_reads request disk disk' out out' errors errors' unflushed (NotUtf8 name) flush told says flushed is = of_source name.now told.0 told.1
 unusable_told failed_reads request disk disk' out out' errors errors' unflushed (NoLine line) flush told says flushed is = absurd (omega (arith, is))
 unusable_told failed_reads request disk disk' out out' errors errors' unflushed (Output error) flush told says flushed is = absurd told
 

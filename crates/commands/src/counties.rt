@@ -1,5 +1,5 @@
 //! Counties, loaded one after the other.
-ghost use Rattle.std.specs.Prelude.{◌≡◌, ◌≢◌, ℕ, List, map, IfErr, IfOk};
+ghost use Rattle.std.specs.Prelude.{◌≡◌, ◌≢◌, ℕ, List, map, IfErr, IfOk, Option};
 ghost use Rattle.commands.specs.Counties.{AreCountiesOf, IsCountyOf, TellsCounties, TellsCounty};
 ghost use Rattle.tl_fields.specs.Device.{WriteCounts};
 ghost use Rattle.commands.specs.Failure.{TellsOpens, status};
@@ -25,7 +25,7 @@ pub fn load_counties<'a, A: Allocator + Copy, F: Files>(
     ensures err { IfErr result (TellsCounties (F.bytes files.old) folder.now (map (λ code. code.now) codes.now)) }
     ensures usage { IfErr result (λ failure. status failure ≢ 2) }
     ensures opens { TellsOpens result (F.failed_opens files.old) (F.failed_opens files.new) }
-    ensures cause { (counts : WriteCounts) → IfErr result (TellsCause F.Reader.failed_reads
+    ensures cause { (source : Option (List ℕ)) (counts : WriteCounts) → IfErr result (TellsCause F.Reader.failed_reads source
         (disk F.bytes F.failed_opens files.old) (disk F.bytes F.failed_opens files.new) counts counts) }
 {
     let mut counties = Vec::new(alloc);
@@ -50,7 +50,7 @@ fn load_county<'a, A: Allocator + Copy, F: Files>(
     ensures stay { (other : List ℕ) → F.bytes files.new other ≡ F.bytes files.old other }
     ensures usage { IfErr result (λ failure. status failure ≢ 2) }
     ensures opens { TellsOpens result (F.failed_opens files.old) (F.failed_opens files.new) }
-    ensures cause { (counts : WriteCounts) → IfErr result (TellsCause F.Reader.failed_reads
+    ensures cause { (source : Option (List ℕ)) (counts : WriteCounts) → IfErr result (TellsCause F.Reader.failed_reads source
         (disk F.bytes F.failed_opens files.old) (disk F.bytes F.failed_opens files.new) counts counts) }
 {
     let mut inputs = match open_county(alloc, files, folder, code) {

@@ -1,5 +1,5 @@
 //! The files of a county (TIGER/Line 2006, record types 1, 4, 5 and 6), opened by name.
-ghost use Rattle.std.specs.Prelude.{◌≡◌, ◌≢◌, ℕ, List, IfErr, IfOk, string_bytes};
+ghost use Rattle.std.specs.Prelude.{◌≡◌, ◌≢◌, ℕ, List, IfErr, IfOk, string_bytes, Option};
 ghost use Rattle.std.specs.Io.KnownBytes.{Keeps};
 ghost use Rattle.tl_fields.specs.Device.{WriteCounts, writer};
 ghost use Rattle.extract.specs.Extracting.{IsOutcome};
@@ -78,7 +78,7 @@ pub fn open_county<'a, A: Allocator + Copy, F: Files>(
     ensures stay { (other : List ℕ) → F.bytes files.new other ≡ F.bytes files.old other }
     ensures unusable { IfErr result (λ failure. (status failure ≢ 1) × (status failure ≢ 2)) }
     ensures opens { TellsOpens result (F.failed_opens files.old) (F.failed_opens files.new) }
-    ensures cause { (counts : WriteCounts) → IfErr result (TellsCause F.Reader.failed_reads
+    ensures cause { (source : Option (List ℕ)) (counts : WriteCounts) → IfErr result (TellsCause F.Reader.failed_reads source
         (disk F.bytes F.failed_opens files.old) (disk F.bytes F.failed_opens files.new) counts counts) }
 {
     let rt1 = match open_rt1(alloc, files, folder, code) {
@@ -112,7 +112,7 @@ fn open_rt1<'a, A: Allocator + Copy, F: Files>(
     ensures stay { (other : List ℕ) → F.bytes files.new other ≡ F.bytes files.old other }
     ensures unusable { IfErr result (λ failure. (status failure ≢ 1) × (status failure ≢ 2)) }
     ensures opens { TellsOpens result (F.failed_opens files.old) (F.failed_opens files.new) }
-    ensures cause { (counts : WriteCounts) → IfErr result (TellsCause F.Reader.failed_reads
+    ensures cause { (source : Option (List ℕ)) (counts : WriteCounts) → IfErr result (TellsCause F.Reader.failed_reads source
         (disk F.bytes F.failed_opens files.old) (disk F.bytes F.failed_opens files.new) counts counts) }
 {
     let name = file_name(alloc, folder, code, CountyFile::Rt1)?;
@@ -135,7 +135,7 @@ fn open_joined<'a, A: Allocator + Copy, F: Files>(
     ensures stay { (other : List ℕ) → F.bytes files.new other ≡ F.bytes files.old other }
     ensures unusable { IfErr result (λ failure. (status failure ≢ 1) × (status failure ≢ 2)) }
     ensures opens { TellsOpens result (F.failed_opens files.old) (F.failed_opens files.new) }
-    ensures cause { (counts : WriteCounts) → IfErr result (TellsCause F.Reader.failed_reads
+    ensures cause { (source : Option (List ℕ)) (counts : WriteCounts) → IfErr result (TellsCause F.Reader.failed_reads source
         (disk F.bytes F.failed_opens files.old) (disk F.bytes F.failed_opens files.new) counts counts) }
 {
     let name = file_name(alloc, folder, code, file)?;

@@ -5,7 +5,7 @@ ghost use Rattle.commands.specs.Command.{IsCarriedOut};
 ghost use Rattle.commands.specs.Failure.{TellsOpens, status};
 ghost use Rattle.commands.specs.declared.request.Request.{Request};
 ghost use Rattle.commands.specs.Files.{disk};
-ghost use Rattle.commands.specs.Unusable.{TellsCause};
+ghost use Rattle.commands.specs.Unusable.{TellsCause, source_of};
 
 use crate::failure::{Failure, write};
 use crate::files::{Files, read_program_file};
@@ -33,7 +33,7 @@ impl<'a> Disassemble<'a> {
             (writer W.contents W.counts out.old) (writer W.contents W.counts out.new) }
         ensures usage { IfErr result (λ failure. status failure ≢ 2) }
         ensures opens { TellsOpens result (F.failed_opens files.old) (F.failed_opens files.new) }
-        ensures cause { IfErr result (TellsCause F.Reader.failed_reads (disk F.bytes F.failed_opens files.old) (disk F.bytes F.failed_opens files.new)
+        ensures cause { IfErr result (TellsCause F.Reader.failed_reads (source_of (Request.Disassemble self.entry)) (disk F.bytes F.failed_opens files.old) (disk F.bytes F.failed_opens files.new)
             (W.counts out.old) (W.counts out.new)) }
         ensures unflushed { (W.counts out.new).flushes ≡ (W.counts out.old).flushes }
     {

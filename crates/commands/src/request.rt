@@ -4,7 +4,7 @@ ghost use Rattle.tl_fields.specs.Device.{writer};
 ghost use Rattle.commands.specs.Command.{IsCarriedOut, IsDone, IsFlushed, IsRefusal, LacksLine};
 ghost use Rattle.commands.specs.Failure.{KeepsOnUsage, TellsOpens};
 ghost use Rattle.commands.specs.Files.{disk};
-ghost use Rattle.commands.specs.Unusable.{IsUnusable, TellsCause};
+ghost use Rattle.commands.specs.Unusable.{IsUnusable, TellsCause, source_of};
 
 use crate::assemble::Assemble;
 use crate::disassemble::Disassemble;
@@ -83,7 +83,7 @@ impl<'a> Request<'a> {
             (writer W.contents W.counts out.old) (writer W.contents W.counts out.new) }
         ensures usage { KeepsOnUsage result out.old out.new }
         ensures opens { TellsOpens result (F.failed_opens files.old) (F.failed_opens files.new) }
-        ensures cause { IfErr result (TellsCause F.Reader.failed_reads (disk F.bytes F.failed_opens files.old) (disk F.bytes F.failed_opens files.new)
+        ensures cause { IfErr result (TellsCause F.Reader.failed_reads (source_of self.entry) (disk F.bytes F.failed_opens files.old) (disk F.bytes F.failed_opens files.new)
             (W.counts out.old) (W.counts out.new)) }
         ensures unflushed { (W.counts out.new).flushes ≡ (W.counts out.old).flushes }
     {

@@ -1,5 +1,5 @@
 //! `trace`: what a program comes to on one segment of a county.
-ghost use Rattle.std.specs.Prelude.{◌≡◌, ◌≤◌, ◌+◌, ◌∷◌, ◌++◌, [], decimal, length, MatchOption, IfErr};
+ghost use Rattle.std.specs.Prelude.{◌≡◌, ◌≤◌, ◌+◌, ◌∷◌, ◌++◌, [], decimal, length, MatchOption, IfErr, List, Option, ℕ};
 ghost use Rattle.tl_fields.specs.Device.{WriteCounts, writer};
 ghost use Rattle.commands.specs.Command.{IsCarriedOut};
 ghost use Rattle.commands.specs.County.{county_readers};
@@ -7,7 +7,7 @@ ghost use Rattle.commands.specs.Failure.{KeepsOnUsage, TellsOpens};
 ghost use Rattle.commands.specs.Trace.{EndsAs, HasNoLine, IsSegmentOfLine, outcome_line};
 ghost use Rattle.commands.specs.declared.request.Request.{Request};
 ghost use Rattle.commands.specs.Files.{Disk, disk};
-ghost use Rattle.commands.specs.Unusable.{TellsCause};
+ghost use Rattle.commands.specs.Unusable.{TellsCause, source_of};
 
 use crate::county::{CountyInputs, open_county};
 use crate::failure::{Failure, write};
@@ -48,7 +48,7 @@ impl<'a> Trace<'a> {
             (writer W.contents W.counts out.old) (writer W.contents W.counts out.new) }
         ensures usage { KeepsOnUsage result out.old out.new }
         ensures opens { TellsOpens result (F.failed_opens files.old) (F.failed_opens files.new) }
-        ensures cause { IfErr result (TellsCause F.Reader.failed_reads (disk F.bytes F.failed_opens files.old) (disk F.bytes F.failed_opens files.new)
+        ensures cause { IfErr result (TellsCause F.Reader.failed_reads (source_of (Request.Trace self.entry)) (disk F.bytes F.failed_opens files.old) (disk F.bytes F.failed_opens files.new)
             (W.counts out.old) (W.counts out.new)) }
         ensures unflushed { (W.counts out.new).flushes ≡ (W.counts out.old).flushes }
     {
@@ -79,7 +79,8 @@ impl<'a> Trace<'a> {
     ) -> Result<Outcome, Failure<'a>>
         ensures ends { EndsAs self.entry program.now (county_readers R.remaining R.failed_reads inputs.old)
             (county_readers R.remaining R.failed_reads inputs.new) result }
-        ensures cause { (disk disk' : Disk) (counts counts' : WriteCounts) → IfErr result (TellsCause R.failed_reads disk disk' counts counts') }
+        ensures cause { (source : Option (List ℕ)) (disk disk' : Disk) (counts counts' : WriteCounts)
+            → IfErr result (TellsCause R.failed_reads source disk disk' counts counts') }
     {
         let code = match decode(alloc, program) {
             Ok(code) => code,

@@ -12,15 +12,15 @@ returns-in-Err-clause-err g c =
     c.loop-code.invariant.stay c.loop-code-test.true c.loop-code.invariant.loaded c.in-Err.ensures.err
 
 pub returns-in-Err-clause-cause : goal.returns-in-Err-clause-cause
-returns-in-Err-clause-cause g c = λ counts.
-    told_as g.F.Reader.CountedRead.failed_reads (disk g.F.Files.bytes g.F.Files.failed_opens c.args.files.now)
+returns-in-Err-clause-cause g c = λ source counts.
+    told_as g.F.Reader.CountedRead.failed_reads source (disk g.F.Files.bytes g.F.Files.failed_opens c.args.files.now)
     (disk g.F.Files.bytes g.F.Files.failed_opens c.loop-code.files) (disk g.F.Files.bytes g.F.Files.failed_opens c.load_county.new.files)
-    counts counts c.in-Err.failure c.loop-code.invariant.stay c.loop-code.invariant.opens (c.in-Err.ensures.cause counts)
+    counts counts c.in-Err.failure c.loop-code.invariant.stay c.loop-code.invariant.opens (c.in-Err.ensures.cause source counts)
 
 pub returns-in_err-push-in-Ok-clause-cause : goal.returns-in_err-push-in-Ok-clause-cause
-returns-in_err-push-in-Ok-clause-cause g c = λ counts.
+returns-in_err-push-in-Ok-clause-cause g c = λ source counts.
     if_err c.from_residual.result (λ failure. status failure ≡ 4) _ c.from_residual.ensures.1
-    (memory_told g.F.Reader.CountedRead.failed_reads (disk g.F.Files.bytes g.F.Files.failed_opens c.args.files.now)
+    (memory_told g.F.Reader.CountedRead.failed_reads source (disk g.F.Files.bytes g.F.Files.failed_opens c.args.files.now)
     (disk g.F.Files.bytes g.F.Files.failed_opens c.load_county.new.files) counts counts)
 
 pub returns-in_err-push-in-Ok-clause-err : goal.returns-in_err-push-in-Ok-clause-err

@@ -1,4 +1,4 @@
-use Rattle.std.proofs.Common.{ℕ, List, Ok, Err, subst, sym, rules}
+use Rattle.std.proofs.Common.{ℕ, List, Ok, Err, subst, sym, rules, None}
 use Rattle.tl_fields.specs.Device.{writer}
 use Rattle.commands.proofs.CountyLemmas.{keeps_both, hold_as}
 use Rattle.commands.specs.Files.{KeepsProgram, disk}
@@ -31,21 +31,21 @@ returns-clause-outcome g c = no_outcome c.args.self (g.F.Files.bytes c.args.file
 
 pub returns-in-Err-clause-cause : goal.returns-in-Err-clause-cause
 returns-in-Err-clause-cause g c =
-    open_told g.F.Reader.CountedRead.failed_reads (disk g.F.Files.bytes g.F.Files.failed_opens c.args.files.now)
+    open_told g.F.Reader.CountedRead.failed_reads None (disk g.F.Files.bytes g.F.Files.failed_opens c.args.files.now)
     (disk g.F.Files.bytes g.F.Files.failed_opens c.open.new.files) _ _ _ c.in-Err.fault c.of_file.result c.of_file.ensures.file c.in-Err.ensures.opens
 
 pub returns-in-Err-open_county-clause-cause : goal.returns-in-Err-open_county-clause-cause
 returns-in-Err-open_county-clause-cause g c =
-    told_as g.F.Reader.CountedRead.failed_reads (disk g.F.Files.bytes g.F.Files.failed_opens c.args.files.now)
+    told_as g.F.Reader.CountedRead.failed_reads None (disk g.F.Files.bytes g.F.Files.failed_opens c.args.files.now)
     (disk g.F.Files.bytes g.F.Files.failed_opens c.open.new.files) (disk g.F.Files.bytes g.F.Files.failed_opens c.open_county.new.files) _ _
-    c.in-Err-open_county.failure c.in-Ok.ensures.stay c.in-Ok.ensures.opens (c.in-Err-open_county.ensures.cause _)
+    c.in-Err-open_county.failure c.in-Ok.ensures.stay c.in-Ok.ensures.opens (c.in-Err-open_county.ensures.cause _ _)
 
 pub returns-in-Err-read_program-clause-cause : goal.returns-in-Err-read_program-clause-cause
 returns-in-Err-read_program-clause-cause g c =
-    read_told g.F.Reader.CountedRead.failed_reads (disk g.F.Files.bytes g.F.Files.failed_opens c.args.files.now)
+    read_told g.F.Reader.CountedRead.failed_reads None (disk g.F.Files.bytes g.F.Files.failed_opens c.args.files.now)
     (disk g.F.Files.bytes g.F.Files.failed_opens c.open_county.new.files) _ _ _ c.in-Err-read_program.fault c.of_file-in-Err-read_program.result
     c.in-Ok.program c.read_program.new.input c.of_file-in-Err-read_program.ensures.file c.in-Err-read_program.ensures.reads
 
 pub returns-clause-cause : goal.returns-clause-cause
-returns-clause-cause g c = c.in-Err-outcome.ensures.cause (disk g.F.Files.bytes g.F.Files.failed_opens c.args.files.now)
+returns-clause-cause g c = c.in-Err-outcome.ensures.cause _ (disk g.F.Files.bytes g.F.Files.failed_opens c.args.files.now)
     (disk g.F.Files.bytes g.F.Files.failed_opens c.open_county.new.files) _ _

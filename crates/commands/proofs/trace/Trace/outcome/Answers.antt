@@ -12,11 +12,11 @@ returns-in-Err-load-clause-ends g c =
     of_county _ c.in-Ok.ensures.ok c.in-Err-load.fault c.in-Err-load.ensures.err c.from-in-Err-load.ensures.is_number c.from-in-Err-load.ensures.is_line
 
 pub returns-in-Err-clause-cause : goal.returns-in-Err-clause-cause
-returns-in-Err-clause-cause g c = λ disk disk' counts counts'.
-    no_device_told g.R.CountedRead.failed_reads disk disk' counts counts' _ _ c.from.result (code_class c.in-Err.fault) c.from.ensures
+returns-in-Err-clause-cause g c = λ source disk disk' counts counts'.
+    no_device_told g.R.CountedRead.failed_reads source disk disk' counts counts' _ _ c.from.result (code_class c.in-Err.fault) c.from.ensures
 
 pub returns-in-Err-load-clause-cause : goal.returns-in-Err-load-clause-cause
-returns-in-Err-load-clause-cause g c = λ disk disk' counts counts'.
-    load_told g.R.CountedRead.failed_reads disk disk' counts counts' c.in-Err-load.fault _ c.from-in-Err-load.result
+returns-in-Err-load-clause-cause g c = λ source disk disk' counts counts'.
+    load_told g.R.CountedRead.failed_reads source disk disk' counts counts' c.in-Err-load.fault _ c.from-in-Err-load.result
     (λ five. of_county_inputs g.R.CountedRead.failed_reads g.R.Read.remaining c.args.inputs.now c.load.new.self
     (county_read c.in-Err-load.fault _ _ five c.in-Err-load.ensures.err)) c.from-in-Err-load.ensures

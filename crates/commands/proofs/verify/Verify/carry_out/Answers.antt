@@ -1,4 +1,4 @@
-use Rattle.std.proofs.Common.{rules}
+use Rattle.std.proofs.Common.{rules, None}
 use Rattle.commands.specs.Files.{disk}
 use Rattle.tl_fields.specs.Device.{writer}
 use Rattle.commands.proofs.ClassLemmas.{program_class}
@@ -19,5 +19,5 @@ returns-clause-outcome g c = λ one.
     c.from.ensures
 
 pub returns-clause-cause : goal.returns-clause-cause
-returns-clause-cause g c = no_device_told g.F.Reader.CountedRead.failed_reads (disk g.F.Files.bytes g.F.Files.failed_opens c.args.files.now)
+returns-clause-cause g c = no_device_told g.F.Reader.CountedRead.failed_reads None (disk g.F.Files.bytes g.F.Files.failed_opens c.args.files.now)
     (disk g.F.Files.bytes g.F.Files.failed_opens c.read_program_file.new.files) _ _ _ _ c.from.result (program_class c.in-Err-accept.fault) c.from.ensures
