@@ -1,4 +1,4 @@
--- Refusals of a program, a source or a text are of no device; of a file that is so only the failed read is.
+-- Refusals of a program are of no device.
 use Rattle.std.proofs.Common.{◌≡◌, ◌≢◌, ℕ, Option, Some, None, ap, sym, ◌∙◌}
 use Rattle.bpf_flow.specs.FlowFault as flow_fault
 use Rattle.bpf_flow.specs.declared.fault.FlowFault.{FlowFault}
@@ -12,12 +12,6 @@ use Rattle.bpf_insn.specs.declared.fault.WordFault.TheVariants as word
 use Rattle.bpf_meaning.specs.Cause as cause_number
 use Rattle.bpf_meaning.specs.declared.cause.Cause.{Cause}
 use Rattle.bpf_meaning.specs.declared.cause.Cause.TheVariants as cause
-use Rattle.bpf_text.specs.TextFault as text_fault
-use Rattle.bpf_text.specs.TextFlaw as text_flaw
-use Rattle.bpf_text.specs.declared.fault.TextFault.{TextFault}
-use Rattle.bpf_text.specs.declared.fault.TextFault.TheVariants as text
-use Rattle.bpf_text.specs.declared.fault.TextFlaw.{TextFlaw}
-use Rattle.bpf_text.specs.declared.fault.TextFlaw.TheVariants as flaw
 use Rattle.bpf_verify.specs.VerifyFault as verify_fault
 use Rattle.bpf_verify.specs.declared.fault.VerifyFault.{VerifyFault}
 use Rattle.bpf_verify.specs.declared.fault.VerifyFault.TheVariants as verify
@@ -82,18 +76,3 @@ program_class (program.Code fault) e = code_class fault e
 program_class (program.Flow fault) e = flow_class fault e
 program_class (program.Verify fault) e = verify_class fault e
 program_class program.Memory e = cc
-
-flaw_class : (of : TextFlaw) → IsNoDevice (Some (text_flaw.number of))
-flaw_class flaw.Syntax e = cc
-flaw_class flaw.UnknownMnemonic e = cc
-flaw_class flaw.NumberRange e = cc
-flaw_class flaw.UnknownLabel e = cc
-flaw_class flaw.DoubleLabel e = cc
-flaw_class flaw.LabelTooFar e = cc
-flaw_class flaw.NoInstruction e = cc
-flaw_class flaw.TooLong e = cc
-flaw_class flaw.WritesFramePointer e = cc
-
-pub text_class : (fault : TextFault) → IsNoDevice (text_fault.number fault)
-text_class (text.InLine line of) e = flaw_class of e
-text_class text.Memory e = cc

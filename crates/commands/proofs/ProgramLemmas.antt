@@ -21,13 +21,11 @@ use Rattle.tl_fields.specs.Device.{Writer}
 use Rattle.tl_segments.specs.County.{CountyReaders}
 use Rattle.tl_segments.specs.Joining.{JoinedLines}
 use Rattle.tl_segments.specs.declared.fault.LoadFault.{LoadFault}
-use Rattle.bpf_insn.specs.CodeFault as code_number
 use Rattle.bpf_text.specs.Conversion.{IsDisassembled}
 use Rattle.extract.specs.ProgramFault as fault_number
 use Rattle.extract.specs.Refusal.{IsRefusalWith}
 use Rattle.extract.specs.declared.refusal.Refusal as of_library
 use Rattle.commands.specs.Command.{IsCarriedOut}
-use Rattle.commands.specs.Disassemble as disassemble_command
 use Rattle.commands.specs.Failure.{status}
 use Rattle.commands.specs.Files.{IsProgramIn, KeepsProgram, whole, cut}
 use Rattle.commands.specs.Verify as verify_command
@@ -265,16 +263,3 @@ module _ (known : List ℕ → Option (List ℕ)) (kept handed : List ℕ) where
     counts = written.1;
   }
   dis_written asked text (Err failure) out out' is same means written unusable = promises_nothing (request.Disassemble asked) known failure out out' unusable
-
-  pub dis_refused : (asked : Disassemble) (fault : CodeFault) (refusal : of_library.Refusal) (out : Writer) → IsProgramIn known asked.program.now kept
-      → handed ≡ kept → IsFirstFault handed fault → IsRefusalWith (code_number.number fault) (code_number.line fault) refusal
-      → disassemble_command.IsRefused asked known refusal.number refusal.line.bytes out out
-  dis_refused asked fault refusal out is same first with = record {
-    program = is.0;
-    is_program = is.1;
-    fault = fault;
-    first = fault_kept is.0 handed (subst (KeepsProgram is.0) (sym same) is.2) fault first;
-    is_number = with.is_number;
-    is_line = with.is_line;
-    unwritten = refl;
-  }

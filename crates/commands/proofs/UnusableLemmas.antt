@@ -188,11 +188,6 @@ module _ {R : Type 0} (failed_reads : R → ℕ) where
           (is.is_of.is_line ∙ ap (λ fault. extract_fault.line (extract.Write fault)) same, subst (λ fault. CountsFault fault counts counts') same is.counts);
     })
 
-    -- whatever writing gave
-    pub written_told : {T : Type 0} (result : Result T Failure) → IfErr result (TellsWrite counts counts') → IfErr result (TellsCause failed_reads source disk disk' counts counts')
-    written_told (Ok value) told = tt
-    written_told (Err failure) told = write_told failure told
-
     -- an extract's fault, over the readers of a county's inputs
     pub extract_told : (remaining : R → Option (List ℕ)) (old new : CountyInputs R) (program : List ℕ) (of : ExtractFault) (out out' : Writer) (refusal : of_library.Refusal)
         → out.counts ≡ counts → out'.counts ≡ counts'

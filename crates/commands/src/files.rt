@@ -196,7 +196,7 @@ fn keep<A: Allocator>(kept: &mut Vec<u8, A>, read: &[u8]) -> Result<(), AllocErr
     kept.extend_from_slice(&read[..room.min(read.len())])
 }
 
-/// Cuts the front of a program that is too long, of which so many bytes are left where it's divided by words, to the least that is.
+/// Cuts the front of a program that is too long, whose last word has so many bytes where it isn't whole, to the least that tells so.
 fn cut_behind<A: Allocator>(front: &mut Vec<u8, A>, remainder: usize)
     requires small { remainder < 8 }
     ensures { (program : List ℕ) → front.old.items ≡ take MOST_KEPT program → remainder ≡ length program % 8

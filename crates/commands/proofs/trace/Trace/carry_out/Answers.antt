@@ -3,7 +3,7 @@ use Rattle.tl_fields.specs.Device.{writer}
 use Rattle.commands.proofs.CountyLemmas.{keeps_both, hold_as}
 use Rattle.commands.specs.Files.{KeepsProgram, disk}
 use Rattle.commands.proofs.TraceLemmas.{ends_kept, outcome_written, no_outcome}
-use Rattle.commands.proofs.UnusableLemmas.{open_told, read_told, told_as, written_told}
+use Rattle.commands.proofs.UnusableLemmas.{open_told, read_told, told_as}
 use Rattle.commands.proofs.trace.Trace.carry_out.Goals as goal
 
 pub returns-in-Ok-outcome-clause-outcome : goal.returns-in-Ok-outcome-clause-outcome
