@@ -12,10 +12,12 @@ below the one where the edge leads. All annotations of a small domain are tried:
 it is refused at the first place where none that is good up to there passes, for what fails there in the least of them, which has to exist.
 
 The domain, for each place: Unreached, and every combination of
-- for each register that the program names, or uses by `call` or `exit`: Nothing, and of each sort of kind (number, record, frame) that
+- for each register that may be read from there on before it is written: Nothing, and of each sort of kind (number, record, frame) that
   comes to the place in it, every interval whose ends come to it so, or are 0 or 2^64 - 1 for numbers, 32767 for offsets in the record.
   Other registers: Nothing;
-- no mark, and every set of marks that comes, or is what such sets have in common.
+- the same for each slot of the frame;
+- no mark, and every set of marks that comes, or is what such sets have in common,
+where the marks fit the kinds of slots: a number's bytes have theirs, and a pointer's have none.
 What comes to a place does so on an edge out of a state of the domain: of one whose intervals reach from a lower end that came to an upper
 end that came, and whose marks are what sets that came have in common.
 
@@ -33,7 +35,7 @@ from typing import NamedTuple
 
 SEED = 5
 WORD = 1 << 64
-RECORD_BYTES, FRAME_BYTES = 228, 512
+RECORD_BYTES, FRAME_BYTES, SLOT_BYTES = 228, 512, 8
 LEAST_OFFSET, GREATEST_OFFSET = -32768, 32767
 
 # ---- Kinds and states, and their order
@@ -63,8 +65,11 @@ def number(low, high=None):
 
 
 class State(NamedTuple):
+    """Beside registers and marks, pairs of a slot and its kind, for slots of which something is known."""
+
     registers: tuple
     marks: frozenset
+    slots: frozenset = frozenset()
 
     def read(self, name):
         """The kind of a register, which has to be known of."""
@@ -74,15 +79,39 @@ class State(NamedTuple):
 
     def put(self, name, kind):
         at = index(name)
-        return State(self.registers[:at] + (kind,) + self.registers[at + 1 :], self.marks)
+        return self._replace(registers=self.registers[:at] + (kind,) + self.registers[at + 1 :])
 
     def mark(self, first, count):
-        return State(self.registers, self.marks | frozenset(range(first, first + count)))
+        return self._replace(marks=self.marks.union(range(first, first + count)))
+
+    def slot(self, slot):
+        """The kind of what a slot holds."""
+        return dict(self.slots).get(slot, NOTHING)
+
+    def forget(self, reached):
+        """Of the slots that have one of these bytes nothing is known then."""
+        return self._replace(slots=frozenset(pair for pair in self.slots if not set(own_bytes(pair[0])).intersection(reached)))
+
+    def keep(self, slot, kind):
+        """A number marks its bytes; a pointer takes their marks away."""
+        own = own_bytes(slot)
+        marks = self.marks.difference(own) if kind.pointer() else self.marks.union(own)
+        return State(self.registers, marks, self.forget(own).slots | {(slot, kind)})
+
+    def is_proper(self):
+        """Whether the marks fit what is known of slots."""
+        return all(self.marks.isdisjoint(own_bytes(slot)) if kind.pointer() else self.marks.issuperset(own_bytes(slot)) for slot, kind in self.slots)
 
     def below(self, other):
-        if other is UNREACHED:
+        if other is UNREACHED or not self.marks >= other.marks:
             return False
-        return self.marks >= other.marks and all(kind.below(above) for kind, above in zip(self.registers, other.registers))
+        return all(kind.below(above) for kind, above in zip(self.registers, other.registers)) and all(
+            self.slot(slot).below(above) for slot, above in other.slots
+        )
+
+
+def own_bytes(slot):
+    return range(SLOT_BYTES * slot, SLOT_BYTES * (slot + 1))
 
 
 UNREACHED = None
@@ -377,14 +406,23 @@ class Instruction(NamedTuple):
             return [self.after + self.operands[0]]
         return [self.after + self.operands[2], self.after] if self.form == "jump" else [self.after]
 
-    def names(self):
-        """The registers that are used."""
-        used = [part for word in self.operands for part in (word if isinstance(word, tuple) else (word,)) if isinstance(part, str)]
-        if self.form == "exit":
-            used.append("r0")
+    def overwrites(self):
+        """Whether the first operand is written and not read."""
+        return self.form in ("wide", "load", "extend") or self.parts[:1] == ("mov",)
+
+    def written(self):
+        """The registers of which nothing that was known before is left."""
         if self.form == "call":
-            used += ["r%d" % at for at in range(len(HELPERS.get(self.operands[0], ((), 0))[0]) + 1)]
-        return used
+            return {"r%d" % at for at in range(6)}
+        return {self.operands[0]} if self.overwrites() else set()
+
+    def read(self):
+        """The registers that are read."""
+        operands = self.operands[self.overwrites() :]
+        read = {part for word in operands for part in (word if isinstance(word, tuple) else (word,)) if isinstance(part, str)}
+        if self.form == "call":
+            read |= {"r%d" % at for at in range(1, len(HELPERS.get(self.operands[0], ((), 0))[0]) + 1)}
+        return read | {"r0"} if self.form == "exit" else read
 
 
 def read_line(line, place):
@@ -531,21 +569,40 @@ def read_bytes(state, pointer, offset, count):
     check(pointer.sort == "record" or state.marks.issuperset(reached), "45", "UnwrittenFrame")
 
 
+def slot_reached(pointer, offset, count):
+    """The slot that an access at one known offset reaches whole, or None."""
+    first = pointer.low + offset
+    is_slot = pointer.sort == "frame" and pointer.single() and count == SLOT_BYTES and first % SLOT_BYTES == 0
+    return first // SLOT_BYTES if is_slot else None
+
+
 def load(state, instruction):
     (sign, size), (to, address) = instruction.parts, instruction.operands
-    size = SIZES[size]
-    read_bytes(state, base_of(state, address), address[1], size)
-    return [state.put(to, number(0, WORD - 1 if sign else (1 << 8 * size) - 1))]
+    base, size = base_of(state, address), SIZES[size]
+    kept = state.slot(slot_reached(base, address[1], size))
+    if not kept.pointer():
+        read_bytes(state, base, address[1], size)
+    if kept is NOTHING:
+        kept = number(0, WORD - 1 if sign else (1 << 8 * size) - 1)
+    return [state.put(to, kept)]
 
 
 def store(state, instruction):
     size, (address, source) = SIZES[instruction.parts[1]], instruction.operands
     base = base_of(state, address)
     check(base.sort == "frame", "46", "WritesRecord")
-    if isinstance(source, str):
-        check(not state.read(source).pointer(), "47", "StoresPointer")
+    value, slot = value_of(state, source, 64), slot_reached(base, address[1], size)
+    check(not value.pointer() or slot is not None, "47", "StoresPointer")
     reached = reached_bytes(base, address[1], size)
-    return [state.mark(reached[0], size) if base.single() else state]
+    if slot is not None:
+        return [state.keep(slot, value)]
+    return [written(state, base, reached, size)]
+
+
+def written(state, pointer, reached, count):
+    """A state behind a write of any bytes, so many of them for sure."""
+    state = state.forget(reached)
+    return state.mark(reached[0], count) if pointer.single() else state
 
 
 def argument(state, at, bounds):
@@ -565,8 +622,7 @@ def call(state, instruction):
         if helper == NAME_IS:
             read_bytes(state, pointer, 0, length.high)
         else:
-            reached = reached_bytes(pointer, 0, length.high)
-            state = state.mark(reached[0], length.low) if pointer.single() else state
+            state = written(state, pointer, reached_bytes(pointer, 0, length.high), length.low)
     for name in ("r1", "r2", "r3", "r4", "r5"):
         state = state.put(name, NOTHING)
     return [state.put("r0", answer)]
@@ -663,6 +719,9 @@ class Domain:
         arrived = [state for state in coming if state is not UNREACHED]
         for at in used:
             self.add(*kinds_tried({state.registers[at] for state in arrived}), Kind.below)
+        self.slots = sorted({slot for state in arrived for slot, _ in state.slots})
+        for slot in self.slots:
+            self.add(*kinds_tried({state.slot(slot) for state in arrived}), Kind.below)
         self.add(*marks_tried({state.marks for state in arrived}), frozenset.issuperset)
         self.everything = (1 << self.end) - (1 << first)
 
@@ -671,7 +730,8 @@ class Domain:
         self.end += len(tried)
 
     def parts(self, state):
-        return zip(self.columns, [state.registers[at] for at in self.used] + [state.marks])
+        kinds = [state.registers[at] for at in self.used] + [state.slot(slot) for slot in self.slots]
+        return zip(self.columns, kinds + [state.marks])
 
     def alone(self, state):
         return sum(column.bit(part) for column, part in self.parts(state))
@@ -687,7 +747,10 @@ class Domain:
             registers = [NOTHING] * len(ENTRY.registers)
             for at, kind in zip(self.used, parts):
                 registers[at] = kind
-            yield State(tuple(registers), parts[-1])
+            slots = zip(self.slots, parts[len(self.used) : -1])
+            state = State(tuple(registers), parts[-1], frozenset(pair for pair in slots if pair[1] is not NOTHING))
+            if state.is_proper():
+                yield state
 
     def followed(self):
         return self.product([column.followed for column in self.columns])
@@ -722,21 +785,35 @@ class Search:
     """All annotations of a program's domain, from place to place. One that is good up to a place is kept as its front, a number: the states
     that it allows at all places from there on, in the bits of their domains."""
 
-    def __init__(self, program):
+    def __init__(self, program, wanted=frozenset()):
+        """Registers that are wanted count as read at the end."""
         self.program = program
         self.places = list(program)
-        self.used = sorted({index(name) for instruction in program.values() for name in instruction.names()})
-        kinds = (kind if at in self.used else NOTHING for at, kind in enumerate(ENTRY.registers))
-        self.entry = State(tuple(kinds), ENTRY.marks)
+        self.find_used(wanted)
+        self.entry = self.only(0, ENTRY)
         self.make_domains()
         self.follow()
+
+    def find_used(self, wanted):
+        """The registers that may be read from each place on before they are written; the places downwards, since edges lead upwards alone."""
+        self.used = {}
+        for place in reversed(self.places):
+            instruction = self.program[place]
+            behind = set().union(*(self.used[target] for target in instruction.targets())) if instruction.targets() else set(wanted)
+            self.used[place] = behind - instruction.written() | instruction.read()
+
+    def only(self, place, state):
+        """A state with the registers that are used from a place on."""
+        kinds = (kind if "r%d" % at in self.used[place] else NOTHING for at, kind in enumerate(state.registers))
+        return state._replace(registers=tuple(kinds))
 
     def make_domains(self):
         """The places upwards, since edges lead upwards alone."""
         self.domains, coming, first = {}, {place: set() for place in self.places}, 0
         coming[0].add(self.entry)
         for place in self.places:
-            domain = self.domains[place] = Domain(self.used, coming[place], first)
+            used = sorted(map(index, self.used[place]))
+            domain = self.domains[place] = Domain(used, coming[place], first)
             first = domain.end
             if domain.count() > STATES_AT_MOST:
                 raise TooLarge
@@ -871,7 +948,10 @@ def state_above(draw, states, entry):
     reached = reached or [entry]
     marks = frozenset.intersection(*(state.marks for state in reached))
     registers = tuple(kind_above(draw, kinds) for kinds in zip(*(state.registers for state in reached)))
-    return State(registers, frozenset(at for at in marks if not draw.chance(8)))
+    marks = frozenset(at for at in marks if not draw.chance(8))
+    slots = {slot: kind_above(draw, [state.slot(slot) for state in reached]) for slot, _ in sorted(reached[0].slots)}
+    fitting = (State(registers, marks, frozenset({pair})) for pair in slots.items() if pair[1] is not NOTHING)
+    return State(registers, marks, frozenset().union(*(state.slots for state in fitting if state.is_proper())))
 
 
 def sample(draw, search, least):
@@ -885,7 +965,7 @@ def sample(draw, search, least):
         if fault:
             break
         for target, edge in edges:
-            coming[target].append(edge)
+            coming[target].append(edge and search.only(target, edge))
     else:
         assert search.accepted()
     assert is_good(search.program, annotation, search.entry)
@@ -929,7 +1009,7 @@ FAULTS = (
     (("ldxb r0, [r10+0]",), ("sth [r10-1], 1",), ("ldxw r0, [r10-513]",), ("ldxb r0, [r1+228]",)),
     (("ldxb r0, [r10-1]",), ("ldxdw r0, [r10-512]",)),
     (("stb [r1+0], 1",), ("stxb [r1+228], r9",), ("stdw [r1-1], 0",)),
-    (("stxdw [r10-8], r10",), ("stxb [r10+9], r10",)),
+    (("stxdw [r10-4], r10",), ("stxb [r10+9], r10",)),
     (("jeq r10, 0, +0",), ("jset r10, r10, +0",), ("jslt32 r0, r10, +0",)),
     (("call 0",), ("call 10",), ("call -1",)),
     (("mov r1, r10", "call 8"), ("mov r1, 4", "call 9"), ("mov r1, 17", "call 1"), ("mov r1, -1", "call 2")),
@@ -986,7 +1066,7 @@ def access(draw, name, kind, exactly):
     else:
         offset = -kind.low - (not exactly)
     if not LEAST_OFFSET <= offset <= GREATEST_OFFSET:
-        return ["stxdw [r10-8], %s" % name]
+        return ["stxdw [r10-4], %s" % name]
     if kind.sort == "record":
         return ["ldx%s r0, [%s%+d]" % (size, name, offset)]
     return ["st%s [%s%+d], 1" % (size, name, offset)]
@@ -1025,7 +1105,8 @@ def kind_before(search, least, name):
 
 def finished(draw, body, name, ask):
     """The program of a body, with a probe where nothing in the body fails."""
-    search = Search(read_program(linked(body + ["ja +0", "exit"])))
+    wanted = {name, "r0"} | {register for register in ("r1",) if register in " ".join(body)}
+    search = Search(read_program(linked(body + ["ja +0", "exit"])), wanted)
     least = search.least()
     if search.places[-2] not in least:
         return linked(body + ["exit"])
@@ -1205,6 +1286,43 @@ def copied(draw, helper):
     return lines + [draw.one_of(("ldxb r0, [r10-1]", "ldxh r0, [r10-2]", "ldxb r0, [r10-%d]" % at))], None
 
 
+# Stores between what is put into the last slot and what is taken back: beside the slot, in it, and across its borders.
+BETWEEN = (
+    "stb [r10-9], 1", "stw [r10-12], 1", "stdw [r10-16], 1", "stb [r10-8], 1", "stb [r10-1], 1", "sth [r10-5], 1", "stw [r10-10], 1",
+    "stdw [r10-15], 1", "sth [r10-9], 1",
+)
+
+
+def kept_number(draw, between):
+    """A number that is put into a slot and taken back."""
+    start = draw.one_of((["call 4"], ["call 3"], ["mov r0, %d" % draw.one_of(SMALL)], [loaded(draw, "r0", "b h w")]))
+    return start + ["stxdw [r10-8], r0", between, "ldxdw r0, [r10-8]"], "r0"
+
+
+def kept_pointer(draw, between):
+    """A pointer that is put into a slot and taken back."""
+    to = draw.one_of(("r1", "r6"))
+    lines = ["mov r6, r10"] * (to == "r6") + ["add %s, %d" % (to, draw.one_of((1, 7, 200, -1, -8, -512)))]
+    return lines + ["stxdw [r10-8], %s" % to, between, "ldxdw r6, [r10-8]"], "r6"
+
+
+def kept_once(draw, kept):
+    """What is known of a register isn't told of the slot that it was put into, nor of another slot."""
+    jump = "%s r0, %d, +END" % (draw.one_of(("jgt", "jge", "jlt")), draw.one_of((9, 15, 200)))
+    at = draw.one_of((8, 8, 16, 512)) if kept else 12
+    return [loaded(draw, "r0", "b"), "stxdw [r10-%d], r0" % at, jump, "ldxdw r0, [r10-%d]" % at], "r0"
+
+
+KEPT = ("stxdw [r10-8], r6", "stxdw [r10-8], r10", "stdw [r10-8], %d", "stdw [r10-8], -1", "stw [r10-8], 1", "stb [r10-3], 1")
+
+
+def kept_joined(draw, stores):
+    """Slots that meet. The first pointer is into the record, or at another offset than the second."""
+    first, second = (store % draw.one_of(SMALL) if "%" in store else store for store in stores)
+    lines = ["mov r6, r1"] * ("r6" in first + second) + [first] + ["add r6, %d" % draw.one_of((0, 7, 100))] * ("r6" in second)
+    return lines + ["call 3", "jeq r0, %d, +1" % draw.between(0, 9), second, "ldxdw r0, [r10-8]"], "r0"
+
+
 def unreached(draw, _):
     fault = fault_drawn(draw)
     start = draw.one_of(("mov r0, 1", "call 3"))
@@ -1311,26 +1429,41 @@ GROUPS = (
     ("Kinds that meet.", joined_kinds, SORT_PAIRS),
     ("Bounds of a check that only a join, a narrowing, or both tell.", bounded, ("join", "narrowing", "both") * 4),
     ("Code that isn't reached.", unreached, range(5)),
+    ("Numbers and pointers that slots keep.", kept_number, BETWEEN),
+    ("", kept_pointer, BETWEEN),
+    ("", kept_once, (True, True, False)),
+    ("Slots that meet.", kept_joined, pairs(KEPT, KEPT)),
 )
 
 
+# Rows of these families may take two lines.
+LONG = (kept_number, kept_pointer, kept_once, kept_joined)
 COLUMNS, SAMPLES = 120, 10
 
 
 def row(draw, family, subject, known):
     """A row that fits, and isn't there yet."""
+    columns = 2 * COLUMNS if family in LONG else COLUMNS
     while True:
         body, name, *asked = family(draw, subject)
         ask = asked[0] if asked else draw.one_of(("ends", "ends", "beyond"))
         try:
             text = finished(draw, body, name, ask) if name else linked(body + ["exit"])
-            if len("accepted; " + text) > COLUMNS:
+            if len("accepted; " + text) > columns:
                 continue
             line = "%s; %s" % (judged(text, SAMPLES), text)
         except TooLarge:
             continue
-        if len(line) <= COLUMNS and line not in known:
+        if len(line) <= columns and line not in known:
             return line
+
+
+def wrapped(line):
+    """A row in lines, of which those behind the first begin with two blanks."""
+    if len(line) <= COLUMNS:
+        return [line]
+    first = line[: COLUMNS + 1].rpartition(" | ")[0] + " |"
+    return [first] + wrapped("  " + line[len(first) + 1 :])
 
 
 def table():
@@ -1341,8 +1474,9 @@ def table():
         if title:
             lines += ['",'] * bool(known) + ["    // " + title, '    "\\']
         for subject in subjects:
-            lines.append(row(draw, family, subject, known))
-            known.add(lines[-1])
+            line = row(draw, family, subject, known)
+            lines += wrapped(line)
+            known.add(line)
     return lines + ['"', ");"]
 
 

@@ -451,6 +451,10 @@ try_traces() {
     local arguments status text
     printf 'exit\n' > bare.s
     extractd asm --source bare.s > bare.bpf
+    printf '%s\n' 'stxdw [r10-8], r1' 'mov r1, 1' 'call 2' 'ldxdw r1, [r10-8]' 'ldxb r0, [r1+0]' 'exit' > kept.s
+    extractd asm --source kept.s > kept.bpf
+    printf '%s\n' 'stxdw [r10-8], r1' 'ldxw r0, [r10-8]' 'exit' > part.s
+    extractd asm --source part.s > part.bpf
     while IFS='|' read -r arguments status text; do
         try_case $status '*' '' "extractd trace $arguments > traced"
         if [ "$(cat traced)" = "$text" ]; then pass; else fail "trace $arguments" "should write: $text" "and writes: $(cat traced)"; fi
@@ -460,6 +464,9 @@ try_traces() {
 --program $all --data $county --line 400 --limit 2 01001|0|exit 1 score 0
 --program $all --data $county --line 0000000000000000400 --limit 9999999999999999999 01001|0|exit 1 score 0
 --limit 1 --line 2 --program bare.bpf 01001 --data $county|0|stuck place 0 cause 40
+--program kept.bpf --data $county --line 1 --limit 6 01001|0|exit 49 score 0
+--program kept.bpf --data $county --line 1 --limit 5 01001|0|running
+--program part.bpf --data $county --line 1 --limit 6 01001|0|stuck place 1 cause 45
 END
     while IFS='|' read -r arguments text; do
         try_case 2 0 "$text" "extractd trace --program $all --data $county $arguments 01001"

@@ -1,18 +1,20 @@
 -- What lanes of 64 bits each say of the marks that they stand for.
 use Rattle.std.proofs.Common.{◌≡◌, ◌↔◌, ℕ, zero, suc, ◌+◌, ◌-◌, ◌*◌, ◌/◌, ◌%◌, ◌^◌, ◌<◌, ◌≤◌, min, max, Bool, false, ◌&&◌, ◌||◌, ◌==◌, inl, inr, List, [], ◌∷◌, length, map, cond, not, w64, get_or, refl, ◌∙◌, sym, ap, subst, arith, bit_and, bit_or, zero-add, not-suc-le-zero, le_of_suc-le-suc}
 use Rattle.std.specs.Prelude.{IsTrue}
-use Rattle.std.specs.Int.{bit_at}
+use Rattle.std.specs.Int.{bit_at, bit_not}
 use Rattle.std.specs.Simd.Lanes.{zip2, mask_l, top}
-use Rattle.std.proofs.lemmas.Bool.{eq-eqb, ne_eqb, both_ways, cases_eq, cases_lt}
-use Rattle.std.proofs.lemmas.List.{ext_get_or, get_or_past}
+use Rattle.std.proofs.lemmas.Bool.{eq-eqb, ne_eqb, both_ways, cases_eq, cases_lt, and_parts, and_from, and_left}
+use Rattle.std.proofs.lemmas.List.{ext_get_or, get_or_past, get_or-map, length-map}
 use Rattle.std.proofs.lemmas.List.FromFn.{get_or-map-range_with_len, length-map-range_with_len}
 use Rattle.std.proofs.lemmas.Nat.{and_le_l}
-use Rattle.std.proofs.lemmas.Nat.Bits.{bit_at_and, bit_at_or, bit_at-lt, same_from_bits_below}
+use Rattle.std.proofs.lemmas.Nat.Bits.{bit_at_and, bit_at_or, bit_at_not, bit_at-lt, same_from_bits_below}
 use Rattle.std.proofs.lemmas.Simd.{get_or-zip2, length-zip2, mask_l-mod, tops_compared}
 use borrow.Author.Tests.{eqb-true}
-use Rattle.bpf_frame.specs.FrameMap.{Contents, IsProper, IsMarked, IsWithin, join}
+use Rattle.bpf_frame.specs.FrameMap.{Contents, IsMarked, IsWithin, join_marks, join}
 use Rattle.bpf_frame.specs.Lanes.{AreLanes, has_bit, marks_of}
-use Rattle.bpf_frame.specs.OrderLaws.{is_join, antisymmetric, join_is_proper, left_is_within_join, right_is_within_join, join_is_least, reflexive}
+use Rattle.bpf_frame.specs.OrderLaws.{is_join, same_tests, same_maps}
+use Rattle.bpf_kinds.specs.Kind.{join_kinds}
+use Rattle.bpf_kinds.specs.declared.kind.Kind.{Kind}
 
 bit_cases : (P : ℕ → Type 0) → P 0 → P 1 → (x : ℕ) → x < 2 → P x
 bit_cases P unset is_set zero below = unset
@@ -46,13 +48,6 @@ length-marks_of lanes = length-map-range_with_len (λ at. has_bit (get_or lanes 
 pub get_or-marks_of : (lanes : List ℕ) (at : ℕ) → at < 512 → get_or (marks_of lanes) at false ≡ has_bit (get_or lanes (at / 64) 0) (at % 64)
 unfolding marks_of
 get_or-marks_of lanes at within = get_or-map-range_with_len (λ at. has_bit (get_or lanes (at / 64) 0) (at % 64)) 0 512 at at false within (zero-add at)
-
--- what lanes stand for, as a clause sees it
-abbrev pub contents : List ℕ → Contents
-contents lanes = record { marks = marks_of lanes }
-
-pub contents_are_proper : (lanes : List ℕ) → IsProper (contents lanes)
-contents_are_proper lanes = record { count = length-marks_of lanes }
 
 -- there are no marks outside of the frame
 pub marked_within : (lanes : List ℕ) (at : ℕ) → IsMarked (marks_of lanes) at → at < 512
@@ -107,15 +102,57 @@ module _ (on_lanes : ℕ → ℕ → ℕ) where
 pub and_are_lanes : (xs ys : List ℕ) → AreLanes xs → AreLanes ys → AreLanes (zip2 bit_and xs ys)
 and_are_lanes = both_are_lanes bit_and (λ a b fits _. let small : bit_and a b < 2 ^ 64 = omega (arith, and_le_l a b) in small)
 
-contents-and : (xs ys : List ℕ) → AreLanes xs → AreLanes ys → contents (zip2 bit_and xs ys) ≡ join (contents xs) (contents ys)
-contents-and xs ys lanes others =
-    ap (λ (marks : List Bool). let map : Contents = record { marks = marks } in map)
-    (is_join (marks_of xs) (marks_of ys) (marks_of (zip2 bit_and xs ys)) 512 (length-marks_of xs) (length-marks_of ys) (length-marks_of (zip2 bit_and xs ys))
-    (λ at within. mark_of_both bit_and (λ a b. a && b) has_bit-and xs ys at lanes others within))
+pub marks_of-and : (xs ys : List ℕ) → AreLanes xs → AreLanes ys → marks_of (zip2 bit_and xs ys) ≡ join_marks (marks_of xs) (marks_of ys)
+marks_of-and xs ys lanes others =
+    is_join (marks_of xs) (marks_of ys) (marks_of (zip2 bit_and xs ys)) 512 (length-marks_of xs) (length-marks_of ys) (length-marks_of (zip2 bit_and xs ys))
+    (λ at within. mark_of_both bit_and (λ a b. a && b) has_bit-and xs ys at lanes others within)
 
-pub join_is : (xs ys : List ℕ) (map other : Contents) → AreLanes xs → AreLanes ys → contents xs ≡ map → contents ys ≡ other → contents (zip2 bit_and xs ys) ≡ join map other
-join_is xs ys map other lanes others seen other_seen =
-    contents-and xs ys lanes others ∙ ap (λ (m : Contents). join m (contents ys)) seen ∙ ap (join map) other_seen
+-- the lanes of all other marks
+not_are_lanes : (xs : List ℕ) → AreLanes xs → AreLanes (map (bit_not w64) xs)
+not_are_lanes xs lanes = record {
+  count = length-map xs (bit_not w64) ∙ lanes.count;
+  fits = λ lane d short.
+      let inside : lane < length xs = omega (arith, length-map xs (bit_not w64)) in
+      let below : ℕ → Type 0 = λ n. n < 2 ^ 64 in
+      subst below (sym (get_or-map (bit_not w64) xs lane 0 d inside)) (let small : bit_not w64 (get_or xs lane 0) < 2 ^ 64 = omega arith in small);
+}
+
+has_bit-not : (n i : ℕ) → n < 2 ^ 64 → i < 64 → has_bit (bit_not w64 n) i ≡ not (has_bit n i)
+has_bit-not n i fits within = ap (λ m. m == 1) (bit_at_not w64 n i fits within) ∙ bit_cases (λ x. (1 - x == 1) ≡ not (x == 1)) refl refl (bit_at n i) (bit_at-lt n i)
+
+mark_of_not : (xs : List ℕ) (at : ℕ) → AreLanes xs → at < 512 → get_or (marks_of (map (bit_not w64) xs)) at false ≡ not (get_or (marks_of xs) at false)
+mark_of_not xs at lanes within =
+    let inside : at / 64 < length xs = omega (arith, lanes.count) in
+    get_or-marks_of (map (bit_not w64) xs) at within
+    ∙ ap (λ (n : ℕ). has_bit n (at % 64)) (get_or-map (bit_not w64) xs (at / 64) 0 0 inside)
+    ∙ has_bit-not (get_or xs (at / 64) 0) (at % 64) (lanes.fits (at / 64) 0 inside) (omega arith)
+    ∙ sym (ap not (get_or-marks_of xs at within))
+
+-- the lanes without the marks of others
+pub without_are_lanes : (xs ys : List ℕ) → AreLanes xs → AreLanes ys → AreLanes (zip2 bit_and xs (map (bit_not w64) ys))
+without_are_lanes xs ys lanes others = and_are_lanes xs (map (bit_not w64) ys) lanes (not_are_lanes ys others)
+
+pub mark_without : (xs ys : List ℕ) (at : ℕ) → AreLanes xs → AreLanes ys → get_or (marks_of (zip2 bit_and xs (map (bit_not w64) ys))) at false ≡ (get_or (marks_of xs) at false && not (get_or (marks_of ys) at false))
+mark_without xs ys at lanes others =
+    let all : List ℕ = zip2 bit_and xs (map (bit_not w64) ys) in
+    elim (cases_lt at 512) [
+      | inl within ↦
+          mark_of_both bit_and (λ a b. a && b) has_bit-and xs (map (bit_not w64) ys) at lanes (not_are_lanes ys others) within
+          ∙ ap (λ (b : Bool). get_or (marks_of xs) at false && b) (mark_of_not ys at others within)
+      | inr beyond ↦
+          get_or_past (marks_of all) at false (let long : length (marks_of all) ≤ at = omega (arith, length-marks_of all) in long)
+          ∙ sym (and_left _ _ (get_or_past (marks_of xs) at false (let long : length (marks_of xs) ≤ at = omega (arith, length-marks_of xs) in long)))
+    ]
+
+-- what lanes and kinds stand for, as a clause sees it
+abbrev pub contents : List ℕ → List Kind → Contents
+contents lanes kinds = record { marks = marks_of lanes; kinds = kinds }
+
+pub join_is : (xs ys : List ℕ) (kinds others joined : List Kind) (map other : Contents) → AreLanes xs → AreLanes ys → joined ≡ join_kinds kinds others
+    → contents xs kinds ≡ map → contents ys others ≡ other → contents (zip2 bit_and xs ys) joined ≡ join map other
+join_is xs ys kinds others joined map other lanes other_lanes same seen other_seen =
+    same_maps (contents (zip2 bit_and xs ys) joined) (join (contents xs kinds) (contents ys others)) (marks_of-and xs ys lanes other_lanes) same
+    ∙ ap (λ (m : Contents). join m (contents ys others)) seen ∙ ap (join map) other_seen
 
 -- what a comparison of two vectors tests: no lane differs
 abbrev pub no_lane_differs : List ℕ → List ℕ → Bool
@@ -145,29 +182,33 @@ no_lane_differs-Decides xs ys count others =
       λ same. eq-eqb _ _ (mask ∙ ap (λ (zs : List ℕ). mask_l (zip2 (λ a b. not (a == b)) xs zs)) (sym same) ∙ mask_of_same xs),
     )
 
--- what lies within another map is what the join with it doesn't change in the other one
-within_from_and : (xs ys : List ℕ) → AreLanes xs → AreLanes ys → zip2 bit_and xs ys ≡ ys → IsWithin (contents xs) (contents ys)
-within_from_and xs ys lanes others same =
-    let least : Contents → Type 0 = λ map. IsWithin (contents xs) map in
-    subst least (sym (contents-and xs ys lanes others) ∙ ap contents same)
-    (left_is_within_join (contents xs) (contents ys) (contents_are_proper xs) (contents_are_proper ys))
+-- lanes have the marks of others where the marks of both are those of the others
+marked_from_and : (xs ys : List ℕ) (at : ℕ) → AreLanes xs → AreLanes ys → zip2 bit_and xs ys ≡ ys → IsMarked (marks_of ys) at → IsMarked (marks_of xs) at
+marked_from_and xs ys at lanes others same marked =
+    (and_parts _ _
+    (sym (mark_of_both bit_and (λ a b. a && b) has_bit-and xs ys at lanes others (marked_within ys at marked)) ∙ ap (λ (zs : List ℕ). get_or (marks_of zs) at false) same ∙ marked)).0
 
-and_from_within : (xs ys : List ℕ) → AreLanes xs → AreLanes ys → IsWithin (contents xs) (contents ys) → zip2 bit_and xs ys ≡ ys
-and_from_within xs ys lanes others within =
-    let x : Contents = contents xs in
-    let y : Contents = contents ys in
-    let same : join x y ≡ y =
-    antisymmetric (join x y) y (join_is_proper x y (contents_are_proper xs) (contents_are_proper ys)) (contents_are_proper ys)
-    (join_is_least x y y (contents_are_proper xs) (contents_are_proper ys) within (reflexive y))
-    (right_is_within_join x y (contents_are_proper xs) (contents_are_proper ys)) in
-    marks_of_injective _ _ (and_are_lanes xs ys lanes others) others (ap (λ (map : Contents). map.marks) (contents-and xs ys lanes others ∙ same))
+and_from_marked : (xs ys : List ℕ) → AreLanes xs → AreLanes ys → ((at : ℕ) → IsMarked (marks_of ys) at → IsMarked (marks_of xs) at) → zip2 bit_and xs ys ≡ ys
+and_from_marked xs ys lanes others has =
+    marks_of_injective _ _ (and_are_lanes xs ys lanes others) others
+    (ext_get_or false _ _ (length-marks_of _ ∙ sym (length-marks_of ys))
+    (λ at short.
+    let both = mark_of_both bit_and (λ a b. a && b) has_bit-and xs ys at lanes others (omega (arith, length-marks_of (zip2 bit_and xs ys))) in
+    same_tests _ _ (λ marked. both ∙ and_from _ _ (has at marked) marked) (λ marked. (and_parts _ _ (sym both ∙ marked)).1)))
 
--- what the comparison says of the maps that the lanes are seen as
-pub leq_is : (xs ys : List ℕ) (map other : Contents) → AreLanes xs → AreLanes ys → contents xs ≡ map → contents ys ≡ other → IsTrue (no_lane_differs (zip2 bit_and xs ys) ys) ↔ IsWithin map other
-leq_is xs ys map other lanes others seen other_seen =
-    let decides = no_lane_differs-Decides (zip2 bit_and xs ys) ys (and_are_lanes xs ys lanes others).count others.count in
+-- what the comparison says of the marks that the lanes stand for
+pub leq_is : (xs ys : List ℕ) → AreLanes xs → AreLanes ys → IsTrue (no_lane_differs (zip2 bit_and xs ys) ys) ↔ ((at : ℕ) → IsMarked (marks_of ys) at → IsMarked (marks_of xs) at)
+leq_is xs ys lanes others =
+    let decides = no_lane_differs-Decides (zip2 bit_and xs ys) ys (and_are_lanes xs ys lanes others).count others.count in (
+      λ is at marked. marked_from_and xs ys at lanes others (decides.0 is) marked,
+      λ has. decides.1 (and_from_marked xs ys lanes others has),
+    )
+
+-- what is so of the lanes and kinds of maps, and what is so of the maps
+pub within_seen : (xs ys : List ℕ) (kinds others : List Kind) (map other : Contents) → contents xs kinds ≡ map → contents ys others ≡ other → IsWithin (contents xs kinds) (contents ys others) ↔ IsWithin map other
+within_seen xs ys kinds others map other seen other_seen =
     let left : Contents → Type 0 = λ m. IsWithin m other in
-    let right : Contents → Type 0 = λ m. IsWithin (contents xs) m in (
-      λ is. subst left seen (subst right other_seen (within_from_and xs ys lanes others (decides.0 is))),
-      λ within. decides.1 (and_from_within xs ys lanes others (subst right (sym other_seen) (subst left (sym seen) within))),
+    let right : Contents → Type 0 = λ m. IsWithin (contents xs kinds) m in (
+      λ is. subst left seen (subst right other_seen is),
+      λ within. subst right (sym other_seen) (subst left (sym seen) within),
     )

@@ -1,5 +1,8 @@
+pub mod AdmitLemmas
 pub mod LaneLemmas
 pub mod MarkLemmas
+pub mod ProperLemmas
 pub mod RangeLemmas
 pub mod ReadLemmas
 pub mod RiseLemmas
+pub mod SlotLemmas

@@ -1,18 +1,18 @@
 -- Lanes in which the bytes of a range have their marks, and what they make of a map.
-use Rattle.std.proofs.Common.{◌≡◌, ◌↔◌, ℕ, ◌+◌, ◌-◌, ◌*◌, ◌/◌, ◌%◌, ◌^◌, ◌<◌, ◌≤◌, Bool, false, ◌||◌, ◌&&◌, ◌==◌, ◌⊎◌, inl, inr, List, length, get_or, set, replicate, refl, ◌∙◌, sym, ap, subst, arith, bit_and, bit_or}
+use Rattle.std.proofs.Common.{◌≡◌, ◌↔◌, ℕ, ◌+◌, ◌-◌, ◌*◌, ◌/◌, ◌%◌, ◌^◌, ◌<◌, ◌≤◌, Bool, true, false, not, ◌||◌, ◌&&◌, ◌==◌, ◌⊎◌, inl, inr, List, length, get_or, set, replicate, refl, ◌∙◌, sym, ap, subst, arith, bit_and, bit_or}
 use Rattle.std.specs.Prelude.{IsTrue}
 use Rattle.std.specs.Int.{bit_at}
 use Rattle.std.specs.Simd.Lanes.{zip2}
 use Rattle.std.proofs.lemmas.Bool.{both_ways, cases_eq, cases_lt, and_parts, and_from, and_right, cases_Bool, or_cases, or_left, or_right}
 use Rattle.std.proofs.lemmas.Grind.{elements}
-use Rattle.std.proofs.lemmas.List.{get_or_read, get_or-replicate, get_or-set_same, get_or-set_other, length-set}
+use Rattle.std.proofs.lemmas.List.{ext_get_or, get_or_read, get_or-replicate, get_or-set_same, get_or-set_other, length-set}
 use Rattle.std.proofs.lemmas.Nat.{or_lt, and_le_r}
 use Rattle.std.proofs.lemmas.Nat.Bits.{bit_at-zero, bit_at_mask_inside, bit_at_mask_below, bit_at_ones, bit_at_ones_above, ones_shl, ones_shr}
-use Rattle.bpf_frame.specs.FrameMap.{Contents, IsMarked, mark}
+use Rattle.bpf_frame.specs.FrameMap.{IsMarked, with_marks}
 use Rattle.bpf_frame.specs.Lanes.{AreLanes, has_bit, marks_of}
-use Rattle.bpf_frame.specs.OrderLaws.{antisymmetric}
-use Rattle.bpf_frame.proofs.MarkLemmas.{marked_inside, mark_keeps, marked_before_or_inside, length-mark}
-use Rattle.bpf_frame.proofs.LaneLemmas.{contents, contents_are_proper, length-marks_of, get_or-marks_of, marked_within, has_bit-and, has_bit-or, same_from_bits, mark_of_bit, both_are_lanes, mark_of_both}
+use Rattle.bpf_frame.specs.OrderLaws.{same_tests}
+use Rattle.bpf_frame.proofs.MarkLemmas.{marked_inside, mark_keeps, marked_before_or_inside, length-with_marks, get_or-with_marks, get_or-other_marks}
+use Rattle.bpf_frame.proofs.LaneLemmas.{length-marks_of, get_or-marks_of, marked_within, has_bit-and, has_bit-or, same_from_bits, mark_of_bit, both_are_lanes, mark_of_both}
 
 -- the bits that are left of one place and right of another
 shifted_left : (below bit : ℕ) → below < 64 → bit < 64 → IsTrue (has_bit ((2 ^ 64 - 1) * 2 ^ below % 2 ^ 64) bit) ↔ (below ≤ bit)
@@ -107,26 +107,41 @@ marked_or_right : (xs ys : List ℕ) (at : ℕ) → AreLanes xs → AreLanes ys 
 marked_or_right xs ys at lanes others marked = mark_of_both bit_or (λ a b. a || b) has_bit-or xs ys at lanes others (marked_within _ at marked) ∙ or_right _ _ marked
 
 pub marks_of-or : (lanes range : List ℕ) (from len : ℕ) → AreLanes lanes → AreLanes range → from + len ≤ 512
-    → ((at : ℕ) → IsMarked (marks_of range) at ↔ ((from ≤ at) × (at < from + len))) → marks_of (zip2 bit_or lanes range) ≡ mark (marks_of lanes) from len
+    → ((at : ℕ) → IsMarked (marks_of range) at ↔ ((from ≤ at) × (at < from + len))) → marks_of (zip2 bit_or lanes range) ≡ with_marks true (marks_of lanes) from len
 marks_of-or lanes range from len are_lanes others short inside =
     let within : from + len ≤ length (marks_of lanes) = omega (arith, length-marks_of lanes) in
-    let after : List Bool = mark (marks_of lanes) from len in
-    ap (λ (map : Contents). map.marks)
-    (antisymmetric (contents (zip2 bit_or lanes range)) (record { marks = after }) (contents_are_proper _) (record { count = length-mark (marks_of lanes) from len within ∙ length-marks_of lanes })
-    (record {
-      marks = λ at marked.
-          elim (marked_before_or_inside (marks_of lanes) from len at within marked) [
-            | inl old ↦ marked_or_left lanes range at are_lanes others old
-            | inr new ↦ marked_or_right lanes range at are_lanes others ((inside at).1 new)
-          ];
-    })
-    (record {
-      marks = λ at marked.
-          elim (marked_or_cases lanes range at are_lanes others marked) [
-            | inl old ↦ mark_keeps (marks_of lanes) from len at within old
-            | inr new ↦ let place = (inside at).0 new in marked_inside (marks_of lanes) from len at within place.0 place.1
-          ];
-    }))
+    ext_get_or false _ _ (length-marks_of _ ∙ sym (length-with_marks true (marks_of lanes) from len within ∙ length-marks_of lanes))
+    (λ at _. same_tests _ _
+    (λ marked.
+    elim (marked_before_or_inside (marks_of lanes) from len at within marked) [
+      | inl old ↦ marked_or_left lanes range at are_lanes others old
+      | inr new ↦ marked_or_right lanes range at are_lanes others ((inside at).1 new)
+    ])
+    (λ marked.
+    elim (marked_or_cases lanes range at are_lanes others marked) [
+      | inl old ↦ mark_keeps (marks_of lanes) from len at within old
+      | inr new ↦ let place = (inside at).0 new in marked_inside (marks_of lanes) from len at within place.0 place.1
+    ]))
+
+-- the marks of a map without those of a range
+pub marks_of-without : (lanes range without : List ℕ) (from len : ℕ) → from + len ≤ 512 → ((at : ℕ) → IsMarked (marks_of range) at ↔ ((from ≤ at) × (at < from + len)))
+    → ((at : ℕ) → get_or (marks_of without) at false ≡ (get_or (marks_of lanes) at false && not (get_or (marks_of range) at false))) → marks_of without ≡ with_marks false (marks_of lanes) from len
+marks_of-without lanes range without from len short inside is =
+    let within : from + len ≤ length (marks_of lanes) = omega (arith, length-marks_of lanes) in
+    ext_get_or false _ _ (length-marks_of without ∙ sym (length-with_marks false (marks_of lanes) from len within ∙ length-marks_of lanes))
+    (λ at _.
+    is at ∙ elim (cases_Bool (get_or (marks_of range) at false)) [
+      | inl taken ↦
+          let place = (inside at).0 taken in
+          and_right _ _ (ap not taken) ∙ sym (get_or-with_marks false (marks_of lanes) from len at within place.0 place.1)
+      | inr kept ↦
+          ap (λ (other : Bool). get_or (marks_of lanes) at false && not other) kept ∙ and_true _
+          ∙ sym (get_or-other_marks false (marks_of lanes) from len at within (λ above below. both_ways _ kept ((inside at).1 (above, below))))
+    ])
+  where
+    and_true : (mark : Bool) → (mark && true) ≡ mark
+    and_true true = refl
+    and_true false = refl
 
 -- all bytes of a range before a lane have their marks
 pub record HasMarks (lanes : List ℕ) (from end lane : ℕ) : Type 0 where

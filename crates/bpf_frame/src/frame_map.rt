@@ -1,24 +1,28 @@
-//! Which bytes of a program's frame are known to be written.
-ghost use Rattle.std.specs.Prelude.{◌≡◌, ◌≤◌, ◌<◌, ◌+◌, ◌*◌, ◌↔◌, ℕ, Bool, IsTrue};
+//! What is known of a program's frame: which bytes are written, and what its slots hold.
+ghost use Rattle.std.specs.Prelude.{◌≡◌, ◌≤◌, ◌<◌, ◌+◌, ◌*◌, ◌↔◌, ◌&&◌, ℕ, Bool, false, not, IsTrue, slice_index_or};
 ghost use Rattle.bpf_frame.specs.FrameMap as map;
-ghost use Rattle.bpf_frame.specs.FrameMap.{AllWritten, IsMarked, IsProper, all_written, mark, unwritten};
-ghost use Rattle.bpf_frame.specs.Lanes.{has_bit};
+ghost use Rattle.bpf_frame.specs.FrameMap.{AllWritten, IsMarked, IsProper, all_written, fit_marks, mark, set_slot, slot_kind, touch, unwritten, with_marks};
+ghost use Rattle.bpf_frame.specs.Lanes.{AreLanes, has_bit, marks_of};
 ghost use Rattle.bpf_frame.specs.OrderLaws as laws;
+ghost use Rattle.bpf_insn.specs.Frame.{FrameContents, clear_slots};
+ghost use Rattle.bpf_kinds.specs.Kind as meaning;
+ghost use Rattle.bpf_kinds.specs.declared.kind.Kind.TheVariants.{Nothing};
 
-use bpf_insn::FRAME_LENGTH;
-use bpf_kinds::Order;
+use bpf_insn::{FRAME_LENGTH, SLOT_LENGTH, SLOTS};
+use bpf_kinds::{Kind, Order};
 use std::marker::Model;
 use std::simd::u64x8;
 
 /// How many bytes have their marks in one lane.
 const LANE_BITS: usize = 64;
 
-/// Which bytes of a program's frame are known to be written, by their offset from 0. Contracts see it as a record with the field `marks`, a
-/// list of truth values.
+/// Which bytes of a program's frame are known to be written, by their offset from 0, and the kind of what each of its slots holds. Contracts
+/// see it as a record with the fields `marks`, a list of truth values, and `kinds`.
 #[derive(Drop)]
 pub struct FrameMap {
     // The mark of the byte at an offset is the bit offset mod 64 of the lane offset div 64.
     lanes: u64x8,
+    kinds: [Kind; SLOTS],
 }
 
 impl Model for FrameMap {
@@ -27,46 +31,88 @@ impl Model for FrameMap {
 
     ghost Value = { Contents };
 
-    ghost view = { λ map. record { marks = marks_of map.lanes } };
+    ghost view = { λ map. record { marks = marks_of map.lanes; kinds = map.kinds } };
 
     ghost invariant = { λ map. AreLanes map.lanes };
 }
 
 impl FrameMap {
-    /// The map of a frame of which no byte is written.
+    /// The map of a frame of which nothing is known.
     pub fn unwritten() -> Self
         ensures value { result ≡ unwritten }
         ensures proper { IsProper result }
     {
         FrameMap {
             lanes: u64x8::splat(0),
+            kinds: [Kind::Nothing; SLOTS],
         }
     }
 
     /// The same once more.
     pub fn duplicate(&self) -> Self
-        ensures value { result ≡ self.now }
-        ensures proper { IsProper result }
+        ensures { result ≡ self.now }
     {
-        FrameMap { lanes: self.lanes }
+        FrameMap {
+            lanes: self.lanes,
+            kinds: self.kinds,
+        }
     }
 
-    /// Marks so many bytes from an offset on as written, and no others.
+    /// Marks so many bytes from an offset on as written, and no others. Of what their slots hold nothing is known then.
     pub fn mark(&mut self, from: usize, len: usize)
-        requires { from + len ≤ FRAME_LENGTH }
-        ensures value { self.new.marks ≡ mark self.old.marks from len }
+        requires proper { IsProper self.old }
+        requires within { from + len ≤ FRAME_LENGTH }
+        ensures value { self.new ≡ mark self.old from len }
         ensures proper { IsProper self.new }
     {
-        let range = FrameMap::of_range(from, from + len);
-        self.lanes |= range.lanes;
+        if len > 0 {
+            clear(&mut self.kinds, from, from + len - 1);
+            self.lanes |= lanes_of_range(from, from + len);
+        }
     }
 
-    /// Keeps the marks that the other map has too.
+    /// Forgets what the slots hold that have a byte from an offset to another, both included.
+    pub fn touch(&mut self, from: usize, to: usize)
+        requires proper { IsProper self.old }
+        requires ordered { from ≤ to }
+        requires within { to < FRAME_LENGTH }
+        ensures value { self.new ≡ touch self.old from to }
+        ensures proper { IsProper self.new }
+    {
+        clear(&mut self.kinds, from, to);
+    }
+
+    /// What a slot holds.
+    pub fn slot(&self, slot: usize) -> Kind
+        requires proper { IsProper self.now }
+        requires within { slot < SLOTS }
+        ensures value { result ≡ slot_kind self.now slot }
+        ensures proper { meaning.IsProper result }
+    {
+        self.kinds[slot]
+    }
+
+    /// Says what a slot holds from now on. The bytes of a number are written, and those of a pointer aren't.
+    pub fn set_slot(&mut self, slot: usize, kind: Kind)
+        requires proper { IsProper self.old }
+        requires within { slot < SLOTS }
+        requires kind { meaning.IsProper kind }
+        ensures value { self.new ≡ set_slot self.old slot kind }
+        ensures proper { IsProper self.new }
+    {
+        self.lanes = fit_lanes(self.lanes, slot, kind);
+        self.kinds[slot] = kind;
+    }
+
+    /// Keeps what the other map says too.
     pub fn join_with(&mut self, other: &FrameMap)
+        requires proper { IsProper self.old }
+        requires other { IsProper other.now }
         ensures value { self.new ≡ map.join self.old other.now }
         ensures proper { IsProper self.new }
     {
         self.lanes &= other.lanes;
+        join_each(&mut self.kinds, &other.kinds);
     }
 
     /// Whether each byte from an offset to another, both included, is known to be written.
@@ -84,21 +130,20 @@ impl FrameMap {
         }
         true
     }
+}
 
-    /// The map of a frame of which just the bytes from an offset on and before another are written.
-    fn of_range(from: usize, end: usize) -> Self
-        requires ordered { from ≤ end }
-        requires within { end ≤ FRAME_LENGTH }
-        ensures { (at : ℕ) → IsMarked result.marks at ↔ ((from ≤ at) × (at < end)) }
-    {
-        let mut lanes = [0; 8];
-        for lane in from / LANE_BITS..end.div_ceil(LANE_BITS) {
-            lanes[lane] = bits_within(lane, from, end);
-        }
-        FrameMap {
-            lanes: u64x8::from_array(lanes),
-        }
+/// The lanes in which just the bytes from an offset on and before another have their marks.
+fn lanes_of_range(from: usize, end: usize) -> u64x8
+    requires ordered { from ≤ end }
+    requires within { end ≤ FRAME_LENGTH }
+    ensures lanes { AreLanes result }
+    ensures marks { (at : ℕ) → IsMarked (marks_of result) at ↔ ((from ≤ at) × (at < end)) }
+{
+    let mut lanes = [0; 8];
+    for lane in from / LANE_BITS..end.div_ceil(LANE_BITS) {
+        lanes[lane] = bits_within(lane, from, end);
     }
+    u64x8::from_array(lanes)
 }
 
 /// The bits of a lane that stand for bytes from an offset on and before another. The lane ends behind the first offset and begins before the
@@ -116,8 +161,65 @@ fn bits_within(lane: usize, from: usize, end: usize) -> u64
     (u64::MAX << below) & (u64::MAX >> above)
 }
 
+/// The lanes with the marks of a slot's bytes as they fit what it holds.
+fn fit_lanes(lanes: u64x8, slot: usize, kind: Kind) -> u64x8
+    requires lanes { AreLanes lanes }
+    requires within { slot < SLOTS }
+    ensures lanes { AreLanes result }
+    ensures marks { marks_of result ≡ fit_marks kind (marks_of lanes) slot }
+{
+    let first = SLOT_LENGTH * slot;
+    let range = lanes_of_range(first, first + SLOT_LENGTH);
+    match kind {
+        Kind::Number(_) => lanes | range,
+        Kind::Record(_) | Kind::Frame(_) => without(lanes, range),
+        Kind::Nothing => lanes,
+    }
+}
+
+/// The lanes with the marks that others have taken away.
+fn without(lanes: u64x8, others: u64x8) -> u64x8
+    requires lanes { AreLanes lanes }
+    requires others { AreLanes others }
+    ensures lanes { AreLanes result }
+    ensures marks { (at : ℕ) → slice_index_or (marks_of result) at false
+        ≡ (slice_index_or (marks_of lanes) at false && not (slice_index_or (marks_of others) at false)) }
+{
+    lanes & !others
+}
+
+/// Forgets what the slots hold that have a byte from an offset to another, both included.
+fn clear(kinds: &mut [Kind; SLOTS], from: usize, to: usize)
+    requires ordered { from ≤ to }
+    requires within { to < FRAME_LENGTH }
+    ensures { kinds.new ≡ clear_slots Nothing kinds.old from to }
+{
+    kinds[from / SLOT_LENGTH..to / SLOT_LENGTH + 1].fill(Kind::Nothing);
+}
+
+/// Joins each kind with the other one in its place.
+fn join_each(kinds: &mut [Kind; SLOTS], others: &[Kind; SLOTS])
+    ensures { kinds.new ≡ meaning.join_kinds kinds.old others.now }
+{
+    for slot in 0..SLOTS {
+        kinds[slot] = kinds[slot].join(&others[slot]);
+    }
+}
+
+/// Whether each kind says as much as the other one in its place, or more.
+fn are_within(kinds: &[Kind; SLOTS], others: &[Kind; SLOTS]) -> bool
+    ensures { IsTrue result ↔ ((slot : ℕ) → meaning.IsWithin (slice_index_or kinds.now slot Nothing) (slice_index_or others.now slot Nothing)) }
+{
+    for slot in 0..SLOTS {
+        if !kinds[slot].leq(&others[slot]) {
+            return false;
+        }
+    }
+    true
+}
+
 impl Order for FrameMap {
-    ghost Element = { ℕ → Bool };
+    ghost Element = { FrameContents };
 
     ghost IsProper = { map.IsProper };
 
@@ -141,15 +243,18 @@ impl Order for FrameMap {
 
     ghost join_is_least = { λ x y z proper_x proper_y _. laws.join_is_least x y z proper_x proper_y };
 
-    ghost admits_more = { λ x y is_written _ _. laws.admits_more x y is_written };
+    ghost admits_more = { λ x y frame _ _. laws.admits_more x y frame };
 
     fn leq(&self, other: &FrameMap) -> bool {
-        self.lanes & other.lanes == other.lanes
+        self.lanes & other.lanes == other.lanes && are_within(&self.kinds, &other.kinds)
     }
 
     fn join(&self, other: &FrameMap) -> FrameMap {
+        let mut kinds = self.kinds;
+        join_each(&mut kinds, &other.kinds);
         FrameMap {
             lanes: self.lanes & other.lanes,
+            kinds,
         }
     }
 }

@@ -1,4 +1,5 @@
-//! Which bytes of a program's frame are known to be written before it runs, and in what order such knowledge stands.
+//! What is known of a program's frame before it runs, which of its bytes are written and what its slots hold, and in what order such knowledge
+//! stands.
 #![tactic(auto)]
 
 mod frame_map;

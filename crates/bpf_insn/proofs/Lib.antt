@@ -6,6 +6,7 @@ pub mod SpellingLemmas
 pub mod CodeLemmas
 pub mod PlaceLemmas
 pub mod SpanLemmas
+pub mod SlotLemmas
 pub mod DecoderLemmas
 pub mod EncoderLemmas
 pub mod ArithmeticLemmas

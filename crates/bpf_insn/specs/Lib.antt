@@ -8,6 +8,7 @@ pub mod Code
 pub mod Jump
 pub mod Pointer
 pub mod Memory
+pub mod Frame
 pub mod Table
 pub mod Arithmetic
 pub mod Refusal

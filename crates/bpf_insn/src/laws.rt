@@ -1,11 +1,12 @@
 //! What holds of the definitions themselves. The functions do nothing: each one's contract is the
 //! law.
-ghost use Rattle.std.specs.Prelude.{◌≡◌, ◌≢◌, ◌<◌, ℕ, List, All};
+ghost use Rattle.std.specs.Prelude.{◌≡◌, ◌≢◌, ◌<◌, ◌*◌, ◌↔◌, ℕ, List, All, Some};
 ghost use Rattle.bpf_insn.specs.Code.{IsCodeOf, IsFirstFault};
+ghost use Rattle.bpf_insn.specs.Frame.{slot_at};
 ghost use Rattle.bpf_insn.specs.declared.code.TheConstants.{WORD_LIMIT};
 ghost use Rattle.bpf_insn.specs.declared.fault.CodeFault.{CodeFault};
 ghost use Rattle.bpf_insn.specs.declared.instruction.Insn.{Insn};
-ghost use Rattle.bpf_insn.specs.declared.memory.TheConstants.{FRAME_LENGTH};
+ghost use Rattle.bpf_insn.specs.declared.memory.TheConstants.{FRAME_LENGTH, SLOT_LENGTH, SLOTS};
 
 /// Bytes have at most one code.
 pub fn one_code()
@@ -23,9 +24,16 @@ pub fn word_limit()
     ensures { WORD_LIMIT ≡ 4096 }
 {}
 
-/// The frame has 512 bytes.
+/// The frame has 512 bytes, in 64 slots of eight.
 pub fn frame_length()
-    ensures { FRAME_LENGTH ≡ 512 }
+    ensures bytes { FRAME_LENGTH ≡ 512 }
+    ensures slots { SLOTS ≡ 64 }
+    ensures slot { SLOT_LENGTH ≡ 8 }
+{}
+
+/// So many bytes from an offset on are a slot where they are as many as a slot has, and begin where it does: at an offset divisible by eight.
+pub fn slots_are_whole()
+    ensures { (at count slot : ℕ) → (slot_at at count ≡ Some slot) ↔ ((count ≡ SLOT_LENGTH) × (at ≡ SLOT_LENGTH * slot)) }
 {}
 
 /// Bytes have at most one first fault, apart from want of memory, which depends on more than the

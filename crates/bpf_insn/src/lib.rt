@@ -25,7 +25,7 @@ pub use instruction::{
     ByteOrder, Condition, Insn, JumpDistance, LoadFormat, Operation, SignExtension, Source,
     StoreSize, SwapWidth, Width,
 };
-pub use memory::{FRAME_LENGTH, load_length, store_length};
+pub use memory::{FRAME_LENGTH, SLOT_LENGTH, SLOTS, load_length, slot_at, store_length};
 pub use refusal::{memory_name, place_line, refusal_line, refusal_line_at};
 pub use register::{Register, WritableRegister};
 pub use value::{Area, Pointer, Value};

@@ -1,11 +1,18 @@
-//! Memory: how many bytes the frame has, and how many loads and stores reach.
+//! Memory: how many bytes and slots the frame has, and how many bytes loads and stores reach.
 ghost use Rattle.std.specs.Prelude.{◌≡◌, ◌≤◌};
+ghost use Rattle.bpf_insn.specs.Frame.{slot_at};
 ghost use Rattle.bpf_insn.specs.Memory.{load_length, store_length};
 
 use crate::instruction::{LoadFormat, StoreSize};
 
 /// How many bytes the frame has, the program's own memory. Register 10 starts behind its last.
 pub const FRAME_LENGTH: usize = 512;
+
+/// How many bytes a slot of the frame has. A slot begins at an offset divisible by it, and may hold a pointer.
+pub const SLOT_LENGTH: usize = 8;
+
+/// How many slots the frame has.
+pub const SLOTS: usize = FRAME_LENGTH / SLOT_LENGTH;
 
 /// How many bytes a load reads (RFC 9669, sections 5.1 and 5.2).
 pub fn load_length(format: LoadFormat) -> usize
@@ -31,4 +38,11 @@ pub fn store_length(size: StoreSize) -> usize
         StoreSize::Word => 4,
         StoreSize::DoubleWord => 8,
     }
+}
+
+/// The slot of the frame that so many bytes from an offset on are, if they are the whole of one.
+pub fn slot_at(at: usize, count: usize) -> Option<usize>
+    ensures { result ≡ slot_at at count }
+{
+    (count == SLOT_LENGTH && at % SLOT_LENGTH == 0).then_some(at / SLOT_LENGTH)
 }

@@ -1,13 +1,13 @@
--- The order of kinds: the laws that the trait has, for those who speak of definitions alone.
+-- The order of kinds: the laws that the trait has, for those who speak of definitions alone. Not all of them need proper kinds.
 use Rattle.std.proofs.Common.{◌≡◌, rules}
 use Rattle.bpf_insn.specs.declared.value.Value.{Value}
 use Rattle.bpf_kinds.specs.Kind.{IsProper, Admits, IsWithin, join}
 use Rattle.bpf_kinds.specs.declared.kind.Kind.{Kind}
 
-pub reflexive : (x : Kind) → IsProper x → IsWithin x x
+pub reflexive : (x : Kind) → IsWithin x x
 reflexive = search rules
 
-pub transitive : (x y z : Kind) → IsProper x → IsProper y → IsProper z → IsWithin x y → IsWithin y z → IsWithin x z
+pub transitive : (x y z : Kind) → IsWithin x y → IsWithin y z → IsWithin x z
 transitive = search rules
 
 pub antisymmetric : (x y : Kind) → IsProper x → IsProper y → IsWithin x y → IsWithin y x → x ≡ y
@@ -22,18 +22,18 @@ left-within_join = search rules
 pub right-within_join : (x y : Kind) → IsProper x → IsProper y → IsWithin y (join x y)
 right-within_join = search rules
 
-pub join-least : (x y z : Kind) → IsProper x → IsProper y → IsProper z → IsWithin x z → IsWithin y z → IsWithin (join x y) z
+pub join-least : (x y z : Kind) → IsWithin x z → IsWithin y z → IsWithin (join x y) z
 join-least = search rules
 
-pub admits_more : (x y : Kind) (held : Value) → IsProper x → IsProper y → IsWithin x y → Admits x held → Admits y held
+pub admits_more : (x y : Kind) (held : Value) → IsWithin x y → Admits x held → Admits y held
 admits_more = search rules
 
 -- what one of two kinds admits, the least kind round both admits
 
 pub join-admits_left : (x y : Kind) (held : Value) → IsProper x → IsProper y → Admits x held → Admits (join x y) held
 join-admits_left x y held x_proper y_proper admitted =
-    admits_more x (join x y) held x_proper (join-proper x y x_proper y_proper) (left-within_join x y x_proper y_proper) admitted
+    admits_more x (join x y) held (left-within_join x y x_proper y_proper) admitted
 
 pub join-admits_right : (x y : Kind) (held : Value) → IsProper x → IsProper y → Admits y held → Admits (join x y) held
 join-admits_right x y held x_proper y_proper admitted =
-    admits_more y (join x y) held y_proper (join-proper x y x_proper y_proper) (right-within_join x y x_proper y_proper) admitted
+    admits_more y (join x y) held (right-within_join x y x_proper y_proper) admitted

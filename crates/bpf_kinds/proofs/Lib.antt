@@ -14,3 +14,4 @@ pub mod NarrowingRises
 mod MovingLemmas
 pub mod MovingLaws
 pub mod MovingRises
+pub mod ListLemmas

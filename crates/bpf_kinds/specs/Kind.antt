@@ -1,6 +1,6 @@
 -- Kinds: what is known of a value. A number lies in an interval, a pointer into one of the areas has its offset in one, and of any other
 -- value nothing is known, not even that there is one.
-use Rattle.std.specs.Prelude.{◌≡◌}
+use Rattle.std.specs.Prelude.{◌≡◌, List, [], ◌∷◌}
 use Rattle.bpf_insn.specs.declared.value.Area.TheVariants as area
 use Rattle.bpf_insn.specs.declared.value.Value.{Value}
 use Rattle.bpf_insn.specs.declared.value.Value.TheVariants as value
@@ -38,3 +38,8 @@ join (Number x) (Number y) = Number (interval.join x y)
 join (Record x) (Record y) = Record (offsets.join x y)
 join (Frame x) (Frame y) = Frame (offsets.join x y)
 join kind other = Nothing
+
+-- the least kinds round those of two lists, one by one
+abbrev pub join_kinds : List Kind → List Kind → List Kind
+join_kinds (x ∷ xs) (y ∷ ys) = join x y ∷ join_kinds xs ys
+join_kinds xs ys = []

@@ -7,7 +7,7 @@ use crate::interval::Interval;
 use crate::offsets::Offsets;
 use crate::order::Order;
 
-/// What is known of a register's value.
+/// What is known of the value that a register or a slot of the frame holds.
 #[derive(Clone, Copy, PartialEq, Eq)]
 pub enum Kind {
     /// A number of the interval.
@@ -16,7 +16,7 @@ pub enum Kind {
     Record(Offsets),
     /// A pointer into the frame, at one of the offsets.
     Frame(Offsets),
-    /// Anything, also an empty register.
+    /// Anything, also nothing at all.
     Nothing,
 }
 

@@ -1,6 +1,7 @@
 mod LoadLemmas
 mod MachineLemmas
 mod WordArithmetic
+mod WordSlots
 mod WordMemory
 mod WordCalls
 mod WordWalk

@@ -1,17 +1,13 @@
 -- The words with which a program starts hold the state with which it starts.
-use Rattle.std.proofs.Common.{◌≡◌, ℕ, zero, suc, List, length, replicate, get_or, refl, sym, ◌∙◌, subst, arith}
+use Rattle.std.proofs.Common.{◌≡◌, ℕ, zero, suc, List, length, get_or, refl, ◌∙◌, arith}
 use Rattle.std.specs.Prelude.{slice_set}
 use Rattle.std.proofs.Math.ListN.{length-set}
 use Rattle.std.proofs.lemmas.Grind.{common_steps}
-use Rattle.bpf_insn.specs.declared.memory.TheConstants.{FRAME_LENGTH}
-use Rattle.bpf_meaning.specs.Memory.{FrameByte, Unwritten}
+use Rattle.bpf_insn.specs.declared.memory.TheConstants.{FRAME_LENGTH, SLOTS}
 use Rattle.bpf_meaning.specs.State.{register_value, start}
-use Rattle.bpf_machine.specs.Words.{Holds, IsByteOf, IsWordOf}
-
-nothing_written : (count at : ℕ) → get_or (replicate count Unwritten) at Unwritten ≡ Unwritten
-nothing_written zero at = refl
-nothing_written (suc count) zero = refl
-nothing_written (suc count) (suc at) = nothing_written count at
+use Rattle.bpf_machine.specs.Words.{Holds, IsWordOf}
+use Rattle.bpf_machine.proofs.WordMemory.{unwritten-stands}
+use Rattle.bpf_machine.proofs.WordSlots.{none-stands}
 
 first_set : (words : List ℕ) → length words ≡ 11 → get_or (slice_set (slice_set words 1 0) 10 512) 1 0 ≡ 0
 first_set words count = grind (arith, common_steps)
@@ -38,6 +34,7 @@ start_held words frame count whole = record {
   count = length-set (slice_set words 1 0) 10 512 ∙ length-set words 1 0 ∙ count;
   registers = registers_hold words count;
   whole = whole;
-  frame = λ at. subst (λ (byte : FrameByte). IsByteOf byte (get_or frame at 0)) (sym (nothing_written FRAME_LENGTH at)) tt;
+  frame = unwritten-stands FRAME_LENGTH frame;
+  slots = none-stands SLOTS frame;
   score = refl;
 }

@@ -101,7 +101,7 @@ operate_held operation width v w m n left right = tt
 
 -- moves
 
-offset_kept : (offset : ℤ) (word : ℕ) → word ≡ cast_unsigned w64 offset → IsTrue (is_offset offset) → word % 2 ^ 64 ≡ cast_unsigned w64 offset
+pub offset_kept : (offset : ℤ) (word : ℕ) → word ≡ cast_unsigned w64 offset → IsTrue (is_offset offset) → word % 2 ^ 64 ≡ cast_unsigned w64 offset
 offset_kept (pos a) word is near = grind (arith, ints, nat_tests)
 offset_kept (negsuc a) word is near = grind (arith, ints, nat_tests)
 

@@ -1,11 +1,11 @@
 -- Calls of helper functions on words stand for those on values.
-use Rattle.std.proofs.Common.{◌≡◌, ℕ, zero, suc, ◌+◌, ◌^◌, ◌<◌, ℤ, Bool, true, false, List, [], ◌∷◌, length, map, take, drop, get_or, Some, Result, Ok, Err, if◌then◌else◌, refl, sym, ap, ◌∙◌, subst, arith}
+use Rattle.std.proofs.Common.{◌≡◌, ℕ, zero, suc, ◌+◌, ◌^◌, ◌<◌, ℤ, Bool, true, false, List, [], ◌∷◌, length, take, drop, get_or, Some, Result, Ok, Err, if◌then◌else◌, refl, sym, ap, ◌∙◌, subst, arith}
 use Rattle.std.specs.Prelude.{slice_set}
 use Rattle.std.specs.Int.{cast_unsigned, w64}
 use Rattle.std.proofs.Math.ListN.{length-set}
 use Rattle.std.proofs.lemmas.Bool.{false≢true}
 use Rattle.std.proofs.lemmas.List.{get_or-drop, length-drop}
-use Rattle.bpf_insn.specs.declared.memory.TheConstants.{FRAME_LENGTH}
+use Rattle.bpf_insn.specs.declared.memory.TheConstants.{FRAME_LENGTH, SLOTS}
 use Rattle.bpf_insn.specs.declared.value.Area.{Area}
 use Rattle.bpf_insn.specs.declared.value.Area.TheVariants as area
 use Rattle.bpf_insn.specs.declared.value.Value.{Value}
@@ -24,7 +24,8 @@ use Rattle.bpf_helpers.proofs.WriteLemmas.{length-write, write-nothing}
 use Rattle.tl_segments.specs.Segment.{Contents, IsSegment}
 use Rattle.bpf_meaning.specs.Checks.{◌>>=◌, Sound}
 use Rattle.bpf_meaning.specs.Effect as effect
-use Rattle.bpf_meaning.specs.Memory.{FrameByte, Unwritten, Byte, all_written, written_bytes}
+use Rattle.bpf_insn.specs.Frame.{FrameByte, FrameContents, Unwritten, Byte}
+use Rattle.bpf_meaning.specs.Memory.{all_written, write_bytes, written_bytes}
 use Rattle.bpf_meaning.specs.State.{IsWhole}
 use Rattle.bpf_meaning.specs.Step as step
 use Rattle.bpf_meaning.specs.declared.cause.Cause.{Cause}
@@ -34,6 +35,7 @@ use Rattle.bpf_meaning.specs.declared.state.State.{State}
 use Rattle.bpf_meaning.proofs.CallLemmas.{IfPasses, called_can_be_made, then_keeps}
 use Rattle.bpf_machine.specs.Words.{Holds, IsWordOf, Words, argument_word, argument_words, call_helper, called, words_after}
 use Rattle.bpf_machine.proofs.WordMemory.{HoldsChange, StandFor, write-stands}
+use Rattle.bpf_machine.proofs.WordSlots.{SlotsStandFor, overwrite-stands}
 
 -- arguments
 
@@ -113,24 +115,29 @@ bytes_read_held memory bytes frame_use.Reads arguments stand same all = part_rea
 
 -- what a call writes: it lies within the frame, if it's anything
 
-record HoldFrame (memory : List FrameByte) (bytes : List ℕ) : Type 0 where
+record HoldFrame (frame : FrameContents) (bytes : List ℕ) : Type 0 where
   whole : length bytes ≡ FRAME_LENGTH
-  stand : StandFor memory bytes
+  stand : StandFor frame.bytes bytes
+  slots : SlotsStandFor frame.slots bytes
 
-nothing_written : (memory : List FrameByte) (bytes new : List ℕ) (at : ℕ) → HoldFrame memory bytes → length new ≡ 0 → HoldFrame (write memory at (map Byte new)) (write bytes at new)
-nothing_written memory bytes [] at hold none =
-    subst (λ (m : List FrameByte). HoldFrame m (write bytes at [])) (sym (write-nothing memory at)) (subst (HoldFrame memory) (sym (write-nothing bytes at)) hold)
-nothing_written memory bytes (byte ∷ new) at hold none = absurd (omega arith)
+nothing_written : (frame : FrameContents) (bytes new : List ℕ) (at : ℕ) → HoldFrame frame bytes → length new ≡ 0 → HoldFrame (write_bytes frame at new) (write bytes at new)
+nothing_written frame bytes [] at hold none = record {
+  whole = ap length (write-nothing bytes at) ∙ hold.whole;
+  stand = subst (λ (m : List FrameByte). StandFor m (write bytes at [])) (sym (write-nothing frame.bytes at)) (subst (StandFor frame.bytes) (sym (write-nothing bytes at)) hold.stand);
+  slots = subst (SlotsStandFor frame.slots) (sym (write-nothing bytes at)) hold.slots;
+}
+nothing_written frame bytes (byte ∷ new) at hold none = absurd (omega arith)
 
-bytes_written : (memory : List FrameByte) (bytes new : List ℕ) (frame : FrameUse) (arguments : List ℕ) → length memory ≡ FRAME_LENGTH → HoldFrame memory bytes → LieWithin frame arguments → length new ≡ written_length frame arguments
-    → HoldFrame (write memory (second arguments) (map Byte new)) (write bytes (second arguments) new)
-bytes_written memory bytes new frame_use.Nothing arguments long hold within count = nothing_written memory bytes new (second arguments) hold count
-bytes_written memory bytes new frame_use.Reads arguments long hold within count = nothing_written memory bytes new (second arguments) hold count
-bytes_written memory bytes new frame_use.Writes arguments long hold within count =
+bytes_written : (frame : FrameContents) (bytes new : List ℕ) (lent : FrameUse) (arguments : List ℕ) → length frame.bytes ≡ FRAME_LENGTH → length frame.slots ≡ SLOTS → HoldFrame frame bytes → LieWithin lent arguments → length new ≡ written_length lent arguments
+    → HoldFrame (write_bytes frame (second arguments) new) (write bytes (second arguments) new)
+bytes_written frame bytes new frame_use.Nothing arguments long many hold within count = nothing_written frame bytes new (second arguments) hold count
+bytes_written frame bytes new frame_use.Reads arguments long many hold within count = nothing_written frame bytes new (second arguments) hold count
+bytes_written frame bytes new frame_use.Writes arguments long many hold within count =
     let whole = hold.whole in
     record {
       whole = length-write bytes new (second arguments) (omega arith) ∙ hold.whole;
-      stand = write-stands memory bytes new (second arguments) (omega arith) (omega arith) hold.stand;
+      stand = write-stands frame.bytes bytes new (second arguments) (omega arith) (omega arith) hold.stand;
+      slots = overwrite-stands frame.slots bytes new (second arguments) (omega arith) (omega arith) hold.slots;
     }
 
 -- the registers behind a call
@@ -162,7 +169,7 @@ module _ (segment : Contents) (state : State) (words : Words) (is : IsSegment se
   after_held arguments can =
       let read = written_bytes (bytes_read (frame_use (signature helper).shape) arguments state.frame.bytes) in
       let done = step.called segment state helper arguments in
-      let frame = bytes_written state.frame.bytes words.frame done.written (frame_use (signature helper).shape) arguments whole.frame (record { whole = holds.whole; stand = holds.frame }) can.meets.within
+      let frame = bytes_written state.frame words.frame done.written (frame_use (signature helper).shape) arguments whole.frame whole.slots (record { whole = holds.whole; stand = holds.frame; slots = holds.slots }) can.meets.within
       (written-length helper segment arguments read state.score is can.meets) in
       let registers = whole.registers in
       let count = holds.count in
@@ -171,6 +178,7 @@ module _ (segment : Contents) (state : State) (words : Words) (is : IsSegment se
         registers = registers_held state.registers words.registers done.answer (omega arith) (answer-fits helper segment arguments read state.score is can.meets) holds.registers;
         whole = frame.whole;
         frame = frame.stand;
+        slots = frame.slots;
         score = refl;
       }
 

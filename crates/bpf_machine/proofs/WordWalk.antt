@@ -31,7 +31,7 @@ use Rattle.bpf_meaning.specs.State.{HoldsBytes, IsWhole}
 use Rattle.bpf_meaning.specs.Step.{carry_out}
 use Rattle.bpf_meaning.specs.Walk.{ConditionalJump}
 use Rattle.bpf_meaning.specs.declared.cause.Cause.{Cause}
-use Rattle.bpf_meaning.specs.declared.cause.Cause.TheVariants.{OutOfProgram, IntoWide, StoresPointer}
+use Rattle.bpf_meaning.specs.declared.cause.Cause.TheVariants.{OutOfProgram, IntoWide}
 use Rattle.bpf_meaning.specs.declared.effect.Change.{Change}
 use Rattle.bpf_meaning.specs.declared.effect.Change.TheVariants.{Nothing, SetRegister}
 use Rattle.bpf_meaning.specs.declared.effect.Effect.{Effect}
@@ -88,7 +88,7 @@ swapped_held order width n word is =
 -- what comes next
 
 placed : (state : State) (place : ℕ) (words : Words) → Holds state words → Holds (record state { place = place }) words
-placed state place words holds = record { count = holds.count; registers = holds.registers; whole = holds.whole; frame = holds.frame; score = holds.score }
+placed state place words holds = record { count = holds.count; registers = holds.registers; whole = holds.whole; frame = holds.frame; slots = holds.slots; score = holds.score }
 
 goes_on_held : (code : List Insn) (segment : Contents) (state : State) (place at : ℕ) (change : Change) (words : Words) → place ≡ place_of code at → HoldsChange segment state change words → Sound (HoldsEffect code segment state) (effect.go_on code place change) (Ok (Goes words at))
 goes_on_held code segment state place at change words same holds = by_tests (is_some (instruction_at code place)) (nat_lt place (word_count code))
@@ -138,6 +138,7 @@ register_held segment state words holds destination v word held = record {
   registers = registers_held state.registers words.registers destination.number v word holds.count held holds.registers;
   whole = holds.whole;
   frame = holds.frame;
+  slots = holds.slots;
   score = holds.score;
 }
 
@@ -159,7 +160,7 @@ values_foresee code segment state areas words insn next next_at target is whole 
   Read = λ register. IsWordOf;
   Values = IsWordOf;
   Numbers = IsNumber;
-  Stored = IsNumber;
+  Stored = IsWordOf;
   Pointers = IsPointer;
   Offsets = λ offset at from. from ≡ at;
   Changes = HoldsChange segment state;
@@ -167,7 +168,8 @@ values_foresee code segment state areas words insn next next_at target is whole 
   read = λ register. read_held register _ _ (holds.registers register);
   any = λ register v word held. held;
   number_or = λ cause register. number_held cause;
-  stored = number_held StoresPointer;
+  stored = λ register v word held. held;
+  stored_immediate = λ immediate fits. (refl, (immediate_operand-proper immediate fits).fits);
   pointer_in = λ register. pointer_held register _ _ _ (holds.registers register) (points register);
   immediate = λ immediate fits. (refl, (immediate_operand-proper immediate fits).fits);
   wide = λ immediate next_immediate fits. (refl, (wide_number-proper immediate next_immediate fits.0 fits.1).fits);
@@ -177,12 +179,11 @@ values_foresee code segment state areas words insn next next_at target is whole 
   move = move_held;
   operate = operate_held;
   load = λ format p q offset same.
-      subst (λ (x : PointerParts). Sound IsWordOf (effect.load_bytes format (effect.area_bytes segment state p.area) (p.offset +ℤ offset)) (load_bytes format (area_bytes segment words x.area) (x.offset +ℤ offset))) (sym same)
+      subst (λ (x : PointerParts). Sound IsWordOf (effect.load_from segment state format p.area (p.offset +ℤ offset)) (load_bytes format (area_bytes segment words x.area) (x.offset +ℤ offset))) (sym same)
       (load_held segment state words is whole bytes holds format p.area (p.offset +ℤ offset));
   frame = λ p q offset same. frame_held p.area p q offset same;
-  store_at = λ at from offset size m n is same.
-      subst (λ (k : ℕ). Sound (HoldsChange segment state) (effect.store_at at size m) (store_at words from size k)) (sym same.0)
-      (subst (λ (k : ℤ). Sound (HoldsChange segment state) (effect.store_at at size m) (store_at words k size m)) (sym is) (store_held segment state words whole holds at size m));
+  store_at = λ at from offset size v word is stored.
+      subst (λ (k : ℤ). Sound (HoldsChange segment state) (effect.store_at at size v) (store_at words k size word)) (sym is) (store_held segment state words whole holds at size v word stored);
   call = call_held segment state words is whole holds;
   set = λ goes_on destination v word held. goes_on_held code segment state next next_at _ _ leads.next (register_held segment state words holds destination v word held);
   go_on = λ goes_on change behind holds. goes_on_held code segment state next next_at change behind leads.next holds;

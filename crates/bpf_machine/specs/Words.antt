@@ -25,7 +25,7 @@ use Rattle.bpf_helpers.specs.declared.helper.Helper.{Helper}
 use Rattle.bpf_helpers.specs.declared.signature.Argument.{Argument}
 use Rattle.bpf_helpers.specs.declared.signature.Argument.TheVariants as argument
 use Rattle.bpf_meaning.specs.Effect.{lie_within}
-use Rattle.bpf_meaning.specs.Memory.{FrameByte, Unwritten, Byte}
+use Rattle.bpf_insn.specs.Frame.{FrameByte, Unwritten, Byte, slot_bytes, slot_pointer}
 use Rattle.bpf_meaning.specs.State.{register_value}
 use Rattle.bpf_meaning.specs.Step.{Configuration, Running, Exited, apply}
 use Rattle.bpf_meaning.specs.Walk.{Registers, Domain, walk}
@@ -188,12 +188,18 @@ abbrev pub IsByteOf : FrameByte → ℕ → Type 0
 IsByteOf Unwritten byte = Unit {0}
 IsByteOf (Byte written) byte = byte ≡ written
 
--- words hold a state: register by register, byte by byte, and with its score
+-- a word stands for the pointer that a slot holds, by its offset in two's complement; where it holds none, any will do
+abbrev pub IsWordOfSlot : Option PointerParts → ℕ → Type 0
+IsWordOfSlot None word = Unit {0}
+IsWordOfSlot (Some pointer) word = IsWordOf (Pointer pointer) word
+
+-- words hold a state: register by register, byte by byte, slot by slot, and with its score
 pub record Holds (state : State) (words : Words) : Type 0 where
   pub count : length words.registers ≡ length state.registers
   pub registers : (register : ℕ) → IsWordOf (register_value state register) (word_in words register)
   pub whole : length words.frame ≡ FRAME_LENGTH
   pub frame : (at : ℕ) → IsByteOf (get_or state.frame.bytes at Unwritten) (get_or words.frame at 0)
+  pub slots : (slot : ℕ) → IsWordOfSlot (slot_pointer state.frame slot) (number_of (slot_bytes words.frame slot))
   pub score : words.score ≡ state.score
 
 -- what words lead to holds a configuration: words at the entry of its place hold its state, or the end has its answer and its score

@@ -8,7 +8,7 @@ use Rattle.std.proofs.lemmas.Int.{to_z_pos}
 use Rattle.std.proofs.lemmas.List.{length-map, length-replicate, length-take}
 use Rattle.bpf_insn.specs.declared.value.Value.{Value}
 use Rattle.bpf_insn.specs.declared.value.Value.TheVariants.{Empty, Number, Pointer}
-use Rattle.bpf_insn.specs.declared.memory.TheConstants.{FRAME_LENGTH}
+use Rattle.bpf_insn.specs.declared.memory.TheConstants.{FRAME_LENGTH, SLOTS}
 use Rattle.bpf_kinds.specs.Interval.{Admits}
 use Rattle.bpf_kinds.specs.declared.interval.Interval.{Interval}
 use Rattle.tl_segments.specs.Segment.{Contents, IsSegment}
@@ -25,13 +25,15 @@ use Rattle.bpf_helpers.specs.declared.signature.Argument.TheVariants as argument
 use Rattle.bpf_helpers.specs.declared.signature.FrameUse.{FrameUse}
 use Rattle.bpf_helpers.specs.declared.signature.FrameUse.TheVariants as frame_use
 use Rattle.bpf_helpers.specs.declared.signature.Shape.{Shape}
-use Rattle.bpf_meaning.specs.Memory.{FrameByte, Byte, all_written, written_bytes}
+use Rattle.bpf_insn.specs.Frame.{FrameByte, FrameContents, Byte}
+use Rattle.bpf_meaning.specs.Memory.{all_written, write_bytes, written_bytes}
 use Rattle.bpf_meaning.specs.Effect.{read, argument_in, argument_word, arguments_in, is_allowed, lend_bytes, lend_frame, lend_written, lie_within, call_change, call_helper, CanBeMade, CanBeCalled, ◌>>=◌}
-use Rattle.bpf_meaning.specs.Step.{called}
+use Rattle.bpf_meaning.specs.Step.{called, state_after}
 use Rattle.bpf_meaning.specs.declared.cause.Cause.{Cause}
 use Rattle.bpf_meaning.specs.declared.cause.Cause.TheVariants.{BadArgument, OutOfBounds, UnwrittenFrame}
 use Rattle.bpf_meaning.specs.declared.state.State.{State}
 use Rattle.bpf_meaning.proofs.FrameLemmas.{HoldBytes, bytes-map, bytes-write}
+use Rattle.bpf_meaning.proofs.SlotLemmas.{PointersApart, apart-write_bytes, length-overwrite_slots}
 
 -- a fact of what the checks give, if they pass
 
@@ -179,19 +181,30 @@ abbrev pub frame_after : Contents → State → Helper → List ℕ → List Fra
 frame_after segment state helper arguments = write state.frame.bytes (second arguments) (map Byte (called segment state helper arguments).written)
 
 -- a frame after a call has a fact that the one before has, if it keeps it where bytes are written within it
-after_call : (P : List FrameByte → Type 0) (segment : Contents) (state : State) (helper : Helper) (arguments : List ℕ) → CanBeCalled state helper arguments → length state.frame.bytes ≡ FRAME_LENGTH → P state.frame.bytes → ((at : ℕ) (bytes : List ℕ) → at + length bytes ≤ length state.frame.bytes → P (write state.frame.bytes at (map Byte bytes))) → P (frame_after segment state helper arguments)
-after_call P segment state helper arguments can long before within =
+after_call : (P : FrameContents → Type 0) (segment : Contents) (state : State) (helper : Helper) (arguments : List ℕ) → CanBeCalled state helper arguments → P state.frame → ((at : ℕ) (bytes : List ℕ) → at + length bytes ≤ FRAME_LENGTH → P (write_bytes state.frame at bytes)) → P (state_after state (second arguments) (called segment state helper arguments)).frame
+after_call P segment state helper arguments can before within =
     elim (written_inside segment helper arguments (written_bytes (bytes_read (frame_use (signature helper).shape) arguments state.frame.bytes)) state.score can.meets.within) [
       | inl none ↦
-          subst (λ (bytes : List ℕ). P (write state.frame.bytes (second arguments) (map Byte bytes))) (sym none)
-          (subst P (sym (write-nothing state.frame.bytes (second arguments))) before)
-      | inr inside ↦ within (second arguments) (called segment state helper arguments).written (omega arith)
+          subst (λ (bytes : List ℕ). P (write_bytes state.frame (second arguments) bytes)) (sym none)
+          (subst (λ (bytes : List FrameByte). P (record { bytes = bytes; slots = state.frame.slots })) (sym (write-nothing state.frame.bytes (second arguments))) before)
+      | inr inside ↦ within (second arguments) (called segment state helper arguments).written inside
     ]
 
 pub length-frame_after : (segment : Contents) (state : State) (helper : Helper) (arguments : List ℕ) → CanBeCalled state helper arguments → length state.frame.bytes ≡ FRAME_LENGTH → length (frame_after segment state helper arguments) ≡ FRAME_LENGTH
 length-frame_after segment state helper arguments can long =
-    after_call (λ memory. length memory ≡ FRAME_LENGTH) segment state helper arguments can long long
+    after_call (λ frame. length frame.bytes ≡ FRAME_LENGTH) segment state helper arguments can long
     (λ at bytes within. let same = length-map bytes Byte in length-write state.frame.bytes (map Byte bytes) at (omega arith) ∙ long)
+
+pub length-slots_after : (segment : Contents) (state : State) (helper : Helper) (arguments : List ℕ) → CanBeCalled state helper arguments → length state.frame.slots ≡ SLOTS → length (state_after state (second arguments) (called segment state helper arguments)).frame.slots ≡ SLOTS
+length-slots_after segment state helper arguments can long =
+    after_call (λ frame. length frame.slots ≡ SLOTS) segment state helper arguments can long
+    (λ at bytes within. length-overwrite_slots None state.frame.slots at (length bytes) (omega arith) ∙ long)
+
+-- where pointers stood apart from written bytes, they do after a call
+pub apart-frame_after : (segment : Contents) (state : State) (helper : Helper) (arguments : List ℕ) → CanBeCalled state helper arguments → length state.frame.bytes ≡ FRAME_LENGTH → length state.frame.slots ≡ SLOTS → PointersApart state.frame → PointersApart (state_after state (second arguments) (called segment state helper arguments)).frame
+apart-frame_after segment state helper arguments can whole long apart =
+    after_call PointersApart segment state helper arguments can apart
+    (λ at bytes within. apart-write_bytes state.frame at bytes (omega arith) (omega arith) apart)
 
 -- where it held bytes, it does after a call
 pub bytes-frame_after : (segment : Contents) (state : State) (helper : Helper) (arguments : List ℕ) → IsSegment segment → CanBeCalled state helper arguments → HoldBytes state.frame.bytes → HoldBytes (frame_after segment state helper arguments)

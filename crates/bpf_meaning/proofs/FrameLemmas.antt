@@ -7,7 +7,8 @@ use Rattle.std.proofs.lemmas.Bool.{false≢true, cases_lt}
 use Rattle.std.proofs.lemmas.List.{length-map, get_or-map}
 use Rattle.bpf_helpers.specs.Call.{write}
 use Rattle.bpf_helpers.proofs.WriteLemmas.{get_or-write, get_or-write_before, get_or-write_behind}
-use Rattle.bpf_meaning.specs.Memory.{FrameByte, Unwritten, Byte, IsByte, is_byte, is_written, all_written, number_of, store}
+use Rattle.bpf_insn.specs.Frame.{FrameByte, Unwritten, Byte, IsByte, is_byte, is_written, number_of}
+use Rattle.bpf_meaning.specs.Memory.{all_written, store}
 use Rattle.bpf_meaning.proofs.MemoryLemmas.{length-bytes_low_first, fits_more, store_is_write}
 
 -- bytes that were written are, and no byte is unwritten again

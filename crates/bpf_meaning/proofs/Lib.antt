@@ -3,6 +3,7 @@ pub mod RunLemmas
 pub mod StepLemmas
 pub mod Examples
 pub mod FrameLemmas
+pub mod SlotLemmas
 pub mod CallLemmas
 pub mod WholeLemmas
 pub mod RegisterLemmas

@@ -1,9 +1,9 @@
 -- Marks beside bytes, and what is read and written of them.
-use Rattle.std.proofs.Common.{◌≡◌, ℕ, zero, suc, ◌+◌, ◌-◌, ◌*◌, ◌/◌, ◌%◌, ◌<◌, ◌≤◌, ◌^◌, Bool, true, false, List, [], ◌∷◌, ◌++◌, length, map, take, drop, replicate, Some, None, refl, sym, ap, ◌∙◌, arith, lit<, min, append_assoc, length-append}
+use Rattle.std.proofs.Common.{◌≡◌, ℕ, zero, suc, ◌+◌, ◌-◌, ◌*◌, ◌/◌, ◌%◌, ◌<◌, ◌≤◌, ◌^◌, Bool, true, false, List, [], ◌∷◌, ◌++◌, length, map, take, drop, replicate, slice_set, Option, Some, None, refl, sym, ap, ◌∙◌, arith, lit<, min, append_assoc, length-append}
 use Rattle.std.specs.Prelude.{not}
 use Rattle.std.specs.List.{list_any}
 use Rattle.std.proofs.lemmas.Bool.{false≢true}
-use Rattle.std.proofs.lemmas.List.{length-take, length-take-le, length-drop, length-map, length-replicate, drop-drop, take_at, drop_at}
+use Rattle.std.proofs.lemmas.List.{length-take, length-take-le, length-drop, length-map, length-replicate, drop-drop, take_at, drop_at, take-append-drop}
 use borrow.Rule.Slice.PartMut.{put_mid, mid_of}
 use Rattle.std.proofs.Math.Arith.{mod-mul}
 use Rattle.std.proofs.Math.Nat.{pow-le-pow_right, pow-suc, one-le-pow, div-one, mod-one, div-div-eq-div-mul}
@@ -14,7 +14,10 @@ use Rattle.bpf_helpers.specs.Call.{bytes_read, second, third, write}
 use Rattle.bpf_helpers.specs.declared.signature.FrameUse.{FrameUse}
 use Rattle.bpf_helpers.specs.declared.signature.FrameUse.TheVariants.{Nothing, Writes, Reads}
 use Rattle.bpf_helpers.proofs.WriteLemmas.{write-nothing}
-use Rattle.bpf_meaning.specs.Memory.{FrameByte, FrameContents, Unwritten, Byte, all_written, frame_bytes, number_of, store, written_bytes}
+use Rattle.bpf_insn.specs.Frame.{FrameByte, FrameContents, Unwritten, Byte, number_of}
+use Rattle.bpf_insn.specs.declared.memory.TheConstants.{SLOT_LENGTH}
+use Rattle.bpf_insn.specs.declared.value.Pointer.{Pointer}
+use Rattle.bpf_meaning.specs.Memory.{all_written, frame_bytes, keep_pointer, store, write_bytes, written_bytes}
 
 -- as many bytes as marks
 
@@ -55,6 +58,12 @@ frame_bytes-replicate zero [] same = refl
 frame_bytes-replicate zero (byte ∷ bytes) same = absurd (omega arith)
 frame_bytes-replicate (suc count) [] same = absurd (omega arith)
 frame_bytes-replicate (suc count) (byte ∷ bytes) same = ap (λ (l : List FrameByte). Byte byte ∷ l) (frame_bytes-replicate count bytes (omega arith))
+
+pub frame_bytes-unmarked : (count : ℕ) (bytes : List ℕ) → length bytes ≡ count → frame_bytes (replicate count false) bytes ≡ replicate count Unwritten
+frame_bytes-unmarked zero [] same = refl
+frame_bytes-unmarked zero (byte ∷ bytes) same = absurd (omega arith)
+frame_bytes-unmarked (suc count) [] same = absurd (omega arith)
+frame_bytes-unmarked (suc count) (byte ∷ bytes) same = ap (λ (l : List FrameByte). Unwritten ∷ l) (frame_bytes-unmarked count bytes (omega arith))
 
 -- the little-endian number of at most eight bytes fits
 
@@ -111,16 +120,14 @@ store_is_write memory at count number =
     ap (λ (n : ℕ). take at memory ++ map Byte low ++ drop (at + n) memory) long
 
 -- marks and bytes put in place
-frame_bytes-put_mid : (marks : List Bool) (bytes new : List ℕ) (at k count : ℕ) → length marks ≡ length bytes → length new ≡ count → frame_bytes (put_mid at k marks (replicate count true)) (put_mid at k bytes new) ≡ put_mid at k (frame_bytes marks bytes) (map Byte new)
-frame_bytes-put_mid marks bytes new at k count same long =
+frame_bytes-put_mid : (marks : List Bool) (bytes : List ℕ) (middle : List Bool) (new : List ℕ) (at k : ℕ) → length marks ≡ length bytes → length middle ≡ length new → frame_bytes (put_mid at k marks middle) (put_mid at k bytes new) ≡ put_mid at k (frame_bytes marks bytes) (frame_bytes middle new)
+frame_bytes-put_mid marks bytes middle new at k same long =
     let front : length (take at marks) ≡ length (take at bytes) = length-take at marks ∙ ap (λ (n : ℕ). min at n) same ∙ sym (length-take at bytes) in
-    let middle : length (replicate count true) ≡ length new = length-replicate count true ∙ sym long in
-    frame_bytes-append (take at marks) (replicate count true ++ drop k (drop at marks)) (take at bytes) (new ++ drop k (drop at bytes)) front
-    ∙ ap (λ (l : List FrameByte). l ++ frame_bytes (replicate count true ++ drop k (drop at marks)) (new ++ drop k (drop at bytes))) (sym (take-frame_bytes at marks bytes))
+    frame_bytes-append (take at marks) (middle ++ drop k (drop at marks)) (take at bytes) (new ++ drop k (drop at bytes)) front
+    ∙ ap (λ (l : List FrameByte). l ++ frame_bytes (middle ++ drop k (drop at marks)) (new ++ drop k (drop at bytes))) (sym (take-frame_bytes at marks bytes))
     ∙ ap (λ (l : List FrameByte). take at (frame_bytes marks bytes) ++ l)
-    (frame_bytes-append (replicate count true) (drop k (drop at marks)) new (drop k (drop at bytes)) middle
-    ∙ ap (λ (l : List FrameByte). l ++ frame_bytes (drop k (drop at marks)) (drop k (drop at bytes))) (frame_bytes-replicate count new long)
-    ∙ ap (λ (l : List FrameByte). map Byte new ++ l) (sym (drop-frame_bytes k (drop at marks) (drop at bytes)) ∙ ap (λ (l : List FrameByte). drop k l) (sym (drop-frame_bytes at marks bytes))))
+    (frame_bytes-append middle (drop k (drop at marks)) new (drop k (drop at bytes)) long
+    ∙ ap (λ (l : List FrameByte). frame_bytes middle new ++ l) (sym (drop-frame_bytes k (drop at marks) (drop at bytes)) ∙ ap (λ (l : List FrameByte). drop k l) (sym (drop-frame_bytes at marks bytes))))
 
 -- the three at a frame's contents
 
@@ -142,38 +149,57 @@ written_is_number is_unmarked marks bytes memory at count k test other is same v
     ap number_of (part_of marks bytes memory at count k is view
     ∙ frame_bytes-all is_unmarked (mid_of at k marks) (mid_of at k bytes) test other (same_parts marks bytes at k same) any)
 
-contents : List FrameByte → FrameContents
-contents bytes = record { bytes = bytes }
+contents : List FrameByte → List (Option Pointer) → FrameContents
+contents bytes slots = record { bytes = bytes; slots = slots }
 
 -- bytes written over those of a frame, and their marks
-pub call_writes : (marks : List Bool) (bytes : List ℕ) (frame : FrameContents) (at k : ℕ) (written new_bytes : List ℕ) (new_marks : List Bool) → length marks ≡ length bytes → k ≡ length written → length (mid_of at k marks) ≡ length written → record { bytes = frame_bytes marks bytes } ≡ frame → new_bytes ≡ write bytes at written → new_marks ≡ replicate (length (mid_of at k marks)) true → (let new : FrameContents = record { bytes = frame_bytes (put_mid at k marks new_marks) new_bytes } in new) ≡ record frame { bytes = write frame.bytes at (map Byte written) }
+pub call_writes : (marks : List Bool) (bytes : List ℕ) (slots : List (Option Pointer)) (frame : FrameContents) (at k : ℕ) (written new_bytes : List ℕ) (new_marks : List Bool) → length marks ≡ length bytes → k ≡ length written → length (mid_of at k marks) ≡ length written → record { bytes = frame_bytes marks bytes; slots = slots } ≡ frame → new_bytes ≡ write bytes at written → new_marks ≡ replicate (length (mid_of at k marks)) true → (let new : FrameContents = record { bytes = frame_bytes (put_mid at k marks new_marks) new_bytes; slots = slots } in new) ≡ record frame { bytes = write frame.bytes at (map Byte written) }
 unfolding contents
-call_writes marks bytes frame at k written new_bytes new_marks same is long view low all =
+call_writes marks bytes slots frame at k written new_bytes new_marks same is long view low all =
     let all_are : new_marks ≡ replicate (length written) true = all ∙ ap (λ (n : ℕ). replicate n true) long in
     let put : new_bytes ≡ put_mid at k bytes written = low ∙ sym (put_mid_is_write bytes written at k is) in
     let many : k ≡ length (map Byte written) = is ∙ sym (length-map written Byte) in
-    ap (λ (l : List ℕ). contents (frame_bytes (put_mid at k marks new_marks) l)) put
-    ∙ ap (λ (l : List Bool). contents (frame_bytes (put_mid at k marks l) (put_mid at k bytes written))) all_are
-    ∙ ap contents (frame_bytes-put_mid marks bytes written at k (length written) same refl ∙ put_mid_is_write (frame_bytes marks bytes) (map Byte written) at k many)
-    ∙ ap (λ (f : FrameContents). contents (write f.bytes at (map Byte written))) view
+    ap (λ (l : List ℕ). contents (frame_bytes (put_mid at k marks new_marks) l) slots) put
+    ∙ ap (λ (l : List Bool). contents (frame_bytes (put_mid at k marks l) (put_mid at k bytes written)) slots) all_are
+    ∙ ap (λ (l : List FrameByte). contents l slots)
+    (frame_bytes-put_mid marks bytes (replicate (length written) true) written at k same (length-replicate (length written) true)
+    ∙ ap (put_mid at k (frame_bytes marks bytes)) (frame_bytes-replicate (length written) written refl)
+    ∙ put_mid_is_write (frame_bytes marks bytes) (map Byte written) at k many)
+    ∙ ap (λ (f : FrameContents). contents (write f.bytes at (map Byte written)) f.slots) view
 
 -- a frame over which nothing is written
-pub call_writes_nothing : (marks : List Bool) (bytes : List ℕ) (frame : FrameContents) (at : ℕ) (written new_bytes : List ℕ) → record { bytes = frame_bytes marks bytes } ≡ frame → written ≡ [] → new_bytes ≡ write bytes at written → (let new : FrameContents = record { bytes = frame_bytes marks new_bytes } in new) ≡ record frame { bytes = write frame.bytes at (map Byte written) }
+pub call_writes_nothing : (marks : List Bool) (bytes : List ℕ) (slots : List (Option Pointer)) (frame : FrameContents) (at : ℕ) (written new_bytes : List ℕ) → record { bytes = frame_bytes marks bytes; slots = slots } ≡ frame → written ≡ [] → new_bytes ≡ write bytes at written → (let new : FrameContents = record { bytes = frame_bytes marks new_bytes; slots = slots } in new) ≡ write_bytes frame at written
 unfolding contents
-call_writes_nothing marks bytes frame at written new_bytes view none low =
-    ap (λ (l : List ℕ). contents (frame_bytes marks l)) (low ∙ ap (write bytes at) none ∙ write-nothing bytes at) ∙ view
-    ∙ ap contents (sym (ap (λ (l : List ℕ). write frame.bytes at (map Byte l)) none ∙ write-nothing frame.bytes at))
+call_writes_nothing marks bytes slots frame at written new_bytes view none low =
+    ap (λ (l : List ℕ). contents (frame_bytes marks l) slots) (low ∙ ap (write bytes at) none ∙ write-nothing bytes at) ∙ view
+    ∙ ap (λ (l : List FrameByte). contents l frame.slots) (sym (write-nothing frame.bytes at)) ∙ ap (write_bytes frame at) (sym none)
 
 -- the low bytes of a number, and their marks
-pub store_writes : (marks : List Bool) (bytes : List ℕ) (frame : FrameContents) (at count k number : ℕ) (new_bytes : List ℕ) (new_marks : List Bool) → length marks ≡ length bytes → k ≡ count → length (mid_of at k marks) ≡ count → count ≤ 8 → record { bytes = frame_bytes marks bytes } ≡ frame → new_bytes ≡ take count (bytes_low_first 0 8 number) → new_marks ≡ replicate (length (mid_of at k marks)) true → (let new : FrameContents = record { bytes = frame_bytes (put_mid at k marks new_marks) (put_mid at k bytes new_bytes) } in new) ≡ record frame { bytes = store frame.bytes at count number }
+pub store_writes : (marks : List Bool) (bytes : List ℕ) (slots : List (Option Pointer)) (frame : FrameContents) (at count k number : ℕ) (new_bytes : List ℕ) (new_marks : List Bool) → length marks ≡ length bytes → k ≡ count → length (mid_of at k marks) ≡ count → count ≤ 8 → record { bytes = frame_bytes marks bytes; slots = slots } ≡ frame → new_bytes ≡ take count (bytes_low_first 0 8 number) → new_marks ≡ replicate (length (mid_of at k marks)) true → (let new : FrameContents = record { bytes = frame_bytes (put_mid at k marks new_marks) (put_mid at k bytes new_bytes); slots = slots } in new) ≡ record frame { bytes = store frame.bytes at count number }
 unfolding contents
-store_writes marks bytes frame at count k number new_bytes new_marks same is long short view low all =
+store_writes marks bytes slots frame at count k number new_bytes new_marks same is long short view low all =
     let written = bytes_low_first 0 count number in
     let number_long : length written ≡ count = length-bytes_low_first 0 count number in
     let low_is : new_bytes ≡ written = low ∙ take-bytes_low_first 0 8 count number short in
-    call_writes marks bytes frame at k written (put_mid at k bytes new_bytes) new_marks same (is ∙ sym number_long) (long ∙ sym number_long) view
+    call_writes marks bytes slots frame at k written (put_mid at k bytes new_bytes) new_marks same (is ∙ sym number_long) (long ∙ sym number_long) view
     (ap (put_mid at k bytes) low_is ∙ put_mid_is_write bytes written at k (is ∙ sym number_long)) all
-    ∙ ap contents (sym (store_is_write frame.bytes at count number))
+    ∙ ap (λ (l : List FrameByte). contents l frame.slots) (sym (store_is_write frame.bytes at count number))
+
+-- a pointer that is kept, and the marks of its slot
+pub keep_writes : (marks : List Bool) (bytes : List ℕ) (slots : List (Option Pointer)) (frame : FrameContents) (slot k : ℕ) (pointer : Pointer) (new_marks : List Bool) → length marks ≡ length bytes → k ≡ SLOT_LENGTH → length (mid_of (SLOT_LENGTH * slot) k marks) ≡ SLOT_LENGTH → record { bytes = frame_bytes marks bytes; slots = slots } ≡ frame → new_marks ≡ replicate (length (mid_of (SLOT_LENGTH * slot) k marks)) false → (let new : FrameContents = record { bytes = frame_bytes (put_mid (SLOT_LENGTH * slot) k marks new_marks) bytes; slots = slice_set slots slot (Some pointer) } in new) ≡ keep_pointer frame slot pointer
+unfolding contents
+keep_writes marks bytes slots frame slot k pointer new_marks same is long view all =
+    let at = SLOT_LENGTH * slot in
+    let middle = mid_of at k bytes in
+    let wide : length middle ≡ SLOT_LENGTH = sym (same_parts marks bytes at k same) ∙ long in
+    let stays : put_mid at k bytes middle ≡ bytes = ap (λ (l : List ℕ). take at bytes ++ l) (take-append-drop k (drop at bytes)) ∙ take-append-drop at bytes in
+    ap (λ (l : List Bool). contents (frame_bytes (put_mid at k marks l) bytes) (slice_set slots slot (Some pointer))) (all ∙ ap (λ (n : ℕ). replicate n false) long)
+    ∙ ap (λ (l : List ℕ). contents (frame_bytes (put_mid at k marks (replicate SLOT_LENGTH false)) l) (slice_set slots slot (Some pointer))) (sym stays)
+    ∙ ap (λ (l : List FrameByte). contents l (slice_set slots slot (Some pointer)))
+    (frame_bytes-put_mid marks bytes (replicate SLOT_LENGTH false) middle at k same (length-replicate SLOT_LENGTH false ∙ sym wide)
+    ∙ ap (put_mid at k (frame_bytes marks bytes)) (frame_bytes-unmarked SLOT_LENGTH middle wide)
+    ∙ put_mid_is_write (frame_bytes marks bytes) (replicate SLOT_LENGTH Unwritten) at k (is ∙ sym (length-replicate SLOT_LENGTH Unwritten)))
+    ∙ ap (λ (f : FrameContents). keep_pointer f slot pointer) view
 
 -- bytes of a frame that are all written are those that a call reads
 
@@ -184,10 +210,10 @@ written-frame_bytes (mark ∷ marks) [] same all = absurd (omega arith)
 written-frame_bytes (true ∷ marks) (byte ∷ bytes) same all = ap (λ (l : List ℕ). byte ∷ l) (written-frame_bytes marks bytes (omega arith) all)
 written-frame_bytes (false ∷ marks) (byte ∷ bytes) same all = absurd (false≢true all)
 
-pub read_alike : (marks : List Bool) (bytes : List ℕ) (frame : FrameContents) (lent : FrameUse) (arguments : List ℕ) → length marks ≡ length bytes → record { bytes = frame_bytes marks bytes } ≡ frame → all_written (bytes_read lent arguments frame.bytes) ≡ true → bytes_read lent arguments bytes ≡ written_bytes (bytes_read lent arguments frame.bytes)
-read_alike marks bytes frame Nothing arguments same view all = refl
-read_alike marks bytes frame Writes arguments same view all = refl
-read_alike marks bytes frame Reads arguments same view all =
+pub read_alike : (marks : List Bool) (bytes : List ℕ) (slots : List (Option Pointer)) (frame : FrameContents) (lent : FrameUse) (arguments : List ℕ) → length marks ≡ length bytes → record { bytes = frame_bytes marks bytes; slots = slots } ≡ frame → all_written (bytes_read lent arguments frame.bytes) ≡ true → bytes_read lent arguments bytes ≡ written_bytes (bytes_read lent arguments frame.bytes)
+read_alike marks bytes slots frame Nothing arguments same view all = refl
+read_alike marks bytes slots frame Writes arguments same view all = refl
+read_alike marks bytes slots frame Reads arguments same view all =
     let at = second arguments in
     let count = third arguments in
     let part : take count (drop at frame.bytes) ≡ frame_bytes (mid_of at count marks) (mid_of at count bytes) =

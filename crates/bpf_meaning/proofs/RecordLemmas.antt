@@ -1,12 +1,9 @@
 -- A code that reads the record alone answers alike on segments of the same record: each step leads to the same configuration.
-use Rattle.std.proofs.Common.{◌≡◌, ℕ, ◌+◌, ◌-◌, ◌==◌, ℤ, ◌&&◌, Bool, true, false, IsTrue, List, [], ◌∷◌, length, nat_lt, unsigned_abs, Option, Some, None, IfSome, Result, Ok, Err, if◌then◌else◌, refl, ap, ◌∙◌, subst}
+use Rattle.std.proofs.Common.{◌≡◌, ℕ, ◌+◌, ◌-◌, ◌==◌, ◌&&◌, Bool, true, false, IsTrue, List, [], ◌∷◌, length, nat_lt, Option, Some, None, IfSome, Result, Ok, Err, if◌then◌else◌, refl, ap, ◌∙◌, subst}
 use Rattle.std.specs.Int.{cast_unsigned, w32}
 use Rattle.std.proofs.lemmas.Bool.{false≢true}
 use Rattle.bpf_insn.specs.Code.{instruction_at, spelling}
 use Rattle.bpf_insn.specs.declared.instruction.Insn.{Insn}
-use Rattle.bpf_insn.specs.declared.instruction.StoreSize.{StoreSize}
-use Rattle.bpf_insn.specs.declared.memory.TheConstants.{FRAME_LENGTH}
-use Rattle.bpf_insn.specs.Memory.{store_length}
 use Rattle.tl_segments.specs.Segment.{Contents}
 use Rattle.bpf_helpers.specs.Call.{bytes_read, second}
 use Rattle.bpf_helpers.specs.Helper as helper
@@ -16,14 +13,13 @@ use Rattle.bpf_helpers.specs.declared.helper.Helper.{Helper}
 use Rattle.bpf_helpers.proofs.RecordLemmas.{calls_alike}
 use Rattle.bpf_meaning.specs.Memory.{written_bytes}
 use Rattle.bpf_meaning.specs.State.{start}
-use Rattle.bpf_meaning.specs.Effect.{arguments_in, call_change, effect_of, instruction_effect, lend_frame, lie_within, store_at, ◌>>=◌}
+use Rattle.bpf_meaning.specs.Effect.{arguments_in, call_change, effect_of, instruction_effect, lend_frame, ◌>>=◌}
 use Rattle.bpf_meaning.specs.Step.{Configuration, Running, Exited, Stuck, after, carry_out, next_of, state_after}
 use Rattle.bpf_meaning.specs.Run.{Answers, FollowSteps}
 use Rattle.bpf_meaning.specs.RecordAlone.{call_reads_record_alone, instruction_reads_record_alone, reads_record_alone}
 use Rattle.bpf_meaning.specs.declared.cause.Cause.{Cause}
-use Rattle.bpf_meaning.specs.declared.cause.Cause.TheVariants.{OutOfBounds}
 use Rattle.bpf_meaning.specs.declared.effect.Change.{Change}
-use Rattle.bpf_meaning.specs.declared.effect.Change.TheVariants.{Nothing, SetRegister, StoreBytes, CallHelper}
+use Rattle.bpf_meaning.specs.declared.effect.Change.TheVariants.{Nothing, SetRegister, StoreBytes, StorePointer, CallHelper}
 use Rattle.bpf_meaning.specs.declared.effect.Effect.{Effect}
 use Rattle.bpf_meaning.specs.declared.effect.Effect.TheVariants.{GoOn, End}
 use Rattle.bpf_meaning.specs.declared.state.State.{State}
@@ -56,13 +52,6 @@ abbrev IsOfRecord : Change → Type 0
 IsOfRecord (CallHelper called arguments) = IsTrue (helper.reads_record_alone called)
 IsOfRecord change = Unit {0}
 
-stores_of_record : (from : ℤ) (size : StoreSize) (number : ℕ) → IfPasses IsOfRecord (store_at from size number)
-stores_of_record from size number = by_test (lie_within from (store_length size) FRAME_LENGTH)
-  where
-    by_test : (inside : Bool) → IfPasses IsOfRecord (if inside then Ok (StoreBytes (unsigned_abs from) size number) else Err OutOfBounds)
-    by_test true = tt
-    by_test false = tt
-
 call_of_record : (state : State) (found : Option Helper) → IsTrue (call_reads_record_alone found) → IfPasses IsOfRecord (call_change state found)
 call_of_record state None alone = tt
 call_of_record state (Some called) alone =
@@ -73,7 +62,8 @@ changes_of_record : (state : State) (insn : Insn) → IsTrue (instruction_reads_
 changes_of_record state insn alone = record {
   nothing = tt;
   set = λ register value. tt;
-  store = stores_of_record;
+  store_bytes = λ from size number inside. tt;
+  store_pointer = λ from size pointer slot is inside. tt;
   call = λ immediate is. call_of_record state (by_number (cast_unsigned w32 immediate)) (subst (λ (x : Insn). IsTrue (instruction_reads_record_alone x)) is alone);
 }
 
@@ -88,6 +78,7 @@ changes_alike : (segment other : Contents) (state : State) (change : Change) →
 changes_alike segment other state Nothing is same = refl
 changes_alike segment other state (SetRegister register value) is same = refl
 changes_alike segment other state (StoreBytes at size number) is same = refl
+changes_alike segment other state (StorePointer slot pointer) is same = refl
 changes_alike segment other state (CallHelper called arguments) is same =
     ap (state_after state (second arguments))
     (calls_alike called segment other arguments (written_bytes (bytes_read (frame_use (signature called).shape) arguments state.frame.bytes)) state.score is same)

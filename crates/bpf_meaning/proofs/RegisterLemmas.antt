@@ -17,7 +17,7 @@ use Rattle.bpf_meaning.specs.Step.{Running, after, next_of, registers_after}
 use Rattle.bpf_meaning.specs.Run.{Step}
 use Rattle.bpf_meaning.specs.declared.cause.Cause.{Cause}
 use Rattle.bpf_meaning.specs.declared.effect.Change.{Change}
-use Rattle.bpf_meaning.specs.declared.effect.Change.TheVariants.{Nothing, SetRegister, StoreBytes, CallHelper}
+use Rattle.bpf_meaning.specs.declared.effect.Change.TheVariants.{Nothing, SetRegister, StoreBytes, StorePointer, CallHelper}
 use Rattle.bpf_meaning.specs.declared.effect.Effect.{Effect}
 use Rattle.bpf_meaning.specs.declared.effect.Effect.TheVariants.{GoOn, End}
 use Rattle.bpf_meaning.specs.declared.state.State.{State}
@@ -53,6 +53,7 @@ abbrev IsCall : Change → Type 0
 IsCall Nothing = ⊥
 IsCall (SetRegister register value) = ⊥
 IsCall (StoreBytes at size number) = ⊥
+IsCall (StorePointer slot pointer) = ⊥
 IsCall (CallHelper helper arguments) = Unit {0}
 
 change_is_call : (state : State) (found : Option Helper) → IfPasses IsCall (call_change state found)
@@ -67,6 +68,7 @@ applies_call segment state (Ok (End answer)) call = tt
 applies_call segment state (Ok (GoOn Nothing place)) call = absurd call
 applies_call segment state (Ok (GoOn (SetRegister register value) place)) call = absurd call
 applies_call segment state (Ok (GoOn (StoreBytes at size number) place)) call = absurd call
+applies_call segment state (Ok (GoOn (StorePointer slot pointer) place)) call = absurd call
 applies_call segment state (Ok (GoOn (CallHelper helper arguments) place)) call = record {
   empty = registers_empty _ state.registers;
   kept = registers_kept _ state.registers;

@@ -22,7 +22,6 @@ use Rattle.bpf_helpers.specs.Helper.{by_number}
 use Rattle.bpf_helpers.specs.declared.helper.Helper.{Helper}
 use Rattle.bpf_meaning.specs.Checks.{◌>>=◌, Sound}
 use Rattle.bpf_meaning.specs.declared.cause.Cause.{Cause}
-use Rattle.bpf_meaning.specs.declared.cause.Cause.TheVariants.{StoresPointer}
 use Rattle.bpf_meaning.proofs.CheckLemmas.{then_sound, weaker}
 use Rattle.bpf_meaning.specs.Walk.{Domain, ConditionalJump, number_in, operand, operation_value, compare, load_value, store, call, walk}
 
@@ -44,12 +43,13 @@ InsnFits Fits insn = Unit {0}
 
 -- A domain foresees another at an instruction: their parts are related, and each step of the instruction keeps that.
 pub record Foresees (A B : Domain) (insn : Insn) : Type 1 where
-  -- immediates of which this is so; what is read from a register, of which more is known than of any value; and numbers that are stored
+  -- immediates of which this is so; what is read from a register, of which more is known than of any value; and what is stored, which is read
+  -- or an immediate
   pub Fits : ℤ → Type 0
   pub Read : ℕ → A.Value → B.Value → Type 0
   pub Values : A.Value → B.Value → Type 0
+  pub Stored : A.Value → B.Value → Type 0
   pub Numbers : A.Number → B.Number → Type 0
-  pub Stored : A.Number → B.Number → Type 0
   pub Pointers : A.Pointer → B.Pointer → Type 0
   pub Offsets : ℤ → A.Offset → B.Offset → Type 0
   pub Changes : A.Change → B.Change → Type 0
@@ -58,7 +58,8 @@ pub record Foresees (A B : Domain) (insn : Insn) : Type 1 where
   pub read : (register : ℕ) → Sound (Read register) (A.read register) (B.read register)
   pub any : (register : ℕ) (x : A.Value) (v : B.Value) → Read register x v → Values x v
   pub number_or : (cause : Cause) (register : ℕ) (x : A.Value) (v : B.Value) → Read register x v → Sound Numbers (A.number_or cause x) (B.number_or cause v)
-  pub stored : (x : A.Value) (v : B.Value) → Values x v → Sound Stored (A.number_or StoresPointer x) (B.number_or StoresPointer v)
+  pub stored : (register : ℕ) (x : A.Value) (v : B.Value) → Read register x v → Stored x v
+  pub stored_immediate : (immediate : ℤ) → Fits immediate → Stored (A.immediate immediate) (B.immediate immediate)
   pub pointer_in : (register : ℕ) → Sound Pointers (A.pointer_in register) (B.pointer_in register)
   pub immediate : (immediate : ℤ) → Fits immediate → Values (A.immediate immediate) (B.immediate immediate)
   -- arithmetic
@@ -71,7 +72,7 @@ pub record Foresees (A B : Domain) (insn : Insn) : Type 1 where
   -- memory and calls
   pub load : (format : LoadFormat) (p : A.Pointer) (q : B.Pointer) (offset : ℤ) → Pointers p q → Sound Values (A.load format p offset) (B.load format q offset)
   pub frame : (p : A.Pointer) (q : B.Pointer) (offset : ℤ) → Pointers p q → Sound (Offsets offset) (A.frame p offset) (B.frame q offset)
-  pub store_at : (x : A.Offset) (from : B.Offset) (offset : ℤ) (size : StoreSize) (m : A.Number) (n : B.Number) → Offsets offset x from → Stored m n → Sound Changes (A.store_at x offset size m) (B.store_at from offset size n)
+  pub store_at : (x : A.Offset) (from : B.Offset) (offset : ℤ) (size : StoreSize) (v : A.Value) (w : B.Value) → Offsets offset x from → Stored v w → Sound Changes (A.store_at x offset size v) (B.store_at from offset size w)
   pub call : (helper : Helper) → Sound Changes (A.call helper) (B.call helper)
   -- what comes next
   pub set : GoesOn insn → (destination : WritableRegister) (x : A.Value) (v : B.Value) → Values x v → Sound Outcomes (A.set destination x) (B.set destination v)
@@ -92,6 +93,10 @@ module _ (A B : Domain) (insn : Insn) (f : Foresees A B insn) where
   operand_foreseen : (source : Source) → SourceFits f.Fits source → Sound f.Values (operand A.registers source) (operand B.registers source)
   operand_foreseen (Immediate immediate) fits = f.immediate immediate fits
   operand_foreseen (Register register) fits = values_read register.number
+
+  stored_foreseen : (source : Source) → SourceFits f.Fits source → Sound f.Stored (operand A.registers source) (operand B.registers source)
+  stored_foreseen (Immediate immediate) fits = f.stored_immediate immediate fits
+  stored_foreseen (Register register) fits = weaker (f.Read register.number) f.Stored _ _ (f.stored register.number) (f.read register.number)
 
   operation_foreseen : (operation : Operation) (width : Width) (destination : ℕ) (source : Source) → SourceFits f.Fits source → Sound f.Values (operation_value A.registers operation width destination source) (operation_value B.registers operation width destination source)
   operation_foreseen Move width destination source fits = then_sound f.Values f.Values _ _ _ _ (operand_foreseen source fits) (f.move width)
@@ -124,7 +129,7 @@ module _ (A B : Domain) (insn : Insn) (f : Foresees A B insn) where
   store_foreseen size base offset source fits =
       then_sound f.Pointers f.Changes _ _ _ _ (f.pointer_in base) (λ p q points.
       then_sound (f.Offsets offset) f.Changes _ _ _ _ (f.frame p q offset points) (λ x from is.
-      then_sound f.Stored f.Changes _ _ _ _ (then_sound f.Values f.Stored _ _ _ _ (operand_foreseen source fits) f.stored) (λ m n stored. f.store_at x from offset size m n is stored)))
+      then_sound f.Stored f.Changes _ _ _ _ (stored_foreseen source fits) (λ v w stored. f.store_at x from offset size v w is stored)))
 
   call_foreseen : (found : Option Helper) → Sound f.Changes (call A found) (call B found)
   call_foreseen None = tt

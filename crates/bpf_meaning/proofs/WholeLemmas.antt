@@ -1,6 +1,6 @@
--- An effect whose checks have passed can be carried out. A state that has all its registers and a whole frame keeps them, and one whose
--- frame holds bytes does.
-use Rattle.std.proofs.Common.{◌≡◌, ℕ, zero, suc, ◌+◌, ◌≤◌, ℤ, pos, negsuc, Bool, true, false, List, [], ◌∷◌, length, map, get_or, replicate, unsigned_abs, Option, Some, None, Result, Ok, Err, if◌then◌else◌, refl, sym, ap, ◌∙◌, subst, arith, length-set}
+-- An effect whose checks have passed can be carried out. A state that has all its registers and a whole frame keeps them, and so does one
+-- whose frame holds bytes, or keeps pointers apart from bytes that are written.
+use Rattle.std.proofs.Common.{◌≡◌, ℕ, zero, suc, ◌+◌, ◌*◌, ◌/◌, ◌≤◌, ◌<◌, ℤ, pos, negsuc, true, List, [], ◌∷◌, length, map, get_or, replicate, unsigned_abs, Option, Some, None, Result, Ok, Err, refl, sym, ap, ◌∙◌, subst, arith, length-set}
 use Rattle.std.specs.Int.{bytes_low_first, cast_unsigned, w32}
 use Rattle.std.proofs.lemmas.Bool.{false≢true}
 use Rattle.std.proofs.lemmas.Bool.Decides.{nat_tests}
@@ -9,26 +9,29 @@ use Rattle.bpf_insn.specs.Code.{instruction_at}
 use Rattle.bpf_insn.specs.declared.instruction.Insn.{Insn}
 use Rattle.bpf_insn.specs.declared.instruction.StoreSize.{StoreSize}
 use Rattle.tl_segments.specs.Segment.{Contents, IsSegment}
-use Rattle.bpf_meaning.specs.Memory.{FrameByte, Byte, IsByte, Unwritten, store}
-use Rattle.bpf_meaning.specs.State.{HoldsBytes, IsWhole, start}
+use Rattle.bpf_insn.specs.declared.value.Pointer.{Pointer}
+use Rattle.bpf_insn.specs.Frame.{FrameByte, Byte, IsByte, Unwritten, slot_at}
+use Rattle.bpf_meaning.specs.Memory.{store}
+use Rattle.bpf_meaning.specs.State.{HoldsBytes, IsWhole, KeepsPointersApart, start}
 use Rattle.bpf_insn.specs.Memory.{store_length}
 use Rattle.bpf_helpers.specs.Helper.{by_number}
-use Rattle.bpf_meaning.specs.Effect.{effect, effect_of, lie_within, store_at, CanBeMade, CanBeCarriedOut}
+use Rattle.bpf_meaning.specs.Effect.{effect, effect_of, lie_within, CanBeMade, CanBeCarriedOut}
 use Rattle.bpf_meaning.specs.Step.{Configuration, Running, Exited, Stuck, after, carry_out, next_of}
 use Rattle.bpf_meaning.specs.Run.{Step, FollowSteps, IsRun, last_of, end_of}
 use Rattle.bpf_meaning.specs.declared.cause.Cause.{Cause}
-use Rattle.bpf_meaning.specs.declared.cause.Cause.TheVariants.{OutOfBounds}
 use Rattle.bpf_meaning.specs.declared.effect.Change.{Change}
-use Rattle.bpf_meaning.specs.declared.effect.Change.TheVariants.{Nothing, SetRegister, StoreBytes, CallHelper}
+use Rattle.bpf_meaning.specs.declared.effect.Change.TheVariants.{Nothing, SetRegister, StoreBytes, StorePointer, CallHelper}
 use Rattle.bpf_meaning.specs.declared.effect.Effect.{Effect}
 use Rattle.bpf_meaning.specs.declared.effect.Effect.TheVariants.{GoOn, End}
-use Rattle.bpf_insn.specs.declared.memory.TheConstants.{FRAME_LENGTH}
+use Rattle.bpf_insn.specs.declared.memory.TheConstants.{FRAME_LENGTH, SLOT_LENGTH, SLOTS}
 use Rattle.bpf_meaning.specs.declared.state.State.{State}
 use Rattle.bpf_meaning.proofs.MemoryLemmas.{length-bytes_low_first, store_is_write}
-use Rattle.bpf_meaning.proofs.FrameLemmas.{bytes-store}
+use Rattle.bpf_meaning.proofs.FrameLemmas.{bytes-store, bytes-write}
+use Rattle.bpf_insn.proofs.SlotLemmas.{slot_at-is}
+use Rattle.bpf_meaning.proofs.SlotLemmas.{apart-keep_pointer, apart-store_number, length-overwrite_slots}
 use Rattle.bpf_helpers.proofs.WriteLemmas.{length-write}
 use Rattle.bpf_meaning.proofs.EffectLemmas.{GoesOnWith, AreSuch, effect_is_such}
-use Rattle.bpf_meaning.proofs.CallLemmas.{IfPasses, bytes-frame_after, called_can_be_made, length-frame_after}
+use Rattle.bpf_meaning.proofs.CallLemmas.{IfPasses, apart-frame_after, bytes-frame_after, called_can_be_made, length-frame_after, length-slots_after}
 
 -- effects can be carried out
 
@@ -36,18 +39,20 @@ inside_ends : (from : ℤ) (count bytes : ℕ) → lie_within from count bytes �
 inside_ends (pos n) count bytes inside = grind (arith, nat_tests)
 inside_ends (negsuc n) count bytes inside = absurd (false≢true inside)
 
-stores_within : (state : State) (from : ℤ) (size : StoreSize) (number : ℕ) → IfPasses (CanBeMade state) (store_at from size number)
-stores_within state from size number = by_test (lie_within from (store_length size) FRAME_LENGTH) refl
-  where
-    by_test : (inside : Bool) → lie_within from (store_length size) FRAME_LENGTH ≡ inside → IfPasses (CanBeMade state) (if inside then Ok (StoreBytes (unsigned_abs from) size number) else Err OutOfBounds)
-    by_test true is = inside_ends from (store_length size) FRAME_LENGTH is
-    by_test false is = tt
+slot_within : (from : ℤ) (size : StoreSize) (slot : ℕ) → slot_at (unsigned_abs from) (store_length size) ≡ Some slot → lie_within from (store_length size) FRAME_LENGTH ≡ true → slot < SLOTS
+slot_within from size slot is inside =
+    let found = slot_at-is (unsigned_abs from) (store_length size) slot is in
+    let all = found.0 in
+    let place = found.1 in
+    let ends = inside_ends from (store_length size) FRAME_LENGTH inside in
+    omega (arith, all, place, ends)
 
 changes_within : (state : State) (insn : Insn) → AreSuch state insn (CanBeMade state)
 changes_within state insn = record {
   nothing = tt;
   set = λ register value. tt;
-  store = stores_within state;
+  store_bytes = λ from size number inside. inside_ends from (store_length size) FRAME_LENGTH inside;
+  store_pointer = λ from size pointer slot is inside. slot_within from size slot is inside;
   call = λ immediate is. called_can_be_made state (by_number (cast_unsigned w32 immediate));
 }
 
@@ -87,19 +92,26 @@ along_run Such code segment kept (Stuck place cause) (next ∷ run) such follow 
 
 carries_out_whole : (segment : Contents) (state : State) (change : Change) → CanBeMade state change → IsWhole state → IsWhole (carry_out segment state change)
 carries_out_whole segment state Nothing can whole = whole
-carries_out_whole segment state (SetRegister register value) can whole = record { registers = simp length-set whole.registers; frame = whole.frame }
+carries_out_whole segment state (SetRegister register value) can whole = record { registers = simp length-set whole.registers; frame = whole.frame; slots = whole.slots }
 carries_out_whole segment state (StoreBytes at size number) can whole = record {
   registers = whole.registers;
   frame = let same = whole.frame in length-store state.frame.bytes at (store_length size) number (omega arith) ∙ whole.frame;
+  slots = let count = whole.slots in length-overwrite_slots None state.frame.slots at (store_length size) (omega arith) ∙ whole.slots;
+}
+carries_out_whole segment state (StorePointer slot pointer) can whole = record {
+  registers = whole.registers;
+  frame = let same = whole.frame in length-write state.frame.bytes (replicate SLOT_LENGTH Unwritten) (SLOT_LENGTH * slot) (omega arith) ∙ whole.frame;
+  slots = simp length-set whole.slots;
 }
 carries_out_whole segment state (CallHelper helper arguments) can whole = record {
   registers = let behind = length-drop 6 state.registers in let all = whole.registers in omega arith;
   frame = length-frame_after segment state helper arguments can whole.frame;
+  slots = length-slots_after segment state helper arguments can whole.slots;
 }
 
 applies_whole : (segment : Contents) (state : State) (result : Result Effect Cause) → IfPasses (CanBeCarriedOut state) result → IsWhole state → (IfRunning IsWhole) (next_of segment state result)
 applies_whole segment state (Ok (GoOn change place)) can whole =
-    let there = carries_out_whole segment state change can whole in record { registers = there.registers; frame = there.frame }
+    let there = carries_out_whole segment state change can whole in record { registers = there.registers; frame = there.frame; slots = there.slots }
 applies_whole segment state (Ok (End answer)) can whole = tt
 applies_whole segment state (Err cause) can whole = tt
 
@@ -109,25 +121,30 @@ unfolding after
 step_whole code segment state there whole step =
     subst (IfRunning IsWhole) (sym step) (applies_whole segment state (effect code segment state) (found_within code segment state (instruction_at code state.place)) whole)
 
+start_whole : IsWhole start
+start_whole = record { registers = refl; frame = refl; slots = refl }
+
 -- so is each state that a run comes to
 pub run_whole : (code : List Insn) (segment : Contents) (run : List Configuration) (state : State) → IsRun code segment run → end_of run ≡ Running state → IsWhole state
 run_whole code segment run state is_run end =
-    subst (IfRunning IsWhole) end (along_run IsWhole code segment (step_whole code segment) (Running start) run (record { registers = refl; frame = refl }) is_run)
+    subst (IfRunning IsWhole) end (along_run IsWhole code segment (step_whole code segment) (Running start) run start_whole is_run)
 
 -- the frame of a state holds bytes, and a step on a segment keeps it so
 
+unwritten_bytes : (count at : ℕ) → IsByte (get_or (replicate count Unwritten) at Unwritten)
+unwritten_bytes zero at = tt
+unwritten_bytes (suc count) zero = tt
+unwritten_bytes (suc count) (suc at) = unwritten_bytes count at
+
 pub start_bytes : HoldsBytes start
 start_bytes = record { frame = unwritten_bytes FRAME_LENGTH }
-  where
-    unwritten_bytes : (count at : ℕ) → IsByte (get_or (replicate count Unwritten) at Unwritten)
-    unwritten_bytes zero at = tt
-    unwritten_bytes (suc count) zero = tt
-    unwritten_bytes (suc count) (suc at) = unwritten_bytes count at
 
 carries_out_bytes : (segment : Contents) (state : State) (change : Change) → IsSegment segment → CanBeMade state change → HoldsBytes state → HoldsBytes (carry_out segment state change)
 carries_out_bytes segment state Nothing is can holds = holds
 carries_out_bytes segment state (SetRegister register value) is can holds = record { frame = holds.frame }
 carries_out_bytes segment state (StoreBytes at size number) is can holds = record { frame = bytes-store state.frame.bytes at (store_length size) number holds.frame }
+carries_out_bytes segment state (StorePointer slot pointer) is can holds =
+    record { frame = bytes-write state.frame.bytes (SLOT_LENGTH * slot) (replicate SLOT_LENGTH Unwritten) holds.frame (unwritten_bytes SLOT_LENGTH) }
 carries_out_bytes segment state (CallHelper helper arguments) is can holds = record { frame = bytes-frame_after segment state helper arguments is can holds.frame }
 
 applies_bytes : (segment : Contents) (state : State) (result : Result Effect Cause) → IsSegment segment → IfPasses (CanBeCarriedOut state) result → HoldsBytes state → (IfRunning HoldsBytes) (next_of segment state result)
@@ -143,3 +160,42 @@ step_bytes code segment state there is holds step =
 pub run_bytes : (code : List Insn) (segment : Contents) (run : List Configuration) (state : State) → IsSegment segment → IsRun code segment run → end_of run ≡ Running state → HoldsBytes state
 run_bytes code segment run state is is_run end =
     subst (IfRunning HoldsBytes) end (along_run HoldsBytes code segment (λ here there. step_bytes code segment here there is) (Running start) run start_bytes is_run)
+
+-- written bytes lie in slots that hold no pointer, and a step from a whole state keeps it so
+
+start_apart : KeepsPointersApart start
+start_apart = record { written = λ at written. slots_hold_nothing SLOTS (at / SLOT_LENGTH) }
+  where
+    slots_hold_nothing : (count at : ℕ) → (let none : Option Pointer = None in get_or (replicate count none) at None ≡ None)
+    slots_hold_nothing zero at = refl
+    slots_hold_nothing (suc count) zero = refl
+    slots_hold_nothing (suc count) (suc at) = slots_hold_nothing count at
+
+carries_out_apart : (segment : Contents) (state : State) (change : Change) → CanBeMade state change → IsWhole state → KeepsPointersApart state → KeepsPointersApart (carry_out segment state change)
+carries_out_apart segment state Nothing can whole keeps = keeps
+carries_out_apart segment state (SetRegister register value) can whole keeps = record { written = keeps.written }
+carries_out_apart segment state (StoreBytes at size number) can whole keeps =
+    let bytes = whole.frame in
+    let slots = whole.slots in
+    record { written = apart-store_number state.frame at (store_length size) number (omega arith) (omega arith) keeps.written }
+carries_out_apart segment state (StorePointer slot pointer) can whole keeps =
+    let bytes = whole.frame in record { written = apart-keep_pointer state.frame slot pointer (omega arith) keeps.written }
+carries_out_apart segment state (CallHelper helper arguments) can whole keeps = record { written = apart-frame_after segment state helper arguments can whole.frame whole.slots keeps.written }
+
+applies_apart : (segment : Contents) (state : State) (result : Result Effect Cause) → IfPasses (CanBeCarriedOut state) result → IsWhole state → KeepsPointersApart state → (IfRunning KeepsPointersApart) (next_of segment state result)
+applies_apart segment state (Ok (GoOn change place)) can whole keeps = let there = carries_out_apart segment state change can whole keeps in record { written = there.written }
+applies_apart segment state (Ok (End answer)) can whole keeps = tt
+applies_apart segment state (Err cause) can whole keeps = tt
+
+pub step_apart : (code : List Insn) (segment : Contents) (state there : State) → IsWhole state → KeepsPointersApart state → Step code segment (Running state) (Running there) → KeepsPointersApart there
+unfolding after
+step_apart code segment state there whole keeps step =
+    subst (IfRunning KeepsPointersApart) (sym step) (applies_apart segment state (effect code segment state) (found_within code segment state (instruction_at code state.place)) whole keeps)
+
+pub run_apart : (code : List Insn) (segment : Contents) (run : List Configuration) (state : State) → IsRun code segment run → end_of run ≡ Running state → KeepsPointersApart state
+run_apart code segment run state is_run end =
+    (subst (IfRunning Both) end
+    (along_run Both code segment (λ here there both step. (step_whole code segment here there both.0 step, step_apart code segment here there both.0 both.1 step)) (Running start) run (start_whole, start_apart) is_run)).1
+  where
+    Both : State → Type 0
+    Both here = IsWhole here × KeepsPointersApart here

@@ -1,6 +1,6 @@
 -- The effects of instructions (RFC 9669, sections 4 and 5). What is checked before one is carried out, in which order, is this
 -- project's own.
-use Rattle.std.specs.Prelude.{ℕ, ◌+◌, ◌≤◌, ℤ, pos, negsuc, ◌+ℤ◌, ◌-ℤ◌, ◌&&◌, Bool, List, [], ◌∷◌, map, take, drop, get_or, length, unsigned_abs, int_le, nat_le, nat_lt, Option, Some, None, Result, Ok, Err, is_some, IsTrue, if◌then◌else◌}
+use Rattle.std.specs.Prelude.{ℕ, ◌+◌, ◌≤◌, ◌<◌, ℤ, pos, negsuc, ◌+ℤ◌, ◌-ℤ◌, ◌&&◌, Bool, List, [], ◌∷◌, map, take, drop, get_or, length, unsigned_abs, int_le, nat_le, nat_lt, Option, Some, None, Result, Ok, Err, is_some, IsTrue, if◌then◌else◌}
 use Rattle.std.specs.Int.{cast_signed, cast_unsigned, w32, w64}
 use Rattle.bpf_insn.specs.Arithmetic.{result_of, negate, extension_of, byte_swap, low_bits, is_met, immediate_operand, wide_number, load_extension}
 use Rattle.bpf_insn.specs.Memory.{load_length, store_length}
@@ -32,16 +32,17 @@ use Rattle.bpf_helpers.specs.declared.signature.FrameUse.TheVariants.{Writes, Re
 use Rattle.bpf_meaning.specs.Tags as tags
 use Rattle.bpf_meaning.specs.Walk as walk
 use Rattle.bpf_meaning.specs.Walk.{Registers, Domain}
-use Rattle.bpf_meaning.specs.Memory as memory
-use Rattle.bpf_meaning.specs.Memory.{FrameByte, number_of, all_written}
+use Rattle.bpf_insn.specs.Frame as memory
+use Rattle.bpf_insn.specs.Frame.{FrameByte, FrameContents, number_of, slot_at, slot_value}
+use Rattle.bpf_meaning.specs.Memory.{all_written}
 use Rattle.bpf_meaning.specs.State.{register_value}
 use Rattle.bpf_meaning.specs.declared.cause.Cause.{Cause}
 use Rattle.bpf_meaning.specs.declared.cause.Cause.TheVariants.{OutOfProgram, IntoWide, ReadsNothing, PointerArithmetic, LeavesArea, NotPointer, OutOfBounds, UnwrittenFrame, WritesRecord, StoresPointer, ComparesPointer, UnknownHelper, BadArgument}
 use Rattle.bpf_meaning.specs.declared.effect.Change.{Change}
-use Rattle.bpf_meaning.specs.declared.effect.Change.TheVariants.{Nothing, SetRegister, StoreBytes, CallHelper}
+use Rattle.bpf_meaning.specs.declared.effect.Change.TheVariants.{Nothing, SetRegister, StoreBytes, StorePointer, CallHelper}
 use Rattle.bpf_meaning.specs.declared.effect.Effect.{Effect}
 use Rattle.bpf_meaning.specs.declared.effect.Effect.TheVariants.{GoOn, End}
-use Rattle.bpf_insn.specs.declared.memory.TheConstants.{FRAME_LENGTH}
+use Rattle.bpf_insn.specs.declared.memory.TheConstants.{FRAME_LENGTH, SLOTS}
 use Rattle.bpf_meaning.specs.declared.state.State.{State}
 pub use Rattle.bpf_meaning.specs.Checks.{◌>>=◌}
 
@@ -108,27 +109,46 @@ pointer_in state register = read state register >>= only_pointer
 abbrev pub lie_within : ℤ → ℕ → ℕ → Bool
 lie_within offset count bytes = int_le (pos 0) offset && int_le (offset +ℤ pos count) (pos bytes)
 
--- the bytes of an area; those of the record are all written
-abbrev pub area_bytes : Contents → State → Area → List FrameByte
-area_bytes segment state Record = map memory.Byte segment.bytes
-area_bytes segment state Frame = state.frame.bytes
-
 -- what a load gives for the bytes' number, if they are all written
 abbrev pub load_number : LoadFormat → Option ℕ → Result Value Cause
 load_number format None = Err UnwrittenFrame
 load_number format (Some n) = Ok (Number (load_extension format n))
 
--- a load of bytes of an area from an offset on: they must lie within it, and be written
+-- a load of bytes from an offset on: they must lie within the area, and be written
 abbrev pub load_bytes : LoadFormat → List FrameByte → ℤ → Result Value Cause
 load_bytes format bytes offset =
     if lie_within offset (load_length format) (length bytes)
     then load_number format (number_of (take (load_length format) (drop (unsigned_abs offset) bytes)))
     else Err OutOfBounds
 
+-- what a load of a whole slot gives, if it holds anything
+abbrev pub load_slot : Value → Result Value Cause
+load_slot Empty = Err UnwrittenFrame
+load_slot (Number n) = Ok (Number n)
+load_slot (Pointer pointer) = Ok (Pointer pointer)
+
+-- a load of bytes within the frame, from an offset on: of a whole slot it gives what that holds
+abbrev pub load_within : LoadFormat → FrameContents → ℕ → Result Value Cause
+load_within format frame at = by_slot (slot_at at (load_length format))
+  where
+    by_slot : Option ℕ → Result Value Cause
+    by_slot None = load_number format (number_of (take (load_length format) (drop at frame.bytes)))
+    by_slot (Some slot) = load_slot (slot_value frame slot)
+
+-- a load from the frame, from an offset on
+abbrev pub load_frame : LoadFormat → FrameContents → ℤ → Result Value Cause
+load_frame format frame offset =
+    if lie_within offset (load_length format) (length frame.bytes) then load_within format frame (unsigned_abs offset) else Err OutOfBounds
+
+-- a load from an area, from an offset on; the bytes of the record are all written
+abbrev pub load_from : Contents → State → LoadFormat → Area → ℤ → Result Value Cause
+load_from segment state format Record offset = load_bytes format (map memory.Byte segment.bytes) offset
+load_from segment state format Frame offset = load_frame format state.frame offset
+
 -- what a load gives: it begins where its base points, plus an offset
 abbrev pub load_value : Contents → State → LoadFormat → ℕ → ℤ → Result Value Cause
 load_value segment state format base offset =
-    pointer_in state base >>= λ pointer. load_bytes format (area_bytes segment state pointer.area) (pointer.offset +ℤ offset)
+    pointer_in state base >>= λ pointer. load_from segment state format pointer.area (pointer.offset +ℤ offset)
 
 -- what registers hold, where they hold values
 abbrev pub value_registers : State → Registers
@@ -159,15 +179,28 @@ frame_offset Frame offset = Ok offset
 frame_offset Record offset = Err WritesRecord
 
 -- a number stored in the frame from an offset on: the bytes must lie within it
-abbrev pub store_at : ℤ → StoreSize → ℕ → Result Change Cause
-store_at offset size number =
+abbrev pub store_number : ℤ → StoreSize → ℕ → Result Change Cause
+store_number offset size number =
     if lie_within offset (store_length size) FRAME_LENGTH then Ok (StoreBytes (unsigned_abs offset) size number) else Err OutOfBounds
 
--- the bytes of the frame that a store changes: it begins where its base points, plus an offset
+-- a pointer stored in the frame from an offset on: only a whole slot keeps one, and it must lie within the frame
+abbrev pub store_pointer : ℤ → StoreSize → PointerParts → Result Change Cause
+store_pointer offset size pointer = by_slot (slot_at (unsigned_abs offset) (store_length size))
+  where
+    by_slot : Option ℕ → Result Change Cause
+    by_slot None = Err StoresPointer
+    by_slot (Some slot) = if lie_within offset (store_length size) FRAME_LENGTH then Ok (StorePointer slot pointer) else Err OutOfBounds
+
+-- a value stored in the frame from an offset on
+abbrev pub store_at : ℤ → StoreSize → Value → Result Change Cause
+store_at offset size Empty = Err StoresPointer
+store_at offset size (Number n) = store_number offset size n
+store_at offset size (Pointer pointer) = store_pointer offset size pointer
+
+-- what a store changes of the frame: it begins where its base points, plus an offset
 abbrev pub store_change : State → StoreSize → ℕ → ℤ → Source → Result Change Cause
 store_change state size base offset source =
-    pointer_in state base >>= λ pointer. frame_offset pointer.area (pointer.offset +ℤ offset) >>= λ from.
-    operand state source >>= number_or StoresPointer >>= λ number. store_at from size number
+    pointer_in state base >>= λ pointer. frame_offset pointer.area (pointer.offset +ℤ offset) >>= λ from. operand state source >>= store_at from size
 
 -- a number lies in an interval that a prototype allows
 abbrev pub is_allowed : Interval → ℕ → Bool
@@ -248,9 +281,9 @@ values code segment state next = record {
   Offset = ℤ;
   Change = Change;
   Outcome = Effect;
-  load = λ format pointer offset. load_bytes format (area_bytes segment state pointer.area) (pointer.offset +ℤ offset);
+  load = λ format pointer offset. load_from segment state format pointer.area (pointer.offset +ℤ offset);
   frame = λ pointer offset. frame_offset pointer.area (pointer.offset +ℤ offset);
-  store_at = λ from offset size number. store_at from size number;
+  store_at = λ from offset size. store_at from size;
   call = call_helper state;
   set = set_register code next;
   go_on = go_on code next;
@@ -278,11 +311,12 @@ pub record CanBeCalled (state : State) (helper : Helper) (arguments : List ℕ) 
   pub meets : MeetsSignature helper arguments
   pub written : IsTrue (all_written (bytes_read (frame_use (signature helper).shape) arguments state.frame.bytes))
 
--- a change can be carried out: bytes that are stored lie within the frame, and a call can be carried out
+-- a change can be carried out: bytes that are stored lie within the frame, as does the slot of a pointer, and a call can be carried out
 abbrev pub CanBeMade : State → Change → Type 0
 CanBeMade state Nothing = Unit {0}
 CanBeMade state (SetRegister register value) = Unit {0}
 CanBeMade state (StoreBytes at size number) = at + store_length size ≤ FRAME_LENGTH
+CanBeMade state (StorePointer slot pointer) = slot < SLOTS
 CanBeMade state (CallHelper helper arguments) = CanBeCalled state helper arguments
 
 abbrev pub CanBeCarriedOut : State → Effect → Type 0

@@ -1,11 +1,11 @@
 -- States of a program on its way. Registers are numbered 0 to 10 (RFC 9669, section 3.1) and hold 64 bits, or a pointer; the state
 -- in which a program starts is this project's own.
-use Rattle.std.specs.Prelude.{◌≡◌, ℕ, pos, [], ◌∷◌, length, replicate, get_or}
+use Rattle.std.specs.Prelude.{◌≡◌, ℕ, ◌/◌, pos, IsTrue, [], ◌∷◌, length, replicate, get_or, None}
 use Rattle.bpf_insn.specs.declared.value.Area.TheVariants as area
 use Rattle.bpf_insn.specs.declared.value.Value.{Value}
 use Rattle.bpf_insn.specs.declared.value.Value.TheVariants as value
-use Rattle.bpf_meaning.specs.Memory.{IsByte, Unwritten}
-use Rattle.bpf_insn.specs.declared.memory.TheConstants.{FRAME_LENGTH}
+use Rattle.bpf_insn.specs.Frame.{IsByte, Unwritten, is_written, slot_pointer}
+use Rattle.bpf_insn.specs.declared.memory.TheConstants.{FRAME_LENGTH, SLOT_LENGTH, SLOTS}
 use Rattle.bpf_meaning.specs.declared.state.State.{State}
 use Rattle.bpf_meaning.specs.declared.state.TheConstants.{REGISTERS}
 
@@ -15,7 +15,7 @@ start = record {
   place = 0;
   registers = value.Empty ∷ value.Pointer (record { area = area.Record; offset = pos 0 }) ∷ value.Empty ∷ value.Empty ∷ value.Empty ∷ value.Empty
       ∷ value.Empty ∷ value.Empty ∷ value.Empty ∷ value.Empty ∷ value.Pointer (record { area = area.Frame; offset = pos FRAME_LENGTH }) ∷ [];
-  frame = record { bytes = replicate FRAME_LENGTH Unwritten };
+  frame = record { bytes = replicate FRAME_LENGTH Unwritten; slots = replicate SLOTS None };
   score = 0;
 }
 
@@ -23,10 +23,15 @@ start = record {
 pub record IsWhole (state : State) : Type 0 where
   pub registers : length state.registers ≡ REGISTERS
   pub frame : length state.frame.bytes ≡ FRAME_LENGTH
+  pub slots : length state.frame.slots ≡ SLOTS
 
 -- the frame's bytes are bytes, as those of every State of the code are
 pub record HoldsBytes (state : State) : Type 0 where
   pub frame : (at : ℕ) → IsByte (get_or state.frame.bytes at Unwritten)
+
+-- a byte that is written lies in a slot that holds no pointer
+pub record KeepsPointersApart (state : State) : Type 0 where
+  pub written : (at : ℕ) → IsTrue (is_written state.frame.bytes at) → slot_pointer state.frame (at / SLOT_LENGTH) ≡ None
 
 -- what a register holds
 abbrev pub register_value : State → ℕ → Value

@@ -1,19 +1,19 @@
 -- Steps: an effect is carried out, and gives the next configuration.
-use Rattle.std.specs.Prelude.{◌≡◌, ℕ, List, ◌∷◌, ◌++◌, map, drop, replicate, slice_set, Result, Ok, Err}
+use Rattle.std.specs.Prelude.{◌≡◌, ℕ, List, ◌∷◌, ◌++◌, drop, replicate, slice_set, Result, Ok, Err}
 use Rattle.bpf_insn.specs.declared.instruction.Insn.{Insn}
 use Rattle.tl_segments.specs.Segment.{Contents}
 use Rattle.bpf_insn.specs.Memory.{store_length}
 use Rattle.bpf_insn.specs.declared.value.Value.{Value}
 use Rattle.bpf_insn.specs.declared.value.Value.TheVariants.{Empty, Number}
-use Rattle.bpf_helpers.specs.Call.{Called, bytes_read, call, second, write}
+use Rattle.bpf_helpers.specs.Call.{Called, bytes_read, call, second}
 use Rattle.bpf_helpers.specs.Helper.{signature}
 use Rattle.bpf_helpers.specs.Shape.{frame_use}
 use Rattle.bpf_helpers.specs.declared.helper.Helper.{Helper}
-use Rattle.bpf_meaning.specs.Memory.{Byte, store, written_bytes}
+use Rattle.bpf_meaning.specs.Memory.{keep_pointer, store_number, write_bytes, written_bytes}
 use Rattle.bpf_meaning.specs.Effect.{effect}
 use Rattle.bpf_meaning.specs.declared.cause.Cause.{Cause}
 use Rattle.bpf_meaning.specs.declared.effect.Change.{Change}
-use Rattle.bpf_meaning.specs.declared.effect.Change.TheVariants.{Nothing, SetRegister, StoreBytes, CallHelper}
+use Rattle.bpf_meaning.specs.declared.effect.Change.TheVariants.{Nothing, SetRegister, StoreBytes, StorePointer, CallHelper}
 use Rattle.bpf_meaning.specs.declared.effect.Effect.{Effect}
 use Rattle.bpf_meaning.specs.declared.effect.Effect.TheVariants.{GoOn, End}
 use Rattle.bpf_meaning.specs.declared.outcome.Outcome.{Outcome}
@@ -34,7 +34,7 @@ registers_after answer registers = Number answer ∷ replicate 5 Empty ++ drop 6
 abbrev pub state_after : State → ℕ → Called → State
 state_after state at called = record state {
   registers = registers_after called.answer state.registers;
-  frame = record state.frame { bytes = write state.frame.bytes at (map Byte called.written) };
+  frame = write_bytes state.frame at called.written;
   score = called.score;
 }
 
@@ -47,8 +47,8 @@ called segment state helper arguments =
 abbrev pub carry_out : Contents → State → Change → State
 carry_out segment state Nothing = state
 carry_out segment state (SetRegister register value) = record state { registers = slice_set state.registers register.number value }
-carry_out segment state (StoreBytes at size number) =
-    record state { frame = record state.frame { bytes = store state.frame.bytes at (store_length size) number } }
+carry_out segment state (StoreBytes at size number) = record state { frame = store_number state.frame at (store_length size) number }
+carry_out segment state (StorePointer slot pointer) = record state { frame = keep_pointer state.frame slot pointer }
 carry_out segment state (CallHelper helper arguments) = state_after state (second arguments) (called segment state helper arguments)
 
 -- what an effect leads to

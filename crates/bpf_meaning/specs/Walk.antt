@@ -24,7 +24,7 @@ use Rattle.bpf_helpers.specs.Helper.{by_number}
 use Rattle.bpf_helpers.specs.declared.helper.Helper.{Helper}
 use Rattle.bpf_meaning.specs.Checks.{◌>>=◌}
 use Rattle.bpf_meaning.specs.declared.cause.Cause.{Cause}
-use Rattle.bpf_meaning.specs.declared.cause.Cause.TheVariants.{PointerArithmetic, StoresPointer, UnknownHelper, ExitNotNumber}
+use Rattle.bpf_meaning.specs.declared.cause.Cause.TheVariants.{PointerArithmetic, UnknownHelper, ExitNotNumber}
 
 -- a conditional jump: what it asks, of what, and by how many words it leads on where that is so
 pub record ConditionalJump : Type 0 where
@@ -65,10 +65,10 @@ pub record Domain : Type 1 where
   pub Offset : Type 0
   pub Change : Type 0
   pub Outcome : Type 0
-  -- what a load gives; where a pointer with an offset added leads in the frame; a store of a number there; the call of a helper function
+  -- what a load gives; where a pointer with an offset added leads in the frame; a store of a value there; the call of a helper function
   pub load : LoadFormat → Pointer → ℤ → Result Value Cause
   pub frame : Pointer → ℤ → Result Offset Cause
-  pub store_at : Offset → ℤ → StoreSize → Number → Result Change Cause
+  pub store_at : Offset → ℤ → StoreSize → Value → Result Change Cause
   pub call : Helper → Result Change Cause
   -- on to the next instruction with a register written, or with another change; to a jump's target; to either; to the end
   pub set : WritableRegister → Value → Result Outcome Cause
@@ -104,11 +104,11 @@ compare D jump = D.read jump.left.number >>= λ x. compared_operand D.registers 
 abbrev pub load_value : (D : Domain) → LoadFormat → ℕ → ℤ → Result D.Value Cause
 load_value D format base offset = D.pointer_in base >>= λ pointer. D.load format pointer offset
 
--- a store begins where its base points, plus an offset; only numbers are stored
+-- a store begins where its base points, plus an offset
 abbrev pub store : (D : Domain) → StoreSize → ℕ → ℤ → Source → Result D.Change Cause
 store D size base offset source =
     D.pointer_in base >>= λ pointer. D.frame pointer offset >>= λ from.
-    operand D.registers source >>= D.number_or StoresPointer >>= λ number. D.store_at from offset size number
+    operand D.registers source >>= D.store_at from offset size
 
 -- a call of a helper function, if there is one (section 4.3.1)
 abbrev pub call : (D : Domain) → Option Helper → Result D.Change Cause

@@ -1,7 +1,7 @@
 //! What an instruction does once its checks have passed, as plain data.
 
 use bpf_helpers::Helper;
-use bpf_insn::{StoreSize, Value, WritableRegister};
+use bpf_insn::{Pointer, StoreSize, Value, WritableRegister};
 
 /// What an instruction does to a state.
 #[derive(Clone, Copy, PartialEq, Eq)]
@@ -26,6 +26,11 @@ pub enum Change {
         at: usize,
         size: StoreSize,
         number: u64,
+    },
+    /// A slot of the frame, all of its bytes, keeps a pointer.
+    StorePointer {
+        slot: usize,
+        pointer: Pointer,
     },
     /// A helper function is called with words: a pointer into the frame is its offset.
     CallHelper {

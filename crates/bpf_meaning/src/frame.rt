@@ -1,41 +1,48 @@
 //! The program's own memory.
-ghost use Rattle.std.specs.Prelude.{◌≡◌, ◌+◌, ◌≤◌, IsTrue, length, map, take, drop, replicate};
-ghost use Rattle.bpf_helpers.specs.Call.{MeetsSignature, bytes_read, call, second, write};
+ghost use Rattle.std.specs.Prelude.{◌≡◌, ◌+◌, ◌≤◌, ◌<◌, IsTrue, length, map, take, drop, replicate, None};
+ghost use Rattle.bpf_helpers.specs.Call.{MeetsSignature, bytes_read, call, second};
 ghost use Rattle.bpf_helpers.specs.Helper.{signature};
 ghost use Rattle.bpf_helpers.specs.Shape.{frame_use};
-ghost use Rattle.bpf_meaning.specs.Memory.{Byte, Unwritten, all_written, number_of, store, written_bytes};
+ghost use Rattle.bpf_insn.specs.Frame.{Unwritten, number_of, overwrite_slots, slot_value};
+ghost use Rattle.bpf_meaning.specs.Memory.{all_written, keep_pointer, store_number, write_bytes, written_bytes};
 
 use crate::memory::little_endian;
 use bpf_helpers::{FrameUse, Helper, call};
-use bpf_insn::FRAME_LENGTH;
+use bpf_insn::{FRAME_LENGTH, Pointer, SLOT_LENGTH, SLOTS, Value};
 use std::alloc::Allocator;
 use std::marker::Model;
 use tl_segments::Segment;
 
-/// The program's own memory, by offset from 0. Contracts see it as a record with the field `bytes`, each of which is unwritten or a byte.
+/// The program's own memory, by offset from 0. Contracts see it as a record with the fields `bytes`, each of which is unwritten or a byte, and
+/// `slots`, each of which may be a pointer.
 #[derive(Drop)]
 pub struct Frame {
     bytes: [u8; FRAME_LENGTH],
     /// Which of the bytes were written.
     marks: [bool; FRAME_LENGTH],
+    /// The pointers that slots hold.
+    slots: [Option<Pointer>; SLOTS],
 }
 
 impl Model for Frame {
-    ghost use Rattle.bpf_meaning.specs.Memory.{FrameContents, frame_bytes};
+    ghost use Rattle.bpf_insn.specs.Frame.{FrameContents};
+    ghost use Rattle.bpf_meaning.specs.Memory.{frame_bytes};
 
     ghost Value = { FrameContents };
 
-    ghost view = { λ frame. record { bytes = frame_bytes frame.marks frame.bytes } };
+    ghost view = { λ frame. record { bytes = frame_bytes frame.marks frame.bytes; slots = frame.slots } };
 }
 
 impl Frame {
     /// A frame of which nothing is written.
     pub fn unwritten() -> Self
-        ensures { result.bytes ≡ replicate FRAME_LENGTH Unwritten }
+        ensures bytes { result.bytes ≡ replicate FRAME_LENGTH Unwritten }
+        ensures slots { result.slots ≡ replicate SLOTS None }
     {
         Frame {
             bytes: [0; FRAME_LENGTH],
             marks: [false; FRAME_LENGTH],
+            slots: [None; SLOTS],
         }
     }
 
@@ -59,15 +66,49 @@ impl Frame {
         Some(little_endian(&self.bytes[at..at + count]))
     }
 
+    /// What a slot holds: the number of its bytes where all of them are written, or else its pointer, if there is one.
+    pub fn slot_value(&self, slot: usize) -> Value
+        requires { slot < SLOTS }
+        ensures { result ≡ slot_value self.now slot }
+    {
+        match (self.load(SLOT_LENGTH * slot, SLOT_LENGTH), self.slots[slot]) {
+            (Some(number), _) => Value::Number(number),
+            (None, Some(pointer)) => Value::Pointer(pointer),
+            (None, None) => Value::Empty,
+        }
+    }
+
     /// Writes the low bytes of a number, so many, from an offset on, the lowest first.
     pub fn store(&mut self, at: usize, count: usize, number: u64)
         requires count { count ≤ 8 }
         requires within { at + count ≤ FRAME_LENGTH }
-        ensures { self.new ≡ record self.old { bytes = store self.old.bytes at count number } }
+        ensures { self.new ≡ store_number self.old at count number }
     {
         let bytes = number.to_le_bytes();
         self.bytes[at..at + count].copy_from_slice(&bytes[..count]);
         self.marks[at..at + count].fill(true);
+        self.clear_slots(at, count);
+    }
+
+    /// Keeps a pointer in a slot, all of whose bytes it takes.
+    pub fn keep_pointer(&mut self, slot: usize, pointer: Pointer)
+        requires { slot < SLOTS }
+        ensures { self.new ≡ keep_pointer self.old slot pointer }
+    {
+        let at = SLOT_LENGTH * slot;
+        self.marks[at..at + SLOT_LENGTH].fill(false);
+        self.slots[slot] = Some(pointer);
+    }
+
+    /// Takes the pointer out of each slot that has one of so many bytes from an offset on.
+    fn clear_slots(&mut self, at: usize, count: usize)
+        requires { at + count ≤ FRAME_LENGTH }
+        ensures { self.new ≡ record self.old { slots = overwrite_slots None self.old.slots at count } }
+    {
+        if count > 0 {
+            let last = at + count - 1;
+            self.slots[at / SLOT_LENGTH..=last / SLOT_LENGTH].fill(None);
+        }
     }
 
     /// Whether so many bytes from an offset on are written.
@@ -90,10 +131,8 @@ impl Frame {
         requires written { IsTrue (all_written (bytes_read (frame_use (signature helper).shape) arguments self.old.bytes)) }
         ensures answer { result ≡ (call helper segment.now arguments
             (written_bytes (bytes_read (frame_use (signature helper).shape) arguments self.old.bytes)) score.old).answer }
-        ensures frame { self.new ≡ record self.old {
-          bytes = write self.old.bytes (second arguments) (map Byte (call helper segment.now arguments
-              (written_bytes (bytes_read (frame_use (signature helper).shape) arguments self.old.bytes)) score.old).written);
-        } }
+        ensures frame { self.new ≡ write_bytes self.old (second arguments) (call helper segment.now arguments
+            (written_bytes (bytes_read (frame_use (signature helper).shape) arguments self.old.bytes)) score.old).written }
         ensures score { score.new ≡ (call helper segment.now arguments
             (written_bytes (bytes_read (frame_use (signature helper).shape) arguments self.old.bytes)) score.old).score }
     {
@@ -103,6 +142,7 @@ impl Frame {
             let _bytes = segment.bytes();
             let [_, at, count] = arguments;
             self.marks[at as usize..at as usize + count as usize].fill(true);
+            self.clear_slots(at as usize, count as usize);
         }
         answer
     }

@@ -1,14 +1,17 @@
 //! Laws, each the contract of a function that does nothing.
-ghost use Rattle.std.specs.Prelude.{◌≡◌, ◌≤◌, ◌+◌, ◌%◌, ◌^◌, ◌++◌, ℕ, ℤ, IsTrue, List, length, take, drop, Some};
+ghost use Rattle.std.specs.Prelude.{◌≡◌, ◌≢◌, ◌≤◌, ◌<◌, ◌+◌, ◌*◌, ◌/◌, ◌%◌, ◌^◌, ◌++◌, ℕ, ℤ, IsTrue, List, length, take, drop, Some, None, false};
 ghost use Rattle.bpf_insn.specs.Code.{instruction_at};
 ghost use Rattle.bpf_insn.specs.declared.instruction.Insn.{Insn};
 ghost use Rattle.bpf_insn.specs.declared.instruction.Insn.TheVariants.{Call};
-ghost use Rattle.bpf_insn.specs.declared.value.Value.TheVariants.{Empty};
+ghost use Rattle.bpf_insn.specs.declared.value.Value.TheVariants.{Empty, Number, Pointer};
+ghost use Rattle.bpf_insn.specs.declared.value.Pointer.{Pointer as PointerParts};
+ghost use Rattle.bpf_insn.specs.declared.memory.TheConstants.{SLOT_LENGTH, SLOTS};
 ghost use Rattle.tl_segments.specs.Segment.{Contents, IsSegment};
 ghost use Rattle.bpf_meaning.specs.Extract.{IsExtract};
-ghost use Rattle.bpf_meaning.specs.Memory.{FrameByte, number_of, store};
+ghost use Rattle.bpf_insn.specs.Frame.{FrameByte, FrameContents, IsApart, is_written, number_of, slot_pointer, slot_value};
+ghost use Rattle.bpf_meaning.specs.Memory.{keep_pointer, store, store_number, write_bytes};
 ghost use Rattle.bpf_meaning.specs.RecordAlone.{reads_record_alone};
-ghost use Rattle.bpf_meaning.specs.State.{HoldsBytes, IsWhole, register_value};
+ghost use Rattle.bpf_meaning.specs.State.{HoldsBytes, IsWhole, KeepsPointersApart, register_value};
 ghost use Rattle.bpf_meaning.specs.Step.{Configuration, Running, Exited, Stuck};
 ghost use Rattle.bpf_meaning.specs.Run.{Answers, HasNoNext, HasOneNext, IsRun, Step, end_of};
 ghost use Rattle.bpf_meaning.specs.declared.cause.Cause.{Cause};
@@ -37,6 +40,32 @@ pub fn stores_are_loaded()
         → drop (at + count) (store memory at count number) ≡ drop (at + count) memory }
 {}
 
+/// A number of eight bytes that was stored in a slot is what that holds. A slot that has none of the bytes that were stored, or written by a
+/// helper function, holds what it did.
+pub fn numbers_are_kept()
+    ensures whole { (frame : FrameContents) (slot number : ℕ) → SLOT_LENGTH * slot + SLOT_LENGTH ≤ length frame.bytes → number < 2 ^ 64
+        → slot_value (store_number frame (SLOT_LENGTH * slot) SLOT_LENGTH number) slot ≡ Number number }
+    ensures stored { (frame : FrameContents) (at count number slot : ℕ) → at + count ≤ length frame.bytes → slot < SLOTS
+        → length frame.slots ≡ SLOTS → IsApart slot at count → slot_value (store_number frame at count number) slot ≡ slot_value frame slot }
+    ensures written { (frame : FrameContents) (at : ℕ) (bytes : List ℕ) (slot : ℕ) → at + length bytes ≤ length frame.bytes → slot < SLOTS
+        → length frame.slots ≡ SLOTS → IsApart slot at (length bytes) → slot_value (write_bytes frame at bytes) slot ≡ slot_value frame slot }
+{}
+
+/// A pointer that was kept in a slot is what that holds, its bytes are unwritten, and the other slots hold what they did. Bytes written into a
+/// slot take its pointer out.
+pub fn pointers_are_loaded()
+    ensures kept { (frame : FrameContents) (slot : ℕ) (pointer : PointerParts) → SLOT_LENGTH * slot + SLOT_LENGTH ≤ length frame.bytes
+        → slot < length frame.slots → slot_value (keep_pointer frame slot pointer) slot ≡ Pointer pointer }
+    ensures bytes { (frame : FrameContents) (slot : ℕ) (pointer : PointerParts) (byte : ℕ) → SLOT_LENGTH * slot + SLOT_LENGTH ≤ length frame.bytes
+        → byte / SLOT_LENGTH ≡ slot → is_written (keep_pointer frame slot pointer).bytes byte ≡ false }
+    ensures others { (frame : FrameContents) (kept : ℕ) (pointer : PointerParts) (slot : ℕ) → SLOT_LENGTH * kept + SLOT_LENGTH ≤ length frame.bytes
+        → slot ≢ kept → slot_value (keep_pointer frame kept pointer) slot ≡ slot_value frame slot }
+    ensures stored { (frame : FrameContents) (at count number slot byte : ℕ) → slot < length frame.slots
+        → at ≤ byte → byte < at + count → byte / SLOT_LENGTH ≡ slot → slot_pointer (store_number frame at count number) slot ≡ None }
+    ensures written { (frame : FrameContents) (at : ℕ) (bytes : List ℕ) (slot byte : ℕ) → slot < length frame.slots
+        → at ≤ byte → byte < at + length bytes → byte / SLOT_LENGTH ≡ slot → slot_pointer (write_bytes frame at bytes) slot ≡ None }
+{}
+
 /// Each state that a run comes to has eleven registers and a whole frame, and a step keeps them.
 pub fn states_stay_whole()
     ensures step { (code : List Insn) (segment : Contents) (state there : State)
@@ -51,6 +80,14 @@ pub fn states_hold_bytes()
         → IsSegment segment → HoldsBytes state → Step code segment (Running state) (Running there) → HoldsBytes there }
     ensures run { (code : List Insn) (segment : Contents) (run : List Configuration) (state : State)
         → IsSegment segment → IsRun code segment run → end_of run ≡ Running state → HoldsBytes state }
+{}
+
+/// No pointer stands in a slot of which a byte is written, in each state that a run comes to, and a step keeps it so.
+pub fn pointers_stand_apart()
+    ensures step { (code : List Insn) (segment : Contents) (state there : State)
+        → IsWhole state → KeepsPointersApart state → Step code segment (Running state) (Running there) → KeepsPointersApart there }
+    ensures run { (code : List Insn) (segment : Contents) (run : List Configuration) (state : State)
+        → IsRun code segment run → end_of run ≡ Running state → KeepsPointersApart state }
 {}
 
 /// A step over a call leaves registers 1 to 5 empty, and keeps those above them.

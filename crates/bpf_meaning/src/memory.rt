@@ -1,16 +1,16 @@
 //! Loads and stores.
 ghost use Rattle.std.specs.Prelude.{◌≡◌, ◌+◌, ◌+ℤ◌, ◌^◌, ◌<◌, ◌≤◌, IsTrue, map, length, unsigned_abs, Some, MatchOption, false};
-ghost use Rattle.bpf_meaning.specs.Memory.{Byte, number_of};
-ghost use Rattle.bpf_meaning.specs.Effect.{lie_within, load_bytes, load_value, pointer_in, store_at, store_change};
+ghost use Rattle.bpf_insn.specs.Frame.{Byte, number_of};
+ghost use Rattle.bpf_meaning.specs.Effect.{lie_within, load_bytes, load_frame, load_slot, load_value, pointer_in, store_at, store_change, store_number, store_pointer};
 
 use crate::cause::Cause;
 use crate::effect::Change;
 use crate::frame::Frame;
-use crate::operands::{number_or, operand};
+use crate::operands::operand;
 use crate::state::State;
 use bpf_insn::{
     Area, FRAME_LENGTH, LoadFormat, Pointer, Register, Source, StoreSize, Value, load_length,
-    store_length,
+    slot_at, store_length,
 };
 use std::alloc::Allocator;
 use tl_segments::Segment;
@@ -68,17 +68,30 @@ fn load_record(bytes: &[u8], format: LoadFormat, offset: i32) -> Result<Value, C
     Ok(Value::Number(format.extend(number)))
 }
 
-/// A load from the frame, from an offset on.
+/// A load from the frame, from an offset on: of a whole slot it gives what that holds.
 fn load_frame(frame: &Frame, format: LoadFormat, offset: i32) -> Result<Value, Cause>
-    ensures { result ≡ load_bytes format frame.now.bytes offset }
+    ensures { result ≡ load_frame format frame.now offset }
 {
     let count = load_length(format);
     let Some(at) = offset_within(offset, count, frame.len()) else {
         return Err(Cause::OutOfBounds);
     };
+    if let Some(slot) = slot_at(at, count) {
+        return load_slot(frame.slot_value(slot));
+    }
     match frame.load(at, count) {
         Some(number) => Ok(Value::Number(format.extend(number))),
         None => Err(Cause::UnwrittenFrame),
+    }
+}
+
+/// What a load of a whole slot gives, if it holds anything.
+fn load_slot(held: Value) -> Result<Value, Cause>
+    ensures { result ≡ load_slot held }
+{
+    match held {
+        Value::Empty => Err(Cause::UnwrittenFrame),
+        value => Ok(value),
     }
 }
 
@@ -119,7 +132,7 @@ pub(crate) fn load_value<A: Allocator>(
     }
 }
 
-/// The bytes of the frame that a store changes.
+/// What a store changes of the frame.
 pub(crate) fn store_change(
     state: &State,
     size: StoreSize,
@@ -133,13 +146,38 @@ pub(crate) fn store_change(
     let Area::Frame = pointer.area else {
         return Err(Cause::WritesRecord);
     };
-    let number = number_or(Cause::StoresPointer, operand(state, source)?)?;
-    store_at(offset_from(pointer, offset), size, number)
+    let value = operand(state, source)?;
+    store_at(offset_from(pointer, offset), size, value)
+}
+
+/// A value stored in the frame from an offset on.
+fn store_at(offset: i32, size: StoreSize, value: Value) -> Result<Change, Cause>
+    ensures { result ≡ store_at offset size value }
+{
+    match value {
+        Value::Empty => Err(Cause::StoresPointer),
+        Value::Number(number) => store_number(offset, size, number),
+        Value::Pointer(pointer) => store_pointer(offset, size, pointer),
+    }
+}
+
+/// A pointer stored in the frame from an offset on: only a whole slot keeps one.
+fn store_pointer(offset: i32, size: StoreSize, pointer: Pointer) -> Result<Change, Cause>
+    ensures { result ≡ store_pointer offset size pointer }
+{
+    let count = store_length(size);
+    let Some(slot) = slot_at(offset.unsigned_abs() as usize, count) else {
+        return Err(Cause::StoresPointer);
+    };
+    match offset_within(offset, count, FRAME_LENGTH) {
+        Some(_) => Ok(Change::StorePointer { slot, pointer }),
+        None => Err(Cause::OutOfBounds),
+    }
 }
 
 /// A number stored in the frame from an offset on.
-fn store_at(offset: i32, size: StoreSize, number: u64) -> Result<Change, Cause>
-    ensures { result ≡ store_at offset size number }
+fn store_number(offset: i32, size: StoreSize, number: u64) -> Result<Change, Cause>
+    ensures { result ≡ store_number offset size number }
 {
     match offset_within(offset, store_length(size), FRAME_LENGTH) {
         Some(at) => Ok(Change::StoreBytes { at, size, number }),

@@ -89,6 +89,7 @@ impl State {
             Change::StoreBytes { at, size, number } => {
                 self.frame.store(at, store_length(size), number);
             }
+            Change::StorePointer { slot, pointer } => self.frame.keep_pointer(slot, pointer),
             Change::CallHelper { helper, arguments } => self.call(segment, helper, arguments),
         }
     }

@@ -1,9 +1,12 @@
 //! Maps beside those of a plain program over 512 truth values.
 ghost use Rattle.std.specs.Prelude.{◌<◌, ◌≤◌, ◌+◌, ◌^◌, IfSome};
+ghost use Rattle.bpf_frame.specs.FrameMap.{IsProper};
+
+mod slots;
 
 use bpf_frame::FrameMap;
-use bpf_insn::FRAME_LENGTH;
-use bpf_kinds::Order;
+use bpf_insn::{FRAME_LENGTH, SLOTS};
+use bpf_kinds::{Kind, Order};
 use fixtures::cell;
 use std::mem::size_of;
 
@@ -75,7 +78,7 @@ fn runs(rt: HostRuntime) {
 
 #[test]
 fn size(rt: HostRuntime) {
-    assert!(rt; size_of::<FrameMap>() == 64);
+    assert!(rt; size_of::<FrameMap>() == 64 + SLOTS * size_of::<Kind>());
 }
 
 /// Whether runs of bytes from an offset on are marked as their truth values say: of few bytes, of as many as one or two lanes have or one
@@ -103,7 +106,9 @@ fn is_run(from: usize, len: usize) -> bool
 }
 
 /// The map with so many bytes marked from each offset on, and these bytes as truth values.
-fn marked(text: &str) -> Option<(FrameMap, [bool; FRAME_LENGTH])> {
+fn marked(text: &str) -> Option<(FrameMap, [bool; FRAME_LENGTH])>
+    ensures { IfSome result (λ both. IsProper both.0) }
+{
     let mut map = FrameMap::unwritten();
     let mut written = [false; FRAME_LENGTH];
     for run in text.split_whitespace() {

@@ -24,7 +24,18 @@ const ANSWERS: &str = "\
 7; mov r0, 3 | jset32 r0, 4, +2 | lddw r0, 7 | exit
 1; mov r2, 5 | mov r3, -1 | mov r0, 0 | jsgt r2, r3, +1 | exit | mov r0, 1 | exit
 1 score 7; mov r1, 7 | call 8 | mov r0, 1 | exit
-19; call 3 | mov r6, r0 | lsh r6, 4 | call 4 | add r0, r6 | exit";
+19; call 3 | mov r6, r0 | lsh r6, 4 | call 4 | add r0, r6 | exit
+49; stxdw [r10-8], r1 | mov r1, 1 | call 2 | ldxdw r1, [r10-8] | ldxb r0, [r1+0] | exit
+49 score 7; stxdw [r10-8], r1 | mov r1, 7 | call 8 | ldxdw r1, [r10-8] | ldxb r0, [r1+0] | exit
+48; add r1, 227 | stxdw [r10-512], r1 | ldxdw r2, [r10-512] | ldxb r0, [r2+0] | exit
+65; add r1, 32767 | stxdw [r10-8], r1 | ldxdw r2, [r10-8] | add r2, -32712 | ldxb r0, [r2+0] | exit
+65; add r1, -32768 | stxdw [r10-8], r1 | ldxdw r2, [r10-8] | add r2, 32767 | ldxb r0, [r2+56] | exit
+7; mov r2, r10 | add r2, -8 | stxdw [r2+0], r2 | ldxdw r3, [r10-8] | stdw [r3+0], 7 | ldxdw r0, [r10-8] | exit
+50; ldxb r2, [r1+55] | and r2, 15 | stxdw [r10-16], r2 | ldxdw r3, [r10-16] | add r1, r3 | ldxb r0, [r1+6] | exit
+65; ldxb r2, [r1+55] | stxdw [r10-8], r1 | jeq r2, 65, +2 | add r1, 7 | stxdw [r10-8], r1 | ldxdw r3, [r10-8] |
+  ldxb r0, [r3+55] | exit
+65; ldxb r2, [r1+55] | mov r3, r1 | add r3, 7 | stxdw [r10-8], r3 | jne r2, 65, +1 | stxdw [r10-8], r1 |
+  ldxdw r3, [r10-8] | ldxb r0, [r3+55] | exit";
 
 // The files of a segment with an alternate name and two further ranges.
 const NAMED: &str = r"{rt1}\n; {rt4}\n; {rt5 FENAME=Elm}\n;
@@ -284,4 +295,17 @@ fn words(rt: HostRuntime) {
     let verified = accepted_text(rt.alloc(), POINTER).expect(&rt, POINTER);
     let bare = stepped(&verified, &segment, 5).expect(&rt, POINTER);
     assert!(rt; (bare.at, bare.registers.words[6]) == (5, 5));
+}
+
+// Pointers that are put into the last two slots, into the record and behind the frame.
+const KEPT: &str = "add r1, 5 | stxdw [r10-8], r1 | stxdw [r10-16], r10 | mov r0, 1 | exit";
+
+#[test]
+fn kept_words(rt: HostRuntime) {
+    let segment = Segment::of(rt.alloc(), RT1);
+    let verified = accepted_text(rt.alloc(), KEPT).expect(&rt, KEPT);
+    let bare = stepped(&verified, &segment, 3).expect(&rt, KEPT);
+    assert!(rt;
+        bare.frame.ends_with(b"\x00\x02\x00\x00\x00\x00\x00\x00\x05\x00\x00\x00\x00\x00\x00\x00")
+    );
 }

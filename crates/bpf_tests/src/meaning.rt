@@ -5,7 +5,7 @@ use crate::segments::county_of;
 use bpf_insn::{Code, Value};
 use bpf_meaning::{Outcome, State, step, trace};
 use fixtures::{RT1, cell, table};
-use std::alloc::Global;
+use std::alloc::{Allocator, Global};
 use std::test::Fail;
 use tl_segments::Segment;
 
@@ -182,7 +182,7 @@ refused 45 place 2 UnwrittenFrame; mov r2, 1 | stxdw [r10-8], r2 | ldxdw r0, [r1
 refused 46 place 0 WritesRecord; stb [r1+0], 1 | exit
 refused 46 place 0 WritesRecord; stxb [r1+228], r2 | exit
 refused 47 place 0 StoresPointer; stxw [r10-8], r1 | exit
-refused 47 place 0 StoresPointer; stxdw [r10+0], r10 | exit
+refused 47 place 0 StoresPointer; stxdw [r10-4], r10 | exit
 refused 48 place 1 ComparesPointer; mov r0, 0 | jeq r1, 0, +0 | exit
 refused 48 place 1 ComparesPointer; mov r0, 0 | jne r0, r1, +0 | exit
 refused 51 place 1 ExitNotNumber; mov r0, r1 | exit
@@ -299,6 +299,80 @@ refused 40 place 6 ReadsNothing(1); stw [r10-4], 0x6e69616d | mov r1, 0 | mov r2
 32410000; mov r1, 3 | call 9 | exit
 11; mov r6, 5 | mov r9, 6 | call 3 | mov r0, r6 | add r0, r9 | exit
 49; mov r6, r1 | call 3 | ldxb r0, [r6+0] | exit
+",
+    // Pointers and numbers that slots of the frame keep: pointers into both areas, at the least and the greatest offsets, over what a slot held,
+    // and beside what another holds.
+    "\
+49; stxdw [r10-8], r1 | mov r1, 1 | call 2 | ldxdw r1, [r10-8] | ldxb r0, [r1+0] | exit
+48; add r1, 227 | stxdw [r10-512], r1 | ldxdw r2, [r10-512] | ldxb r0, [r2+0] | exit
+65; add r1, -100 | stxdw [r10-8], r1 | ldxdw r2, [r10-8] | ldxb r0, [r2+155] | exit
+65; add r1, 32767 | stxdw [r10-8], r1 | ldxdw r2, [r10-8] | add r2, -32712 | ldxb r0, [r2+0] | exit
+65; add r1, -32768 | stxdw [r10-8], r1 | ldxdw r2, [r10-8] | add r2, 32767 | ldxb r0, [r2+56] | exit
+7; stb [r10-1], 7 | stxdw [r10-16], r10 | ldxdw r2, [r10-16] | ldxb r0, [r2-1] | exit
+7; mov r2, r10 | add r2, -8 | stxdw [r2+0], r2 | ldxdw r3, [r10-8] | stdw [r3+0], 7 | ldxdw r0, [r10-8] | exit
+49; mov r2, r10 | add r2, -3 | stxdw [r2-5], r1 | ldxdw r1, [r10-8] | ldxb r0, [r1+0] | exit
+49; stxdw [r10-8], r1 | ldxdw r2, [r10-8] | stxdw [r10-16], r2 | stdw [r10-8], 0 | ldxdw r3, [r10-16] |
+  ldxb r0, [r3+0] | exit
+7; stxdw [r10-8], r1 | stdw [r10-8], 7 | ldxdw r0, [r10-8] | exit
+65; stdw [r10-8], 7 | stxdw [r10-8], r1 | ldxdw r2, [r10-8] | ldxb r0, [r2+55] | exit
+9; stdw [r10-16], 9 | stxdw [r10-8], r1 | ldxdw r0, [r10-16] | exit
+9; stdw [r10-8], 9 | stxdw [r10-16], r1 | ldxdw r0, [r10-8] | exit
+49; ldxb r3, [r1+55] | and r3, 8 | mov r2, r10 | add r2, r3 | stxdw [r2-16], r1 | ldxdw r1, [r10-16] | ldxb r0, [r1+0] |
+  exit
+49; ldxb r3, [r1+55] | and r3, 64 | mov r2, r10 | sub r2, r3 | stxdw [r10-64], r1 | ldxdw r1, [r2+0] | ldxb r0, [r1+0] |
+  exit
+49 score 7; stxdw [r10-8], r1 | mov r1, 7 | call 8 | ldxdw r1, [r10-8] | ldxb r0, [r1+0] | exit
+123456789 score 123456789; mov r1, 0 | call 1 | stxdw [r10-8], r0 | mov r1, r0 | call 8 | ldxdw r0, [r10-8] | exit
+49; ldxb r2, [r1+55] | and r2, 1 | add r2, -1 | stxdw [r10-16], r2 | ldxdw r3, [r10-16] | add r1, r3 | ldxb r0, [r1+0] |
+  exit
+",
+    // What is left of a pointer once part of its slot is written, and what can't be read of one.
+    "\
+3; stxdw [r10-8], r1 | stb [r10-1], 3 | ldxb r0, [r10-1] | exit
+refused 45 place 2 UnwrittenFrame; stxdw [r10-8], r1 | stb [r10-1], 3 | ldxb r0, [r10-2] | exit
+refused 45 place 2 UnwrittenFrame; stxdw [r10-8], r1 | stb [r10-1], 3 | ldxdw r1, [r10-8] | exit
+refused 45 place 2 UnwrittenFrame; stxdw [r10-8], r1 | stb [r10-8], 3 | ldxdw r1, [r10-8] | exit
+3; stxdw [r10-16], r1 | stxdw [r10-8], r1 | sth [r10-9], 3 | ldxh r0, [r10-9] | exit
+refused 45 place 3 UnwrittenFrame; stxdw [r10-16], r1 | stxdw [r10-8], r1 | sth [r10-9], 3 | ldxdw r1, [r10-16] | exit
+refused 45 place 3 UnwrittenFrame; stxdw [r10-16], r1 | stxdw [r10-8], r1 | sth [r10-9], 3 | ldxdw r1, [r10-8] | exit
+49; stxdw [r10-16], r1 | stxdw [r10-8], r1 | stw [r10-8], 3 | ldxdw r1, [r10-16] | ldxb r0, [r1+0] | exit
+refused 45 place 1 UnwrittenFrame; stxdw [r10-8], r1 | ldxb r0, [r10-8] | exit
+refused 45 place 1 UnwrittenFrame; stxdw [r10-8], r1 | ldxsb r0, [r10-1] | exit
+refused 45 place 1 UnwrittenFrame; stxdw [r10-8], r1 | ldxh r0, [r10-7] | exit
+refused 45 place 1 UnwrittenFrame; stxdw [r10-8], r1 | ldxw r0, [r10-8] | exit
+refused 45 place 1 UnwrittenFrame; stxdw [r10-8], r1 | ldxsw r0, [r10-4] | exit
+refused 45 place 2 UnwrittenFrame; stdw [r10-16], 9 | stxdw [r10-8], r1 | ldxw r0, [r10-10] | exit
+refused 45 place 2 UnwrittenFrame; stxdw [r10-16], r1 | stxdw [r10-8], r1 | ldxdw r0, [r10-12] | exit
+77; stxdw [r10-8], r1 | mov r1, 0 | mov r2, r10 | add r2, -8 | mov r3, 1 | call 6 | ldxb r0, [r10-8] | exit
+refused 45 place 6 UnwrittenFrame; stxdw [r10-8], r1 | mov r1, 0 | mov r2, r10 | add r2, -8 | mov r3, 1 | call 6 |
+  ldxb r0, [r10-7] | exit
+refused 45 place 6 UnwrittenFrame; stxdw [r10-8], r1 | mov r1, 0 | mov r2, r10 | add r2, -1 | mov r3, 1 | call 6 |
+  ldxdw r1, [r10-8] | exit
+refused 45 place 6 UnwrittenFrame; stxdw [r10-32], r1 | mov r1, 0 | mov r2, r10 | add r2, -30 | mov r3, 30 | call 6 |
+  ldxdw r1, [r10-32] | exit
+49; stxdw [r10-16], r1 | mov r1, 0 | mov r2, r10 | add r2, -8 | mov r3, 8 | call 6 | ldxdw r1, [r10-16] |
+  ldxb r0, [r1+0] | exit
+refused 45 place 5 UnwrittenFrame; stxdw [r10-8], r1 | mov r1, 0 | mov r2, r10 | add r2, -8 | mov r3, 1 | call 7 | exit
+refused 45 place 6 UnwrittenFrame; stb [r10-9], 77 | stxdw [r10-8], r1 | mov r1, 0 | mov r2, r10 | add r2, -9 |
+  mov r3, 2 | call 7 | exit
+refused 48 place 2 ComparesPointer; stxdw [r10-8], r1 | ldxdw r2, [r10-8] | jeq r2, 0, +0 | exit
+refused 51 place 2 ExitNotNumber; stxdw [r10-8], r1 | ldxdw r0, [r10-8] | exit
+",
+    // Where a pointer can't be put.
+    "\
+refused 47 place 0 StoresPointer; stxdw [r10-12], r1 | exit
+refused 47 place 0 StoresPointer; stxdw [r10-9], r10 | exit
+refused 47 place 0 StoresPointer; stxh [r10-8], r1 | exit
+refused 47 place 0 StoresPointer; stxb [r10-8], r10 | exit
+refused 47 place 0 StoresPointer; stxdw [r10+1], r1 | exit
+refused 47 place 0 StoresPointer; stxdw [r10-516], r1 | exit
+refused 44 place 0 OutOfBounds; stxdw [r10+0], r1 | exit
+refused 44 place 0 OutOfBounds; stxdw [r10+8], r10 | exit
+refused 44 place 0 OutOfBounds; stxdw [r10-520], r1 | exit
+refused 44 place 1 OutOfBounds; add r1, 8 | stxdw [r10+32760], r1 | exit
+refused 44 place 1 OutOfBounds; mov r2, r10 | stxdw [r2-32768], r1 | exit
+refused 46 place 0 WritesRecord; stxdw [r1+0], r1 | exit
+refused 40 place 0 ReadsNothing(9); stxdw [r10-8], r9 | exit
 "
 );
 
@@ -388,6 +462,23 @@ fn limits(rt: HostRuntime) {
         let code = code_of(rt.alloc(), cell(row, 2)).expect(&rt, row);
         assert!(rt; comes_to(&segment, &code, limit, cell(row, 0)), "{row}");
     }
+}
+
+/// Whether steps of a code come to the answer and the score of a cell, in no more steps than the code has words.
+pub fn is_stepped<A: Allocator, B: Allocator>(
+    code: &Code<A>,
+    segment: &Segment<B>,
+    said: &str,
+) -> bool {
+    let mut state = State::start();
+    for _ in 0..code.words() {
+        match step(code, segment, &mut state) {
+            Outcome::Running => {}
+            Outcome::Exit { answer, score } => return is_exit(said, answer, score),
+            Outcome::Stuck { .. } => return false,
+        }
+    }
+    false
 }
 
 /// Takes more steps than a code has.

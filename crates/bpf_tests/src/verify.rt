@@ -27,7 +27,9 @@ const AREAS: &str = "\
 -FFF-; mov r2, 1 | stxdw [r10-8], r2 | ldxw r3, [r10-8] | ldxw r0, [r10-4] | exit
 ----; mov r0, 1 | ja +1 | ldxb r0, [r9+0] | exit
 F-R--; stb [r10-1], 1 | lddw r2, 7 | ldxb r1, [r1+55] | mov r0, r1 | exit
--R---R-; mov r0, 0 | ldxb r2, [r1+55] | mov r3, r1 | jeq r2, 65, +1 | mov r3, r1 | ldxb r0, [r3+1] | exit";
+-R---R-; mov r0, 0 | ldxb r2, [r1+55] | mov r3, r1 | jeq r2, 65, +1 | mov r3, r1 | ldxb r0, [r3+1] | exit
+FFR-; stxdw [r10-8], r1 | ldxdw r3, [r10-8] | ldxb r0, [r3+1] | exit
+FFF--; stxdw [r10-8], r10 | ldxdw r3, [r10-8] | stb [r3-1], 1 | mov r0, 1 | exit";
 
 /// Whether a code that is accepted has these areas, and its entries are the instructions of the program.
 fn has_areas(verified: &Verified<Global>, code: &Code<Global>, areas: &str) -> bool {

@@ -1,9 +1,10 @@
 -- The areas of bases: in every run of a code that is accepted they hold.
-use Rattle.std.proofs.Common.{◌≡◌, ℕ, zero, suc, ◌+◌, ◌-◌, ◌≤◌, nat_lt, false, List, [], ◌∷◌, ◌++◌, ◌⊎◌, ◌==◌, length, map, get_or, Option, Some, None, option_map, option_and_then, Result, Ok, Err, is_some, refl, sym, ap, ◌∙◌, subst, arith, inl, inr}
+use Rattle.std.proofs.Common.{◌≡◌, ℕ, zero, suc, ◌+◌, ◌-◌, ◌<◌, ◌≤◌, nat_lt, IfSome, false, List, [], ◌∷◌, ◌++◌, ◌⊎◌, ◌==◌, length, map, get_or, Option, Some, None, option_map, option_and_then, Result, Ok, Err, is_some, refl, sym, ap, ◌∙◌, subst, arith, inl, inr}
+use Rattle.std.specs.Prelude.{slice_get}
 use Rattle.std.proofs.lemmas.Bool.{cases_lt}
 use Rattle.std.proofs.lemmas.Bool.Decides.{nat_tests}
 use Rattle.std.proofs.lemmas.Option.{none-some}
-use Rattle.bpf_insn.proofs.PlaceLemmas.{instruction_at-inside, instruction_at-behind, instruction_within, word_count-cons}
+use Rattle.bpf_insn.proofs.PlaceLemmas.{index_within, instruction_at-index, instruction_at-inside, instruction_at-behind, instruction_within, word_count-cons}
 use Rattle.bpf_insn.specs.Code.{index_at, instruction_at, spelling, word_count}
 use Rattle.bpf_insn.specs.declared.instruction.Insn.{Insn}
 use Rattle.bpf_insn.specs.declared.instruction.Insn.TheVariants as insn
@@ -11,6 +12,8 @@ use Rattle.bpf_insn.specs.declared.instruction.Source.TheVariants.{Immediate, Re
 use Rattle.bpf_insn.specs.declared.value.Area.{Area}
 use Rattle.bpf_insn.specs.declared.value.Value.{Value}
 use Rattle.bpf_insn.specs.declared.value.Value.TheVariants as value
+use Rattle.bpf_flat.specs.Flat.{AreFlatForms, HasImmediates}
+use Rattle.bpf_flat.specs.declared.flat.FlatInsn.{FlatInsn}
 use Rattle.bpf_flow.specs.Flow.{IsForward}
 use Rattle.bpf_kinds.specs.Kind as kind
 use Rattle.bpf_kinds.specs.declared.kind.Kind.{Kind}
@@ -24,7 +27,7 @@ use Rattle.bpf_meaning.specs.Walk.{walk, load_value}
 use Rattle.bpf_meaning.specs.declared.cause.Cause.{Cause}
 use Rattle.bpf_meaning.specs.declared.state.State.{State}
 use Rattle.tl_segments.specs.Segment as segments
-use Rattle.bpf_verify.specs.Annotation.{Annotation, IsAccepted, area_of, area_of_kind, areas_from}
+use Rattle.bpf_verify.specs.Annotation.{Annotation, HaveImmediates, IsAccepted, area_of, area_of_kind, areas_from}
 use Rattle.bpf_verify.specs.State.{AbstractState, Unreached, Reached, Edges, Admits, kind_of}
 use Rattle.bpf_verify.specs.Transfer.{kinds, only_pointers, pointers_in, read_kind, transfer}
 use Rattle.bpf_verify.specs.Verified.{HasBaseAreas, PointsInto, base_of, entries_of}
@@ -132,16 +135,38 @@ state_points code segment annotation verified run is_run state end insn base sta
     let passes = verified.good.passes state.place insn (instruction_within code state.place (ap is_some stands)) stands in
     by_state (annotation state.place) state insn base passes.edges way.admits passes.passes is
 
-pub areas_hold : (code : List Insn) (areas : List (Option Area)) → IsForward code → IsAccepted code areas → HasBaseAreas code areas
-areas_hold code areas forward accepted = record {
+pub areas_hold : (code : List Insn) (areas : List (Option Area)) → IsForward code → HaveImmediates code → IsAccepted code areas → HasBaseAreas code areas
+areas_hold code areas forward immediates accepted = record {
   count = ap length accepted.are ∙ length-areas_from accepted.annotation 0 code;
   bases = λ segment is_segment run is_run state end index insn base at stands is.
-      let verified : IsVerified code segment accepted.annotation = record { forward = forward; good = accepted.is_least.good; is_segment = is_segment } in
+      let verified : IsVerified code segment accepted.annotation = record { forward = forward; good = accepted.is_least.good; is_segment = is_segment; immediates = immediates } in
       let place : get_or areas index None ≡ area_of (accepted.annotation state.place) insn =
       ap (λ (areas : List (Option Area)). get_or areas index None) accepted.are ∙ area_at accepted.annotation 0 code state.place index insn at stands
       ∙ ap (λ (p : ℕ). area_of (accepted.annotation p) insn) (omega arith) in
       subst (PointsInto (register_value state base)) (sym place) (state_points code segment accepted.annotation verified run is_run state end insn base stands is);
 }
+
+-- The immediates of a code whose flat forms are known.
+
+element_at : {X : Type 0} (xs : List X) (index : ℕ) → index < length xs → (x : X) × (x ≡ get_or xs index x)
+element_at [] index within = absurd (omega arith)
+element_at (x ∷ xs) zero within = (x, refl)
+element_at (x ∷ xs) (suc index) within = element_at xs index (omega arith)
+
+element_found : {X : Type 0} (xs : List X) (index : ℕ) (x : X) → slice_get xs index ≡ Some x → x ≡ get_or xs index x
+element_found [] index x found = absurd (let no : ⊥ = cc in no)
+element_found (y ∷ xs) zero x found = let same : y ≡ x = cc in sym same
+element_found (y ∷ xs) (suc index) x found = element_found xs index x found
+
+pub immediates_of_forms : (code : List Insn) (areas : List (Option Area)) (flats : List FlatInsn) → AreFlatForms code areas (length code) flats → HaveImmediates code
+immediates_of_forms code areas flats forms place insn stands =
+    by_index (index_at code place) (index_within code place) (sym (instruction_at-index code place) ∙ stands)
+  where
+    by_index : (found : Option ℕ) → IfSome found (λ index. index < length code) → option_and_then (slice_get code) found ≡ Some insn → HasImmediates insn
+    by_index None within is = absurd (let no : ⊥ = cc in no)
+    by_index (Some index) within is =
+        let flat = element_at flats index (let count = forms.count_is in omega arith) in
+        (forms.each index insn flat.0 within (element_found code index insn is) flat.1).immediates
 
 -- Entries.
 

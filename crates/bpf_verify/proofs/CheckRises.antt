@@ -31,8 +31,8 @@ load_rises lower higher format x n offset below proper within =
     weaker IsLower (λ x n. kind.IsWithin n x) _ _ is_within
     (load_from_lower higher lower below format x n offset (record { into = within.into; offsets = record { within = within.offsets; ordered = proper.ordered } }))
 
-pub store_rises : (lower higher : Known) (x n : Offsets) (offset : ℤ) (size : StoreSize) → IsBelow lower higher → offsets.IsProper n → offsets.IsWithin n x → Sound (λ x n. IsWithinKnown n x) (store_at higher x offset size) (store_at lower n offset size)
-store_rises lower higher x n offset size below proper within = store_at_lower higher lower below x n offset size (record { within = within; ordered = proper.ordered })
+pub store_rises : (lower higher : Known) (x n : Offsets) (offset : ℤ) (size : StoreSize) (k l : Kind) → IsBelow lower higher → offsets.IsProper n → offsets.IsWithin n x → kind.IsProper l → kind.IsWithin l k → Sound (λ x n. IsWithinKnown n x) (store_at higher x offset size k) (store_at lower n offset size l)
+store_rises lower higher x n offset size k l below proper within proper_kind stored = store_at_lower higher lower below x n offset size k l (record { within = within; ordered = proper.ordered }) (is_lower k l stored proper_kind)
 
 pub argument_rises : (lower higher : Known) (number : ℕ) (wanted : Argument) → IsBelow lower higher → Sound (λ x n. kind.IsWithin n x) (argument_in higher number wanted) (argument_in lower number wanted)
 argument_rises lower higher number wanted below = weaker IsLower (λ x n. kind.IsWithin n x) _ _ is_within (argument_in_lower higher lower below number wanted)

@@ -16,7 +16,7 @@ use Rattle.bpf_insn.specs.Jump.{jump_distance}
 use Rattle.bpf_insn.specs.declared.instruction.Insn.{Insn}
 use Rattle.bpf_insn.specs.declared.memory.TheConstants.{FRAME_LENGTH}
 use Rattle.bpf_flow.specs.Flow.{IsForward, target_of}
-use Rattle.bpf_frame.proofs.MarkLemmas.{unwritten_is_proper}
+use Rattle.bpf_frame.proofs.ProperLemmas.{unwritten_is_proper}
 use Rattle.bpf_kinds.specs.Kind as kind
 use Rattle.bpf_kinds.specs.Offsets as offsets
 use Rattle.bpf_kinds.specs.declared.kind.Kind.{Kind}
@@ -33,7 +33,7 @@ use Rattle.bpf_verify.specs.declared.state.Known.{Known}
 use Rattle.bpf_verify.proofs.AreaLemmas.{areas_from-more, areas_from-same, length-areas_from}
 use Rattle.bpf_verify.proofs.RiseInstructions.{upward}
 use Rattle.bpf_verify.proofs.StateLaws as laws
-use Rattle.bpf_verify.proofs.StateLaws.{set_each}
+use Rattle.bpf_kinds.proofs.ListLemmas.{set_each}
 
 -- what is kept, as states
 

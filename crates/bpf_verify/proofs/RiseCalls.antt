@@ -21,12 +21,12 @@ use Rattle.bpf_meaning.specs.Checks.{Sound}
 use Rattle.bpf_meaning.specs.declared.cause.Cause.TheVariants.{OutOfBounds, UnwrittenFrame, BadArgument}
 use Rattle.bpf_meaning.proofs.CheckLemmas.{then_sound, passes_if}
 use Rattle.bpf_verify.specs.State.{IsBelow, IsWithinKnown}
-use Rattle.bpf_verify.specs.Transfer.{are_allowed, argument_kind, argument_in, arguments_in, lie_within, lend_bytes, lend_read, lend_frame, all_marked, mark_bytes, call}
+use Rattle.bpf_verify.specs.Transfer.{are_allowed, argument_kind, argument_in, arguments_in, lie_within, lend_bytes, lend_read, lend_frame, all_marked, write_bytes, call}
 use Rattle.bpf_verify.specs.declared.calls.LentBytes.{LentBytes}
 use Rattle.bpf_verify.specs.declared.state.Known.{Known}
 use Rattle.bpf_verify.proofs.RiseChecks.{IsLower, lower_cases, IsLowerInterval, AreLowerOffsets, read_lower}
-use Rattle.bpf_verify.proofs.RiseMemory.{ChangesBelow, lie_within_falls, all_marked_falls, mark_bytes_lower}
-use Rattle.bpf_verify.proofs.StateLaws.{kind_reflexive}
+use Rattle.bpf_verify.proofs.RiseMemory.{ChangesBelow, lie_within_falls, all_marked_falls, write_bytes_lower}
+use Rattle.bpf_kinds.proofs.KindLemmas as kinds_order
 
 -- arguments
 
@@ -87,14 +87,10 @@ lend_bytes_lower x y m n from count =
     (λ x m from. lower_cases (λ y n. Sound AreLentLower (lend_bytes (Frame x) y) (lend_bytes (Frame m) n)) (λ y n count. frame_lent x m y n from count) (λ y n are. tt) (λ y n are. tt) (λ n. tt) y n count)
     (λ m. tt) x m from
 
-written_lower : (higher lower : Known) → IsBelow lower higher → (x n : LentBytes) → AreLentLower x n → IsWithinKnown (mark_bytes lower n.offsets (pos 0) n.count.low) (mark_bytes higher x.offsets (pos 0) x.count.low)
+written_lower : (higher lower : Known) → IsBelow lower higher → (x n : LentBytes) → AreLentLower x n
+    → IsWithinKnown (write_bytes lower n.offsets (pos 0) n.count.low n.count.high) (write_bytes higher x.offsets (pos 0) x.count.low x.count.high)
 written_lower higher lower below x n are =
-    let least = are.count.within.low in let ordered = are.count.ordered in
-    mark_bytes_lower higher lower below x.offsets n.offsets (pos 0) n.count.low x.count.low are.offsets least
-    (lie_within_falls n.offsets n.offsets (pos 0) n.count.high n.count.low FRAME_LENGTH (record { within = offsets_reflexive n.offsets; ordered = are.offsets.ordered }) ordered are.inside)
-  where
-    offsets_reflexive : (x : Offsets) → offsets.IsWithin x x
-    offsets_reflexive x = record { low = omega (arith, ints); high = omega (arith, ints) }
+    write_bytes_lower higher lower below x.offsets n.offsets (pos 0) x.count.low x.count.high n.count.low n.count.high are.offsets are.count.within.low are.count.ordered are.count.within.high are.within
 
 lend_read_lower : (higher lower : Known) → IsBelow lower higher → (x n : LentBytes) → AreLentLower x n → Sound ChangesBelow (lend_read higher x) (lend_read lower n)
 lend_read_lower higher lower below x n are = by_test (all_marked higher x.offsets (pos 0) x.count.high) refl
@@ -118,7 +114,7 @@ lend_frame_lower higher lower below frame_use.Reads kinds others are =
 
 registers_lower : (kinds others : List Kind) (answer : Interval) → ((register : ℕ) → kind.IsWithin (get_or others register Nothing) (get_or kinds register Nothing))
     → (register : ℕ) → kind.IsWithin (get_or (Number answer ∷ replicate 5 Nothing ++ drop 6 others) register Nothing) (get_or (Number answer ∷ replicate 5 Nothing ++ drop 6 kinds) register Nothing)
-registers_lower kinds others answer all zero = kind_reflexive (Number answer)
+registers_lower kinds others answer all zero = kinds_order.reflexive (Number answer)
 registers_lower kinds others answer all (suc zero) = tt
 registers_lower kinds others answer all (suc (suc zero)) = tt
 registers_lower kinds others answer all (suc (suc (suc zero))) = tt

@@ -5,17 +5,14 @@ use Rattle.bpf_insn.specs.Arithmetic as arithmetic
 use Rattle.bpf_insn.specs.Arithmetic.{operand_bits, low_bits}
 use Rattle.bpf_insn.specs.declared.instruction.Insn.{Insn}
 use Rattle.bpf_insn.specs.declared.instruction.Source.TheVariants.{Immediate, Register}
-use Rattle.bpf_kinds.specs.declared.interval.Interval.{Interval}
-use Rattle.bpf_kinds.specs.declared.kind.Kind.{Kind}
 use Rattle.bpf_meaning.specs.Checks.{Sound}
 use Rattle.bpf_meaning.specs.Walk.{walk}
 use Rattle.bpf_meaning.specs.declared.cause.Cause.{Cause}
-use Rattle.bpf_meaning.specs.declared.cause.Cause.TheVariants.{StoresPointer}
 use Rattle.bpf_meaning.proofs.WalkForesees.{Foresees, walk_foreseen, any_fits}
 use Rattle.bpf_verify.specs.State.{IsBelow, AbstractState, Unreached, Reached, Edges, AreEdgesWithin, IsProper, IsWithin, IsWithinKnown}
-use Rattle.bpf_verify.specs.Transfer.{kinds, number_or, transfer}
+use Rattle.bpf_verify.specs.Transfer.{kinds, transfer}
 use Rattle.bpf_verify.specs.declared.state.Known.{Known}
-use Rattle.bpf_verify.proofs.RiseChecks.{IsLower, lower_cases, IsLowerInterval, AreLowerOffsets, is_within, single_lower, read_lower, number_or_lower, operate_lower, move_lower}
+use Rattle.bpf_verify.proofs.RiseChecks.{IsLower, IsLowerInterval, AreLowerOffsets, is_within, single_lower, read_lower, number_or_lower, operate_lower, move_lower}
 use Rattle.bpf_verify.proofs.RiseMemory.{ArePointersLower, ChangesBelow, pointers_lower, load_from_lower, frame_offsets_lower, store_at_lower, with_kind_lower}
 use Rattle.bpf_verify.proofs.RiseCalls.{call_lower}
 use Rattle.bpf_verify.proofs.RiseComparison.{EdgesBelow, compare_lower}
@@ -25,9 +22,6 @@ use Rattle.bpf_kinds.proofs.ResultsRise.{negate_rises, negate_ordered, extend_ri
 on_to_next : (higher lower : Known) → IsWithinKnown lower higher → EdgesBelow (record { next = Reached higher; target = Unreached }) (record { next = Reached lower; target = Unreached })
 on_to_next higher lower within = record { next = within; target = tt }
 
-stored_lower : (x n : Kind) → IsLower x n → Sound (λ (a b : Interval). Unit {0}) (number_or StoresPointer x) (number_or StoresPointer n)
-stored_lower = lower_cases (λ x n. Sound (λ (a b : Interval). Unit {0}) (number_or StoresPointer x) (number_or StoresPointer n)) (λ x n is. tt) (λ x n are. tt) (λ x n are. tt) (λ n. tt)
-
 -- each step of an instruction
 kinds_rise : (higher lower : Known) → IsBelow lower higher → (insn : Insn) → Foresees (kinds higher) (kinds lower) insn
 kinds_rise higher lower below insn = record {
@@ -35,7 +29,7 @@ kinds_rise higher lower below insn = record {
   Read = λ register. IsLower;
   Values = IsLower;
   Numbers = IsLowerInterval;
-  Stored = λ x n. Unit {0};
+  Stored = IsLower;
   Pointers = ArePointersLower;
   Offsets = λ offset. AreLowerOffsets;
   Changes = ChangesBelow;
@@ -43,7 +37,8 @@ kinds_rise higher lower below insn = record {
   read = read_lower higher lower below;
   any = λ register x n is. is;
   number_or = λ cause register x n is. number_or_lower cause x n is;
-  stored = stored_lower;
+  stored = λ register x n is. is;
+  stored_immediate = λ immediate fits. single_lower (arithmetic.immediate_operand immediate);
   pointer_in = pointers_lower higher lower below;
   immediate = λ immediate fits. single_lower (arithmetic.immediate_operand immediate);
   wide = λ immediate next fits. single_lower (arithmetic.wide_number immediate next);
@@ -54,7 +49,7 @@ kinds_rise higher lower below insn = record {
   operate = operate_lower;
   load = load_from_lower higher lower below;
   frame = λ p q offset are. frame_offsets_lower p q are;
-  store_at = λ x n offset size a b is stored. store_at_lower higher lower below x n offset size is;
+  store_at = λ x n offset size k l is stored. store_at_lower higher lower below x n offset size k l is stored;
   call = call_lower higher lower below;
   set = λ goes_on destination x n is. on_to_next _ _ (with_kind_lower higher lower destination.number x n (below.proper.count ∙ sym below.proper_higher.count) below.within (is_within x n is));
   go_on = λ goes_on behind after within. on_to_next behind after within;

@@ -27,7 +27,8 @@ use Rattle.bpf_helpers.specs.declared.signature.FrameUse.{FrameUse}
 use Rattle.bpf_helpers.specs.declared.signature.FrameUse.TheVariants as frame_use
 use Rattle.bpf_meaning.specs.Effect as effect
 use Rattle.bpf_meaning.specs.Effect.{◌>>=◌}
-use Rattle.bpf_meaning.specs.Memory.{FrameByte, Byte, is_written, all_written, written_bytes}
+use Rattle.bpf_insn.specs.Frame.{FrameByte, FrameContents}
+use Rattle.bpf_meaning.specs.Memory.{write_bytes, all_written, written_bytes}
 use Rattle.bpf_meaning.specs.Step as step
 use Rattle.bpf_meaning.specs.declared.cause.Cause.{Cause}
 use Rattle.bpf_meaning.specs.declared.cause.Cause.TheVariants.{OutOfBounds, UnwrittenFrame, BadArgument}
@@ -39,14 +40,16 @@ use Rattle.bpf_meaning.proofs.CallLemmas.{IfPasses, called_can_be_made}
 use Rattle.bpf_meaning.proofs.FrameLemmas.{all_written-part, written_stays, is_written-write_inside}
 use Rattle.tl_segments.specs.Segment.{Contents, IsSegment}
 use Rattle.bpf_frame.specs.FrameMap as map
-use Rattle.bpf_verify.specs.Transfer.{are_allowed, argument_kind, argument_in, arguments_in, lie_within, lend_bytes, lend_read, lend_frame, all_marked, mark_bytes, state_after, call}
+use Rattle.bpf_verify.specs.Transfer.{are_allowed, argument_kind, argument_in, arguments_in, lie_within, lend_bytes, lend_read, lend_frame, all_marked, state_after, call}
+use Rattle.bpf_verify.specs.Transfer as transfer
 use Rattle.bpf_verify.specs.State.{AdmitsKnown}
 use Rattle.bpf_verify.specs.declared.calls.LentBytes.{LentBytes}
 use Rattle.bpf_verify.specs.declared.state.Known.{Known}
 use Rattle.bpf_meaning.specs.Checks.{Sound}
 use Rattle.bpf_meaning.proofs.CheckLemmas.{then_sound, passes_if}
 use Rattle.bpf_verify.proofs.SoundChecks.{HasValue, HasState, read_sound}
-use Rattle.bpf_verify.proofs.SoundMarks.{marked_are_written, marks_admit}
+use Rattle.bpf_verify.proofs.SoundMarks.{marked_are_written, writes_admit}
+use Rattle.bpf_meaning.proofs.SlotLemmas.{slot_value-write_bytes_apart}
 use Rattle.bpf_verify.proofs.SoundMemory.{Stores}
 
 -- arguments
@@ -159,7 +162,7 @@ lend_bytes_sound Nothing y words offset count = tt
 -- a state with bytes written where a call's second argument points
 
 abbrev written : State → List ℕ → List ℕ → State
-written state words bytes = record state { frame = record state.frame { bytes = write state.frame.bytes (second words) (map Byte bytes) } }
+written state words bytes = record state { frame = write_bytes state.frame (second words) bytes }
 
 -- what is known behind a call of the frame, whatever it writes
 record IsLent (state : State) (frame : FrameUse) (after : Known) (words : List ℕ) : Type 0 where
@@ -168,24 +171,24 @@ record IsLent (state : State) (frame : FrameUse) (after : Known) (words : List �
 writes_none : (known : Known) (state : State) (words : List ℕ) → AdmitsKnown known state → (bytes : List ℕ) → length bytes ≡ 0 → AdmitsKnown known (written state words bytes)
 writes_none known state words admits [] none = record {
   registers = admits.registers;
-  frame = subst (λ (memory : List FrameByte). map.Admits known.frame (is_written memory)) (sym (write-nothing state.frame.bytes (second words))) admits.frame;
+  frame = subst (λ (memory : List FrameByte). let frame : FrameContents = record { bytes = memory; slots = state.frame.slots } in map.Admits known.frame frame) (sym (write-nothing state.frame.bytes (second words))) admits.frame;
 }
 writes_none known state words admits (byte ∷ bytes) none = absurd (omega arith)
 
 writes_some : (known : Known) (state : State) → HasState known state → (lent : LentBytes) (words : List ℕ) → AreLent lent words → (bytes : List ℕ) → length bytes ≡ third words
-    → AdmitsKnown (mark_bytes known lent.offsets (pos 0) lent.count.low) (written state words bytes)
+    → AdmitsKnown (transfer.write_bytes known lent.offsets (pos 0) lent.count.low lent.count.high) (written state words bytes)
 writes_some known state has lent words is bytes count =
     let at = is.offset.offset in
     let inside = lent_inside lent words is in
     let ends = inside.ends in let same = inside.same in let most = is.count.below in let least = is.count.above in
     let fits : second words + length bytes ≤ length state.frame.bytes = (let whole = has.whole.frame in omega arith) in
-    marks_admit known (written state words bytes) (is_written state.frame.bytes) lent.offsets at (pos 0) lent.count.low has.proper has.admits.registers has.admits.frame is.offset.admits
-    (fewer_within lent.offsets.low lent.offsets.high lent.count.low lent.count.high (omega arith) is.within)
-    (λ i before. written_stays state.frame.bytes (second words) bytes i fits before)
-    (λ i above below. is_written-write_inside state.frame.bytes (second words) bytes i fits (omega arith) (omega arith))
-  where
-    fewer_within : (low high : ℤ) (least most : ℕ) → least ≤ most → (int_le (pos 0) (low +ℤ pos 0) && int_le ((high +ℤ pos 0) +ℤ pos most) (pos FRAME_LENGTH)) ≡ true → (int_le (pos 0) (low +ℤ pos 0) && int_le ((high +ℤ pos 0) +ℤ pos least) (pos FRAME_LENGTH)) ≡ true
-    fewer_within low high least most less within = grind (arith, ints, nat_tests)
+    writes_admit known state.frame (written state words bytes) (record { proper = has.proper; registers = has.admits.registers; frame = has.admits.frame })
+    lent.offsets at (pos 0) (length bytes) lent.count.low lent.count.high is.offset.admits is.within (omega arith) (omega arith)
+    (record {
+      stay = λ i before. written_stays state.frame.bytes (second words) bytes i fits before;
+      written = λ i above below. is_written-write_inside state.frame.bytes (second words) bytes i fits (omega arith) (omega arith);
+      kept = λ slot inside apart. slot_value-write_bytes_apart state.frame (second words) bytes slot fits inside has.whole.slots (λ i above below lies. apart i (omega arith) (omega arith) lies);
+    })
 
 reads_sound : (known : Known) (state : State) → HasState known state → (lent : LentBytes) (words : List ℕ) → AreLent lent words → Sound (IsLent state frame_use.Reads) (lend_read known lent) (effect.lend_written state words)
 reads_sound known state has lent words is = by_test (all_marked known lent.offsets (pos 0) lent.count.high) refl
@@ -208,7 +211,7 @@ then_known First Second (Ok x) (Err cause) f first second = absurd first
 lend_frame_sound : (known : Known) (state : State) → HasState known state → (frame : FrameUse) (kinds : List Kind) (words : List ℕ) → AreWords kinds words → Sound (IsLent state frame) (lend_frame known frame kinds) (effect.lend_frame state frame words)
 lend_frame_sound known state has frame_use.Nothing kinds words are = record { admits = writes_none known state words has.admits }
 lend_frame_sound known state has frame_use.Writes kinds words are =
-    then_known AreLent (IsLent state frame_use.Writes) _ _ (λ lent. mark_bytes known lent.offsets (pos 0) lent.count.low) (lend_bytes_sound (get_or kinds 1 Nothing) (get_or kinds 2 Nothing) words are.second are.third)
+    then_known AreLent (IsLent state frame_use.Writes) _ _ (λ lent. transfer.write_bytes known lent.offsets (pos 0) lent.count.low lent.count.high) (lend_bytes_sound (get_or kinds 1 Nothing) (get_or kinds 2 Nothing) words are.second are.third)
     (λ lent words is. record { admits = writes_some known state has lent words is })
 lend_frame_sound known state has frame_use.Reads kinds words are =
     then_sound AreLent (IsLent state frame_use.Reads) _ _ _ _ (lend_bytes_sound (get_or kinds 1 Nothing) (get_or kinds 2 Nothing) words are.second are.third)

@@ -68,10 +68,3 @@ number_or_sound cause (Number x) (value.Pointer pointer) has = absurd has.admits
 number_or_sound cause (Record x) held has = tt
 number_or_sound cause (Frame x) held has = tt
 number_or_sound cause Nothing held has = tt
-
-pub number_or_admits : (cause : Cause) (known : Kind) (held : Value) → kind.Admits known held → Sound interval.Admits (number_or cause known) (effect.number_or cause held)
-number_or_admits cause (Number x) (value.Number n) admits = admits
-number_or_admits cause (Number x) held admits = absurd admits
-number_or_admits cause (Record x) held admits = tt
-number_or_admits cause (Frame x) held admits = tt
-number_or_admits cause Nothing held admits = tt

@@ -1,6 +1,9 @@
 -- One instruction is sound: where it fails no check on what is known, it fails none in a state of which this is known, and what is known
 -- behind it admits the state behind it.
 use Rattle.std.proofs.Common.{◌≡◌, ℕ, ◌<◌, ◌⊎◌, inl, inr, ℤ, pos, nat_lt, IsSome, Bool, true, false, List, Some, Result, Ok, Err, if◌then◌else◌, refl, sym, subst}
+use Rattle.std.specs.Prelude.{FitsSigned}
+use Rattle.std.specs.Int.{w32}
+use Rattle.bpf_flat.specs.Flat.{HasImmediates}
 use Rattle.bpf_insn.specs.Code.{instruction_at, word_count}
 use Rattle.bpf_insn.specs.Jump.{jump_distance}
 use Rattle.bpf_insn.specs.declared.instruction.Insn.{Insn}
@@ -8,16 +11,15 @@ use Rattle.bpf_insn.specs.declared.instruction.Insn.TheVariants.{Exit}
 use Rattle.bpf_insn.specs.declared.register.WritableRegister.{WritableRegister}
 use Rattle.bpf_insn.specs.declared.value.Value.{Value}
 use Rattle.bpf_flow.specs.Flow.{target_of, LeadsOn}
-use Rattle.bpf_kinds.specs.Interval as interval
 use Rattle.bpf_kinds.specs.Kind as kind
 use Rattle.bpf_kinds.specs.declared.kind.Kind.{Kind}
-use Rattle.bpf_kinds.proofs.ResultLemmas.{negate-admits, extend-admits, byte_swap-admits, wide_number-admits, immediate_operand-admits}
+use Rattle.bpf_kinds.proofs.ResultLemmas.{negate-admits, extend-admits, byte_swap-admits, wide_number-admits, immediate_operand-admits, immediate_operand-proper}
 use Rattle.bpf_meaning.specs.Effect as effect
 use Rattle.bpf_meaning.specs.Effect.{◌>>=◌}
 use Rattle.tl_segments.specs.Segment.{Contents, IsSegment}
 use Rattle.bpf_meaning.specs.Step.{carry_out}
 use Rattle.bpf_meaning.specs.declared.cause.Cause.{Cause}
-use Rattle.bpf_meaning.specs.declared.cause.Cause.TheVariants.{OutOfProgram, IntoWide, StoresPointer}
+use Rattle.bpf_meaning.specs.declared.cause.Cause.TheVariants.{OutOfProgram, IntoWide}
 use Rattle.bpf_meaning.specs.declared.effect.Change.{Change}
 use Rattle.bpf_meaning.specs.declared.effect.Change.TheVariants.{Nothing, SetRegister}
 use Rattle.bpf_meaning.specs.declared.effect.Effect.{Effect}
@@ -31,13 +33,13 @@ use Rattle.bpf_verify.specs.State as known_state
 use Rattle.bpf_verify.specs.declared.state.Known.{Known}
 use Rattle.bpf_verify.specs.State.{Edges}
 use Rattle.bpf_meaning.specs.Checks.{Sound}
-use Rattle.bpf_verify.proofs.SoundChecks.{HasNumber, HasState, IsReadOf, read_holds, number_or_sound, number_or_admits}
+use Rattle.bpf_verify.proofs.SoundChecks.{HasNumber, HasState, HasValue, IsReadOf, read_holds, number_or_sound}
 use Rattle.bpf_verify.proofs.SoundArithmetic.{operate_sound, move_sound}
 use Rattle.bpf_verify.proofs.SoundStates.{writes_admit}
 use Rattle.bpf_verify.proofs.SoundComparison.{TakesEdge, with_immediate, with_register}
 use Rattle.bpf_verify.proofs.SoundMemory.{Stores, PointsWithin, IsFrom, pointers_sound, load_from_sound, from_sound, store_at_sound}
 use Rattle.bpf_verify.proofs.SoundCalls.{call_sound}
-use Rattle.bpf_meaning.proofs.WalkForesees.{Foresees, walk_foreseen, any_fits}
+use Rattle.bpf_meaning.proofs.WalkForesees.{Foresees, walk_foreseen}
 
 -- The program goes on at the next place, or at a jump's target, and what is known on that edge admits the state there.
 
@@ -64,6 +66,7 @@ pub record Stands (code : List Insn) (segment : Contents) (known : Known) (state
   pub has : HasState known state
   pub followed : (insn ≡ Exit → ⊥) → IsSome (instruction_at code next)
   pub leads : (distance : ℤ) → jump_distance insn ≡ Some distance → LeadsOn code state.place distance
+  pub fits : HasImmediates insn
 
 -- on to the next instruction
 next_sound : (code : List Insn) (segment : Contents) (state : State) (insn : Insn) (next : ℕ) (edges : Edges) (change : Change) → IsSome (instruction_at code next) → known_state.Admits edges.next (carry_out segment state change) → Sound (Follows code segment state insn next) (Ok edges) (effect.go_on code next change)
@@ -96,11 +99,11 @@ taken_sound code segment known state insn next stands goes_on distance jumps (Ok
 -- each step of an instruction
 kinds_foresee : (code : List Insn) (segment : Contents) (known : Known) (state : State) (insn : Insn) (next : ℕ) → Stands code segment known state insn next → Foresees (kinds known) (effect.values code segment state next) insn
 kinds_foresee code segment known state insn next stands = record {
-  Fits = λ immediate. Unit {0};
+  Fits = FitsSigned w32;
   Read = λ register. IsReadOf (register_value state register);
   Values = kind.Admits;
   Numbers = HasNumber;
-  Stored = interval.Admits;
+  Stored = HasValue;
   Pointers = PointsWithin;
   Offsets = IsFrom;
   Changes = Stores segment state;
@@ -108,7 +111,8 @@ kinds_foresee code segment known state insn next stands = record {
   read = read_holds known state stands.has;
   any = λ register x v is. is.has.admits;
   number_or = λ cause register x v is. number_or_sound cause x v is.has;
-  stored = number_or_admits StoresPointer;
+  stored = λ register x v is. is.has;
+  stored_immediate = λ immediate fits. record { proper = immediate_operand-proper immediate fits; admits = immediate_operand-admits immediate };
   pointer_in = pointers_sound known state stands.has;
   immediate = λ immediate fits. immediate_operand-admits immediate;
   wide = λ immediate next fits. wide_number-admits immediate next;
@@ -119,7 +123,7 @@ kinds_foresee code segment known state insn next stands = record {
   operate = operate_sound;
   load = λ format p q offset points. load_from_sound segment known state stands.is_segment stands.has format p.area p.offsets q offset points.into points.admits;
   frame = λ p q offset points. from_sound p.area p.offsets q offset points.into points.admits;
-  store_at = λ x from offset size m n is stored. store_at_sound segment known state stands.has x offset from size n is;
+  store_at = λ x from offset size k held is stored. store_at_sound segment known state stands.has x offset from size k held is stored;
   call = λ helper. call_sound segment known state stands.is_segment stands.has (Some helper);
   set = set_sound code segment known state insn next stands;
   go_on = λ goes_on behind change admits. next_sound code segment state insn next _ change (stands.followed goes_on) admits;
@@ -134,4 +138,4 @@ kinds_foresee code segment known state insn next stands = record {
 -- each row of the instruction table
 pub instruction_sound : (code : List Insn) (segment : Contents) (known : Known) (state : State) (insn : Insn) (next : ℕ) → Stands code segment known state insn next → Sound (Follows code segment state insn next) (walk (kinds known) insn) (effect.instruction_effect code segment state next insn)
 unfolding kinds_foresee
-instruction_sound code segment known state insn next stands = walk_foreseen (kinds known) (effect.values code segment state next) insn (kinds_foresee code segment known state insn next stands) (any_fits insn)
+instruction_sound code segment known state insn next stands = walk_foreseen (kinds known) (effect.values code segment state next) insn (kinds_foresee code segment known state insn next stands) stands.fits

@@ -1,20 +1,23 @@
--- Marks of the frame are sound: bytes that have their marks are written, and those that get them were written.
+-- What is known of the frame is sound: bytes that have their marks are written, those that get them were written, and of slots that may have
+-- been written over nothing is known.
 use Rattle.std.proofs.Common.{◌≡◌, ℕ, zero, suc, ◌+◌, ◌<◌, ◌≤◌, ℤ, pos, ◌+ℤ◌, ◌≤ℤ◌, ◌&&◌, int_le, unsigned_abs, Bool, true, false, IsTrue, List, if◌then◌else◌, refl, subst, arith}
 use Rattle.std.specs.Ordering.{int_eq}
 use Rattle.std.proofs.lemmas.Bool.Decides.{nat_tests}
 use Rattle.std.proofs.lemmas.Int.{ints}
-use Rattle.bpf_insn.specs.declared.memory.TheConstants.{FRAME_LENGTH}
+use Rattle.bpf_insn.specs.declared.memory.TheConstants.{FRAME_LENGTH, SLOTS}
 use Rattle.bpf_frame.specs.FrameMap as map
-use Rattle.bpf_frame.proofs.MarkLemmas.{mark_admits, admits_stays, all_written_admitted}
+use Rattle.bpf_insn.specs.Frame.{IsApart, FrameByte, FrameContents, is_written, slot_value}
+use Rattle.bpf_frame.proofs.AdmitLemmas.{admits_stays, mark_admits, touch_admits}
+use Rattle.bpf_frame.proofs.MarkLemmas.{all_written_admitted}
+use Rattle.bpf_frame.proofs.ProperLemmas.{touch_is_proper}
 use Rattle.bpf_frame.proofs.ReadLemmas.{all_written_is}
 use Rattle.bpf_kinds.specs.Kind as kind
 use Rattle.bpf_kinds.specs.Offsets.{Admits}
 use Rattle.bpf_kinds.specs.declared.offsets.Offsets.{Offsets}
 use Rattle.bpf_meaning.specs.Effect as effect
-use Rattle.bpf_meaning.specs.Memory.{FrameByte, is_written}
 use Rattle.bpf_meaning.specs.State.{register_value}
 use Rattle.bpf_meaning.specs.declared.state.State.{State}
-use Rattle.bpf_verify.specs.Transfer.{lie_within, all_marked, mark_bytes}
+use Rattle.bpf_verify.specs.Transfer.{lie_within, all_marked, mark_bytes, touch_bytes, write_bytes}
 use Rattle.bpf_verify.specs.State.{kind_of, IsProperKnown, AdmitsKnown}
 use Rattle.bpf_verify.specs.declared.state.Known.{Known}
 use Rattle.bpf_verify.proofs.SoundChecks.{HasState}
@@ -51,20 +54,70 @@ marked_are_written known state has x at offset (suc more) admits within marked i
     let left = ends.above in let right = ends.below in let short = ends.within in let count = has.proper.frame.count in
     let from = unsigned_abs (x.low +ℤ offset) in
     let to = unsigned_abs (x.high +ℤ offset) + more in
-    all_written_admitted known.frame (is_written state.frame.bytes) from to i has.admits.frame
+    all_written_admitted known.frame state.frame from to i has.admits.frame
     ((all_written_is known.frame.marks from to (omega arith) (omega arith)).0 marked) (omega arith) (omega arith)
 
--- what is known where bytes are written from one of the offsets on
-pub marks_admit : (known : Known) (after : State) (before : ℕ → Bool) (x : Offsets) (at offset : ℤ) (count : ℕ) → IsProperKnown known
-    → ((register : ℕ) → kind.Admits (kind_of known register) (register_value after register)) → map.Admits known.frame before → Admits x at → lie_within x offset count FRAME_LENGTH ≡ true
-    → ((i : ℕ) → IsTrue (before i) → IsTrue (is_written after.frame.bytes i)) → AreWritten after.frame.bytes (at +ℤ offset) count → AdmitsKnown (mark_bytes known x offset count) after
-marks_admit known after before x at offset count proper registers frame admits within stay written = by_test (int_eq x.low x.high) refl
+-- the ends of the bytes that may be written
+touched_ends : (low high offset : ℤ) (more : ℕ) → low ≤ℤ high → (int_le (pos 0) (low +ℤ offset) && int_le ((high +ℤ offset) +ℤ pos (suc more)) (pos FRAME_LENGTH)) ≡ true
+    → (unsigned_abs (low +ℤ offset) ≤ unsigned_abs (high +ℤ offset) + more) × (unsigned_abs (high +ℤ offset) + more < FRAME_LENGTH)
+touched_ends low high offset more ordered within = (grind (arith, ints, nat_tests), grind (arith, ints, nat_tests))
+
+pub touched_is_proper : (known : Known) (x : Offsets) (offset : ℤ) (count : ℕ) → IsProperKnown known → x.low ≤ℤ x.high → lie_within x offset count FRAME_LENGTH ≡ true → IsProperKnown (touch_bytes known x offset count)
+touched_is_proper known x offset zero proper ordered within = proper
+touched_is_proper known x offset (suc more) proper ordered within =
+    let ends = touched_ends x.low x.high offset more ordered within in
+    record {
+      count = proper.count;
+      kinds = proper.kinds;
+      frame = touch_is_proper known.frame (unsigned_abs (x.low +ℤ offset)) (unsigned_abs (x.high +ℤ offset) + more) proper.frame ends.0 ends.1;
+    }
+
+-- a frame once bytes of it, so many, were written from an offset on
+pub record IsWritten (before after : FrameContents) (from : ℤ) (count : ℕ) : Type 0 where
+  pub stay : (i : ℕ) → IsTrue (is_written before.bytes i) → IsTrue (is_written after.bytes i)
+  pub written : AreWritten after.bytes from count
+  pub kept : (slot : ℕ) → slot < SLOTS → IsApart slot (unsigned_abs from) count → slot_value after slot ≡ slot_value before slot
+
+-- what is known of a frame and of the registers, before the frame is written and behind that
+pub record IsKnownBefore (known : Known) (before : FrameContents) (after : State) : Type 0 where
+  pub proper : IsProperKnown known
+  pub registers : (register : ℕ) → kind.Admits (kind_of known register) (register_value after register)
+  pub frame : map.Admits known.frame before
+
+ordered_ends : (x : Offsets) (at : ℤ) → Admits x at → x.low ≤ℤ x.high
+ordered_ends x at admits = by_ends x.low x.high admits.above admits.below
+  where
+    by_ends : (low high : ℤ) → low ≤ℤ at → at ≤ℤ high → low ≤ℤ high
+    by_ends low high above below = omega (arith, ints)
+
+-- what is known once bytes may have been written from each of the offsets on, where they were written from one of them on
+touched_admits : (known : Known) (before : FrameContents) (after : State) → IsKnownBefore known before after → (x : Offsets) (at offset : ℤ) (count most : ℕ) → Admits x at → lie_within x offset most FRAME_LENGTH ≡ true → count ≤ most
+    → IsWritten before after.frame (at +ℤ offset) count → AdmitsKnown (touch_bytes known x offset most) after
+touched_admits known before after is x at offset zero zero admits within fewer written = record {
+  registers = is.registers;
+  frame = admits_stays known.frame before after.frame is.proper.frame is.frame written.stay (λ slot inside. written.kept slot inside (λ i above below same. omega arith));
+}
+touched_admits known before after is x at offset (suc count) zero admits within fewer written = absurd (omega arith)
+touched_admits known before after is x at offset count (suc more) admits within fewer written =
+    let ends = touched_ends x.low x.high offset more (ordered_ends x at admits) within in
+    let between = lie_between x.low x.high at offset (suc more) admits.above admits.below within in
+    let left = between.above in let right = between.below in
+    record {
+      registers = is.registers;
+      frame = touch_admits known.frame (unsigned_abs (x.low +ℤ offset)) (unsigned_abs (x.high +ℤ offset) + more) before after.frame is.proper.frame ends.0 ends.1 is.frame written.stay
+          (λ slot inside apart. written.kept slot inside (λ i above below same. apart i (omega arith) (omega arith) same));
+    }
+
+-- and once those that were written in any case have their marks
+marks_admit : (known : Known) (after : State) → IsProperKnown known → AdmitsKnown known after → (x : Offsets) (at offset : ℤ) (count least : ℕ) → Admits x at → lie_within x offset count FRAME_LENGTH ≡ true → least ≤ count
+    → AreWritten after.frame.bytes (at +ℤ offset) count → AdmitsKnown (mark_bytes known x offset least) after
+marks_admit known after proper admitted x at offset count least admits within fewer written = by_test (int_eq x.low x.high) refl
   where
     from : ℕ
     from = unsigned_abs (x.low +ℤ offset)
 
     marked : Known
-    marked = record known { frame = record known.frame { marks = map.mark known.frame.marks from count } }
+    marked = record known { frame = map.mark known.frame from least }
 
     only_one : (low high z : ℤ) → low ≤ℤ z → z ≤ℤ high → int_eq low high ≡ true → z ≡ low
     only_one low high z above below one = grind (arith, ints, nat_tests)
@@ -72,11 +125,22 @@ marks_admit known after before x at offset count proper registers frame admits w
     by_test : (one : Bool) → int_eq x.low x.high ≡ one → AdmitsKnown (if one then marked else known) after
     by_test true one =
         let same : at ≡ x.low = only_one x.low x.high at admits.above admits.below one in
+        let here : AreWritten after.frame.bytes (x.low +ℤ offset) count = subst (λ (z : ℤ). AreWritten after.frame.bytes (z +ℤ offset) count) same written in
         let ends = lie_between x.low x.high at offset count admits.above admits.below within in
         let left = ends.above in let right = ends.below in let short = ends.within in
         record {
-          registers = registers;
-          frame = mark_admits known.frame from count before (is_written after.frame.bytes) proper.frame (omega arith) frame stay
-              (subst (λ (z : ℤ). AreWritten after.frame.bytes (z +ℤ offset) count) same written);
+          registers = admitted.registers;
+          frame = mark_admits known.frame from least after.frame after.frame proper.frame (omega arith) admitted.frame (λ i there. there)
+              (λ i above below. here i above (omega arith)) (λ slot inside apart. refl);
         }
-    by_test false many = record { registers = registers; frame = admits_stays known.frame before (is_written after.frame.bytes) frame stay }
+    by_test false many = admitted
+
+-- what is known where bytes are written from one of the offsets on
+pub writes_admit : (known : Known) (before : FrameContents) (after : State) → IsKnownBefore known before after → (x : Offsets) (at offset : ℤ) (count least most : ℕ) → Admits x at → lie_within x offset most FRAME_LENGTH ≡ true → least ≤ count → count ≤ most
+    → IsWritten before after.frame (at +ℤ offset) count → AdmitsKnown (write_bytes known x offset least most) after
+writes_admit known before after is x at offset count least most admits within fewer more written =
+    marks_admit (touch_bytes known x offset most) after (touched_is_proper known x offset most is.proper (ordered_ends x at admits) within)
+    (touched_admits known before after is x at offset count most admits within more written) x at offset count least admits (shorter x.low x.high most count more within) fewer written.written
+  where
+    shorter : (low high : ℤ) (count less : ℕ) → less ≤ count → (int_le (pos 0) (low +ℤ offset) && int_le ((high +ℤ offset) +ℤ pos count) (pos FRAME_LENGTH)) ≡ true → (int_le (pos 0) (low +ℤ offset) && int_le ((high +ℤ offset) +ℤ pos less) (pos FRAME_LENGTH)) ≡ true
+    shorter low high count less below within = grind (arith, ints, nat_tests)

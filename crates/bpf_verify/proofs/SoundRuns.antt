@@ -7,7 +7,7 @@ use Rattle.tl_segments.specs.Segment.{Contents, IsSegment}
 use Rattle.bpf_meaning.specs.State.{start}
 use Rattle.bpf_meaning.specs.Step.{Configuration, Running, Exited, Stuck, after}
 use Rattle.bpf_meaning.specs.declared.state.State.{State}
-use Rattle.bpf_verify.specs.Annotation.{Annotation, HasGoodAnnotation}
+use Rattle.bpf_verify.specs.Annotation.{Annotation, HasGoodAnnotation, HaveImmediates}
 use Rattle.bpf_verify.proofs.SoundSteps.{IsVerified, IsOnItsWay, ComesTo, step_comes, starts}
 use Rattle.bpf_verify.proofs.SoundPlaces.{count_from, count_from-start, count_from-later}
 
@@ -76,11 +76,11 @@ exits code segment annotation verified =
     let x = exits_from code segment annotation verified (length code) start (starts code segment annotation verified) all in
     record { run = x.run; is_run = x.follow; answer = x.answer; score = x.score; exits = x.exits; short = x.short }
 
-pub good_is_safe : (code : List Insn) → IsForward code → HasGoodAnnotation code → IsSafe code
-good_is_safe code forward accepted = record {
+pub good_is_safe : (code : List Insn) → IsForward code → HaveImmediates code → HasGoodAnnotation code → IsSafe code
+good_is_safe code forward immediates accepted = record {
   never_stuck = λ segment is run is_run place cause end. subst (IsAdmitted code accepted.0) end (end_admitted code segment accepted.0 (verified segment is) run is_run);
   exits = λ segment is. exits code segment accepted.0 (verified segment is);
 }
   where
     verified : (segment : Contents) → IsSegment segment → IsVerified code segment accepted.0
-    verified segment is = record { forward = forward; good = accepted.1; is_segment = is }
+    verified segment is = record { forward = forward; good = accepted.1; is_segment = is; immediates = immediates }

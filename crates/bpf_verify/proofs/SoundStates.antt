@@ -15,7 +15,7 @@ use Rattle.bpf_meaning.specs.declared.state.State.{State}
 use Rattle.bpf_verify.specs.State.{with_kind, AdmitsKnown}
 use Rattle.bpf_verify.specs.declared.state.Known.{Known}
 use Rattle.bpf_verify.proofs.SoundChecks.{HasState}
-use Rattle.bpf_verify.proofs.StateLaws.{set_each}
+use Rattle.bpf_kinds.proofs.ListLemmas.{set_each}
 
 -- a register is written, on both sides
 set_admits : (kinds : List Kind) (values : List Value) (register : ℕ) (x : Kind) (v : Value) → length values ≡ length kinds → kind.Admits x v → ((number : ℕ) → kind.Admits (get_or kinds number Nothing) (get_or values number value.Empty)) → (number : ℕ) → kind.Admits (get_or (slice_set kinds register x) number Nothing) (get_or (slice_set values register v) number value.Empty)

@@ -9,14 +9,13 @@ use Rattle.bpf_insn.specs.declared.value.Value.{Value}
 use Rattle.bpf_insn.specs.declared.value.Value.TheVariants as value
 use Rattle.bpf_insn.proofs.PlaceLemmas.{instruction_within}
 use Rattle.bpf_flow.specs.Flow.{IsForward}
-use Rattle.bpf_frame.proofs.MarkLemmas.{unwritten_admits}
+use Rattle.bpf_frame.proofs.AdmitLemmas.{unwritten_admits}
 use Rattle.bpf_kinds.specs.Kind as kind
 use Rattle.bpf_kinds.specs.Offsets as offsets
 use Rattle.bpf_kinds.specs.declared.kind.Kind.{Kind}
 use Rattle.bpf_kinds.specs.declared.kind.Kind.TheVariants.{Nothing}
 use Rattle.bpf_meaning.specs.Effect.{effect_of, instruction_effect}
 use Rattle.tl_segments.specs.Segment.{Contents, IsSegment}
-use Rattle.bpf_meaning.specs.Memory.{is_written}
 use Rattle.bpf_meaning.specs.State.{IsWhole, HoldsBytes, start}
 use Rattle.bpf_meaning.specs.Step.{Configuration, Running, Exited, Stuck, after, carry_out, apply, next_of}
 use Rattle.bpf_meaning.specs.declared.cause.Cause.{Cause}
@@ -26,7 +25,7 @@ use Rattle.bpf_meaning.specs.declared.effect.Effect.TheVariants.{GoOn, End}
 use Rattle.bpf_insn.specs.declared.memory.TheConstants.{FRAME_LENGTH}
 use Rattle.bpf_meaning.specs.declared.state.State.{State}
 use Rattle.bpf_meaning.proofs.WholeLemmas.{step_whole, step_bytes, start_bytes}
-use Rattle.bpf_verify.specs.Annotation.{Annotation, PassesAt, IsGood}
+use Rattle.bpf_verify.specs.Annotation.{Annotation, HaveImmediates, PassesAt, IsGood}
 use Rattle.bpf_verify.specs.Transfer.{transfer}
 use Rattle.bpf_verify.specs.State.{entry, IsProper, Admits, AdmitsKnown, Edges, AbstractState, Unreached, Reached}
 use Rattle.bpf_verify.proofs.StateLaws.{admits_more}
@@ -39,11 +38,12 @@ elsewhere : (abstract : AbstractState) (state : State) (place : ℕ) → Admits 
 elsewhere Unreached state place admits = absurd admits
 elsewhere (Reached known) state place admits = record { registers = admits.registers; frame = admits.frame }
 
--- a good annotation of a code that goes forward
+-- a good annotation of a code that goes forward, whose immediates have 32 bits
 pub record IsVerified (code : List Insn) (segment : Contents) (annotation : Annotation) : Type 0 where
   pub forward : IsForward code
   pub good : IsGood code annotation
   pub is_segment : IsSegment segment
+  pub immediates : HaveImmediates code
 
 -- a state at an instruction, of which the annotation's abstract is known
 pub record IsOnItsWay (code : List Insn) (annotation : Annotation) (state : State) : Type 0 where
@@ -107,6 +107,7 @@ step_comes code segment annotation state verified way =
           has = record { proper = proper; admits = admits; whole = way.whole; bytes = way.bytes };
           followed = is_followed code verified.forward.last state.place way.insn way.stands;
           leads = λ distance. verified.forward.jumps state.place way.insn distance way.stands;
+          fits = verified.immediates state.place way.insn way.stands;
         }))
 
 -- at the start each register's kind admits its value
@@ -129,7 +130,7 @@ entry_admits_start : AdmitsKnown entry start
 entry_admits_start = record {
   registers = admits_each entry.registers start.registers
       (tt, ((refl, single_offset 0), (tt, (tt, (tt, (tt, (tt, (tt, (tt, (tt, ((refl, single_offset FRAME_LENGTH), tt)))))))))));
-  frame = unwritten_admits (is_written start.frame.bytes);
+  frame = unwritten_admits start.frame;
 }
 
 begins : (before : List Insn) → (insn : Insn) × (instruction_at (before ++ Exit ∷ []) 0 ≡ Some insn)
@@ -140,7 +141,7 @@ pub starts : (code : List Insn) (segment : Contents) (annotation : Annotation) �
 starts code segment annotation verified =
     let first = begins verified.forward.last.0 in
     record {
-      whole = record { registers = refl; frame = refl };
+      whole = record { registers = refl; frame = refl; slots = refl };
       bytes = start_bytes;
       insn = first.0;
       stands = ap (λ (c : List Insn). instruction_at c 0) verified.forward.last.1 ∙ first.1;

@@ -6,68 +6,30 @@ use Rattle.bpf_frame.specs.FrameMap.{Contents}
 use Rattle.bpf_frame.specs.OrderLaws as maps
 use Rattle.bpf_kinds.specs.Kind as kind
 use Rattle.bpf_kinds.proofs.KindLemmas as kinds
+use Rattle.bpf_kinds.proofs.ListLemmas.{get_or-join_kinds, length-join_kinds, set_each}
 use Rattle.bpf_insn.specs.declared.value.Value.{Value}
 use Rattle.bpf_kinds.specs.declared.kind.Kind.{Kind}
 use Rattle.bpf_kinds.specs.declared.kind.Kind.TheVariants.{Number, Nothing}
-use Rattle.bpf_meaning.specs.Memory.{is_written}
 use Rattle.bpf_meaning.specs.State.{register_value}
 use Rattle.bpf_meaning.specs.declared.state.State.{State}
 use Rattle.bpf_insn.specs.declared.instruction.Source.{Source}
 use Rattle.bpf_insn.specs.declared.instruction.Source.TheVariants.{Immediate, Register}
 use Rattle.bpf_kinds.specs.Interval as interval
 use Rattle.bpf_kinds.specs.declared.narrowing.Narrowed.{Narrowed}
-use Rattle.bpf_verify.specs.State.{AbstractState, Unreached, Reached, kind_of, with_kind, join_kinds, IsProperKnown, AdmitsKnown, IsWithinKnown, join_known, IsProper, Admits, IsWithin, join}
+use Rattle.bpf_verify.specs.State.{AbstractState, Unreached, Reached, kind_of, with_kind, IsProperKnown, AdmitsKnown, IsWithinKnown, join_known, IsProper, Admits, IsWithin, join}
 use Rattle.bpf_verify.specs.Transfer.{with_narrowed}
 use Rattle.bpf_verify.specs.declared.state.Known.{Known}
 
--- kinds
-
-pub kind_reflexive : (x : Kind) → kind.IsWithin x x
-kind_reflexive = search rules
-
-pub kind_transitive : (x y z : Kind) → kind.IsWithin x y → kind.IsWithin y z → kind.IsWithin x z
-kind_transitive = search rules
-
-kind_join_is_least : (x y z : Kind) → kind.IsWithin x z → kind.IsWithin y z → kind.IsWithin (kind.join x y) z
-kind_join_is_least = search rules
-
-kind_admits_more : (x y : Kind) (value : Value) → kind.IsWithin x y → kind.Admits x value → kind.Admits y value
-kind_admits_more = search rules
-
--- states
-
-length-join_kinds : (xs ys : List Kind) → length xs ≡ length ys → length (join_kinds xs ys) ≡ length xs
-length-join_kinds [] ys same = refl
-length-join_kinds (x ∷ xs) [] same = absurd (omega arith)
-length-join_kinds (x ∷ xs) (y ∷ ys) same = ap suc (length-join_kinds xs ys (omega arith))
-
-get_or-join : (xs ys : List Kind) (register : ℕ) → length xs ≡ length ys
-    → get_or (join_kinds xs ys) register Nothing ≡ kind.join (get_or xs register Nothing) (get_or ys register Nothing)
-get_or-join [] [] register same = refl
-get_or-join [] (y ∷ ys) register same = absurd (omega arith)
-get_or-join (x ∷ xs) [] register same = absurd (omega arith)
-get_or-join (x ∷ xs) (y ∷ ys) zero same = refl
-get_or-join (x ∷ xs) (y ∷ ys) (suc register) same = get_or-join xs ys register (omega arith)
-
--- a list that has the joined kinds at each place is the join of two
-pub is_join_kinds : (xs ys joined : List Kind) (count : ℕ) → length xs ≡ count → length ys ≡ count → length joined ≡ count
-    → ((register : ℕ) → register < count → get_or joined register Nothing ≡ kind.join (get_or xs register Nothing) (get_or ys register Nothing))
-    → joined ≡ join_kinds xs ys
-is_join_kinds xs ys joined count length-xs length-ys length-joined same =
-    let same-length = length-xs ∙ sym length-ys in
-    ext_get_or Nothing joined (join_kinds xs ys) (length-joined ∙ sym (length-join_kinds xs ys same-length ∙ length-xs))
-    (λ register below. same register (omega arith) ∙ sym (get_or-join xs ys register same-length))
-
 -- the kinds of a join
 pub kind_of-join : (x y : Known) (register : ℕ) → IsProperKnown x → IsProperKnown y → kind_of (join_known x y) register ≡ kind.join (kind_of x register) (kind_of y register)
-kind_of-join x y register proper-x proper-y = get_or-join x.registers y.registers register (proper-x.count ∙ sym proper-y.count)
+kind_of-join x y register proper-x proper-y = get_or-join_kinds x.registers y.registers register (proper-x.count ∙ sym proper-y.count)
 
 pub known_reflexive : (x : Known) → IsWithinKnown x x
-known_reflexive x = record { registers = λ register. kind_reflexive (kind_of x register); frame = maps.reflexive x.frame }
+known_reflexive x = record { registers = λ register. kinds.reflexive (kind_of x register); frame = maps.reflexive x.frame }
 
 pub known_transitive : (x y z : Known) → IsWithinKnown x y → IsWithinKnown y z → IsWithinKnown x z
 known_transitive x y z below above = record {
-  registers = λ register. kind_transitive _ _ _ (below.registers register) (above.registers register);
+  registers = λ register. kinds.transitive _ _ _ (below.registers register) (above.registers register);
   frame = maps.transitive x.frame y.frame z.frame below.frame above.frame;
 }
 
@@ -104,25 +66,17 @@ right_is_within_join_known x y proper-x proper-y = record {
 pub join_known_is_least : (x y z : Known) → IsProperKnown x → IsProperKnown y → IsWithinKnown x z → IsWithinKnown y z → IsWithinKnown (join_known x y) z
 join_known_is_least x y z proper-x proper-y below-x below-y = record {
   registers = λ register. subst (λ (joined : Kind). kind.IsWithin joined (kind_of z register)) (sym (kind_of-join x y register proper-x proper-y))
-      (kind_join_is_least _ _ _ (below-x.registers register) (below-y.registers register));
+      (kinds.join-least _ _ _ (below-x.registers register) (below-y.registers register));
   frame = maps.join_is_least x.frame y.frame z.frame proper-x.frame proper-y.frame below-x.frame below-y.frame;
 }
 
 pub known_admits_more : (x y : Known) (state : State) → IsWithinKnown x y → AdmitsKnown x state → AdmitsKnown y state
 known_admits_more x y state below admits = record {
-  registers = λ register. kind_admits_more _ _ (register_value state register) (below.registers register) (admits.registers register);
-  frame = maps.admits_more x.frame y.frame (is_written state.frame.bytes) below.frame admits.frame;
+  registers = λ register. kinds.admits_more _ _ (register_value state register) (below.registers register) (admits.registers register);
+  frame = maps.admits_more x.frame y.frame state.frame below.frame admits.frame;
 }
 
 -- registers that are written
-
--- what is so of a list's elements is so of them once one is written, if it's so of that one
-pub set_each : {X : Type 0} (Such : ℕ → X → Type 0) (none : X) (xs : List X) (at : ℕ) (x : X) → Such at x → ((n : ℕ) → Such n (get_or xs n none)) → (n : ℕ) → Such n (get_or (slice_set xs at x) n none)
-set_each Such none [] at x here all n = all n
-set_each Such none (y ∷ xs) zero x here all zero = here
-set_each Such none (y ∷ xs) zero x here all (suc n) = all (suc n)
-set_each Such none (y ∷ xs) (suc at) x here all zero = all zero
-set_each Such none (y ∷ xs) (suc at) x here all (suc n) = set_each (λ k. Such (suc k)) none xs at x here (λ k. all (suc k)) n
 
 with_kind_is_proper : (known : Known) (register : ℕ) (x : Kind) → IsProperKnown known → kind.IsProper x → IsProperKnown (with_kind known register x)
 with_kind_is_proper known register x proper proper-x = record {

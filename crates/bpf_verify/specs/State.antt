@@ -6,7 +6,6 @@ use Rattle.bpf_kinds.specs.Kind as kind
 use Rattle.bpf_kinds.specs.Offsets as offsets
 use Rattle.bpf_kinds.specs.declared.kind.Kind.{Kind}
 use Rattle.bpf_kinds.specs.declared.kind.Kind.TheVariants.{Record, Frame, Nothing}
-use Rattle.bpf_meaning.specs.Memory.{is_written}
 use Rattle.bpf_meaning.specs.State.{register_value}
 use Rattle.bpf_insn.specs.declared.memory.TheConstants.{FRAME_LENGTH}
 use Rattle.bpf_meaning.specs.declared.state.State.{State}
@@ -40,18 +39,18 @@ entry = record {
   frame = map.unwritten;
 }
 
--- eleven kinds, each of them proper, and a mark for each byte of the frame
+-- eleven kinds, each of them proper, and something proper of the frame
 pub record IsProperKnown (known : Known) : Type 0 where
   pub count : length known.registers ≡ REGISTERS
   pub kinds : (register : ℕ) → kind.IsProper (kind_of known register)
   pub frame : map.IsProper known.frame
 
--- the states of which this is known: each register's kind admits its value, and each marked byte of the frame is written
+-- the states of which this is known: each register's kind admits its value, and the frame is one of which its part is known
 pub record AdmitsKnown (known : Known) (state : State) : Type 0 where
   pub registers : (register : ℕ) → kind.Admits (kind_of known register) (register_value state register)
-  pub frame : map.Admits known.frame (is_written state.frame.bytes)
+  pub frame : map.Admits known.frame state.frame
 
--- what is known lies within what else is known where each of its kinds does, and its marks do
+-- what is known lies within what else is known where each of its kinds does, and what is known of the frame does
 pub record IsWithinKnown (known other : Known) : Type 0 where
   pub registers : (register : ℕ) → kind.IsWithin (kind_of known register) (kind_of other register)
   pub frame : map.IsWithin known.frame other.frame
@@ -62,15 +61,10 @@ pub record IsBelow (lower higher : Known) : Type 0 where
   pub proper_higher : IsProperKnown higher
   pub within : IsWithinKnown lower higher
 
--- the least kinds round those of two lists, one by one
-abbrev pub join_kinds : List Kind → List Kind → List Kind
-join_kinds (x ∷ xs) (y ∷ ys) = kind.join x y ∷ join_kinds xs ys
-join_kinds xs ys = []
-
--- the least that both lie within: kind by kind, and with the marks of both
+-- the least that both lie within: kind by kind, and of the frame what is known of both
 abbrev pub join_known : Known → Known → Known
 join_known known other = record {
-  registers = join_kinds known.registers other.registers;
+  registers = kind.join_kinds known.registers other.registers;
   frame = map.join known.frame other.frame;
 }
 

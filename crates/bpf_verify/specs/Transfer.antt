@@ -25,7 +25,8 @@ use Rattle.bpf_kinds.specs.declared.kind.Kind.{Kind}
 use Rattle.bpf_kinds.specs.declared.kind.Kind.TheVariants.{Number, Record, Frame, Nothing}
 use Rattle.bpf_kinds.specs.declared.narrowing.Narrowed.{Narrowed}
 use Rattle.bpf_kinds.specs.declared.offsets.Offsets.{Offsets}
-use Rattle.bpf_frame.specs.FrameMap.{all_written, mark}
+use Rattle.bpf_frame.specs.FrameMap.{all_written, mark, set_slot, slot_kind, touch}
+use Rattle.bpf_insn.specs.Frame.{slot_at}
 use Rattle.bpf_helpers.specs.Helper.{signature}
 use Rattle.bpf_helpers.specs.Shape.{frame_use}
 use Rattle.bpf_helpers.specs.declared.helper.Helper.{Helper}
@@ -39,7 +40,7 @@ use Rattle.bpf_meaning.specs.Checks.{◌>>=◌}
 use Rattle.bpf_meaning.specs.Tags as tags
 use Rattle.bpf_meaning.specs.Walk.{Registers, Domain, compared_operand, walk}
 use Rattle.bpf_meaning.specs.declared.cause.Cause.{Cause}
-use Rattle.bpf_meaning.specs.declared.cause.Cause.TheVariants.{ReadsNothing, PointerArithmetic, LeavesArea, NotPointer, OutOfBounds, UnwrittenFrame, WritesRecord, ComparesPointer, UnknownHelper, BadArgument}
+use Rattle.bpf_meaning.specs.declared.cause.Cause.TheVariants.{ReadsNothing, PointerArithmetic, LeavesArea, NotPointer, OutOfBounds, UnwrittenFrame, WritesRecord, StoresPointer, ComparesPointer, UnknownHelper, BadArgument}
 use Rattle.bpf_insn.specs.declared.memory.TheConstants.{FRAME_LENGTH}
 use Rattle.tl_segments.specs.declared.segment.TheConstants.{RECORD_LENGTH}
 use Rattle.bpf_verify.specs.State.{AbstractState, Unreached, Reached, Edges, kind_of, with_kind}
@@ -198,13 +199,35 @@ all_marked known offsets offset zero = true
 all_marked known offsets offset (suc more) =
     all_written known.frame.marks (unsigned_abs (offsets.low +ℤ offset)) (unsigned_abs (offsets.high +ℤ offset) + more)
 
--- bytes that are loaded: those of the record are written, and those of the frame must have their marks
+-- the slot that so many bytes are, from the one known offset on, with another offset added; none where the offset isn't known, or the bytes
+-- aren't the whole of a slot. That they lie within the frame is another check's.
+abbrev pub known_slot : Offsets → ℤ → ℕ → Option ℕ
+known_slot offsets offset count = if int_eq offsets.low offsets.high then slot_at (unsigned_abs (offsets.low +ℤ offset)) count else None
+
+-- the kind of what a slot holds, if there is one
+abbrev pub kept_kind : Known → Option ℕ → Kind
+kept_kind known None = Nothing
+kept_kind known (Some slot) = slot_kind known.frame slot
+
+-- a kind, or else what is known where nothing is kept
+abbrev pub kept_or : Result Kind Cause → Kind → Result Kind Cause
+kept_or otherwise Nothing = otherwise
+kept_or otherwise (Number x) = Ok (Number x)
+kept_or otherwise (Record x) = Ok (Record x)
+kept_or otherwise (Frame x) = Ok (Frame x)
+
+-- bytes that are loaded: those of the record are written, and those of the frame must have their marks, or be a slot of which a kind is known
 abbrev pub load_area : Known → LoadFormat → Pointers → ℤ → Result Kind Cause
 load_area known format pointers offset = of_area pointers.area
   where
+    loaded : Result Kind Cause
+    loaded = Ok (Number (load format))
+
     of_area : Area → Result Kind Cause
-    of_area area.Record = Ok (Number (load format))
-    of_area area.Frame = if all_marked known pointers.offsets offset (load_length format) then Ok (Number (load format)) else Err UnwrittenFrame
+    of_area area.Record = loaded
+    of_area area.Frame =
+        kept_or (if all_marked known pointers.offsets offset (load_length format) then loaded else Err UnwrittenFrame)
+        (kept_kind known (known_slot pointers.offsets offset (load_length format)))
 
 -- a load: its bytes must lie within the area, and be written
 abbrev pub load_from : Known → LoadFormat → Pointers → ℤ → Result Kind Cause
@@ -219,18 +242,45 @@ frame_offsets pointers = frame_only pointers.area pointers.offsets
     frame_only area.Record offsets = Err WritesRecord
     frame_only area.Frame offsets = Ok offsets
 
--- what is known where so many bytes of the frame are written, from one of the offsets on, with another offset added: where that is one known
--- offset they get their marks, and otherwise none does
+-- what is known where bytes of the frame may be written, so many at most, from each of the offsets on, with another offset added: nothing is
+-- known anymore of what their slots hold
+abbrev pub touch_bytes : Known → Offsets → ℤ → ℕ → Known
+touch_bytes known offsets offset zero = known
+touch_bytes known offsets offset (suc more) = record known {
+  frame = touch known.frame (unsigned_abs (offsets.low +ℤ offset)) (unsigned_abs (offsets.high +ℤ offset) + more);
+}
+
+-- what is known where so many bytes of the frame are written in any case, from one of the offsets on, with another offset added: where that is
+-- one known offset they get their marks, and otherwise none does
 abbrev pub mark_bytes : Known → Offsets → ℤ → ℕ → Known
 mark_bytes known offsets offset count =
     if int_eq offsets.low offsets.high
-    then record known { frame = record known.frame { marks = mark known.frame.marks (unsigned_abs (offsets.low +ℤ offset)) count } }
+    then record known { frame = mark known.frame (unsigned_abs (offsets.low +ℤ offset)) count }
     else known
 
+-- the same where as many as this are written in any case, and as many as that at most
+abbrev pub write_bytes : Known → Offsets → ℤ → ℕ → ℕ → Known
+write_bytes known offsets offset least most = mark_bytes (touch_bytes known offsets offset most) offsets offset least
+
+-- what is known behind a store of a value of a kind: a whole slot gets the kind, and any other bytes are written
+abbrev pub keep : Known → Offsets → ℤ → ℕ → Kind → Option ℕ → Known
+keep known offsets offset count kind None = write_bytes known offsets offset count count
+keep known offsets offset count kind (Some slot) = record known { frame = set_slot known.frame slot kind }
+
+-- a kind whose values may be stored: pointers only in a whole slot
+abbrev pub storable : Option ℕ → Kind → Result Kind Cause
+storable slot (Number x) = Ok (Number x)
+storable (Some slot) (Record x) = Ok (Record x)
+storable (Some slot) (Frame x) = Ok (Frame x)
+storable slot kind = Err StoresPointer
+
 -- what is known behind a store: its bytes must lie within the frame
-abbrev pub store_at : Known → Offsets → ℤ → StoreSize → Result Known Cause
-store_at known offsets offset size =
-    if lie_within offsets offset (store_length size) FRAME_LENGTH then Ok (mark_bytes known offsets offset (store_length size)) else Err OutOfBounds
+abbrev pub store_at : Known → Offsets → ℤ → StoreSize → Kind → Result Known Cause
+store_at known offsets offset size kind =
+    storable (known_slot offsets offset (store_length size)) kind >>= λ kind.
+    if lie_within offsets offset (store_length size) FRAME_LENGTH
+    then Ok (keep known offsets offset (store_length size) kind (known_slot offsets offset (store_length size)))
+    else Err OutOfBounds
 
 -- the numbers of an interval lie in one that a prototype allows
 abbrev pub are_allowed : Interval → Interval → Bool
@@ -277,11 +327,12 @@ pub record LieWithinFrame (bytes : LentBytes) : Type 0 where
 abbrev pub lend_read : Known → LentBytes → Result Known Cause
 lend_read known bytes = if all_marked known bytes.offsets (pos 0) bytes.count.high then Ok known else Err UnwrittenFrame
 
--- what is known behind a call of the frame: of the bytes that it writes as many get their marks as are written in any case
+-- what is known behind a call of the frame: of the bytes that it writes as many get their marks as are written in any case, and as many as may
+-- be written are touched
 abbrev pub lend_frame : Known → FrameUse → List Kind → Result Known Cause
 lend_frame known frame_use.Nothing arguments = Ok known
 lend_frame known Writes arguments =
-    lend_bytes (get_or arguments 1 Nothing) (get_or arguments 2 Nothing) >>= λ bytes. Ok (mark_bytes known bytes.offsets (pos 0) bytes.count.low)
+    lend_bytes (get_or arguments 1 Nothing) (get_or arguments 2 Nothing) >>= λ bytes. Ok (write_bytes known bytes.offsets (pos 0) bytes.count.low bytes.count.high)
 lend_frame known Reads arguments = lend_bytes (get_or arguments 1 Nothing) (get_or arguments 2 Nothing) >>= lend_read known
 
 -- what is known behind a call: register 0 has an answer of the prototype's interval, registers 1 to 5 hold nothing, and the others are kept
@@ -307,7 +358,7 @@ kinds known = record {
   Outcome = Edges;
   load = load_from known;
   frame = λ pointers offset. frame_offsets pointers;
-  store_at = λ offsets offset size number. store_at known offsets offset size;
+  store_at = store_at known;
   call = λ helper. call known (Some helper);
   set = λ destination. set_register known destination.number;
   go_on = λ behind. Ok (edges_to behind Next);

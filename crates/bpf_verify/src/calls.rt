@@ -94,7 +94,12 @@ fn lend_frame(known: &mut Known, frame: FrameUse, arguments: [Kind; 3]) -> Resul
         FrameUse::Nothing => Ok(()),
         FrameUse::Writes => {
             let bytes = lend_bytes(second, third)?;
-            known.mark_bytes(bytes.offsets, 0, bytes.count.low as usize);
+            known.write_bytes(
+                bytes.offsets,
+                0,
+                bytes.count.low as usize,
+                bytes.count.high as usize,
+            );
             Ok(())
         }
         FrameUse::Reads => lend_read(known, lend_bytes(second, third)?),

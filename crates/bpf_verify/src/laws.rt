@@ -15,7 +15,7 @@ ghost use Rattle.bpf_meaning.specs.Checks.{Sound};
 ghost use Rattle.bpf_meaning.specs.Run.{IsSafe};
 ghost use Rattle.bpf_meaning.specs.declared.cause.Cause.{Cause};
 ghost use Rattle.bpf_meaning.specs.declared.state.State.{State};
-ghost use Rattle.bpf_verify.specs.Annotation.{HasGoodAnnotation, IsAccepted, IsRefusedAt};
+ghost use Rattle.bpf_verify.specs.Annotation.{HasGoodAnnotation, HaveImmediates, IsAccepted, IsRefusedAt};
 ghost use Rattle.bpf_verify.specs.State.{AbstractState, Admits, AreEdgesWithin, Edges, IsBelow, IsProper, IsWithin, IsWithinKnown, Unreached, join};
 ghost use Rattle.bpf_verify.specs.Transfer.{ArePointersWithin, argument_in, call, compare, load_from, pointers_in, read, store_at, transfer};
 ghost use Rattle.bpf_verify.specs.declared.comparison.Comparison.{Comparison};
@@ -23,16 +23,17 @@ ghost use Rattle.bpf_verify.specs.declared.memory.Pointers.{Pointers};
 ghost use Rattle.bpf_verify.specs.declared.state.Known.{Known};
 ghost use Rattle.bpf_verify.specs.Verified.{HasBaseAreas};
 
-/// Soundness: a code whose jumps go forward, that ends in EXIT and that has an annotation which is good to its end, is stuck on no segment,
-/// and exits in at most as many steps as it has instructions.
+/// Soundness: a code whose jumps go forward, that ends in EXIT, whose immediates have 32 bits and that has an annotation which is good to its
+/// end, is stuck on no segment, and exits in at most as many steps as it has instructions.
 pub fn accepted_is_safe()
-    ensures { (code : List Insn) → IsForward code → HasGoodAnnotation code → IsSafe code }
+    ensures { (code : List Insn) → IsForward code → HaveImmediates code → HasGoodAnnotation code → IsSafe code }
 {}
 
 /// Areas are sound: a code that is accepted with them has in every run, on any segment, pointers into them in the bases of the loads and the
 /// stores to which the run comes.
 pub fn accepted_areas_hold()
-    ensures { (code : List Insn) (areas : List (Option Area)) → IsForward code → IsAccepted code areas → HasBaseAreas code areas }
+    ensures { (code : List Insn) (areas : List (Option Area)) → IsForward code → HaveImmediates code → IsAccepted code areas
+        → HasBaseAreas code areas }
 {}
 
 /// Abstract states stand in order with that which isn't reached at the bottom, a join is the least above two, and what is possible stays so
@@ -59,9 +60,9 @@ pub fn checks_rise()
     ensures load { (lower higher : Known) (format : LoadFormat) (x n : Pointers) (offset : ℤ) → IsBelow lower higher
         → pointer_offsets.IsProper n.offsets → ArePointersWithin n x
         → Sound (λ x n. kinds.IsWithin n x) (load_from higher format x offset) (load_from lower format n offset) }
-    ensures store { (lower higher : Known) (x n : Offsets) (offset : ℤ) (size : StoreSize) → IsBelow lower higher
-        → pointer_offsets.IsProper n → pointer_offsets.IsWithin n x
-        → Sound (λ x n. IsWithinKnown n x) (store_at higher x offset size) (store_at lower n offset size) }
+    ensures store { (lower higher : Known) (x n : Offsets) (offset : ℤ) (size : StoreSize) (k l : Kind) → IsBelow lower higher
+        → pointer_offsets.IsProper n → pointer_offsets.IsWithin n x → kinds.IsProper l → kinds.IsWithin l k
+        → Sound (λ x n. IsWithinKnown n x) (store_at higher x offset size k) (store_at lower n offset size l) }
     ensures argument { (lower higher : Known) (number : ℕ) (wanted : Argument) → IsBelow lower higher
         → Sound (λ x n. kinds.IsWithin n x) (argument_in higher number wanted) (argument_in lower number wanted) }
     ensures call { (lower higher : Known) (helper : Helper) → IsBelow lower higher

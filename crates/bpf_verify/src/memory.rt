@@ -1,18 +1,22 @@
 //! Loads and stores.
-ghost use Rattle.std.specs.Prelude.{◌≡◌, ◌≤◌, IfErr, IfOk, IfSome, OnOk, Err, Ok, option_map};
+ghost use Rattle.std.specs.Prelude.{◌≡◌, ◌≤◌, ◌<◌, IfErr, IfOk, IfSome, IsTrue, OnOk, Err, Ok, option_map};
 ghost use Rattle.bpf_kinds.specs.Kind as kinds;
 ghost use Rattle.bpf_kinds.specs.Offsets as pointer_offsets;
 ghost use Rattle.bpf_verify.specs.Annotation.{area_of, area_of_kind};
 ghost use Rattle.bpf_verify.specs.State.{IsProperKnown, Reached};
 ghost use Rattle.bpf_meaning.specs.Walk.{load_value, store};
-ghost use Rattle.bpf_verify.specs.Transfer.{area_length, lie_within, load_from, pointers_in, store_at};
+ghost use Rattle.bpf_verify.specs.Transfer.{area_length, kept_kind, known_slot, lie_within, load_area, load_from, pointers_in, storable, store_at};
 ghost use Rattle.bpf_verify.specs.Transfer.{kinds as known_kinds};
 ghost use Rattle.bpf_verify.specs.Verified.{base_of};
+ghost use Rattle.bpf_insn.specs.declared.memory.TheConstants.{FRAME_LENGTH, SLOTS};
+ghost use Rattle.bpf_insn.specs.Memory.{load_length};
+ghost use Rattle.bpf_insn.specs.declared.value.Area.TheVariants as Area;
 
-use crate::operands::{number_or, operand};
+use crate::operands::operand;
 use crate::state::Known;
 use bpf_insn::{
-    Area, FRAME_LENGTH, Insn, LoadFormat, Register, Source, StoreSize, load_length, store_length,
+    Area, FRAME_LENGTH, Insn, LoadFormat, Register, Source, StoreSize, load_length, slot_at,
+    store_length,
 };
 use bpf_kinds::{Kind, Offsets, load};
 use bpf_meaning::Cause;
@@ -131,8 +135,53 @@ fn load_from(
         return Err(Cause::OutOfBounds);
     }
     match area {
-        Area::Frame if !known.all_marked(offsets, offset, count) => Err(Cause::UnwrittenFrame),
-        _ => Ok(Kind::Number(load(format))),
+        Area::Record => Ok(Kind::Number(load(format))),
+        Area::Frame => load_frame(known, format, offsets, offset),
+    }
+}
+
+/// What a load of bytes within the frame gives: the kind that a slot keeps, or a number of bytes that are all written.
+fn load_frame(
+    known: &Known,
+    format: LoadFormat,
+    offsets: Offsets,
+    offset: i16,
+) -> Result<Kind, Cause>
+    requires known { IsProperKnown known.now }
+    requires offsets { pointer_offsets.IsProper offsets }
+    requires within { IsTrue (lie_within offsets offset (load_length format) FRAME_LENGTH) }
+    ensures value { result ≡ load_area known.now format (record { area = Area.Frame; offsets = offsets }) offset }
+    ensures proper { IfOk result kinds.IsProper }
+{
+    let count = load_length(format);
+    match kept_kind(known, known_slot(offsets, offset, count)) {
+        Kind::Nothing if known.all_marked(offsets, offset, count) => Ok(Kind::Number(load(format))),
+        Kind::Nothing => Err(Cause::UnwrittenFrame),
+        kind => Ok(kind),
+    }
+}
+
+/// The slot of the frame that so many bytes are, from the one known offset on, with another offset added.
+fn known_slot(offsets: Offsets, offset: i16, count: usize) -> Option<usize>
+    ensures { result ≡ known_slot offsets offset count }
+{
+    let at = i32::from(offsets.low) + i32::from(offset);
+    if offsets.low != offsets.high {
+        return None;
+    }
+    slot_at(at.unsigned_abs() as usize, count)
+}
+
+/// The kind of what a slot holds, if there is one.
+fn kept_kind(known: &Known, slot: Option<usize>) -> Kind
+    requires known { IsProperKnown known.now }
+    requires within { IfSome slot (λ slot. slot < SLOTS) }
+    ensures value { result ≡ kept_kind known.now slot }
+    ensures proper { kinds.IsProper result }
+{
+    match slot {
+        Some(slot) => known.frame.slot(slot),
+        None => Kind::Nothing,
     }
 }
 
@@ -153,20 +202,44 @@ pub(crate) fn store(
     let Area::Frame = pointers.area else {
         return Err(Cause::WritesRecord);
     };
-    number_or(Cause::StoresPointer, operand(known, source)?)?;
-    store_at(known, pointers.offsets, offset, size)
+    let kind = operand(known, source)?;
+    store_at(known, pointers.offsets, offset, size, kind)
 }
 
-/// Goes behind a store of a number in the frame.
-fn store_at(known: &mut Known, offsets: Offsets, offset: i16, size: StoreSize) -> Result<(), Cause>
-    requires { IsProperKnown known.old }
-    ensures ok { OnOk result (store_at known.old offsets offset size ≡ Ok known.new) }
-    ensures err { IfErr result (λ cause. store_at known.old offsets offset size ≡ Err cause) }
+/// Goes behind a store of a value of a kind in the frame.
+fn store_at(
+    known: &mut Known,
+    offsets: Offsets,
+    offset: i16,
+    size: StoreSize,
+    kind: Kind,
+) -> Result<(), Cause>
+    requires known { IsProperKnown known.old }
+    requires offsets { pointer_offsets.IsProper offsets }
+    requires kind { kinds.IsProper kind }
+    ensures ok { OnOk result (store_at known.old offsets offset size kind ≡ Ok known.new) }
+    ensures err { IfErr result (λ cause. store_at known.old offsets offset size kind ≡ Err cause) }
     ensures proper { OnOk result (IsProperKnown known.new) }
 {
-    if !lie_within(offsets, offset, store_length(size), FRAME_LENGTH) {
+    let count = store_length(size);
+    let slot = known_slot(offsets, offset, count);
+    let kind = storable(slot, kind)?;
+    if !lie_within(offsets, offset, count, FRAME_LENGTH) {
         return Err(Cause::OutOfBounds);
     }
-    known.mark_bytes(offsets, offset, store_length(size));
+    match slot {
+        Some(slot) => known.keep(slot, kind),
+        None => known.write_bytes(offsets, offset, count, count),
+    }
     Ok(())
+}
+
+/// A kind whose values may be stored: pointers only in a whole slot.
+fn storable(slot: Option<usize>, kind: Kind) -> Result<Kind, Cause>
+    ensures { result ≡ storable slot kind }
+{
+    match (slot, kind) {
+        (_, Kind::Number(_)) | (Some(_), Kind::Record(_) | Kind::Frame(_)) => Ok(kind),
+        _ => Err(Cause::StoresPointer),
+    }
 }

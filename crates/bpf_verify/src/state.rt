@@ -1,11 +1,12 @@
 //! What is known of the registers and of the frame before an instruction.
-ghost use Rattle.std.specs.Prelude.{◌≡◌, ◌≤◌, ◌≤ℤ◌, ◌+ℤ◌, pos, unsigned_abs, IsTrue, IfOk};
-ghost use Rattle.bpf_insn.specs.declared.memory.TheConstants.{FRAME_LENGTH};
+ghost use Rattle.std.specs.Prelude.{◌≡◌, ◌≤◌, ◌<◌, ◌≤ℤ◌, ◌+ℤ◌, pos, unsigned_abs, IsTrue, IfOk};
+ghost use Rattle.bpf_insn.specs.declared.memory.TheConstants.{FRAME_LENGTH, SLOTS};
+ghost use Rattle.bpf_frame.specs.FrameMap.{set_slot};
 ghost use Rattle.bpf_kinds.specs.Interval as interval;
 ghost use Rattle.bpf_kinds.specs.Offsets as pointer_offsets;
 ghost use Rattle.bpf_kinds.specs.Kind as kinds;
 ghost use Rattle.bpf_verify.specs.State.{IsProperKnown, entry, join_known, with_kind};
-ghost use Rattle.bpf_verify.specs.Transfer.{all_marked, lie_within, mark_bytes, read, state_after};
+ghost use Rattle.bpf_verify.specs.Transfer.{all_marked, lie_within, mark_bytes, read, state_after, touch_bytes, write_bytes};
 
 use bpf_frame::FrameMap;
 use bpf_insn::FRAME_LENGTH;
@@ -18,7 +19,7 @@ use bpf_meaning::{Cause, REGISTERS};
 pub(crate) struct Known {
     /// Registers 0 to 10.
     pub registers: [Kind; REGISTERS],
-    /// Which bytes of the frame are written.
+    /// Which bytes of the frame are written, and what its slots hold.
     pub frame: FrameMap,
 }
 
@@ -86,9 +87,36 @@ impl Known {
         self.registers[usize::from(register)] = kind;
     }
 
+    /// Writes bytes of the frame from one of the offsets on, with another offset added: so many in any case, and so many at most.
+    pub fn write_bytes(&mut self, offsets: Offsets, offset: i16, least: usize, most: usize)
+        requires proper { IsProperKnown self.old }
+        requires offsets { pointer_offsets.IsProper offsets }
+        requires counts { least ≤ most }
+        requires within { IsTrue (lie_within offsets offset most FRAME_LENGTH) }
+        ensures value { self.new ≡ write_bytes self.old offsets offset least most }
+        ensures proper { IsProperKnown self.new }
+    {
+        self.touch_bytes(offsets, offset, most);
+        self.mark_bytes(offsets, offset, least);
+    }
+
+    /// Forgets what slots hold that have one of so many bytes from each of the offsets on, with another offset added.
+    fn touch_bytes(&mut self, offsets: Offsets, offset: i16, count: usize)
+        requires proper { IsProperKnown self.old }
+        requires offsets { pointer_offsets.IsProper offsets }
+        requires within { IsTrue (lie_within offsets offset count FRAME_LENGTH) }
+        ensures value { self.new ≡ touch_bytes self.old offsets offset count }
+        ensures proper { IsProperKnown self.new }
+    {
+        if count > 0 {
+            let last = byte_at(offsets.high, offset) + count - 1;
+            self.frame.touch(byte_at(offsets.low, offset), last);
+        }
+    }
+
     /// Marks so many bytes of the frame as written, from one of the offsets on, with another offset added. Only where that is one known offset
     /// it's known which ones.
-    pub fn mark_bytes(&mut self, offsets: Offsets, offset: i16, count: usize)
+    fn mark_bytes(&mut self, offsets: Offsets, offset: i16, count: usize)
         requires proper { IsProperKnown self.old }
         requires within { IsTrue (lie_within offsets offset count FRAME_LENGTH) }
         ensures value { self.new ≡ mark_bytes self.old offsets offset count }
@@ -97,6 +125,17 @@ impl Known {
         if offsets.low == offsets.high {
             self.frame.mark(byte_at(offsets.low, offset), count);
         }
+    }
+
+    /// Keeps a kind in a slot of the frame.
+    pub fn keep(&mut self, slot: usize, kind: Kind)
+        requires slot { slot < SLOTS }
+        requires proper { IsProperKnown self.old }
+        requires kind { kinds.IsProper kind }
+        ensures value { self.new ≡ record self.old { frame = set_slot self.old.frame slot kind } }
+        ensures proper { IsProperKnown self.new }
+    {
+        self.frame.set_slot(slot, kind);
     }
 
     /// Whether each byte of the frame that may be read is written, where so many are read at most, from each of the offsets on, with another

@@ -1,4 +1,4 @@
-//! Rows of the command `run` over type 1 files. The last of these, of 600 lines, has more bytes than twice the buffer that it is read through, and so have its
+//! Rows of the command `run` over type 1 files, and one of `trace`. The last of these, of 600 lines, has more bytes than twice the buffer that it is read through, and so have its
 //! rows.
 
 pub const FILES: &str = r"
@@ -17,6 +17,10 @@ extractd run --program p.bpf --data d 01001; 0\t{rt1}\n; 0;; p.bpf: {asm ldxb r2
   +1 | mov r0, 1 | exit}; d/TGR01001.RT1: {rt1}\n{rt1 CFCC=H01}\n{rt1 CFCC=}\n
 extractd run --program p.bpf --data d 01001; 0\t{rt1}\n; 0;; p.bpf: {asm mov r0, 1 | exit | ldxb r0, [r9+0] | exit};
   d/TGR01001.RT1: {rt1}\n
+extractd run --program p.bpf --data d 01001; 0\t{rt1}\n; 0;; p.bpf: {asm stxdw [r10-8], r1 | mov r1, 1 | call 2 |
+  ldxdw r1, [r10-8] | ldxb r0, [r1+0] | exit}; d/TGR01001.RT1: {rt1}\n
+extractd trace --program p.bpf --data d --line 1 --limit 6 01001; exit 49 score 0\n; 0;; p.bpf: {asm stxdw [r10-8], r1 |
+  mov r1, 1 | call 2 | ldxdw r1, [r10-8] | ldxb r0, [r1+0] | exit}; d/TGR01001.RT1: {rt1}\n
 extractd run --program p.bpf --data d 01001; 0\t{rt1}\n; 1; refused 1 rt1 line 2 WrongLength; p.bpf: {every};
   d/TGR01001.RT1: {rt1}\n{rt1 ..227}\n
 extractd run --program p.bpf --data d 01001;; 1; refused 1 rt1 line 1 WrongLength; p.bpf: {every};

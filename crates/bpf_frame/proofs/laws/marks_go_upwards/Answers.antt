@@ -1,8 +1,19 @@
-use Rattle.bpf_frame.proofs.MarkLemmas.{mark_within, all_written_within}
+use Rattle.std.proofs.Common.{arith}
+use Rattle.bpf_frame.proofs.MarkLemmas.{all_written_within}
+use Rattle.bpf_frame.proofs.RiseLemmas.{mark_rises, touch_rises, set_slot_rises, slot_falls}
 use Rattle.bpf_frame.proofs.laws.marks_go_upwards.Goals as goal
 
 pub returns-clause-mark : goal.returns-clause-mark
-returns-clause-mark c = mark_within
+returns-clause-mark c = mark_rises
+
+pub returns-clause-touch : goal.returns-clause-touch
+returns-clause-touch c = λ map other from to proper proper_other ordered short. touch_rises map other from to from to proper proper_other (omega arith) ordered (omega arith) short
+
+pub returns-clause-set_slot : goal.returns-clause-set_slot
+returns-clause-set_slot c = set_slot_rises
+
+pub returns-clause-slot : goal.returns-clause-slot
+returns-clause-slot c = slot_falls
 
 pub returns-clause-all_written : goal.returns-clause-all_written
 returns-clause-all_written c = all_written_within

@@ -1,4 +1,5 @@
-use Rattle.bpf_frame.proofs.MarkLemmas.{unwritten_is_proper, unwritten_admits}
+use Rattle.bpf_frame.proofs.AdmitLemmas.{unwritten_admits}
+use Rattle.bpf_frame.proofs.ProperLemmas.{unwritten_is_proper}
 use Rattle.bpf_frame.proofs.laws.unwritten_admits_all.Goals as goal
 
 pub returns-clause-proper : goal.returns-clause-proper

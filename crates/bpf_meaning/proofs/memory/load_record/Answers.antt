@@ -3,7 +3,7 @@ use Rattle.std.proofs.lemmas.List.{length-map}
 use Rattle.std.proofs.lemmas.Int.{to_z-of_z}
 use Rattle.bpf_insn.specs.declared.value.Value.{Value}
 use Rattle.bpf_insn.specs.declared.value.Value.TheVariants.{Number}
-use Rattle.bpf_meaning.specs.Memory.{Byte, number_of}
+use Rattle.bpf_insn.specs.Frame.{Byte, number_of}
 use Rattle.bpf_meaning.specs.declared.cause.Cause.{Cause}
 use Rattle.bpf_meaning.proofs.StepLemmas.{load_inside, part_of_record}
 use Rattle.bpf_meaning.proofs.memory.load_record.Goals as goal

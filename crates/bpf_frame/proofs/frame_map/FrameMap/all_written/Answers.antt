@@ -1,8 +1,8 @@
-use Rattle.std.proofs.Common.{◌+◌, refl, sym, subst, arith}
+use Rattle.std.proofs.Common.{◌≡◌, ◌+◌, length, refl, sym, subst, arith}
 use Rattle.std.proofs.lemmas.Bool.{both_ways}
 use Rattle.std.proofs.lemmas.Bool.Decides.{same_from_decides}
-use Rattle.bpf_frame.specs.FrameMap.{Contents, IsMarked, IsProper}
-use Rattle.bpf_frame.proofs.LaneLemmas.{contents_are_proper}
+use Rattle.bpf_frame.specs.FrameMap.{Contents, IsMarked}
+use Rattle.bpf_frame.proofs.LaneLemmas.{length-marks_of}
 use Rattle.bpf_frame.proofs.RangeLemmas.{one_lane_has, lane_of_marks}
 use Rattle.bpf_frame.proofs.ReadLemmas.{all_written_is}
 use Rattle.bpf_frame.proofs.frame_map.FrameMap.all_written.Goals as goal
@@ -19,8 +19,8 @@ returns-then-index-bits-clause-written c =
 
 pub returns-then-index-bits-clause-value : goal.returns-then-index-bits-clause-value
 returns-then-index-bits-clause-value c =
-    let proper : IsProper c.args.self.now = subst IsProper c.self.view_is (contents_are_proper _) in
-    same_from_decides _ _ (returns-then-index-bits-clause-written c) (all_written_is _ c.args.from c.args.to c.requires.ordered (omega (arith, proper.count)))
+    let count : length c.args.self.now.marks ≡ 512 = subst (λ (map : Contents). length map.marks ≡ 512) c.self.view_is (length-marks_of _) in
+    same_from_decides _ _ (returns-then-index-bits-clause-written c) (all_written_is _ c.args.from c.args.to c.requires.ordered (omega arith))
 
 pub returns-else-index-bits-clause-written : goal.returns-else-index-bits-clause-written
 returns-else-index-bits-clause-written c =
@@ -31,5 +31,5 @@ returns-else-index-bits-clause-written c =
 
 pub returns-else-index-bits-clause-value : goal.returns-else-index-bits-clause-value
 returns-else-index-bits-clause-value c =
-    let proper : IsProper c.args.self.now = subst IsProper c.self.view_is (contents_are_proper _) in
-    same_from_decides _ _ (returns-else-index-bits-clause-written c) (all_written_is _ c.args.from c.args.to c.requires.ordered (omega (arith, proper.count)))
+    let count : length c.args.self.now.marks ≡ 512 = subst (λ (map : Contents). length map.marks ≡ 512) c.self.view_is (length-marks_of _) in
+    same_from_decides _ _ (returns-else-index-bits-clause-written c) (all_written_is _ c.args.from c.args.to c.requires.ordered (omega arith))

@@ -1,6 +1,6 @@
 use Rattle.std.proofs.Common.{refl}
 use Rattle.bpf_frame.specs.Lanes.{marks_of}
-use Rattle.bpf_frame.proofs.LaneLemmas.{contents_are_proper}
+use Rattle.bpf_frame.proofs.ProperLemmas.{unwritten_is_proper}
 use Rattle.bpf_frame.proofs.frame_map.FrameMap.unwritten.Goals as goal
 
 pub returns-clause-value : goal.returns-clause-value
@@ -8,4 +8,5 @@ unfolding marks_of
 returns-clause-value c = refl
 
 pub returns-clause-proper : goal.returns-clause-proper
-returns-clause-proper c = contents_are_proper _
+unfolding marks_of
+returns-clause-proper c = unwritten_is_proper

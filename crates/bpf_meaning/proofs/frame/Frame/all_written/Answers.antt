@@ -1,6 +1,6 @@
 use Rattle.std.proofs.Common.{◌+◌, ◌-◌, refl, ap, ◌∙◌, arith}
 use Rattle.std.specs.Prelude.{not}
-use Rattle.bpf_meaning.specs.Memory.{FrameContents}
+use Rattle.bpf_insn.specs.Frame.{FrameContents}
 use Rattle.bpf_meaning.proofs.MemoryLemmas.{all_written-marks}
 use Rattle.bpf_meaning.proofs.frame.Frame.all_written.Goals as goal
 

@@ -1,5 +1,5 @@
 use Rattle.std.proofs.Common.{ℕ, List, length, sym, ap, ◌∙◌, arith}
-use Rattle.bpf_meaning.specs.Memory.{FrameContents}
+use Rattle.bpf_insn.specs.Frame.{FrameContents}
 use Rattle.bpf_meaning.proofs.MemoryLemmas.{length-frame_bytes}
 use Rattle.bpf_meaning.proofs.frame.Frame.len.Goals as goal
 

@@ -1,5 +1,5 @@
 use Rattle.std.proofs.Common.{◌+◌, ◌-◌, refl, sym, ap, ◌∙◌, arith}
-use Rattle.bpf_meaning.specs.Memory.{FrameContents}
+use Rattle.bpf_insn.specs.Frame.{FrameContents}
 use Rattle.bpf_meaning.proofs.MemoryLemmas.{unwritten_is_none, written_is_number}
 use Rattle.bpf_meaning.proofs.frame.Frame.load.Goals as goal
 

@@ -5,7 +5,7 @@ use Rattle.bpf_verify.specs.Verified.{HasBaseAreas, entries_of}
 use Rattle.bpf_verify.specs.declared.verified.Entry.{Entry}
 use Rattle.bpf_flat.specs.Flat.{AreFlatForms}
 use Rattle.bpf_meaning.specs.Run.{IsSafe}
-use Rattle.bpf_verify.proofs.AreaLemmas.{areas_hold, areas_in, areas_in-entries_of, instructions_in, instructions_in-entries_of, length-areas_from}
+use Rattle.bpf_verify.proofs.AreaLemmas.{areas_hold, areas_in, areas_in-entries_of, immediates_of_forms, instructions_in, instructions_in-entries_of, length-areas_from}
 use Rattle.bpf_verify.proofs.SoundRuns.{good_is_safe}
 use Rattle.bpf_verify.proofs.verified.Verified.of.Goals as goal
 
@@ -27,9 +27,10 @@ pub invariant_of-result : goal.invariant_of-result
 invariant_of-result g c =
     let accepted = c.requires in
     let same = c.into_code-code.ensures.value in
-    let holds = areas_hold c.args.flow.code c.args.areas.now c.into_code-code.ensures.forward accepted in
+    let immediates = immediates_of_forms c.args.flow.code c.args.areas.now c.in_ok-flat_forms.flat_forms.items c.in_ok-flat_forms.ensures in
+    let holds = areas_hold c.args.flow.code c.args.areas.now c.into_code-code.ensures.forward immediates accepted in
     let made = are_made_of _ _ _ _ c.in_ok-entries.ensures (c.instructions.ensures.value ∙ same) holds.count in
-    let safe = good_is_safe c.args.flow.code c.into_code-code.ensures.forward (accepted.annotation, accepted.is_least.good) in (
+    let safe = good_is_safe c.args.flow.code c.into_code-code.ensures.forward immediates (accepted.annotation, accepted.is_least.good) in (
       subst IsSafe (sym same) safe,
       subst (λ (code : List Insn). HasBaseAreas code (areas_in c.in_ok-entries.entries.items)) (sym same) (subst (HasBaseAreas c.args.flow.code) (sym made.bases) holds),
       made.instructions ∙ sym same,
@@ -39,5 +40,6 @@ invariant_of-result g c =
 
 pub returns-clause-areas : goal.returns-clause-areas
 returns-clause-areas g c =
-    let holds = areas_hold c.args.flow.code c.args.areas.now c.into_code-code.ensures.forward c.requires in
+    let immediates = immediates_of_forms c.args.flow.code c.args.areas.now c.in_ok-flat_forms.flat_forms.items c.in_ok-flat_forms.ensures in
+    let holds = areas_hold c.args.flow.code c.args.areas.now c.into_code-code.ensures.forward immediates c.requires in
     let made = are_made_of _ _ _ _ c.in_ok-entries.ensures (c.instructions.ensures.value ∙ c.into_code-code.ensures.value) holds.count in made.bases

@@ -1,0 +1,48 @@
+-- Lists of kinds, joined one by one, and what is so of each element of a list.
+use Rattle.std.proofs.Common.{◌≡◌, ℕ, suc, zero, ◌<◌, List, [], ◌∷◌, length, get_or, sym, ap, ◌∙◌, refl, arith}
+use Rattle.std.specs.Prelude.{slice_set}
+use Rattle.std.proofs.lemmas.List.{ext_get_or}
+use Rattle.bpf_kinds.specs.Kind as kind
+use Rattle.bpf_kinds.specs.Kind.{join_kinds}
+use Rattle.bpf_kinds.specs.declared.kind.Kind.{Kind}
+use Rattle.bpf_kinds.specs.declared.kind.Kind.TheVariants.{Nothing}
+
+pub length-join_kinds : (xs ys : List Kind) → length xs ≡ length ys → length (join_kinds xs ys) ≡ length xs
+length-join_kinds [] ys same = refl
+length-join_kinds (x ∷ xs) [] same = absurd (omega arith)
+length-join_kinds (x ∷ xs) (y ∷ ys) same = ap suc (length-join_kinds xs ys (omega arith))
+
+pub get_or-join_kinds : (xs ys : List Kind) (place : ℕ) → length xs ≡ length ys
+    → get_or (join_kinds xs ys) place Nothing ≡ kind.join (get_or xs place Nothing) (get_or ys place Nothing)
+get_or-join_kinds [] [] place same = refl
+get_or-join_kinds [] (y ∷ ys) place same = absurd (omega arith)
+get_or-join_kinds (x ∷ xs) [] place same = absurd (omega arith)
+get_or-join_kinds (x ∷ xs) (y ∷ ys) zero same = refl
+get_or-join_kinds (x ∷ xs) (y ∷ ys) (suc place) same = get_or-join_kinds xs ys place (omega arith)
+
+-- a list that has the joined kinds at each place is the join of two
+pub is_join_kinds : (xs ys joined : List Kind) (count : ℕ) → length xs ≡ count → length ys ≡ count → length joined ≡ count
+    → ((place : ℕ) → place < count → get_or joined place Nothing ≡ kind.join (get_or xs place Nothing) (get_or ys place Nothing))
+    → joined ≡ join_kinds xs ys
+is_join_kinds xs ys joined count length-xs length-ys length-joined same =
+    let same-length = length-xs ∙ sym length-ys in
+    ext_get_or Nothing joined (join_kinds xs ys) (length-joined ∙ sym (length-join_kinds xs ys same-length ∙ length-xs))
+    (λ place below. same place (omega arith) ∙ sym (get_or-join_kinds xs ys place same-length))
+
+-- what is so of a list's elements is so of them once one is written, if it's so of that one
+pub set_each : {X : Type 0} (Such : ℕ → X → Type 0) (none : X) (xs : List X) (at : ℕ) (x : X) → Such at x → ((n : ℕ) → Such n (get_or xs n none)) → (n : ℕ) → Such n (get_or (slice_set xs at x) n none)
+set_each Such none [] at x here all n = all n
+set_each Such none (y ∷ xs) zero x here all zero = here
+set_each Such none (y ∷ xs) zero x here all (suc n) = all (suc n)
+set_each Such none (y ∷ xs) (suc at) x here all zero = all zero
+set_each Such none (y ∷ xs) (suc at) x here all (suc n) = set_each (λ k. Such (suc k)) none xs at x here (λ k. all (suc k)) n
+
+-- what is so of two lists' elements, one by one, is so of them once one of each is written, if it's so of those
+pub set_both : {X : Type 0} (Such : X → X → Type 0) (none : X) (xs ys : List X) (at : ℕ) (x y : X) → length xs ≡ length ys → Such x y → ((n : ℕ) → Such (get_or xs n none) (get_or ys n none)) → (n : ℕ) → Such (get_or (slice_set xs at x) n none) (get_or (slice_set ys at y) n none)
+set_both Such none [] [] at x y same here all n = all n
+set_both Such none [] (b ∷ ys) at x y same here all n = absurd (omega arith)
+set_both Such none (a ∷ xs) [] at x y same here all n = absurd (omega arith)
+set_both Such none (a ∷ xs) (b ∷ ys) zero x y same here all zero = here
+set_both Such none (a ∷ xs) (b ∷ ys) zero x y same here all (suc n) = all (suc n)
+set_both Such none (a ∷ xs) (b ∷ ys) (suc at) x y same here all zero = all zero
+set_both Such none (a ∷ xs) (b ∷ ys) (suc at) x y same here all (suc n) = set_both Such none xs ys at x y (omega arith) here (λ k. all (suc k)) n

@@ -1,0 +1,121 @@
+-- Slots of the frame on words: before a change and after it, the word of a slot stands for the pointer that the slot holds.
+use Rattle.std.proofs.Common.{◌≡◌, ◌≢◌, ℕ, zero, suc, ◌+◌, ◌*◌, ◌/◌, ◌%◌, ◌^◌, ◌<◌, ◌≤◌, ◌⊎◌, List, [], ◌∷◌, ◌++◌, length, map, take, drop, replicate, get_or, slice_set, Option, Some, None, refl, sym, ap, ◌∙◌, subst, inl, inr, arith, append_assoc}
+use Rattle.std.specs.Int.{bytes_low_first}
+use Rattle.std.specs.Option.{option_map}
+use Rattle.std.proofs.lemmas.Bool.{cases_lt}
+use Rattle.std.proofs.lemmas.List.{drop_at, get_or_past, get_or-set_other, get_or-set_same, length-take-le}
+use Rattle.bpf_insn.specs.Frame as frame
+use Rattle.bpf_insn.specs.Frame.{Unwritten, Byte, overwrite_slots, slot_bytes, IsApart}
+use Rattle.bpf_insn.specs.declared.memory.TheConstants.{SLOT_LENGTH}
+use Rattle.bpf_insn.specs.declared.value.Pointer.{Pointer as PointerParts}
+use Rattle.bpf_insn.specs.declared.value.Value.TheVariants as value
+use Rattle.bpf_helpers.specs.Call.{write}
+use Rattle.bpf_meaning.proofs.MemoryLemmas.{stored_is_loaded}
+use Rattle.bpf_meaning.proofs.SlotLemmas.{length-overwrite_slots, overwritten_apart, overwritten_within, slot_bytes-apart}
+use Rattle.bpf_machine.specs.Words.{IsWordOf, IsWordOfSlot, number_of}
+use Rattle.bpf_machine.proofs.WordArithmetic.{offset_kept}
+
+-- the words of slots stand for the pointers that they hold, slot by slot
+abbrev pub SlotsStandFor : List (Option PointerParts) → List ℕ → Type 0
+SlotsStandFor slots bytes = (slot : ℕ) → IsWordOfSlot (get_or slots slot None) (number_of (slot_bytes bytes slot))
+
+-- where a slot holds no pointer, any word will do
+no_pointer : (held : Option PointerParts) (word : ℕ) → held ≡ None → IsWordOfSlot held word
+no_pointer held word none = subst (λ (p : Option PointerParts). IsWordOfSlot p word) (sym none) tt
+
+pub all_alike : {A : Type 0} (count at : ℕ) (a : A) → get_or (replicate count a) at a ≡ a
+all_alike zero at a = refl
+all_alike (suc count) zero a = refl
+all_alike (suc count) (suc at) a = all_alike count at a
+
+pub none-stands : (count : ℕ) (bytes : List ℕ) → SlotsStandFor (replicate count None) bytes
+none-stands count bytes slot = no_pointer _ _ (all_alike count slot None)
+
+-- where it holds the pointer that it held, and has the bytes that it had, its word still stands for it
+stays : (held before : Option PointerParts) (bytes old : List ℕ) → held ≡ before → bytes ≡ old → IsWordOfSlot before (number_of old) → IsWordOfSlot held (number_of bytes)
+stays held before bytes old same alike is =
+    subst (λ (l : List ℕ). IsWordOfSlot held (number_of l)) (sym alike) (subst (λ (p : Option PointerParts). IsWordOfSlot p (number_of old)) (sym same) is)
+
+-- of so many bytes from an offset on none lies in a slot, or one does: the first of them, or the slot's first
+
+abbrev IsTouched : ℕ → ℕ → ℕ → Type 0
+IsTouched slot at count = (i : ℕ) × (at ≤ i) × (i < at + count) × (i / SLOT_LENGTH ≡ slot)
+
+apart_or_touched : (slot at count : ℕ) → IsApart slot at count ⊎ IsTouched slot at count
+apart_or_touched slot at zero = inl (λ i above below is. omega arith)
+apart_or_touched slot at (suc more) =
+    elim (cases_lt at (SLOT_LENGTH * slot + SLOT_LENGTH)) [
+      | inr behind ↦ inl (λ i above below is. omega arith)
+      | inl begins ↦
+          elim (cases_lt at (SLOT_LENGTH * slot)) [
+            | inr inside ↦ inr (at, omega arith, omega arith, omega arith)
+            | inl before ↦
+                elim (cases_lt (SLOT_LENGTH * slot) (at + suc more)) [
+                  | inl reaches ↦ inr (SLOT_LENGTH * slot, omega arith, reaches, omega arith)
+                  | inr ends ↦ inl (λ i above below is. omega arith)
+                ]
+          ]
+    ]
+
+-- bytes that are written: a slot that has one of them holds no pointer anymore, and the others keep theirs and their bytes
+pub overwrite-stands : (slots : List (Option PointerParts)) (bytes new : List ℕ) (at : ℕ) → length bytes ≡ SLOT_LENGTH * length slots → at + length new ≤ length bytes → SlotsStandFor slots bytes
+    → SlotsStandFor (overwrite_slots None slots at (length new)) (write bytes at new)
+overwrite-stands slots bytes new at long within stand slot =
+    elim (cases_lt slot (length slots)) [
+      | inr past ↦ no_pointer _ _ (let same = length-overwrite_slots None slots at (length new) (omega arith) in get_or_past (overwrite_slots None slots at (length new)) slot None (omega arith))
+      | inl inside ↦
+          elim (apart_or_touched slot at (length new)) [
+            | inl apart ↦ stays _ _ _ _ (overwritten_apart None slots at (length new) slot inside apart) (slot_bytes-apart bytes new at slot within apart) (stand slot)
+            | inr touched ↦ no_pointer _ _ (overwritten_within None slots at (length new) slot touched.0 inside touched.1 touched.2 touched.3)
+          ]
+    ]
+
+-- a word that is written into a slot
+
+number_of-map : (bytes : List ℕ) → frame.number_of (map Byte bytes) ≡ Some (number_of bytes)
+number_of-map [] = refl
+number_of-map (byte ∷ bytes) = ap (option_map (λ rest. byte + 256 * rest)) (number_of-map bytes)
+
+low_number : (word : ℕ) → number_of (bytes_low_first 0 SLOT_LENGTH word) ≡ word % 2 ^ 64
+low_number word =
+    let one = number_of-map (bytes_low_first 0 SLOT_LENGTH word) in
+    let other = stored_is_loaded (replicate SLOT_LENGTH Unwritten) 0 SLOT_LENGTH word (omega arith) in
+    let same : Some (number_of (bytes_low_first 0 SLOT_LENGTH word)) ≡ Some (word % 256 ^ SLOT_LENGTH) = sym one ∙ other in
+    let number : number_of (bytes_low_first 0 SLOT_LENGTH word) ≡ word % 256 ^ SLOT_LENGTH = cc in
+    number
+
+slot_written : (bytes : List ℕ) (slot word : ℕ) → SLOT_LENGTH * slot + SLOT_LENGTH ≤ length bytes → slot_bytes (write bytes (SLOT_LENGTH * slot) (bytes_low_first 0 SLOT_LENGTH word)) slot ≡ bytes_low_first 0 SLOT_LENGTH word
+slot_written bytes slot word within =
+    let at = SLOT_LENGTH * slot in
+    let low = bytes_low_first 0 SLOT_LENGTH word in
+    let rest = drop (at + SLOT_LENGTH) bytes in
+    ap (λ (l : List ℕ). take SLOT_LENGTH (drop at l)) (append_assoc (take at bytes) low rest)
+    ∙ ap (take SLOT_LENGTH) (drop_at (take at bytes) (low ++ rest) at (length-take-le at bytes (omega arith)))
+
+-- a pointer that is kept: the word of its slot stands for it, and the other slots keep theirs and their bytes
+
+module _ (slots : List (Option PointerParts)) (bytes : List ℕ) (kept : ℕ) (pointer : PointerParts) (word : ℕ) (within : SLOT_LENGTH * kept + SLOT_LENGTH ≤ length bytes) where
+  kept_here : kept < length slots → IsWordOf (value.Pointer pointer) word → IsWordOfSlot (get_or (slice_set slots kept (Some pointer)) kept None) (number_of (slot_bytes (write bytes (SLOT_LENGTH * kept) (bytes_low_first 0 SLOT_LENGTH word)) kept))
+  kept_here inside held =
+      stays _ (Some pointer) _ (bytes_low_first 0 SLOT_LENGTH word) (get_or-set_same slots kept (Some pointer) None inside) (slot_written bytes kept word within)
+      (subst (IsWordOf (value.Pointer pointer)) (sym (low_number word)) (offset_kept pointer.offset word held.0 held.1, held.1))
+
+  kept_apart : (slot : ℕ) → slot ≢ kept → IsWordOfSlot (get_or slots slot None) (number_of (slot_bytes bytes slot))
+      → IsWordOfSlot (get_or (slice_set slots kept (Some pointer)) slot None) (number_of (slot_bytes (write bytes (SLOT_LENGTH * kept) (bytes_low_first 0 SLOT_LENGTH word)) slot))
+  kept_apart slot other is =
+      stays _ _ _ _ (get_or-set_other slots kept slot (Some pointer) None other)
+      (slot_bytes-apart bytes (bytes_low_first 0 SLOT_LENGTH word) (SLOT_LENGTH * kept) slot within (λ i above below at. other (omega arith))) is
+
+  pub keep-stands : kept < length slots → IsWordOf (value.Pointer pointer) word → SlotsStandFor slots bytes → SlotsStandFor (slice_set slots kept (Some pointer)) (write bytes (SLOT_LENGTH * kept) (bytes_low_first 0 SLOT_LENGTH word))
+  keep-stands inside held stand slot =
+      elim (cases_lt slot kept) [
+        | inl before ↦ kept_apart slot (λ same. omega arith) (stand slot)
+        | inr above ↦
+            elim (cases_lt kept slot) [
+              | inl behind ↦ kept_apart slot (λ same. omega arith) (stand slot)
+              | inr below ↦
+                  let slots_then = slice_set slots kept (Some pointer) in
+                  let bytes_then = write bytes (SLOT_LENGTH * kept) (bytes_low_first 0 SLOT_LENGTH word) in
+                  subst (λ (n : ℕ). IsWordOfSlot (get_or slots_then n None) (number_of (slot_bytes bytes_then n))) (omega arith) (kept_here inside held)
+            ]
+      ]
