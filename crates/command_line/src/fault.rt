@@ -8,10 +8,11 @@ ghost use Rattle.command_line.specs.declared.fault.ArgumentsFault.TheVariants.{M
 
 use crate::options::MOST_CODES;
 use clap::error::ErrorKind as UsageKind;
-use commands::{Failure, OUT_OF_MEMORY, USAGE};
+use commands::{Failure, Line, OUT_OF_MEMORY, USAGE};
 use std::alloc::{AllocError, AllocFailed};
-use std::io;
-use std::io::{ErrorKind, Write};
+use std::fmt::Write;
+use std::io::ErrorKind;
+use std::{fmt, io};
 use tl_fields::CountedWrite;
 use tl_segments::NAME_LENGTH;
 
@@ -55,18 +56,27 @@ impl ArgumentsFault<'_> {
         }
     }
 
-    /// Says what is wrong.
+    /// Says what is wrong. A write that fails, or takes no byte, isn't tried again.
     pub fn report<E: CountedWrite>(&self, errors: &mut E) {
-        let _ = match self {
-            ArgumentsFault::NotUtf8 => write!(errors, "error: an argument isn't UTF-8\n"),
-            ArgumentsFault::Usage(error) => write!(errors, "{error}"),
-            ArgumentsFault::Missing(name) => write!(errors, "error: {name} is missing\n"),
+        if let ArgumentsFault::Memory = self {
+            Failure::memory().report(errors);
+            return;
+        }
+        let _ = self.say(&mut Line::new(errors));
+    }
+
+    /// Says what is wrong but for want of memory.
+    fn say<E: CountedWrite>(&self, line: &mut Line<'_, E>) -> fmt::Result {
+        match self {
+            ArgumentsFault::NotUtf8 => write!(line, "error: an argument isn't UTF-8\n"),
+            ArgumentsFault::Usage(error) => write!(line, "{error}"),
+            ArgumentsFault::Missing(name) => write!(line, "error: {name} is missing\n"),
             ArgumentsFault::Code(code) => {
-                write!(errors, "error: CODE is five digits, and \"{code}\" isn't\n")
+                write!(line, "error: CODE is five digits, and \"{code}\" isn't\n")
             }
             ArgumentsFault::TooManyCodes(count) => {
                 write!(
-                    errors,
+                    line,
                     "error: {MOST_CODES} CODEs are taken at most, and {count} are given\n"
                 )
             }
@@ -76,28 +86,22 @@ impl ArgumentsFault<'_> {
                 text,
             } => {
                 write!(
-                    errors,
+                    line,
                     "error: --{name} is 1 to {most_digits} digits, and \"{text}\" isn't\n"
                 )
             }
             ArgumentsFault::Name(name) => {
                 write!(
-                    errors,
+                    line,
                     "error: --name is 1 to {NAME_LENGTH} bytes, and \"{name}\" isn't\n"
                 )
             }
             ArgumentsFault::Port(text) => {
-                write!(
-                    errors,
-                    "error: --port is 1 to 65535, and \"{text}\" isn't\n"
-                )
+                write!(line, "error: --port is 1 to 65535, and \"{text}\" isn't\n")
             }
-            ArgumentsFault::Serve => write!(errors, "error: serve wants a socket\n"),
-            ArgumentsFault::Memory => {
-                Failure::memory().report(errors);
-                return;
-            }
-        };
+            ArgumentsFault::Serve => write!(line, "error: serve wants a socket\n"),
+            ArgumentsFault::Memory => Ok(()),
+        }
     }
 }
 

@@ -6,10 +6,12 @@ ghost use Rattle.commands.specs.Failure.{IsOfCountyFile, IsOfFile, Says, TellsWr
 
 use crate::county::name_end;
 use crate::files::FileFault;
+use crate::line::Line;
 use arrayvec::{ArrayString, ArrayVec};
 use extract::{Class, Refusal};
 use std::alloc::{AllocError, AllocFailed};
-use std::io::{ErrorKind, Write};
+use std::fmt::Write;
+use std::io::ErrorKind;
 use std::{fmt, io};
 use tl_fields::{CountedWrite, write_whole};
 use tl_segments::CountyFile;
@@ -103,14 +105,18 @@ impl<'a> Failure<'a> {
     pub fn report<E: CountedWrite>(&self, errors: &mut E)
         ensures { Says self.now (writer E.contents E.counts errors.old) (writer E.contents E.counts errors.new) }
     {
-        let _ = match self {
-            Failure::Refusal(refusal) => {
-                let _ = write_whole(errors, with_line_end(refusal.line).as_slice());
-                return;
-            }
-            Failure::File { name, error } => {
-                write!(errors, "error: {name}: {}\n", Reason(*error))
-            }
+        if let Failure::Refusal(refusal) = self {
+            let _ = write_whole(errors, with_line_end(refusal.line).as_slice());
+            return;
+        }
+        let _ = self.say(&mut Line::new(errors));
+    }
+
+    /// Says what is wrong with a file, with the output or with the line that is asked for.
+    fn say<E: CountedWrite>(&self, line: &mut Line<'_, E>) -> fmt::Result {
+        match self {
+            Failure::Refusal(_) => Ok(()),
+            Failure::File { name, error } => write!(line, "error: {name}: {}\n", Reason(*error)),
             Failure::CountyFile {
                 data,
                 code,
@@ -118,20 +124,20 @@ impl<'a> Failure<'a> {
                 error,
             } => {
                 let end = name_end(*file);
-                write!(errors, "error: {data}/TGR{code}{end}: {}\n", Reason(*error))
+                write!(line, "error: {data}/TGR{code}{end}: {}\n", Reason(*error))
             }
-            Failure::NotUtf8 { name } => write!(errors, "error: {name}: not UTF-8\n"),
-            Failure::NoLine { line } => {
-                write!(errors, "error: the type 1 file has no line {line}\n")
+            Failure::NotUtf8 { name } => write!(line, "error: {name}: not UTF-8\n"),
+            Failure::NoLine { line: number } => {
+                write!(line, "error: the type 1 file has no line {number}\n")
             }
             Failure::Output(error) => {
                 write!(
-                    errors,
+                    line,
                     "error: the output can't be written: {}\n",
                     Reason(*error)
                 )
             }
-        };
+        }
     }
 }
 

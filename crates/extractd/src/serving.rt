@@ -2,9 +2,10 @@
 ghost use Rattle.std.specs.Prelude.{◌≤◌, vec_len};
 
 use command_line::{Serve, read_serve};
-use commands::{Failure, SystemFiles, UNUSABLE, load_counties};
+use commands::{Failure, Line, SystemFiles, UNUSABLE, load_counties};
 use server::{Limits, serve_next};
 use std::alloc::Global;
+use std::fmt::Write as WriteText;
 use std::io;
 use std::io::Write;
 use std::net::{Ipv4Addr, TcpListener};
@@ -35,19 +36,20 @@ impl ServeFault<'_> {
         let _ = match self {
             ServeFault::Counties(failure) => {
                 failure.report(errors);
-                return;
+                Ok(())
             }
             ServeFault::Output(error) => {
                 Failure::Output(*error).report(errors);
-                return;
+                Ok(())
             }
             ServeFault::Port { port, error } => write!(
-                errors,
+                Line::new(errors),
                 "error: 127.0.0.1:{port}: {error}\n"
             ),
-            ServeFault::Accept(error) => {
-                write!(errors, "error: no connection can be taken: {error}\n")
-            }
+            ServeFault::Accept(error) => write!(
+                Line::new(errors),
+                "error: no connection can be taken: {error}\n"
+            ),
         };
     }
 }
