@@ -2,11 +2,10 @@
 ghost use Rattle.std.specs.Prelude.{◌≡◌, true, [], ◌∷◌, IfSome};
 ghost use Rattle.bpf_helpers.specs.Call.{MeetsSignature};
 
-use crate::segments::county_of;
 use bpf_helpers::{Helper, call};
 use bpf_insn::FRAME_LENGTH;
-use fixtures::{bytes, cell};
-use std::alloc::Global;
+use fixtures::{Files, Refusing, bytes, cell, county};
+use std::alloc::{Allocator, Global};
 use tl_segments::Segment;
 
 // A number, and the name of the helper function that has it.
@@ -154,23 +153,25 @@ fn calls(rt: HostRuntime) {
     }
 }
 
-/// Whether a call gives what a row says on the row's segment.
+/// Whether a call gives what a row says on the row's segment, without a growth.
 fn is_call(alloc: Global, row: &str) -> Option<bool> {
     let changes = cell(row, 2);
     let files = format!(in alloc; "{{rt1 {FIELDS} {changes}}}\\n; {JOINED}").ok()?;
-    let county = county_of(alloc, &files, 0)?;
+    let heap = Refusing::new(alloc);
+    let county = county(&heap, &Files::new(alloc, &files, 0).ok()?).ok()?;
     let before = bytes(alloc, cell(row, 3)).ok()?;
     let after = bytes(alloc, cell(row, 4)).ok()?;
     let (helper, arguments) = call_of(cell(row, 0))?;
     let segment = county.segments().first()?;
+    heap.refuse(1);
     let answer = answer_of(segment, helper, arguments, &before, &after)?;
-    Some(cell(row, 1).parse() == Ok(answer))
+    Some(cell(row, 1).parse() == Ok(answer) && heap.count() == 0)
 }
 
 /// What a call answers, if it leaves these bytes in the frame where its second argument points, no others, and the score
 /// that it should.
-fn answer_of(
-    segment: &Segment<Global>,
+fn answer_of<A: Allocator>(
+    segment: &Segment<A>,
     helper: Helper,
     arguments: [u64; 3],
     before: &[u8],

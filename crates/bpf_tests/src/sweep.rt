@@ -1,20 +1,25 @@
 //! Each growth that a call takes refused once, and calls that take none.
 use crate::codes::is_written;
 use crate::machine::agree;
+use crate::meaning::{is_exit, is_stepped};
 use bpf_flat::{FlatInsn, flat_forms};
 use bpf_flow::Flow;
-use bpf_insn::{Area, Code, CodeBuilder, CodeFault, Insn, decode, encode};
+use bpf_insn::{Area, Code, CodeBuilder, CodeFault, Insn, Register, decode, encode};
+use bpf_machine::{Bare, run_in};
+use bpf_meaning::reads_record_alone;
 use bpf_text::{SourceFault, assemble, assemble_source, disassemble, disassemble_program};
 use bpf_verify::{Verified, verify};
 use fixtures::{Files, Refusing, bytes, cell, county};
-use std::alloc::{AllocError, Global};
+use std::alloc::{AllocError, Allocator, Global};
+use tl_segments::Segment;
 
-// Programs as the disassembler writes them, and the verdicts on them: straight ones, ones with jumps to twenty places and to
-// one, and ones that are refused behind those.
-const PROGRAMS: &str = r"mov r0, 1\nexit\n; accepted
-{mov r0, 1\n*300}{lddw r2, 0x0000000000000001\n*100}{stdw [r10-8], -1\n*100}ldxdw r0, [r10-8]\nexit\n; accepted
-ldxb r2, [r1+55]\nmov r0, 1\n{jeq r2, 65, +20\n*20}{mov r0, 1\n*20}exit\n; accepted
-ldxb r2, [r1+55]\nmov r0, 1\njgt r2, 65, +2\njset r2, 3, +1\ncall 3\nexit\n; accepted
+// Programs as the disassembler writes them, the verdicts on them, and of those that are accepted, whether they read the record
+// alone and what they answer on that of Main Street: straight ones, ones with jumps to twenty places and to one, and ones that
+// are refused behind those.
+const PROGRAMS: &str = r"mov r0, 1\nexit\n; accepted; alone; 1
+{mov r0, 1\n*300}{lddw r2, 0x0000000000000001\n*100}{stdw [r10-8], 7\n*100}ldxdw r0, [r10-8]\nexit\n; accepted; alone; 7
+ldxb r2, [r1+55]\nmov r0, 1\n{jeq r2, 65, +20\n*20}{mov r0, 1\n*20}exit\n; accepted; alone; 1
+ldxb r2, [r1+55]\nmov r0, 1\njgt r2, 65, +2\njset r2, 3, +1\ncall 3\nexit\n; accepted; joined; 1
 {mov r0, 1\n*30}ldxb r0, [r1+228]\nexit\n; refused 44 place 30 OutOfBounds
 ldxb r2, [r1+55]\n{jeq r2, 65, +20\n*20}{mov r3, 1\n*20}exit\n; refused 40 place 41 ReadsNothing(0)";
 
@@ -228,12 +233,14 @@ fn flattened(
     }
     heap.refuse(nth);
     Some(match flat_forms(heap, &flow, &areas) {
-        Ok(forms) => Outcome::new(forms.len() == code.len() && forms.last().is_some_and(is_exit)),
+        Ok(forms) => Outcome::new(
+            forms.len() == code.len() && forms.last().is_some_and(is_flat_exit),
+        ),
         Err(AllocError) => Outcome::Memory,
     })
 }
 
-fn is_exit(form: &FlatInsn) -> bool {
+fn is_flat_exit(form: &FlatInsn) -> bool {
     matches!(form, FlatInsn::Exit)
 }
 
@@ -293,6 +300,18 @@ fn is_pushed<'a>(
     }
 }
 
+/// Whether a builder takes the registers up to 9 as destinations, and not the frame pointer.
+fn tells_destinations(builder: &CodeBuilder<&Refusing<Global>>) -> bool {
+    for number in 0..=10 {
+        let destination = builder.destination(Register { number });
+        let told = destination.map(|register| register.number).ok();
+        if told != (number < 10).then_some(number) {
+            return false;
+        }
+    }
+    true
+}
+
 /// Whether a growth of the builder of a code was refused, where the one with this number is; nothing where it isn't built.
 fn is_build_refused(heap: &Refusing<Global>, code: &Code<Global>, nth: u64) -> Option<bool> {
     heap.refuse(nth);
@@ -303,9 +322,10 @@ fn is_build_refused(heap: &Refusing<Global>, code: &Code<Global>, nth: u64) -> O
         }
     }
     let (asked, was_refused) = (heap.count(), heap.was_refused());
+    let is_told = tells_destinations(&builder);
     let built = builder.finish().ok()?;
     let is_built = built.instructions() == code.instructions() && built.words() == code.words();
-    (is_built && heap.count() == asked).then_some(was_refused)
+    (is_told && is_built && heap.count() == asked).then_some(was_refused)
 }
 
 /// How many growths of the builder of a code were refused in turn.
@@ -340,14 +360,40 @@ fn is_flow_without_growth(heap: &Refusing<Global>, program: &Program) -> Option<
     Some(is_first && flow.into_code().words() == program.words.len() / 8 && heap.count() == 0)
 }
 
-/// Whether a program that is accepted runs without a growth, by steps, at once and by the tracer.
-fn runs_without_growth(heap: &Refusing<Global>, files: &Files, program: &Program) -> Option<bool> {
+/// Whether a program comes to an answer in a machine, and again in the same one.
+fn is_run_twice<A: Allocator, B: Allocator>(
+    verified: &Verified<A>,
+    segment: &Segment<B>,
+    said: &str,
+) -> bool {
+    let mut bare = Bare::start();
+    for _ in 0..2 {
+        let answer = run_in(&mut bare, verified, segment);
+        if !is_exit(said, answer.r0, answer.score) {
+            return false;
+        }
+    }
+    true
+}
+
+/// Whether a program that is accepted runs to a row's answer without a growth, by steps, at once and by the tracer.
+fn runs_without_growth(
+    heap: &Refusing<Global>,
+    files: &Files,
+    program: &Program,
+    row: &str,
+) -> Option<bool> {
     let flow = flow_of(heap, program)?;
     let county = county(heap, files).ok()?;
     let segment = county.segments().first()?;
     let verified = verify(heap, flow).ok()?;
     heap.refuse(1);
-    Some(agree(&verified, segment) && has_all(&verified, program) && heap.count() == 0)
+    let is_right = agree(&verified, segment)
+        && has_all(&verified, program)
+        && is_run_twice(&verified, segment, cell(row, 3))
+        && is_stepped(verified.code(), segment, cell(row, 3))
+        && reads_record_alone(verified.code()) == (cell(row, 2) == "alone");
+    Some(is_right && heap.count() == 0)
 }
 
 /// Whether a row's program is looked at and, if it is accepted, run without a growth.
@@ -356,7 +402,8 @@ fn takes_none(alloc: Global, row: &str) -> Option<bool> {
     let program = Program::new(alloc, cell(row, 0), cell(row, 0))?;
     let files = Files::new(alloc, r"{rt1}\n; {rt4}\n; {rt5}\n; {rt6}\n", 0).ok()?;
     let is_flow = is_flow_without_growth(&heap, &program)?;
-    Some(is_flow && (cell(row, 1) != "accepted" || runs_without_growth(&heap, &files, &program)?))
+    let is_accepted = cell(row, 1) == "accepted";
+    Some(is_flow && (!is_accepted || runs_without_growth(&heap, &files, &program, row)?))
 }
 
 #[test]

@@ -12,9 +12,17 @@ mod devices;
 #[cfg(test)]
 mod endings;
 #[cfg(test)]
+mod faults;
+#[cfg(test)]
+mod file_faults;
+#[cfg(test)]
 mod geocodes;
 #[cfg(test)]
+mod output_faults;
+#[cfg(test)]
 mod readers;
+#[cfg(test)]
+mod requests;
 #[cfg(test)]
 mod running;
 #[cfg(test)]

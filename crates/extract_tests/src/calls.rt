@@ -1,7 +1,7 @@
-//! The calls that an extract is made of: each growth and each write going wrong once.
+//! The calls that an extract is made of: each growth and each write going wrong once, and that there is no growth.
 use bpf_machine::Bare;
 use bpf_verify::Verified;
-use extract::{accept, push_row_if_chosen, row};
+use extract::{accept, push_row_if_chosen, row, score_if_chosen};
 use fixtures::{Device, RT1, Refusing, bytes, cell, is_outcome, program, taken, writer};
 use std::alloc::Global;
 use std::test::Fail;
@@ -107,6 +107,43 @@ fn are_rows(alloc: Global, row: &str) -> Option<bool> {
 fn pushed_rows(rt: HostRuntime) {
     for row in ROWS.lines() {
         assert_eq!(rt; are_rows(rt.alloc(), row), Some(true), "{row}");
+    }
+}
+
+// Programs, and the scores with which they choose the record, if they do.
+const SCORES: &str = "\
+every; 0
+two; 0
+never; none
+roads; 0
+not_roads; none
+tlids; 123456789
+scored_roads; 123456789
+scored; 18446744073709551615
+counts; 1
+finds; none";
+
+/// Whether a program chooses the record as a row says, without a growth, and again in the same machine.
+fn is_chosen(alloc: Global, row: &str) -> Option<bool> {
+    let program = program(alloc, cell(row, 0))?;
+    let heap = Refusing::new(alloc);
+    let verified = accept(&heap, &program).ok()?;
+    heap.refuse(1);
+    let segment = Segment::of(&heap, RT1);
+    let mut bare = Bare::start();
+    for _ in 0..2 {
+        let score = score_if_chosen(&verified, &segment, &mut bare);
+        if score != cell(row, 1).parse().ok() {
+            return Some(false);
+        }
+    }
+    Some(heap.count() == 0)
+}
+
+#[test]
+fn scores(rt: HostRuntime) {
+    for row in SCORES.lines() {
+        assert_eq!(rt; is_chosen(rt.alloc(), row), Some(true), "{row}");
     }
 }
 

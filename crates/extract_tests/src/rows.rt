@@ -2,7 +2,7 @@
 use crate::extracts::extract_of;
 use extract::{row, row_text};
 use fixtures::{
-    Device, Files, RT1, Readers, bytes, cell, is_outcome, program, table, taken, writer,
+    Device, Files, RT1, Readers, Refusing, bytes, cell, is_outcome, program, table, taken, writer,
 };
 use std::alloc::{AllocError, Global};
 use std::test::Fail;
@@ -178,15 +178,17 @@ const SCORES: &str = r"0; 0\t{rt1}\n
 42; 42\t{rt1}\n
 18446744073709551615; 18446744073709551615\t{rt1}\n";
 
-/// Whether the row of a segment of the record with a score is the one that is said.
+/// Whether the row of a segment of the record with a score is the one that is said, and is made and written without a growth.
 fn is_row(alloc: Global, line: &str) -> Result<bool, AllocError> {
     let text = bytes(alloc, cell(line, 1))?;
-    let segment = Segment::of(alloc, RT1);
+    let heap = Refusing::new(alloc);
+    heap.refuse(1);
+    let segment = Segment::of(&heap, RT1);
     let score = cell(line, 0).parse().unwrap_or(1);
     let mut out = Counting::new(Vec::new(alloc));
     let is_written = row(score, &segment, &mut out).is_ok();
     let is_text = row_text(score, &segment).as_slice() == text.as_slice();
-    Ok(is_written && is_text && *out.get_ref() == text)
+    Ok(is_written && is_text && *out.get_ref() == text && heap.count() == 0)
 }
 
 #[test]

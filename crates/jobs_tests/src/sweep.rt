@@ -179,6 +179,29 @@ fn events_without_growth(rt: HostRuntime) {
     assert_eq!(rt; takes_none(rt.alloc()), Some(true));
 }
 
+/// Whether a table is made of counties without a growth, and tells of them, and of the next turn without a job and with one.
+fn is_made_without_growth(alloc: Global) -> Option<bool> {
+    let program = program(alloc, "every")?;
+    let heap = Refusing::new(alloc);
+    let counties = counties_of(&heap, alloc, "3 0 2")?;
+    if counties.len() > COUNTY_LIMIT {
+        return None;
+    }
+    heap.refuse(1);
+    let mut jobs = Jobs::new(&heap, counties);
+    let sizes = jobs.counties().iter().map(|county| county.segments().len());
+    let is_made = sizes.eq([3, 0, 2]) && jobs.next_turn().is_none() && heap.count() == 0;
+    heap.refuse(0);
+    let _id = jobs.apply(Event::Submit(&program));
+    heap.refuse(1);
+    Some(is_made && jobs.next_turn() == Some(1) && heap.count() == 0)
+}
+
+#[test]
+fn tables_without_growth(rt: HostRuntime) {
+    assert_eq!(rt; is_made_without_growth(rt.alloc()), Some(true));
+}
+
 /// Whether a growth was refused of the first turn of a program without a table; nothing where that is wrong: it fails
 /// exactly then, with the rows that there were.
 fn is_advance_refused<'a>(

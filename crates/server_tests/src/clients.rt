@@ -1,7 +1,9 @@
 //! What becomes of clients, by the system's clock.
-use crate::exchange::{Exchange, Exchanges, client_that, name_of, number, receive, short_limits};
+use crate::exchange::{
+    Exchange, Exchanges, client_that, close_of, name_of, number, receive, short_limits,
+};
 use fixtures::cell;
-use server::{Close, serve_next};
+use server::serve_next;
 use std::io;
 use std::net::{TcpListener, TcpStream};
 use std::test::Fail;
@@ -31,10 +33,7 @@ fn exchange_of(row: &str) -> Exchange {
         per_read: 4096,
         reply: number(row, 3),
         per_write: 4096,
-        close: match cell(row, 4) {
-            "lingering" => Close::Lingering,
-            _ => Close::AtOnce,
-        },
+        close: close_of(cell(row, 4)),
     }
 }
 

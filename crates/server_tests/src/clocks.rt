@@ -3,7 +3,7 @@ use crate::exchange::{
     Exchange, Exchanges, SteppingClock, client_that, name_of, number, short_limits,
 };
 use fixtures::cell;
-use server::{Close, Limits, serve_next};
+use server::{Limits, serve_next};
 use std::io;
 use std::net::{TcpListener, TcpStream};
 use std::test::Fail;
@@ -25,22 +25,12 @@ fn limits_of(row: &str) -> Limits {
     }
 }
 
-fn exchange_of(row: &str) -> Exchange {
-    Exchange {
-        request: number(row, 2),
-        per_read: number(row, 3),
-        reply: number(row, 4),
-        per_write: number(row, 5),
-        close: Close::AtOnce,
-    }
-}
-
 /// Serves the client of a row, with replies of such a text.
 fn serve<'a>(rt: &HostRuntime, row: &str, text: &'a [u8]) -> io::Result<Exchanges<'a>> {
     let listener = TcpListener::bind(rt, "127.0.0.1:0")?;
     let client = TcpStream::connect(rt, listener.local_addr()?)?;
     let _client = client_that(client, number(row, 2), "stays")?;
-    let mut service = Exchanges::new(exchange_of(row), text);
+    let mut service = Exchanges::new(Exchange::new(row, 2), text);
     let clock = SteppingClock::new(number(row, 1) as u64);
     serve_next(&listener, &clock, &limits_of(row), &mut service)?;
     Ok(service)

@@ -36,6 +36,27 @@ pub struct Exchange {
     pub close: Close,
 }
 
+impl Exchange {
+    /// The one whose numbers a row has in its cells from this one on, closed at once.
+    pub fn new(row: &str, first: usize) -> Self {
+        Exchange {
+            request: number(row, first),
+            per_read: number(row, first.saturating_add(1)),
+            reply: number(row, first.saturating_add(2)),
+            per_write: number(row, first.saturating_add(3)),
+            close: Close::AtOnce,
+        }
+    }
+}
+
+/// How the connection of a row is to be closed, by its word.
+pub fn close_of(word: &str) -> Close {
+    match word {
+        "lingering" => Close::Lingering,
+        _ => Close::AtOnce,
+    }
+}
+
 /// A service that serves the same exchange each time, and tells what came of the last one.
 #[derive(Drop)]
 pub struct Exchanges<'a> {

@@ -8,6 +8,7 @@ use std::io;
 use std::io::{Read, Write};
 use std::net::{TcpListener, TcpStream};
 use std::test::Fail;
+use std::time::Clock;
 use tl_fields::Counting;
 use wire::{State, serve_one};
 
@@ -35,9 +36,9 @@ stays; POST /verify HTTP/1.1\r\nContent-Length: 16\r\n\r\n; 0;
 ends; POST /verify HTTP/1.1\r\nContent-Length: 16\r\n\r\n{every}; 92; HTTP/1.1 200
   OK\r\nContent-Type: text/plain\r\nContent-Length: 9\r\nConnection: close\r\n\r\naccepted\n";
 
-/// A state over one county of 600 segments.
-fn state_of(alloc: Global) -> Option<State<Global>> {
-    let files = Files::new(alloc, r"{rt1\n*600}", 0).ok()?;
+/// A state over the county of these files.
+pub fn state_of(alloc: Global, row: &str) -> Option<State<Global>> {
+    let files = Files::new(alloc, row, 0).ok()?;
     let mut counties = Vec::new(alloc);
     counties.push(county(alloc, &files).ok()?).ok()?;
     if counties.len() > COUNTY_LIMIT {
@@ -47,9 +48,10 @@ fn state_of(alloc: Global) -> Option<State<Global>> {
 }
 
 /// What a client that does so gets over a connection of its own.
-fn serve(
+pub fn serve<C: Clock>(
     rt: &HostRuntime,
     listener: &TcpListener,
+    clock: &C,
     state: &mut State<Global>,
     word: &str,
     request: &[u8],
@@ -57,7 +59,7 @@ fn serve(
     let mut client = TcpStream::connect(rt, listener.local_addr()?)?;
     client.write_all(request)?;
     let client = client_that(client, 0, word)?;
-    serve_next(listener, rt, &short_limits(), state)?;
+    serve_next(listener, clock, &short_limits(), state)?;
     let mut reply = Vec::new(rt.alloc());
     if let Some(mut client) = client {
         client.read_to_end(&mut reply)?;
@@ -76,12 +78,12 @@ fn ask(alloc: Global, state: &mut State<Global>, request: &[u8]) -> Vec<u8> {
 #[test]
 fn requests(rt: HostRuntime) -> Result<(), Fail> {
     let listener = TcpListener::bind(&rt, "127.0.0.1:0")?;
-    let mut state = state_of(rt.alloc()).ok_or(AllocError)?;
+    let mut state = state_of(rt.alloc(), r"{rt1\n*600}").ok_or(AllocError)?;
     for row in table(rt.alloc(), REQUESTS)?.lines() {
         let request = bytes(rt.alloc(), cell(row, 1))?;
         let reply = match cell(row, 0) {
             "asks" => ask(rt.alloc(), &mut state, request.as_slice()),
-            word => serve(&rt, &listener, &mut state, word, request.as_slice())?,
+            word => serve(&rt, &listener, &rt, &mut state, word, request.as_slice())?,
         };
         let start = bytes(rt.alloc(), cell(row, 3))?;
         assert_eq!(rt; reply.len(), number(row, 2), "{row}");

@@ -11,6 +11,10 @@ mod clocks;
 #[cfg(test)]
 mod exchange;
 #[cfg(test)]
+mod faults;
+#[cfg(test)]
 mod http;
+#[cfg(test)]
+mod submissions;
 #[cfg(test)]
 mod waits;

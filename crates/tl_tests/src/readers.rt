@@ -111,7 +111,8 @@ fn byte_count<R: CountedRead>(reader: &mut R, way: &str) -> Option<usize> {
     None
 }
 
-/// Whether the lines of the file are read as a row says over a device, up to the read that it fails in, and nothing behind that.
+/// Whether the lines of the file are read as a row says over a device, up to the read that it fails in, nothing before the first one and nothing
+/// behind that.
 fn is_read_once(alloc: Global, row: &str, way: &str, failing: u64, fault: &str) -> Option<bool> {
     let (size, rest) = cut(row);
     let (step, calls) = cut(rest);
@@ -120,6 +121,9 @@ fn is_read_once(alloc: Global, row: &str, way: &str, failing: u64, fault: &str) 
         ..Device::new(fault).at_call(failing)
     };
     let mut input = Input::new(alloc, size.parse().ok()?, device).ok()?;
+    if input.calls() != 0 {
+        return Some(false);
+    }
     for (length, calls) in LENGTHS.iter().zip(calls.split(' ')) {
         let read = input.length_read(way);
         let made = input.calls();

@@ -5,8 +5,8 @@ mod plain;
 mod sweep;
 
 use crate::notation::{cut, text_of, write_over};
-use fixtures::RT1;
-use std::alloc::{AllocError, Global};
+use fixtures::{RT1, Refusing};
+use std::alloc::{AllocError, Allocator};
 use tl_segments::{NAME_LENGTH, Range, Segment, lies_on, name_equals};
 
 // A house number, the FR and the TO address, and whether the number lies on their side.
@@ -138,7 +138,7 @@ range|3|none
 range|18446744073709551615|none";
 
 /// Whether a segment has the name or the range of a row, or none.
-fn has_part(segment: &Segment<Global>, row: &str) -> bool {
+fn has_part<A: Allocator>(segment: &Segment<A>, row: &str) -> bool {
     let (part, rest) = cut(row);
     let (number, rest) = cut(rest);
     let Ok(number) = number.parse() else {
@@ -169,7 +169,7 @@ fn has_fields(range: Range<'_>, row: &str) -> bool {
     columns.next().is_none()
 }
 
-fn segment_of(alloc: Global) -> Result<Segment<Global>, AllocError> {
+fn segment_of<A: Allocator + Copy>(alloc: A) -> Result<Segment<A>, AllocError> {
     let mut segment = Segment::of(alloc, RT1);
     segment.push_name(b"Oak                           ")?;
     segment.push_name(b"Elm                           ")?;
@@ -178,16 +178,22 @@ fn segment_of(alloc: Global) -> Result<Segment<Global>, AllocError> {
     Ok(segment)
 }
 
-fn counts(segment: &Segment<Global>) -> (u64, u64) {
+fn counts<A: Allocator>(segment: &Segment<A>) -> (u64, u64) {
     (segment.names(), segment.ranges())
 }
 
+/// A segment is made without a growth, and so is all that it is asked for.
 #[test]
 fn parts_of_a_segment(rt: HostRuntime) {
-    assert!(rt; counts(&Segment::of(rt.alloc(), RT1)) == (0, 1));
-    let segment = segment_of(rt.alloc()).expect(&rt, "memory");
+    let heap = Refusing::new(rt.alloc());
+    heap.refuse(1);
+    assert!(rt; counts(&Segment::of(&heap, RT1)) == (0, 1) && heap.count() == 0);
+    heap.refuse(0);
+    let segment = segment_of(&heap).expect(&rt, "memory");
+    heap.refuse(1);
     for row in PARTS.lines() {
         assert!(rt; has_part(&segment, row), "{row}");
     }
     assert!(rt; counts(&segment) == (2, 3) && segment.bytes() == RT1.as_slice());
+    assert_eq!(rt; heap.count(), 0);
 }

@@ -1,8 +1,8 @@
 //! Each opcode of the instruction table, with its bytes written out and the instruction that they are.
 use crate::codes::is_written;
 use bpf_insn::{Code, Insn, decode};
-use fixtures::{cell, program, table};
-use std::alloc::Global;
+use fixtures::{Refusing, cell, program, table};
+use std::alloc::{Allocator, Global};
 use std::test::Fail;
 
 // An instruction in words, and EXIT behind it; and both as they are shown.
@@ -334,7 +334,7 @@ hex 18030000ffffff7f 0000000000000080 | exit; [WideLoad { destination: WritableR
 );
 
 /// Whether a code is shown as this text.
-fn is_shown(alloc: Global, code: &Code<Global>, want: &str) -> bool {
+fn is_shown<A: Allocator>(alloc: Global, code: &Code<A>, want: &str) -> bool {
     match format!(in alloc; "{:?}", code.instructions()) {
         Ok(shown) => shown.as_str() == want,
         Err(_) => false,
@@ -342,7 +342,7 @@ fn is_shown(alloc: Global, code: &Code<Global>, want: &str) -> bool {
 }
 
 /// Whether a code of so many words, two or three, is an instruction and an exit behind it, at each place.
-fn is_laid_out(code: &Code<Global>, words: usize) -> bool {
+fn is_laid_out<A: Allocator>(code: &Code<A>, words: usize) -> bool {
     let &[first, Insn::Exit] = code.instructions() else {
         return false;
     };
@@ -361,12 +361,18 @@ fn is_laid_out(code: &Code<Global>, words: usize) -> bool {
     (code.place(0), code.place(1), code.words(), count + 1) == (0, count, words, words)
 }
 
+/// Where instructions are is told without a growth.
 #[test]
 fn instructions(rt: HostRuntime) -> Result<(), Fail> {
     for row in table(rt.alloc(), INSTRUCTIONS)?.lines() {
         let bytes = program(rt.alloc(), cell(row, 0)).expect(&rt, row);
-        let code = decode(rt.alloc(), &bytes).expect(&rt, row);
-        assert!(rt; is_laid_out(&code, bytes.len() / 8), "{row}");
+        let heap = Refusing::new(rt.alloc());
+        let code = decode(&heap, &bytes).expect(&rt, row);
+        heap.refuse(1);
+        assert!(rt;
+            is_laid_out(&code, bytes.len() / 8) && heap.count() == 0,
+            "{row}"
+        );
         assert!(rt; is_shown(rt.alloc(), &code, cell(row, 1)), "{row}");
         assert!(rt; is_written(rt.alloc(), &code, &bytes), "{row}");
     }

@@ -171,9 +171,20 @@ fn is_made_without_memory(alloc: Global) -> bool {
         && heap.count() == 0
 }
 
+/// Whether a county lends its segments and the numbers of their TLIDs without a growth, and a segment what it has.
+fn is_lent_without_memory(alloc: Global) -> Option<bool> {
+    let files = files_of(alloc, JOINED)?;
+    let heap = Refusing::new(alloc);
+    let county = county(&heap, &files).ok()?;
+    heap.refuse(1);
+    let is_said = is_segment(county.segments().first()?, Some(behind_files(JOINED)));
+    Some(is_said && county.tlids() == [5, 6].as_slice() && heap.count() == 0)
+}
+
 #[test]
 fn no_memory(rt: HostRuntime) {
     assert!(rt; is_made_without_memory(rt.alloc()));
+    assert!(rt; is_lent_without_memory(rt.alloc()) == Some(true));
 }
 
 const OAK: &[u8; NAME_LENGTH] = b"Oak                           ";

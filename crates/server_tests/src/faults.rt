@@ -1,0 +1,151 @@
+//! Each read and each write of a connection going wrong in turn.
+use crate::exchange::{Exchange, Exchanges, client_that, close_of, number, receive, short_limits};
+use fixtures::cell;
+use server::serve_next;
+use std::cell::Cell;
+use std::io;
+use std::io::ErrorKind;
+use std::net::{TcpListener, TcpStream};
+use std::time::{Clock, Duration};
+
+/// A clock that stands still, and fails once. Since each read and each write of a connection first reads the clock, it fails by that.
+#[derive(Drop)]
+pub struct FailingClock {
+    readings: Cell<usize>,
+    failing: usize,
+    kind: ErrorKind,
+}
+
+impl FailingClock {
+    /// The reading with this number fails, counted from 1.
+    pub fn new(failing: usize, kind: ErrorKind) -> Self {
+        FailingClock {
+            readings: Cell::new(0),
+            failing,
+            kind,
+        }
+    }
+
+    /// Whether there was the reading that fails.
+    pub fn has_failed(&self) -> bool {
+        self.readings.get() >= self.failing
+    }
+}
+
+impl Clock for FailingClock {
+    fn monotonic(&self) -> io::Result<Duration> {
+        let reading = self.readings.get().wrapping_add(1);
+        self.readings.set(reading);
+        if reading == self.failing {
+            return Err(io::Error::from(self.kind));
+        }
+        Ok(Duration::ZERO)
+    }
+
+    fn since_1970(&self) -> io::Result<Duration> {
+        Err(io::Error::from(ErrorKind::Unsupported))
+    }
+}
+
+/// How the clock fails. A read or a write that the system interrupts is made again, but not one before which the clock can't be read.
+pub const KINDS: [ErrorKind; 4] = [
+    ErrorKind::TimedOut,
+    ErrorKind::BrokenPipe,
+    ErrorKind::Interrupted,
+    ErrorKind::TooManyLinks,
+];
+
+// How many bytes a client sends before it ends its side; of how many bytes request and reply are, each with how many of them a call moves; how the
+// service has the connection closed; how many reads and writes there are of them, and reads of what comes behind the request, of which the last one
+// finds the end.
+const EXCHANGES: &str = "\
+10; 10; 1; 50; 7; at once; 10; 8; 0
+10; 10; 10; 50; 50; at once; 1; 1; 0
+10; 10; 4; 50; 1; at once; 3; 50; 0
+10; 10; 1; 50; 7; lingering; 10; 8; 1
+15; 10; 3; 50; 20; at once; 4; 3; 2
+15; 10; 10; 50; 50; lingering; 1; 1; 2";
+
+fn exchange_of(row: &str) -> Exchange {
+    Exchange {
+        close: close_of(cell(row, 5)),
+        ..Exchange::new(row, 1)
+    }
+}
+
+/// How many bytes of a row's exchange are read and written before the call with this number, and whether it is one of the exchange.
+fn done_before(row: &str, call: usize) -> (usize, usize, bool) {
+    let exchange = exchange_of(row);
+    let before = call.saturating_sub(1);
+    let reads = number(row, 6);
+    if before < reads {
+        return (before.saturating_mul(exchange.per_read), 0, true);
+    }
+    let writes = before.saturating_sub(reads);
+    if writes < number(row, 7) {
+        let written = writes.saturating_mul(exchange.per_write);
+        return (exchange.request, written, true);
+    }
+    (exchange.request, exchange.reply, false)
+}
+
+/// Serves a client of a row over a connection of its own, and tells how many bytes it got, if nothing failed for it.
+fn received<C: Clock>(
+    rt: &HostRuntime,
+    listener: &TcpListener,
+    clock: &C,
+    service: &mut Exchanges<'_>,
+    row: &str,
+) -> io::Result<Option<usize>> {
+    let client = TcpStream::connect(rt, listener.local_addr()?)?;
+    let client = client_that(client, number(row, 0), "ends")?;
+    serve_next(listener, clock, &short_limits(), service)?;
+    let received = client.map(|client| receive(&client));
+    Ok(received.and_then(|(count, fault)| fault.is_none().then_some(count)))
+}
+
+/// Whether the call with this number was made, and failed; nothing where that went wrong, or the next client isn't served whole.
+fn is_failed(
+    rt: &HostRuntime,
+    listener: &TcpListener,
+    row: &str,
+    call: usize,
+    kind: ErrorKind,
+) -> Option<bool> {
+    let clock = FailingClock::new(call, kind);
+    let mut service = Exchanges::new(exchange_of(row), &[b'r'; 50]);
+    let (read, written, is_fault) = done_before(row, call);
+    let count = received(rt, listener, &clock, &mut service, row).ok()?;
+    let is_right = count == Some(written)
+        && (service.read, service.written) == (read, written)
+        && service.fault == is_fault.then_some(kind)
+        && (service.served, service.turns) == (1, 1);
+    let next = received(rt, listener, rt, &mut service, row).ok()?;
+    let is_next_right = next == Some(number(row, 3))
+        && service.fault.is_none()
+        && (service.served, service.turns) == (2, 2);
+    (is_right && is_next_right).then_some(clock.has_failed())
+}
+
+/// How many calls failed in turn, up to the first that isn't made.
+fn failures(rt: &HostRuntime, row: &str, kind: ErrorKind) -> Option<usize> {
+    let listener = TcpListener::bind(rt, "127.0.0.1:0").ok()?;
+    for call in 1..=usize::MAX {
+        if !is_failed(rt, &listener, row, call, kind)? {
+            return call.checked_sub(1);
+        }
+    }
+    None
+}
+
+#[test]
+fn each_read_and_each_write(rt: HostRuntime) {
+    for row in EXCHANGES.lines() {
+        let calls = [6, 7, 8].iter().map(|place| number(row, *place));
+        let calls: usize = calls.fold(0, |sum, count| sum.saturating_add(count));
+        for kind in KINDS {
+            let failed = failures(&rt, row, kind);
+            assert_eq!(rt; failed, Some(calls), "{kind:?}: {row}");
+        }
+    }
+}
