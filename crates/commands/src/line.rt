@@ -1,4 +1,7 @@
 //! Lines for people.
+ghost use Rattle.std.specs.Prelude.{◌≡◌};
+ghost use Rattle.std.specs.Io.KnownBytes.{Appends};
+
 use std::fmt;
 use tl_fields::{CountedWrite, write_whole};
 
@@ -17,6 +20,10 @@ impl<'a, W> Line<'a, W> {
 }
 
 impl<W: CountedWrite> fmt::Write for Line<'_, W> {
+    // What was said stands behind what was written before.
+    ghost write_str_gives = { λ old text new. (new.out.ghost_name ≡ old.out.ghost_name)
+        × Appends (W.contents old.out.now) (W.contents new.out.now) text };
+
     fn write_str(&mut self, text: &str) -> fmt::Result {
         match write_whole(self.out, text.as_bytes()) {
             Ok(()) => Ok(()),
