@@ -137,13 +137,16 @@ make_files() {
     # It chooses each segment, too, and asks how many names it has, so types 4, 5 and 6 are kept.
     printf 'call 3\nmov r0, 1\nexit\n' > asking.s
     extractd asm --source asking.s > asking.bpf
-    # Programs of 32,768 bytes, 32,769 and 32,776, of 16 MiB, and of a gibibyte and a byte more.
-    { yes 'mov r0, 1' | head -n 4095; echo exit; } > longest.s
+    # A program of 32,768 bytes, of which several jobs have room in a mebibyte.
+    { yes 'mov r0, 1' | head -n 4095; echo exit; } > long.s
+    extractd asm --source long.s > long.bpf
+    # Programs of 524,288 bytes, 524,289 and 524,296, of 16 MiB, and of a gibibyte and a byte more.
+    { yes 'mov r0, 1' | head -n 65535; echo exit; } > longest.s
     extractd asm --source longest.s > longest.bpf
     { cat longest.bpf; printf '\0'; } > byte_more.bpf
     { cat longest.bpf; tail -c 8 all.bpf; } > word_more.bpf
     cp longest.bpf many.bpf
-    for doubling in {1..9}; do cat many.bpf many.bpf > twice.bpf && mv twice.bpf many.bpf; done
+    for doubling in {1..5}; do cat many.bpf many.bpf > twice.bpf && mv twice.bpf many.bpf; done
     truncate -s 1G gibibyte.bpf
     truncate -s $((2 ** 30 + 1)) uneven.bpf
 }
@@ -268,10 +271,11 @@ try_outputs() {
     try_case 0 '' all large.rows 'limited f 4512 extractd run --program all.bpf --data large 01001'
     for command in "${few[@]}"; do try_case 3 "$too_large" 0 nothing "limited f 0 $command"; done
     extractd dis --program longest.bpf > longest.text
-    try_case 3 "$too_large" 1024 longest.text "limited f 1 $dis"
-    try_case 3 "$too_large" 1024 longest.bpf "limited f 1 extractd asm --source longest.s"
-    try_case 3 "$too_large" 31744 longest.bpf "limited f 31 extractd asm --source longest.s"
-    try_case 0 '' all longest.bpf "limited f 32 extractd asm --source longest.s"
+    try_case 3 'refused 60 Write' 1024 longest.text "limited f 1 $dis"
+    try_case 3 'refused 60 Write' 1024 longest.bpf "limited f 1 extractd asm --source longest.s"
+    # What the file took no more of is less than the buffer holds.
+    try_case 3 "$too_large" 523264 longest.bpf "limited f 511 extractd asm --source longest.s"
+    try_case 0 '' all longest.bpf "limited f 512 extractd asm --source longest.s"
     # A pipe whose reader has ended before.
     exec 9> >(exec true)
     wait $!
@@ -300,10 +304,10 @@ try_reader() {
 # Programs and sources that are longer than memory.
 try_long_files() {
     local command file text place options
-    local -A options=([run]=' --data small 01001' [verify]='' [dis]='' [trace]=' --data small --line 1 --limit 4096 01001')
+    local -A options=([run]=' --data small 01001' [verify]='' [dis]='' [trace]=' --data small --line 1 --limit 65536 01001')
     for command in run verify dis trace; do
         # What a small program needs, and less than a program of the greatest length twice beside it.
-        place="limited v $((least[$command] + 128))"
+        place="limited v $((least[$command] + 768))"
         for file in word_more many gibibyte; do
             try_case 1 'refused 12 TooLong' 0 nothing "$place extractd $command --program $file.bpf${options[$command]}"
         done
@@ -314,7 +318,7 @@ try_long_files() {
     # The greatest length itself.
     try_case 0 '' all small.rows 'extractd run --program longest.bpf --data small 01001'
     try_case 0 '' all accepted 'extractd verify --program longest.bpf'
-    try_case 0 '' all traced 'extractd trace --program longest.bpf --data small --line 1 --limit 4096 01001'
+    try_case 0 '' all traced 'extractd trace --program longest.bpf --data small --line 1 --limit 65536 01001'
     try_case 0 '' all longest.s 'extractd dis --program longest.bpf'
     # A source is kept whole.
     place="limited v $((least[asm] + 128))"
@@ -322,7 +326,7 @@ try_long_files() {
     try_case 4 'refused memory' 0 nothing "$place extractd asm --source <(yes 'mov r0, 1')"
     try_case 4 'refused memory' 0 nothing "limited v $((least[asm] + 65536)) extractd asm --source <(yes 'mov r0, 1')"
     try_case 1 'refused 20 line 1 Syntax' 0 nothing 'extractd asm --source <(head -c 16M /dev/zero)'
-    try_case 1 'refused 26 line 4097 CodeFault(12)' 0 nothing "extractd asm --source <(yes 'mov r0, 1' | head -c 16M)"
+    try_case 1 'refused 26 line 65537 CodeFault(12)' 0 nothing "extractd asm --source <(yes 'mov r0, 1' | head -c 16M)"
 }
 
 # Files that end where their writer stops, and files that change while they are read.
@@ -584,17 +588,17 @@ try_server_memory() {
     is_well 'a large body' small
     says 'a large body' 503 'refused memory' --data-binary @mebibyte $url/jobs
     for ((jobs = 0; jobs < 64; jobs++)); do
-        id=$(curl -s -m 60 --data-binary @longest.bpf $url/jobs)
+        id=$(curl -s -m 60 --data-binary @long.bpf $url/jobs)
         [ "$id" = $((jobs + 1)) ] || break
     done
     if [ "$id" = 'refused memory' ] && [ $jobs -gt 2 ]; then pass; else fail "$jobs jobs of long programs" "and then: $id"; fi
-    says "the next job" 503 'refused memory' --data-binary @longest.bpf $url/jobs
+    says "the next job" 503 'refused memory' --data-binary @long.bpf $url/jobs
     for ((job = 1; job <= jobs; job++)); do job_is $job "$jobs jobs of long programs" small; done
     is_well "$jobs jobs of long programs" small
     # Two jobs less, and there is room for one again. The refused ones have used no id.
     says 'a job is dropped' 200 dropped -X DELETE $url/jobs/1
     says 'a job is dropped' 200 dropped -X DELETE $url/jobs/2
-    says 'a further job' 200 $((jobs + 1)) --data-binary @longest.bpf $url/jobs
+    says 'a further job' 200 $((jobs + 1)) --data-binary @long.bpf $url/jobs
     says 'the dropped job' 404 'not found' $url/jobs/2
     says 'a job that was refused' 404 'not found' $url/jobs/$((jobs + 2))
     for ((job = 3; job <= jobs + 1; job++)); do job_is $job 'a further job' small; done

@@ -15,11 +15,6 @@ use Rattle.bpf_flow.specs.Flow.{target_of}
 use Rattle.bpf_flat.specs.Flat.{AreFlatForms, HasImmediates, IsFlatForm, JumpsTo, Keeps, insn_of, without_distance}
 use Rattle.bpf_flat.specs.declared.flat.FlatInsn.{FlatInsn}
 
--- a code has a word for each instruction at least
-pub short : (code : List Insn) → length code ≤ word_count code
-short [] = omega arith
-short (insn ∷ code) = let rest = short code in let some = length-spelling_positive insn in let sum = word_count-cons insn code in omega arith
-
 -- an index that is found at a place is that of the instruction there
 
 mapped : (o : Option ℕ) (index : ℕ) → option_map (λ (i : ℕ). suc i) o ≡ Some index → (before : ℕ) × (o ≡ Some before) × (index ≡ suc before)

@@ -25,6 +25,11 @@ word_count-append before after = ap length (flat_map-append spelling before afte
 pub word_count-one : (insn : Insn) → word_count (insn ∷ []) ≡ length (spelling insn)
 word_count-one insn = word_count-cons insn [] ∙ (let none : word_count [] ≡ 0 = refl in omega arith)
 
+-- a code has a word for each instruction at least
+pub few_instructions : (code : List Insn) → length code ≤ word_count code
+few_instructions [] = omega arith
+few_instructions (insn ∷ code) = let rest = few_instructions code in let sum = word_count-cons insn code in omega arith
+
 -- one instruction more
 pub places_from-more : (place : ℕ) (code : List Insn) (insn : Insn) → places_from place (code ++ insn ∷ []) ≡ places_from place code ++ (place + word_count code) ∷ []
 places_from-more place [] insn = ap (λ (p : ℕ). p ∷ []) (omega arith)

@@ -12,7 +12,7 @@ use std::alloc::{AllocError, Allocator};
 use std::marker::Model;
 
 /// How many words of eight bytes a program has at most.
-pub const WORD_LIMIT: usize = 4096;
+pub const WORD_LIMIT: usize = 65_536;
 
 /// A code that is built instruction by instruction: up to `WORD_LIMIT` words of them. Contracts see
 /// the instructions as a list. It keeps the allocator that it was made with.
@@ -20,9 +20,9 @@ pub const WORD_LIMIT: usize = 4096;
 pub struct CodeBuilder<A: Allocator> {
     instructions: Vec<Insn, A>,
     // The place of each instruction.
-    places: Vec<usize, A>,
+    places: Vec<u32, A>,
     // For each word the index of the instruction that begins there.
-    indexes: Vec<Option<usize>, A>,
+    indexes: Vec<Option<u32>, A>,
 }
 
 impl<A: Allocator> Model for CodeBuilder<A> {
@@ -99,8 +99,8 @@ impl<A: Allocator> CodeBuilder<A> {
         }
         self.instructions.reserve(1)?;
         self.places.reserve(1)?;
-        push_indexes(&mut self.indexes, self.instructions.len(), insn)?;
-        self.places.push_reserved(place);
+        push_indexes(&mut self.indexes, self.instructions.len() as u32, insn)?;
+        self.places.push_reserved(place as u32);
         self.instructions.push_reserved(insn);
         Ok(())
     }
@@ -120,8 +120,8 @@ impl<A: Allocator> CodeBuilder<A> {
 
 /// Adds an instruction's index at the first of its words, and nothing at a further one.
 fn push_indexes<A: Allocator>(
-    indexes: &mut Vec<Option<usize>, A>,
-    index: usize,
+    indexes: &mut Vec<Option<u32>, A>,
+    index: u32,
     insn: Insn,
 ) -> Result<(), AllocError>
     ensures ok { OnOk result (indexes.new.items ≡ indexes.old.items ++ indexes_in index (spelling insn)) }
@@ -164,6 +164,14 @@ impl<A: Allocator> Code<A> {
         self.built.instructions.as_slice()
     }
 
+    /// The instructions in order. What finds them by their places is freed.
+    pub fn into_instructions(self) -> Vec<Insn, A>
+        ensures value { result.items ≡ self }
+        ensures sized { HasProgramSize (word_count self) }
+    {
+        self.built.instructions
+    }
+
     /// How many words the instructions take.
     pub fn words(&self) -> usize
         ensures value { result ≡ word_count self.now }
@@ -177,7 +185,7 @@ impl<A: Allocator> Code<A> {
         requires { index < length self.now }
         ensures { result ≡ place_of self.now index }
     {
-        self.built.places[index]
+        self.built.places[index] as usize
     }
 
     /// The index of the instruction that begins at a place. None where none begins there.
@@ -186,7 +194,8 @@ impl<A: Allocator> Code<A> {
         ensures value { result ≡ index_at self.now place }
         ensures within { IfSome result (λ index. index < length self.now) }
     {
-        self.built.indexes.get(place).copied().flatten()
+        let index = self.built.indexes.get(place).copied().flatten()?;
+        Some(index as usize)
     }
 
     /// The instruction that begins at a place. None where none begins there.

@@ -19,9 +19,9 @@ pub fn one_spelling()
         → IsCodeOf a code → IsCodeOf b code → a ≡ b }
 {}
 
-/// A program has 4,096 words at most.
+/// A program has 65,536 words at most.
 pub fn word_limit()
-    ensures { WORD_LIMIT ≡ 4096 }
+    ensures { WORD_LIMIT ≡ 65536 }
 {}
 
 /// The frame has 512 bytes, in 64 slots of eight.

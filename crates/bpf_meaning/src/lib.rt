@@ -19,6 +19,6 @@ pub use cause::Cause;
 pub use effect::{Change, Effect};
 pub use frame::Frame;
 pub use outcome::Outcome;
-pub use record_alone::reads_record_alone;
+pub use record_alone::instruction_reads_record_alone;
 pub use state::{REGISTERS, State};
 pub use stepper::{step, trace};

@@ -52,7 +52,13 @@ refused 33 place 0 LastNotExit; mov r0, 1
 refused 33 place 0 LastNotExit; lddw r0, 0x1
 refused 33 place 1 LastNotExit; exit | mov r0, 1
 refused 33 place 2 LastNotExit; lddw r0, 0x1 | lddw r0, 0x1
-refused 33 place 3 LastNotExit; ja +2 | lddw r0, 0x1 | mov r0, 1";
+refused 33 place 3 LastNotExit; ja +2 | lddw r0, 0x1 | mov r0, 1
+ok; mov r0, 1 | ja32 +32768 | mov r0, 1 *32768 | exit
+ok; ja32 +65534 | mov r0, 1 *65534 | exit
+refused 30 place 65535 BackwardJump; exit *65535 | ja -32768
+refused 31 place 0 OutOfProgram; ja32 +65535 | mov r0, 1 *65534 | exit
+refused 32 place 0 IntoWide; ja32 +65533 | mov r0, 1 *65532 | lddw r0, 0x1 | exit
+refused 33 place 65535 LastNotExit; exit *65535 | mov r0, 1";
 
 // Each form of jump, without its distance.
 const JUMPS: &str = "\
@@ -86,7 +92,10 @@ const PLACES: &str = "\
 0; 1; 3; ja32 +2 | mov r0, 1 | jslt32 r0, 5, +0 | exit
 1; 2; none; ja32 +2 | mov r0, 1 | jslt32 r0, 5, +0 | exit
 2; 3; 3; ja32 +2 | mov r0, 1 | jslt32 r0, 5, +0 | exit
-3; 4; none; ja32 +2 | mov r0, 1 | jslt32 r0, 5, +0 | exit";
+3; 4; none; ja32 +2 | mov r0, 1 | jslt32 r0, 5, +0 | exit
+1; 2; 65002; mov r0, 1 | ja32 +65000 | lddw r2, 0x1 *32500 | mov r3, 1 *533 | exit
+65000; 65002; none; mov r0, 1 | ja32 +65000 | lddw r2, 0x1 *32500 | mov r3, 1 *533 | exit
+65535; 65536; none; mov r0, 1 | ja32 +65000 | lddw r2, 0x1 *32500 | mov r3, 1 *533 | exit";
 
 /// Whether a code has this refusal, or a flow where a row says `ok`.
 fn gives(code: Code<Global>, expected: &str) -> bool {
@@ -147,7 +156,7 @@ fn places(rt: HostRuntime) {
 /// A program of the greatest length, all of whose instructions but the last are jumps to the next one, has a flow.
 #[test]
 fn as_many_jumps_as_fit(rt: HostRuntime) {
-    let code = code_of(rt.alloc(), "jeq r0, 0, +0 *4095 | exit").expect(&rt, "a code");
+    let code = code_of(rt.alloc(), "jeq r0, 0, +0 *65535 | exit").expect(&rt, "a code");
     let flow = Flow::of(code).expect(&rt, "a flow");
     assert!(rt; flow.into_code().words() == WORD_LIMIT);
 }

@@ -1,8 +1,7 @@
 //! Verdicts on generated programs, which another tool finds in another way.
 
-use crate::codes::code_of;
 use crate::verify::has_verdict;
-use fixtures::{cell, table};
+use fixtures::{cell, program, table};
 use std::alloc::Global;
 use std::test::Fail;
 
@@ -460,8 +459,8 @@ refused 45 place 4 UnwrittenFrame; stb [r10-3], 1 | call 3 | jeq r0, 6, +1 | stb
 
 /// Whether a row's verdict is that of its program.
 fn is_exact(alloc: Global, row: &str) -> bool {
-    match code_of(alloc, cell(row, 1)) {
-        Some(code) => has_verdict(alloc, code, cell(row, 0)),
+    match program(alloc, cell(row, 1)) {
+        Some(program) => has_verdict(alloc, &program, cell(row, 0)),
         None => false,
     }
 }

@@ -2,6 +2,7 @@
 use crate::codes::code_of;
 use crate::meaning::{OUTCOMES, is_exit};
 use crate::segments::county_of;
+use crate::verify::has_entries;
 use bpf_flow::Flow;
 use bpf_insn::Code;
 use bpf_machine::{Answer, Bare, Registers, run, step};
@@ -35,7 +36,10 @@ const ANSWERS: &str = "\
 65; ldxb r2, [r1+55] | stxdw [r10-8], r1 | jeq r2, 65, +2 | add r1, 7 | stxdw [r10-8], r1 | ldxdw r3, [r10-8] |
   ldxb r0, [r3+55] | exit
 65; ldxb r2, [r1+55] | mov r3, r1 | add r3, 7 | stxdw [r10-8], r3 | jne r2, 65, +1 | stxdw [r10-8], r1 |
-  ldxdw r3, [r10-8] | ldxb r0, [r3+55] | exit";
+  ldxdw r3, [r10-8] | ldxb r0, [r3+55] | exit
+533; mov r0, 0 | ja32 +65000 | add r0, 1 *65533 | exit
+533; mov r0, 0 | ja32 +65000 | lddw r2, 0x1 *32500 | add r0, 1 *533 | exit
+1; mov r0, 1 | ja32 +65533 | mov r0, 2 *65533 | exit";
 
 // The files of a segment with an alternate name and two further ranges.
 const NAMED: &str = r"{rt1}\n; {rt4}\n; {rt5 FENAME=Elm}\n;
@@ -59,7 +63,10 @@ fn runs(rt: HostRuntime) -> Result<(), Fail> {
         let verified = accepted_text(rt.alloc(), cell(row, 1)).expect(&rt, row);
         let answer = run(&verified, segment);
         assert!(rt; is_exit(cell(row, 0), answer.r0, answer.score), "{row}");
-        assert!(rt; agree(&verified, segment), "{row}");
+        assert!(rt;
+            is_agreed(rt.alloc(), cell(row, 1), segment) == Some(true),
+            "{row}"
+        );
     }
     Ok(())
 }
@@ -78,11 +85,14 @@ fn driven<A: Allocator, B: Allocator>(
     None
 }
 
-/// Whether steps and a trace come to the answer of a run.
-pub fn agree<A: Allocator, B: Allocator>(verified: &Verified<A>, segment: &Segment<B>) -> bool {
+/// Whether a code was accepted, and steps and a trace of it come to the answer of a run.
+pub fn agree<A: Allocator, B: Allocator, C: Allocator>(
+    verified: &Verified<A>,
+    code: &Code<B>,
+    segment: &Segment<C>,
+) -> bool {
     let Answer { r0, score } = run(verified, segment);
-    let traced = trace(verified.code(), segment, 4096);
-    let is_traced = match traced {
+    let is_traced = match trace(code, segment, code.words() as u64) {
         Outcome::Exit {
             answer,
             score: traced,
@@ -90,9 +100,17 @@ pub fn agree<A: Allocator, B: Allocator>(verified: &Verified<A>, segment: &Segme
         _ => false,
     };
     match driven(verified, segment) {
-        Some(answer) => is_traced && (answer.r0, answer.score) == (r0, score),
+        Some(answer) => {
+            is_traced && (answer.r0, answer.score) == (r0, score) && has_entries(verified, code)
+        }
         None => false,
     }
+}
+
+/// Whether that is so of a program's code; nothing where it isn't accepted.
+fn is_agreed(alloc: Global, text: &str, segment: &Segment<Global>) -> Option<bool> {
+    let verified = accepted_text(alloc, text)?;
+    Some(agree(&verified, &code_of(alloc, text)?, segment))
 }
 
 /// Each program of the tracer's rows that is accepted.
@@ -102,8 +120,8 @@ fn steps_come_to_the_answer(rt: HostRuntime) -> Result<(), Fail> {
     let segment = county.segments().first().ok_or("segment")?;
     let mut count = 0u32;
     for row in table(rt.alloc(), OUTCOMES)?.lines() {
-        if let Some(verified) = accepted_text(rt.alloc(), cell(row, 1)) {
-            assert!(rt; agree(&verified, segment), "{row}");
+        if let Some(is_agreed) = is_agreed(rt.alloc(), cell(row, 1), segment) {
+            assert!(rt; is_agreed, "{row}");
             count = count.wrapping_add(1);
         }
     }
@@ -188,28 +206,31 @@ impl Chance {
         Ok(text)
     }
 
-    /// A program of 4,096 words, most of them the same one, of a form.
-    fn long_program(&mut self, alloc: Global, form: &str) -> Result<String, AllocError> {
+    /// A program in which an instruction of each of some forms stands many times.
+    fn long_program(&mut self, alloc: Global, forms: &str) -> Result<String, AllocError> {
         let mut text = String::new(alloc);
         text.push_str(START)?;
-        self.push(alloc, &mut text, form)?;
-        text.push_str(" *4072")?;
+        for form in forms.split_terminator(';') {
+            self.push(alloc, &mut text, form.trim())?;
+            text.push_str(" *2000")?;
+        }
         text.push_str(END)?;
         Ok(text)
     }
 }
 
-/// As many instructions of each form as a program has room for.
+/// Long programs, of the forms of a line each.
 #[test]
 fn long_programs(rt: HostRuntime) -> Result<(), Fail> {
     let county = county_of(rt.alloc(), NAMED, 0).ok_or("county")?;
     let segment = county.segments().first().ok_or("segment")?;
     let mut chance = Chance { state: 9669 };
-    for form in FORMS.split(';') {
-        let text = chance.long_program(rt.alloc(), form.trim())?;
-        let verified = accepted_text(rt.alloc(), &text).expect(&rt, form);
-        assert!(rt; verified.code().words() == 4096, "{form}");
-        assert!(rt; agree(&verified, segment), "{form}");
+    for forms in FORMS.lines() {
+        let text = chance.long_program(rt.alloc(), forms)?;
+        assert!(rt;
+            is_agreed(rt.alloc(), &text, segment) == Some(true),
+            "{forms}"
+        );
     }
     Ok(())
 }
@@ -238,8 +259,7 @@ fn calls_agree(
         "stw [r10-512], 0x6e69616d | stdw [r10-8], -2 | mov r6, 0 | {first} | add r6, r0 | {second} | add r6, r0 | \
 ldxdw r0, [r10-8] | add r6, r0 | ldxw r0, [r10-512] | add r0, r6 | exit"
     );
-    let verified = accepted_text(alloc, &text.ok()?)?;
-    Some(agree(&verified, segment))
+    is_agreed(alloc, &text.ok()?, segment)
 }
 
 /// Whether that is so of one call and each other one.
@@ -265,8 +285,10 @@ fn generated(rt: HostRuntime) -> Result<(), Fail> {
     let mut chance = Chance { state: 2006 };
     for _ in 0..500 {
         let text = chance.program(rt.alloc())?;
-        let verified = accepted_text(rt.alloc(), &text).expect(&rt, text.as_str());
-        assert!(rt; agree(&verified, segment), "{text}");
+        assert!(rt;
+            is_agreed(rt.alloc(), &text, segment) == Some(true),
+            "{text}"
+        );
     }
     Ok(())
 }

@@ -403,7 +403,8 @@ running; 1; mov r0, 1 | exit
 1; 18446744073709551615; mov r0, 1 | exit
 1; 2; lddw r0, 1 | exit
 refused 40 place 0 ReadsNothing(0); 1; exit
-running; 0; exit";
+running; 0; exit
+1; 3; mov r0, 1 | ja32 +32768 | mov r0, 1 *32768 | exit";
 
 // What register 0 holds at the end, and the place there.
 const ENDS: &str = "\

@@ -2,11 +2,11 @@
 use crate::codes::is_written;
 use crate::machine::agree;
 use crate::meaning::{is_exit, is_stepped};
+use crate::verify::has_entries;
 use bpf_flat::{FlatInsn, flat_forms};
 use bpf_flow::Flow;
 use bpf_insn::{Area, Code, CodeBuilder, CodeFault, Insn, Register, decode, encode};
 use bpf_machine::{Bare, run_in};
-use bpf_meaning::reads_record_alone;
 use bpf_text::{SourceFault, assemble, assemble_source, disassemble, disassemble_program};
 use bpf_verify::{Verified, verify};
 use fixtures::{Files, Refusing, bytes, cell, county};
@@ -42,7 +42,7 @@ const TEXTS: &str = r"a:\nja32 a\nja b\nb:\nja a; ja32 -1\nja +0\nja -3\n
 a1:\na2:\na3:\na4:\na5:\na6:\na7:\na8:\na9:\na5:\n; refused 24 line 10 DoubleLabel
 {mov r0, 1\n*300}ja nowhere; refused 23 line 301 UnknownLabel
 {mov r0, 1\n*300}frob; refused 21 line 301 UnknownMnemonic
-{exit\n*4097}; refused 26 line 4097 CodeFault(12)";
+{exit\n*65537}; refused 26 line 65537 CodeFault(12)";
 
 /// A text and the words that it means, none where it is refused.
 #[derive(Drop)]
@@ -113,7 +113,7 @@ fn outcome_of(
         "assemble_source" => Some(source_assembled(heap, program, verdict, nth)),
         "disassemble" => disassembled(alloc, heap, program, nth),
         "disassemble_program" => Some(program_disassembled(heap, program, nth)),
-        "verify" => verified(heap, program, verdict, nth),
+        "verify" => verified(alloc, heap, program, verdict, nth),
         _ => flattened(alloc, heap, program, nth),
     }
 }
@@ -198,25 +198,24 @@ fn flow_of<'a>(
 }
 
 fn verified(
+    alloc: Global,
     heap: &Refusing<Global>,
     program: &Program,
     verdict: &str,
     nth: u64,
 ) -> Option<Outcome> {
+    let code = decode(alloc, &program.words).ok()?;
     let flow = flow_of(heap, program)?;
     heap.refuse(nth);
     Some(match verify(heap, flow) {
-        Ok(verified) => Outcome::new(verdict == "accepted" && has_all(&verified, program)),
+        Ok(verified) => Outcome::new(verdict == "accepted" && has_all(&verified, &code)),
         Err(fault) => Outcome::refused(fault.line().as_str(), verdict),
     })
 }
 
-/// Whether a code of as many words as a program has is kept, and each instruction of it has its entry and its flat form.
-fn has_all<'a>(verified: &Verified<&'a Refusing<Global>>, program: &Program) -> bool {
-    let count = verified.code().instructions().len();
-    verified.code().words() == program.words.len() / 8
-        && verified.entries().len() == count
-        && verified.flat_forms().len() == count
+/// Whether each instruction of a code that is accepted has its entry and its flat form.
+fn has_all<'a>(verified: &Verified<&'a Refusing<Global>>, code: &Code<Global>) -> bool {
+    has_entries(verified, code) && verified.flat_forms().len() == code.instructions().len()
 }
 
 fn flattened(
@@ -357,7 +356,10 @@ fn is_flow_without_growth(heap: &Refusing<Global>, program: &Program) -> Option<
     let flow = Flow::of(code).ok()?;
     let first = flow.code().at(0)?;
     let is_first = flow.next(0) == first.words() && flow.target(0).is_none();
-    Some(is_first && flow.into_code().words() == program.words.len() / 8 && heap.count() == 0)
+    let code = flow.into_code();
+    let words = code.words();
+    let is_whole = words == program.words.len() / 8 && code.into_instructions().len() <= words;
+    Some(is_first && is_whole && heap.count() == 0)
 }
 
 /// Whether a program comes to an answer in a machine, and again in the same one.
@@ -378,21 +380,23 @@ fn is_run_twice<A: Allocator, B: Allocator>(
 
 /// Whether a program that is accepted runs to a row's answer without a growth, by steps, at once and by the tracer.
 fn runs_without_growth(
+    alloc: Global,
     heap: &Refusing<Global>,
     files: &Files,
     program: &Program,
     row: &str,
 ) -> Option<bool> {
+    let code = decode(alloc, &program.words).ok()?;
     let flow = flow_of(heap, program)?;
     let county = county(heap, files).ok()?;
     let segment = county.segments().first()?;
     let verified = verify(heap, flow).ok()?;
     heap.refuse(1);
-    let is_right = agree(&verified, segment)
-        && has_all(&verified, program)
+    let is_right = agree(&verified, &code, segment)
+        && has_all(&verified, &code)
         && is_run_twice(&verified, segment, cell(row, 3))
-        && is_stepped(verified.code(), segment, cell(row, 3))
-        && reads_record_alone(verified.code()) == (cell(row, 2) == "alone");
+        && is_stepped(&code, segment, cell(row, 3))
+        && verified.reads_record_alone() == (cell(row, 2) == "alone");
     Some(is_right && heap.count() == 0)
 }
 
@@ -403,7 +407,7 @@ fn takes_none(alloc: Global, row: &str) -> Option<bool> {
     let files = Files::new(alloc, r"{rt1}\n; {rt4}\n; {rt5}\n; {rt6}\n", 0).ok()?;
     let is_flow = is_flow_without_growth(&heap, &program)?;
     let is_accepted = cell(row, 1) == "accepted";
-    Some(is_flow && (!is_accepted || runs_without_growth(&heap, &files, &program, row)?))
+    Some(is_flow && (!is_accepted || runs_without_growth(alloc, &heap, &files, &program, row)?))
 }
 
 #[test]

@@ -1,5 +1,5 @@
 -- The areas of bases: in every run of a code that is accepted they hold.
-use Rattle.std.proofs.Common.{◌≡◌, ℕ, zero, suc, ◌+◌, ◌-◌, ◌<◌, ◌≤◌, nat_lt, IfSome, false, List, [], ◌∷◌, ◌++◌, ◌⊎◌, ◌==◌, length, map, get_or, Option, Some, None, option_map, option_and_then, Result, Ok, Err, is_some, refl, sym, ap, ◌∙◌, subst, arith, inl, inr}
+use Rattle.std.proofs.Common.{◌≡◌, ℕ, zero, suc, ◌+◌, ◌-◌, ◌<◌, ◌≤◌, nat_lt, IfSome, false, List, [], ◌∷◌, ◌++◌, ◌⊎◌, ◌==◌, length, get_or, Option, Some, None, option_map, option_and_then, Result, Ok, Err, is_some, refl, sym, ap, ◌∙◌, subst, arith, inl, inr}
 use Rattle.std.specs.Prelude.{slice_get}
 use Rattle.std.proofs.lemmas.Bool.{cases_lt}
 use Rattle.std.proofs.lemmas.Bool.Decides.{nat_tests}
@@ -30,7 +30,7 @@ use Rattle.tl_segments.specs.Segment as segments
 use Rattle.bpf_verify.specs.Annotation.{Annotation, HaveImmediates, IsAccepted, area_of, area_of_kind, areas_from}
 use Rattle.bpf_verify.specs.State.{AbstractState, Unreached, Reached, Edges, Admits, kind_of}
 use Rattle.bpf_verify.specs.Transfer.{kinds, only_pointers, pointers_in, read_kind, transfer}
-use Rattle.bpf_verify.specs.Verified.{HasBaseAreas, PointsInto, base_of, entries_of}
+use Rattle.bpf_verify.specs.Verified.{HasBaseAreas, PointsInto, areas_in, base_of, entries_of, instructions_in}
 use Rattle.bpf_verify.specs.declared.memory.Pointers.{Pointers}
 use Rattle.bpf_verify.specs.declared.state.Known.{Known}
 use Rattle.bpf_verify.specs.declared.verified.Entry.{Entry}
@@ -171,12 +171,6 @@ immediates_of_forms code areas flats forms place insn stands =
 -- Entries.
 
 -- what they are made of
-
-abbrev pub instructions_in : List Entry → List Insn
-instructions_in entries = map (λ entry. entry.insn) entries
-
-abbrev pub areas_in : List Entry → List (Option Area)
-areas_in entries = map (λ entry. entry.area) entries
 
 pub instructions_in-entries_of : (code : List Insn) (areas : List (Option Area)) → length areas ≡ length code → instructions_in (entries_of code areas) ≡ code
 instructions_in-entries_of [] areas same = refl

@@ -20,4 +20,5 @@ pub mod RiseComparison
 pub mod CheckRises
 pub mod RiseInstructions
 pub mod PassLemmas
+pub mod AheadLemmas
 pub mod VerdictLemmas

@@ -1,16 +1,15 @@
 -- The pass: what it keeps is an annotation that is good up to where it has come.
-use Rattle.std.proofs.Common.{◌≡◌, ℕ, ℤ, pos, zero, suc, ◌+◌, ◌-◌, ◌+ℤ◌, ◌<◌, ◌≤◌, List, [], ◌∷◌, ◌++◌, length, map, replicate, get_or, slice_set, Option, Some, None, option_map, IfSome, IsSome, Result, Ok, Err, nat_le, true, false, if◌then◌else◌, refl, sym, ap, ◌∙◌, subst, arith, rules, inl, inr}
+use Rattle.std.proofs.Common.{◌≡◌, ℕ, ℤ, pos, ◌≢◌, zero, suc, ◌+◌, ◌+ℤ◌, ◌<◌, ◌≤◌, ◌==◌, Bool, List, [], ◌∷◌, ◌++◌, length, get_or, Option, Some, None, option_map, IfSome, Result, Ok, Err, nat_le, true, false, if◌then◌else◌, refl, sym, ap, ◌∙◌, subst, arith, rules, inl, inr}
 use Rattle.std.proofs.lemmas.Bool.{cases_lt}
 use Rattle.std.proofs.lemmas.Bool.Decides.{nat_tests}
 use Rattle.std.proofs.lemmas.Int.{ints}
-use Rattle.std.proofs.lemmas.List.{get_or-map, get_or-set_same, get_or-set_other, length-set, length-replicate, set-get_or}
 use Rattle.std.proofs.lemmas.Option.{none-some}
 use Rattle.std.specs.Prelude.{FitsSigned}
 use Rattle.std.specs.Int.{w16}
 use Rattle.std.specs.declared.boxed.Box.{Box}
 use Rattle.bpf_insn.proofs.CodeLemmas.{length-spelling_positive}
-use Rattle.bpf_insn.proofs.PlaceLemmas.{instruction_within, word_count-append, word_count-one}
-use Rattle.bpf_insn.proofs.SpanLemmas.{ends_within, nothing_within}
+use Rattle.bpf_insn.proofs.PlaceLemmas.{word_count-append, word_count-one}
+use Rattle.bpf_insn.proofs.SpanLemmas.{nothing_within}
 use Rattle.bpf_insn.specs.Code.{instruction_at, spelling, word_count}
 use Rattle.bpf_insn.specs.Jump.{jump_distance}
 use Rattle.bpf_insn.specs.declared.instruction.Insn.{Insn}
@@ -23,7 +22,7 @@ use Rattle.bpf_kinds.specs.declared.kind.Kind.{Kind}
 use Rattle.bpf_kinds.specs.declared.kind.Kind.TheVariants.{Nothing}
 use Rattle.bpf_insn.specs.declared.value.Area.{Area}
 use Rattle.bpf_verify.specs.Annotation.{Annotation, PassesAt, IsGoodUpTo, IsLeastUpTo, Fails, IsAccepted, IsRefusedAt, IsVerifyFault, area_of, areas_from}
-use Rattle.bpf_verify.specs.Pass.{state_of, annotation_of, AreProper, first, taken, joined, joined_if, propagated, Visits, IsVisitFault}
+use Rattle.bpf_verify.specs.Pass.{Ahead, AreProper, IsVisitFault, Visits, first, joined, joined_if, kept, propagated, state_of, waiting_at}
 use Rattle.bpf_meaning.specs.declared.cause.Cause.{Cause}
 use Rattle.bpf_verify.specs.State.{AbstractState, Unreached, Reached, Edges, AreEdgesWithin, entry, join, IsProper, IsProperKnown, IsWithin}
 use Rattle.bpf_verify.specs.Transfer.{transfer}
@@ -33,77 +32,97 @@ use Rattle.bpf_verify.specs.declared.state.Known.{Known}
 use Rattle.bpf_verify.proofs.AreaLemmas.{areas_from-more, areas_from-same, length-areas_from}
 use Rattle.bpf_verify.proofs.RiseInstructions.{upward}
 use Rattle.bpf_verify.proofs.StateLaws as laws
-use Rattle.bpf_kinds.proofs.ListLemmas.{set_each}
 
--- what is kept, as states
+-- the bottom changes nothing
 
-pub state-found : {A : Type 0} (items : List (Option (Box Known A))) (place : ℕ) (found : Option (Box Known A)) → place < length items → found ≡ get_or items place found → state_of found ≡ annotation_of (map state_of items) place
-state-found items place found within is = ap state_of is ∙ sym (get_or-map state_of items place found Unreached within)
+pub join-bottom : (state : AbstractState) → join state Unreached ≡ state
+join-bottom Unreached = refl
+join-bottom (Reached known) = refl
 
 pub is_found_proper : {A : Type 0} (found : Option (Box Known A)) → IsProper (state_of found) → IfSome found (λ known. IsProperKnown known.value)
 is_found_proper None proper = tt
 is_found_proper (Some known) proper = proper
 
--- states, of which one is written
+-- states into one of which another one is joined
 
-pub written_proper : (states : List AbstractState) (place : ℕ) (state : AbstractState) → AreProper states → IsProper state → AreProper (slice_set states place state)
-written_proper states place state proper proper-state = set_each (λ at. IsProper) Unreached states place state proper-state proper
+pub same_place : (other place : ℕ) → (other == place) ≡ true → place ≡ other
+same_place other place is = grind (arith, nat_tests)
 
--- the bottom changes nothing
-join-bottom : (state : AbstractState) → join state Unreached ≡ state
-join-bottom Unreached = refl
-join-bottom (Reached known) = refl
+pub joined_each : (P : ℕ → AbstractState → Type 0) (states : Annotation) (place : ℕ) (state : AbstractState) → P place (join (states place) state) → ((other : ℕ) → P other (states other)) → (other : ℕ) → P other (joined states place state other)
+joined_each P states place state here others other = by (other == place) refl
+  where
+    by : (test : Bool) → (other == place) ≡ test → P other (if test then join (states other) state else states other)
+    by true is = subst (λ (p : ℕ). P p (join (states p) state)) (same_place other place is) here
+    by false is = others other
 
-pub joined-bottom : (states : List AbstractState) (place : ℕ) → joined states place Unreached ≡ states
-joined-bottom states place = ap (slice_set states place) (join-bottom (annotation_of states place)) ∙ set-get_or states place Unreached
+pub joined-here : (states : Annotation) (place : ℕ) (state : AbstractState) → joined states place state place ≡ join (states place) state
+joined-here states place state = let same : (place == place) ≡ true = grind (arith, nat_tests) in rw same refl
 
-pub joined_if-bottom : (states : List AbstractState) (place : Option ℕ) → joined_if states place Unreached ≡ states
-joined_if-bottom states None = refl
-joined_if-bottom states (Some place) = joined-bottom states place
+pub joined-other : (states : Annotation) (place : ℕ) (state : AbstractState) (other : ℕ) → other ≢ place → joined states place state other ≡ states other
+joined-other states place state other apart = let not : (other == place) ≡ false = grind (arith, nat_tests, apart) in rw not refl
 
-pub propagated-bottom : (states : List AbstractState) (next : ℕ) (target : Option ℕ) → propagated states next target (record { next = Unreached; target = Unreached }) ≡ states
-propagated-bottom states next target = joined-bottom (joined_if states target Unreached) next ∙ joined_if-bottom states target
+pub joined-bottom : (states : Annotation) (place other : ℕ) → joined states place Unreached other ≡ states other
+joined-bottom states place other = joined_each (λ other state. state ≡ states other) states place Unreached (join-bottom (states place)) (λ other. refl) other
+
+pub joined_if-bottom : (states : Annotation) (place : Option ℕ) (other : ℕ) → joined_if states place Unreached other ≡ states other
+joined_if-bottom states None other = refl
+joined_if-bottom states (Some place) other = joined-bottom states place other
+
+-- where two annotations agree, they do so behind a join
+pub joined-same : (states others : Annotation) (place : ℕ) (state : AbstractState) (other : ℕ) → states other ≡ others other → joined states place state other ≡ joined others place state other
+joined-same states others place state other same = ap (λ (s : AbstractState). if other == place then join s state else s) same
+
+pub joined_if-same : (states others : Annotation) (place : Option ℕ) (state : AbstractState) (other : ℕ) → states other ≡ others other → joined_if states place state other ≡ joined_if others place state other
+joined_if-same states others None state other same = same
+joined_if-same states others (Some place) state other same = joined-same states others place state other same
+
+pub propagated-bottom : (states : Annotation) (next : ℕ) (target : Option ℕ) (other : ℕ) → propagated states next target (record { next = Unreached; target = Unreached }) other ≡ states other
+propagated-bottom states next target other = joined-bottom (joined_if states target Unreached) next other ∙ joined_if-bottom states target other
+
+pub joined_proper : (states : Annotation) (place : ℕ) (state : AbstractState) → AreProper states → IsProper state → AreProper (joined states place state)
+joined_proper states place state proper proper-state = joined_each (λ other. IsProper) states place state (laws.join_is_proper (states place) state (proper place) proper-state) proper
+
+pub joined_if_proper : (states : Annotation) (place : Option ℕ) (state : AbstractState) → AreProper states → IsProper state → AreProper (joined_if states place state)
+joined_if_proper states None state proper proper-state = proper
+joined_if_proper states (Some place) state proper proper-state = joined_proper states place state proper proper-state
 
 -- states into which another one is joined: they grow, and it is below the one where it leads
-record Takes (before after : List AbstractState) (place : Option ℕ) (state : AbstractState) : Type 0 where
-  count : length after ≡ length before
+record Takes (before after : Annotation) (place : Option ℕ) (state : AbstractState) : Type 0 where
   proper : AreProper after
-  more : (other : ℕ) → IsWithin (annotation_of before other) (annotation_of after other)
-  holds : (to : ℕ) → place ≡ Some to → to < length before → IsWithin state (annotation_of after to)
-  least : (bound : AbstractState) (other : ℕ) → IsWithin (annotation_of before other) bound → (place ≡ Some other → IsWithin state bound) → IsWithin (annotation_of after other) bound
+  more : (other : ℕ) → IsWithin (before other) (after other)
+  holds : (to : ℕ) → place ≡ Some to → IsWithin state (after to)
+  least : (bound : AbstractState) (other : ℕ) → IsWithin (before other) bound → (place ≡ Some other → IsWithin state bound) → IsWithin (after other) bound
 
-joined_takes : (states : List AbstractState) (place : Option ℕ) (state : AbstractState) → AreProper states → IsProper state → Takes states (joined_if states place state) place state
+joined_takes : (states : Annotation) (place : Option ℕ) (state : AbstractState) → AreProper states → IsProper state → Takes states (joined_if states place state) place state
 joined_takes states None state proper proper-state =
-    record { count = refl; proper = proper; more = λ other. laws.reflexive (annotation_of states other); holds = λ to is. absurd (none-some to is); least = λ bound other below lower. below }
-joined_takes states (Some place) state proper proper-state = let both : AbstractState = join (annotation_of states place) state in record {
-  count = length-set states place both;
-  proper = written_proper states place both proper (laws.join_is_proper (annotation_of states place) state (proper place) proper-state);
-  more = set_each (λ other. IsWithin (annotation_of states other)) Unreached states place both
-      (laws.left_is_within_join (annotation_of states place) state (proper place) proper-state) (λ other. laws.reflexive (annotation_of states other));
-  holds = λ to is within.
+    record { proper = proper; more = λ other. laws.reflexive (states other); holds = λ to is. absurd (none-some to is); least = λ bound other below lower. below }
+joined_takes states (Some place) state proper proper-state = record {
+  proper = joined_proper states place state proper proper-state;
+  more = joined_each (λ other. IsWithin (states other)) states place state (laws.left_is_within_join (states place) state (proper place) proper-state) (λ other. laws.reflexive (states other));
+  holds = λ to is.
       let same : place ≡ to = cc in
-      subst (λ (p : ℕ). IsWithin state (annotation_of (slice_set states place both) p)) same
-      (subst (IsWithin state) (sym (get_or-set_same states place both Unreached (omega arith))) (laws.right_is_within_join (annotation_of states place) state (proper place) proper-state));
-  least = λ bound other below lower. set_each (λ at (kept : AbstractState). at ≡ other → IsWithin kept bound) Unreached states place both
-      (λ same. laws.join_is_least (annotation_of states place) state bound (proper place) proper-state (subst (λ (at : ℕ). IsWithin (annotation_of states at) bound) (sym same) below) (lower (ap Some same)))
-      (λ at same. subst (λ (at : ℕ). IsWithin (annotation_of states at) bound) (sym same) below) other refl;
+      subst (λ (p : ℕ). IsWithin state (joined states place state p)) same
+      (subst (IsWithin state) (sym (joined-here states place state)) (laws.right_is_within_join (states place) state (proper place) proper-state));
+  least = λ bound other below lower. joined_each (λ at (kept : AbstractState). at ≡ other → IsWithin kept bound) states place state
+      (λ same. laws.join_is_least (states place) state bound (proper place) proper-state (subst (λ (at : ℕ). IsWithin (states at) bound) (sym same) below) (lower (ap Some same)))
+      (λ at same. subst (λ (at : ℕ). IsWithin (states at) bound) (sym same) below) other refl;
 }
 
 -- as the pass goes on
 
 -- an annotation is good up to the place behind the instructions that were passed, and lies below every other that is; from there on it is
 -- what is kept, and the areas that were found are those of these instructions
-pub record IsOnItsWay (code passed : List Insn) (place : ℕ) (states : List AbstractState) (areas : List (Option Area)) : Type 0 where
-  pub at : place ≡ word_count passed
-  pub count : length states ≡ word_count code + 1
-  pub proper : AreProper states
+pub record IsOnItsWay (code passed : List Insn) (ahead : Ahead) (areas : List (Option Area)) : Type 0 where
+  pub of_code : ahead.code ≡ code
+  pub at : ahead.place ≡ word_count passed
+  pub proper : AreProper (kept ahead)
   pub annotation : Annotation
-  pub good : IsGoodUpTo code place annotation
-  pub least : (other : Annotation) → IsGoodUpTo code place other → (at : ℕ) → IsWithin (annotation at) (other at)
-  pub kept : (other : ℕ) → place ≤ other → annotation other ≡ annotation_of states other
+  pub good : IsGoodUpTo code ahead.place annotation
+  pub least : (other : Annotation) → IsGoodUpTo code ahead.place other → (at : ℕ) → IsWithin (annotation at) (other at)
+  pub kept_on : (other : ℕ) → ahead.place ≤ other → annotation other ≡ kept ahead other
   pub found : areas ≡ areas_from annotation 0 passed
 
-pub length-found : {code passed : List Insn} {place : ℕ} {states : List AbstractState} {areas : List (Option Area)} → IsOnItsWay code passed place states areas → length areas ≡ length passed
+pub length-found : {code passed : List Insn} {ahead : Ahead} {areas : List (Option Area)} → IsOnItsWay code passed ahead areas → length areas ≡ length passed
 length-found {passed = passed} way = ap length way.found ∙ length-areas_from way.annotation 0 passed
 
 same_edges : (x y : Edges) (found : Result Edges Cause) → found ≡ Ok x → found ≡ Ok y → x ≡ y
@@ -143,7 +162,7 @@ target_is place to (Some found) distance (Some by) same is leads =
     let equal : found ≡ to = cc in ap Some equal
 
 -- and the jump of which it is
-jump_of : (place to : ℕ) (target : Option ℕ) (jump : Option ℤ) → option_map pos target ≡ option_map (target_of place) jump → target ≡ Some to → (distance : ℤ) × (jump ≡ Some distance) × (pos (place + 1) +ℤ distance ≡ pos to)
+pub jump_of : (place to : ℕ) (target : Option ℕ) (jump : Option ℤ) → option_map pos target ≡ option_map (target_of place) jump → target ≡ Some to → (distance : ℤ) × (jump ≡ Some distance) × (pos (place + 1) +ℤ distance ≡ pos to)
 jump_of place to None jump same is = absurd (none-some to is)
 jump_of place to (Some found) None same is = absurd (let no : ⊥ = cc in no)
 jump_of place to (Some found) (Some distance) same is =
@@ -151,71 +170,69 @@ jump_of place to (Some found) (Some distance) same is =
     let there : pos found ≡ target_of place distance = cc in
     (distance, refl, sym there ∙ ap pos here)
 
-module _ (code passed : List Insn) (place : ℕ) (insn : Insn) (before after : List AbstractState) (areas : List (Option Area)) (forward : IsForward code) (stands : instruction_at code place ≡ Some insn) (way : IsOnItsWay code passed place before areas) (visits : Visits place insn before after) where
+module _ (code passed : List Insn) (insn : Insn) (before after : Ahead) (areas : List (Option Area)) (forward : IsForward code) (stands : instruction_at code before.place ≡ Some insn) (way : IsOnItsWay code passed before areas) (all_proper : AreProper (kept after)) (visits : Visits insn before after) where
+  abbrev place : ℕ
+  place = before.place
+
   abbrev next : ℕ
-  next = place + length (spelling insn)
+  next = after.place
 
-  abbrev left : List AbstractState
-  left = taken before place
+  -- the next place
+  goes : next ≡ place + length (spelling insn)
+  goes = visits.place
 
-  left_proper : AreProper left
-  left_proper = written_proper before place Unreached way.proper tt
+  abbrev states : Annotation
+  states = kept before
 
-  abbrev middle : List AbstractState
-  middle = joined_if left visits.target visits.edges.target
+  abbrev middle : Annotation
+  middle = joined_if states visits.target visits.edges.target
 
-  first_edge : Takes left middle visits.target visits.edges.target
-  first_edge = joined_takes left visits.target visits.edges.target left_proper visits.proper.target
+  first_edge : Takes states middle visits.target visits.edges.target
+  first_edge = joined_takes states visits.target visits.edges.target way.proper visits.proper.target
 
-  second_edge : Takes middle (propagated left next visits.target visits.edges) (Some next) visits.edges.next
+  second_edge : Takes middle (propagated states next visits.target visits.edges) (Some next) visits.edges.next
   second_edge = joined_takes middle (Some next) visits.edges.next first_edge.proper visits.proper.next
 
-  at_left : (other : ℕ) → IsWithin (annotation_of left other) (annotation_of (propagated left next visits.target visits.edges) other)
-  at_left other = laws.transitive (annotation_of left other) (annotation_of middle other) _ (first_edge.more other) (second_edge.more other)
-
   abbrev annotation : Annotation
-  annotation = behind way.annotation place (annotation_of after)
+  annotation = behind way.annotation place (kept after)
+
+  is_behind : (other : ℕ) → place < other → annotation other ≡ propagated states next visits.target visits.edges other
+  is_behind other past = behind-new way.annotation (kept after) place other past ∙ visits.states other past
 
   -- behind the place what is kept has grown
   more : (other : ℕ) → IsWithin (way.annotation other) (annotation other)
   more other = elim (cases_lt place other) as (λ _. IsWithin (way.annotation other) (annotation other)) [
     | inl past ↦
-        subst (λ (s : AbstractState). IsWithin s (annotation other)) (sym (way.kept other (omega arith) ∙ sym (get_or-set_other before place other Unreached Unreached (λ same. absurd (omega arith)))))
-        (subst (IsWithin (annotation_of left other)) (sym (behind-new way.annotation (annotation_of after) place other past ∙ ap (λ (states : List AbstractState). annotation_of states other) visits.states)) (at_left other))
-    | inr up ↦ subst (IsWithin (way.annotation other)) (sym (behind-old way.annotation (annotation_of after) place other up)) (laws.reflexive (way.annotation other))
+        subst (λ (s : AbstractState). IsWithin s (annotation other)) (sym (way.kept_on other (omega arith)))
+        (subst (IsWithin (states other)) (sym (is_behind other past)) (laws.transitive (states other) (middle other) _ (first_edge.more other) (second_edge.more other)))
+    | inr up ↦ subst (IsWithin (way.annotation other)) (sym (behind-old way.annotation (kept after) place other up)) (laws.reflexive (way.annotation other))
   ]
 
-  many : length left ≡ word_count code + 1
-  many = length-set before place Unreached ∙ way.count
-
-  -- a state on an edge to a later place is below the one there
-  arrives : (to : ℕ) (state : AbstractState) → place < to → IsWithin state (annotation_of (propagated left next visits.target visits.edges) to) → IsWithin state (annotation to)
-  arrives to state later below =
-      subst (IsWithin state) (sym (behind-new way.annotation (annotation_of after) place to later ∙ ap (λ (states : List AbstractState). annotation_of states to) visits.states)) below
+  here_kept : annotation place ≡ states place
+  here_kept = behind-old way.annotation (kept after) place place (omega arith) ∙ way.kept_on place (omega arith)
 
   passes_here : PassesAt annotation place insn
   passes_here = record {
     edges = visits.edges;
-    passes = ap (λ (state : AbstractState). transfer state insn) (behind-old way.annotation (annotation_of after) place place (omega arith) ∙ way.kept place (omega arith)) ∙ visits.passes;
+    passes = ap (λ (state : AbstractState). transfer state insn) here_kept ∙ visits.passes;
     next =
         let long = length-spelling_positive insn in
-        let ends = ends_within code place insn stands in
-        arrives next visits.edges.next (omega arith) (second_edge.holds next refl (let all = first_edge.count ∙ many in omega arith));
+        let later : place < next = omega (arith, goes) in
+        subst (λ (p : ℕ). IsWithin visits.edges.next (annotation p)) goes (subst (IsWithin visits.edges.next) (sym (is_behind next later)) (second_edge.holds next refl));
     target = λ distance to jumps leads.
         let on = forward.jumps place insn distance stands jumps in
         let same : on.target ≡ to = (let both : pos on.target ≡ pos to = sym on.is_target ∙ leads in cc) in
-        let later = on.later in
-        let within = instruction_within code on.target on.begins in
-        arrives to visits.edges.target (omega arith)
-        (laws.transitive visits.edges.target (annotation_of middle to) _
-        (first_edge.holds to (target_is place to visits.target distance (jump_distance insn) visits.leads jumps leads) (let all = many in omega arith)) (second_edge.more to));
+        let later : place < to = omega (arith, on.later) in
+        subst (IsWithin visits.edges.target) (sym (is_behind to later))
+        (laws.transitive visits.edges.target (middle to) _
+        (first_edge.holds to (target_is place to visits.target distance (jump_distance insn) visits.leads jumps leads)) (second_edge.more to));
   }
 
   passes_up_to : (at : ℕ) (found : Insn) → at < next → instruction_at code at ≡ Some found → PassesAt annotation at found
   passes_up_to at found below is = elim (cases_lt at place) as (λ _. PassesAt annotation at found) [
-    | inl earlier ↦ passes_more way.annotation annotation at found (behind-old way.annotation (annotation_of after) place at (omega arith)) more (way.good.passes at found earlier is)
+    | inl earlier ↦ passes_more way.annotation annotation at found (behind-old way.annotation (kept after) place at (omega arith)) more (way.good.passes at found earlier is)
     | inr from ↦ elim (cases_lt place at) as (λ _. PassesAt annotation at found) [
-      | inl inside ↦ absurd (none-some found (sym (nothing_within code place insn at stands inside below) ∙ is))
+      | inl inside ↦ absurd (none-some found (sym (nothing_within code place insn at stands inside (let end = goes in omega arith)) ∙ is))
       | inr here ↦
           let same : place ≡ at = omega arith in
           let both : Some insn ≡ Some found = sym stands ∙ ap (instruction_at code) same ∙ is in
@@ -226,21 +243,19 @@ module _ (code passed : List Insn) (place : ℕ) (insn : Insn) (before after : L
 
   proper_everywhere : (other : ℕ) → IsProper (annotation other)
   proper_everywhere other = elim (cases_lt place other) as (λ _. IsProper (annotation other)) [
-    | inl past ↦
-        subst IsProper (sym (behind-new way.annotation (annotation_of after) place other past)) (subst AreProper (sym visits.states) second_edge.proper other)
-    | inr up ↦ subst IsProper (sym (behind-old way.annotation (annotation_of after) place other up)) (way.good.proper other)
+    | inl past ↦ subst IsProper (sym (behind-new way.annotation (kept after) place other past)) (all_proper other)
+    | inr up ↦ subst IsProper (sym (behind-old way.annotation (kept after) place other up)) (way.good.proper other)
   ]
 
-  area_here : area_of (annotation (0 + word_count passed)) insn ≡ area_of (annotation_of before place) insn
+  area_here : area_of (annotation (0 + word_count passed)) insn ≡ area_of (states place) insn
   area_here =
       let here : 0 + word_count passed ≡ place = omega (arith, way.at) in
-      ap (λ (p : ℕ). area_of (annotation p) insn) here
-      ∙ ap (λ (state : AbstractState). area_of state insn) (behind-old way.annotation (annotation_of after) place place (omega arith) ∙ way.kept place (omega arith))
+      ap (λ (p : ℕ). area_of (annotation p) insn) here ∙ ap (λ (state : AbstractState). area_of state insn) here_kept
 
-  found_more : areas ++ area_of (annotation_of before place) insn ∷ [] ≡ areas_from annotation 0 (passed ++ insn ∷ [])
+  found_more : areas ++ area_of (states place) insn ∷ [] ≡ areas_from annotation 0 (passed ++ insn ∷ [])
   found_more =
-      let earlier = areas_from-same way.annotation annotation place 0 passed (behind-old way.annotation (annotation_of after) place) (let at = way.at in omega arith) in
-      ap (λ (found : List (Option Area)). found ++ area_of (annotation_of before place) insn ∷ []) (way.found ∙ sym earlier)
+      let earlier = areas_from-same way.annotation annotation place 0 passed (behind-old way.annotation (kept after) place) (let at = way.at in omega arith) in
+      ap (λ (found : List (Option Area)). found ++ area_of (states place) insn ∷ []) (way.found ∙ sym earlier)
       ∙ ap (λ (area : Option Area). areas_from annotation 0 passed ++ area ∷ []) (sym area_here)
       ∙ sym (areas_from-more annotation 0 passed insn)
 
@@ -248,22 +263,21 @@ module _ (code passed : List Insn) (place : ℕ) (insn : Insn) (before after : L
   -- below it.
   module _ (other : Annotation) (good : IsGoodUpTo code next other) where
     good_before : IsGoodUpTo code place other
-    good_before = record { proper = good.proper; entry = good.entry; passes = λ earlier found before is. good.passes earlier found (let long = length-spelling_positive insn in omega arith) is }
+    good_before = record { proper = good.proper; entry = good.entry; passes = λ earlier found below is. good.passes earlier found (let end = goes in omega arith) is }
 
     passes : PassesAt other place insn
-    passes = good.passes place insn (let long = length-spelling_positive insn in omega arith) stands
+    passes = good.passes place insn (let long = length-spelling_positive insn in let end = goes in omega arith) stands
 
-    here_below : IsWithin (annotation_of before place) (other place)
-    here_below = subst (λ (s : AbstractState). IsWithin s (other place)) (way.kept place (omega arith)) (way.least other good_before place)
+    here_below : IsWithin (states place) (other place)
+    here_below = subst (λ (s : AbstractState). IsWithin s (other place)) (way.kept_on place (omega arith)) (way.least other good_before place)
 
     edges_below : AreEdgesWithin visits.edges passes.edges
     edges_below =
-        let lower = upward insn (annotation_of before place) (other place) passes.edges (way.proper place) (good.proper place) here_below passes.passes in
-        subst (λ (edges : Edges). AreEdgesWithin edges passes.edges) (same_edges lower.0 visits.edges (transfer (annotation_of before place) insn) lower.1 visits.passes) lower.2
+        let lower = upward insn (states place) (other place) passes.edges (way.proper place) (good.proper place) here_below passes.passes in
+        subst (λ (edges : Edges). AreEdgesWithin edges passes.edges) (same_edges lower.0 visits.edges (transfer (states place) insn) lower.1 visits.passes) lower.2
 
-    left_below : (at : ℕ) → place < at → IsWithin (annotation_of left at) (other at)
-    left_below at past =
-        subst (λ (s : AbstractState). IsWithin s (other at)) (way.kept at (omega arith) ∙ sym (get_or-set_other before place at Unreached Unreached (λ same. absurd (omega arith)))) (way.least other good_before at)
+    ahead_below : (at : ℕ) → place < at → IsWithin (states at) (other at)
+    ahead_below at past = subst (λ (s : AbstractState). IsWithin s (other at)) (way.kept_on at (omega arith)) (way.least other good_before at)
 
     target_below : (at : ℕ) → visits.target ≡ Some at → IsWithin visits.edges.target (other at)
     target_below at is =
@@ -272,24 +286,23 @@ module _ (code passed : List Insn) (place : ℕ) (insn : Insn) (before after : L
 
     next_below : (at : ℕ) → Some next ≡ Some at → IsWithin visits.edges.next (other at)
     next_below at is =
-        let same : next ≡ at = cc in
-        subst (λ (p : ℕ). IsWithin visits.edges.next (other p)) same (laws.transitive visits.edges.next passes.edges.next (other next) edges_below.next passes.next)
-
-    least_behind : (at : ℕ) → place < at → IsWithin (annotation_of (propagated left next visits.target visits.edges) at) (other at)
-    least_behind at past = second_edge.least (other at) at (first_edge.least (other at) at (left_below at past) (target_below at)) (next_below at)
+        let same : place + length (spelling insn) ≡ at = (let both : next ≡ at = cc in sym goes ∙ both) in
+        subst (λ (p : ℕ). IsWithin visits.edges.next (other p)) same (laws.transitive visits.edges.next passes.edges.next (other (place + length (spelling insn))) edges_below.next passes.next)
 
     least_here : (at : ℕ) → IsWithin (annotation at) (other at)
     least_here at = elim (cases_lt place at) as (λ _. IsWithin (annotation at) (other at)) [
-      | inl past ↦ subst (λ (s : AbstractState). IsWithin s (other at)) (sym (behind-new way.annotation (annotation_of after) place at past ∙ ap (λ (states : List AbstractState). annotation_of states at) visits.states)) (least_behind at past)
-      | inr up ↦ subst (λ (s : AbstractState). IsWithin s (other at)) (sym (behind-old way.annotation (annotation_of after) place at up)) (way.least other good_before at)
+      | inl past ↦
+          subst (λ (s : AbstractState). IsWithin s (other at)) (sym (is_behind at past))
+          (second_edge.least (other at) at (first_edge.least (other at) at (ahead_below at past) (target_below at)) (next_below at))
+      | inr up ↦ subst (λ (s : AbstractState). IsWithin s (other at)) (sym (behind-old way.annotation (kept after) place at up)) (way.least other good_before at)
     ]
 
   -- one instruction more
-  pub goes_on : IsOnItsWay code (passed ++ insn ∷ []) (place + length (spelling insn)) after (areas ++ area_of (annotation_of before place) insn ∷ [])
+  pub goes_on : IsOnItsWay code (passed ++ insn ∷ []) after (areas ++ area_of (states place) insn ∷ [])
   goes_on = record {
-    at = let more = word_count-append passed (insn ∷ []) in let one = word_count-one insn in let at = way.at in omega arith;
-    count = ap length visits.states ∙ second_edge.count ∙ first_edge.count ∙ many;
-    proper = subst AreProper (sym visits.states) second_edge.proper;
+    of_code = visits.code ∙ way.of_code;
+    at = let more = word_count-append passed (insn ∷ []) in let one = word_count-one insn in let at = way.at in let end = goes in omega arith;
+    proper = all_proper;
     annotation = annotation;
     good = record {
       proper = proper_everywhere;
@@ -297,7 +310,7 @@ module _ (code passed : List Insn) (place : ℕ) (insn : Insn) (before after : L
       passes = passes_up_to;
     };
     least = least_here;
-    kept = λ other past. let long = length-spelling_positive insn in behind-new way.annotation (annotation_of after) place other (omega arith);
+    kept_on = λ other past. let long = length-spelling_positive insn in behind-new way.annotation (kept after) place other (let end = goes in omega arith);
     found = found_more;
   }
 
@@ -312,9 +325,9 @@ fails_above insn lower higher cause proper above within fails = by_result (trans
         absurd (not_both passes.0 cause (transfer lower insn) passes.1 fails)
 
 -- a visit that is refused
-pub refuses : (code passed : List Insn) (place : ℕ) (insn : Insn) (states : List AbstractState) (areas : List (Option Area)) (fault : VerifyFault) → instruction_at code place ≡ Some insn → IsOnItsWay code passed place states areas → IsVisitFault states place insn fault → IsVerifyFault code fault
-refuses code passed place insn states areas Memory stands way fault = tt
-refuses code passed place insn states areas (Refused at cause) stands way fault =
+pub refuses : (code passed : List Insn) (insn : Insn) (ahead : Ahead) (areas : List (Option Area)) (fault : VerifyFault) → instruction_at code ahead.place ≡ Some insn → IsOnItsWay code passed ahead areas → IsVisitFault ahead insn fault → IsVerifyFault code fault
+refuses code passed insn ahead areas Memory stands way fault = tt
+refuses code passed insn ahead areas (Refused at cause) stands way fault =
     subst (λ (p : ℕ). IsRefusedAt code p cause) (sym fault.0)
     (record {
       annotation = way.annotation;
@@ -322,20 +335,11 @@ refuses code passed place insn states areas (Refused at cause) stands way fault 
       insn = insn;
       stands = stands;
       fails = here;
-      always = λ other good. fails_above insn (way.annotation place) (other place) cause (way.good.proper place) (good.proper place) (way.least other good place) here;
+      always = λ other good. fails_above insn (way.annotation ahead.place) (other ahead.place) cause (way.good.proper ahead.place) (good.proper ahead.place) (way.least other good ahead.place) here;
     })
   where
-    here : transfer (way.annotation place) insn ≡ Err cause
-    here = ap (λ (state : AbstractState). transfer state insn) (way.kept place (omega arith)) ∙ fault.1
-
--- where the edges lead there are places
-pub next_is_a_place : (code : List Insn) (place : ℕ) (insn : Insn) (before : List AbstractState) (words : ℕ) → instruction_at code place ≡ Some insn → length before ≡ word_count code + 1 → words ≡ length (spelling insn) → place + words < length (taken before place)
-next_is_a_place code place insn before words stands count long =
-    let ends = ends_within code place insn stands in let same = length-set before place Unreached in omega arith
-
-pub target_is_a_place : (code : List Insn) (place : ℕ) (before : List AbstractState) (target : Option ℕ) → length before ≡ word_count code + 1 → IfSome target (λ to. IsSome (instruction_at code to)) → IfSome target (λ to. to < length (taken before place))
-target_is_a_place code place before None count begins = tt
-target_is_a_place code place before (Some to) count begins = let within = instruction_within code to begins in let same = length-set before place Unreached in omega arith
+    here : transfer (way.annotation ahead.place) insn ≡ Err cause
+    here = ap (λ (state : AbstractState). transfer state insn) (way.kept_on ahead.place (omega arith) ∙ ap (kept ahead) (sym fault.0)) ∙ fault.1
 
 -- at the start
 
@@ -356,48 +360,37 @@ all_proper : AllProper entry.registers
 unfolding AllProper
 all_proper = (tt, (at_proper (pos 0) (search rules), (tt, (tt, (tt, (tt, (tt, (tt, (tt, (tt, (at_proper (pos FRAME_LENGTH) (search rules), tt)))))))))))
 
-entry_is_proper : IsProperKnown entry
+pub entry_is_proper : IsProperKnown entry
 entry_is_proper = record { count = refl; kinds = each_proper entry.registers all_proper; frame = unwritten_is_proper }
 
-unreached_proper : (count place : ℕ) → IsProper (annotation_of (replicate count Unreached) place)
-unreached_proper zero place = tt
-unreached_proper (suc count) zero = tt
-unreached_proper (suc count) (suc place) = unreached_proper count place
-
-unreached_least : (count place : ℕ) (state : AbstractState) → IsWithin (annotation_of (replicate count Unreached) place) state
-unreached_least zero place state = tt
-unreached_least (suc count) zero state = tt
-unreached_least (suc count) (suc place) state = unreached_least count place state
-
-pub first_are_proper : (places : ℕ) → AreProper (first places)
-first_are_proper places zero = entry_is_proper
-first_are_proper places (suc place) = unreached_proper (places - 1) place
-
 -- at first nothing but place 0 is reached
-first_are_least : (places : ℕ) (other : Annotation) → IsWithin (Reached entry) (other 0) → (at : ℕ) → IsWithin (annotation_of (first places) at) (other at)
-first_are_least places other entered zero = entered
-first_are_least places other entered (suc at) = unreached_least (places - 1) at (other (suc at))
 
-pub starts : (code : List Insn) (states : List AbstractState) → states ≡ first (word_count code + 1) → IsOnItsWay code [] 0 states []
-starts code states is = subst (λ (states : List AbstractState). IsOnItsWay code [] 0 states []) (sym is) (record {
+pub first_are_proper : (code : List Insn) → AreProper (kept (first code))
+first_are_proper code = joined_proper (waiting_at []) 0 (Reached entry) (λ place. tt) entry_is_proper
+
+first_are_least : (code : List Insn) (other : Annotation) → IsWithin (Reached entry) (other 0) → (at : ℕ) → IsWithin (kept (first code) at) (other at)
+first_are_least code other entered = joined_each (λ at state. IsWithin state (other at)) (waiting_at []) 0 (Reached entry) entered (λ at. tt)
+
+pub starts : (code : List Insn) (ahead : Ahead) → ahead ≡ first code → IsOnItsWay code [] ahead []
+starts code ahead is = subst (λ (ahead : Ahead). IsOnItsWay code [] ahead []) (sym is) (record {
+  of_code = refl;
   at = refl;
-  count = let rest = length-replicate (word_count code + 1 - 1) Unreached in omega arith;
-  proper = first_are_proper (word_count code + 1);
-  annotation = annotation_of (first (word_count code + 1));
+  proper = first_are_proper code;
+  annotation = kept (first code);
   good = record {
-    proper = first_are_proper (word_count code + 1);
+    proper = first_are_proper code;
     entry = laws.reflexive (Reached entry);
     passes = λ place insn before stands. absurd (omega arith);
   };
-  least = λ other good. first_are_least (word_count code + 1) other good.entry;
-  kept = λ other past. refl;
+  least = λ other good. first_are_least code other good.entry;
+  kept_on = λ other past. refl;
   found = refl;
 })
 
 -- at the end
 
-pub accepts : (code passed : List Insn) (place : ℕ) (states : List AbstractState) (areas : List (Option Area)) → passed ≡ code → IsOnItsWay code passed place states areas → IsAccepted code areas
-accepts code passed place states areas all way = record {
+pub accepts : (code passed : List Insn) (ahead : Ahead) (areas : List (Option Area)) → passed ≡ code → IsOnItsWay code passed ahead areas → IsAccepted code areas
+accepts code passed ahead areas all way = record {
   annotation = way.annotation;
   is_least = subst (λ (p : ℕ). IsLeastUpTo code p way.annotation) (way.at ∙ ap word_count all) (record { good = way.good; least = λ other good at before. way.least other good at });
   are = way.found ∙ ap (areas_from way.annotation 0) all;

@@ -1,6 +1,6 @@
 -- Calls of helper functions are sound: where their checks pass on kinds, they pass on values, and what is known behind a call admits the
 -- state behind it.
-use Rattle.std.proofs.Common.{◌≡◌, ℕ, zero, suc, ◌+◌, ◌≤◌, ℤ, pos, negsuc, ◌+ℤ◌, ◌≤ℤ◌, ◌&&◌, int_le, unsigned_abs, Bool, true, false, List, [], ◌∷◌, ◌++◌, length, map, drop, get_or, replicate, Option, Some, None, Result, Ok, Err, if◌then◌else◌, refl, sym, subst, arith}
+use Rattle.std.proofs.Common.{◌≡◌, ℕ, zero, suc, ◌+◌, ◌≤◌, ℤ, pos, negsuc, ◌+ℤ◌, ◌≤ℤ◌, ◌&&◌, int_le, unsigned_abs, Bool, true, false, List, [], ◌∷◌, ◌++◌, length, drop, get_or, replicate, Option, Some, None, Result, Ok, Err, if◌then◌else◌, refl, sym, subst, arith}
 use Rattle.std.specs.Int.{cast_signed, cast_unsigned, w64}
 use Rattle.std.proofs.lemmas.Bool.Decides.{nat_tests}
 use Rattle.std.proofs.lemmas.Int.{ints}
@@ -17,7 +17,7 @@ use Rattle.bpf_kinds.specs.declared.interval.Interval.{Interval}
 use Rattle.bpf_kinds.specs.declared.kind.Kind.{Kind}
 use Rattle.bpf_kinds.specs.declared.kind.Kind.TheVariants.{Number, Record, Frame, Nothing}
 use Rattle.bpf_kinds.specs.declared.offsets.Offsets.{Offsets}
-use Rattle.bpf_helpers.specs.Call.{MeetsSignature, bytes_read, second, third, write, written_length}
+use Rattle.bpf_helpers.specs.Call.{MeetsSignature, bytes_read, second, third, written_length}
 use Rattle.bpf_helpers.specs.Helper.{signature}
 use Rattle.bpf_helpers.specs.Shape.{frame_use}
 use Rattle.bpf_helpers.specs.declared.helper.Helper.{Helper}

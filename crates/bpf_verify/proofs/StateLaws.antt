@@ -1,13 +1,11 @@
 -- Abstract states stand in order, and joins are least upper bounds.
-use Rattle.std.proofs.Common.{◌≡◌, ℕ, suc, zero, ◌<◌, List, [], ◌∷◌, length, get_or, sym, ap, ◌∙◌, subst, refl, rules, arith}
-use Rattle.std.specs.Prelude.{slice_set}
+use Rattle.std.proofs.Common.{◌≡◌, ℕ, List, sym, ap, ◌∙◌, subst, refl}
 use Rattle.std.proofs.lemmas.List.{ext_get_or, length-set}
 use Rattle.bpf_frame.specs.FrameMap.{Contents}
 use Rattle.bpf_frame.specs.OrderLaws as maps
 use Rattle.bpf_kinds.specs.Kind as kind
 use Rattle.bpf_kinds.proofs.KindLemmas as kinds
 use Rattle.bpf_kinds.proofs.ListLemmas.{get_or-join_kinds, length-join_kinds, set_each}
-use Rattle.bpf_insn.specs.declared.value.Value.{Value}
 use Rattle.bpf_kinds.specs.declared.kind.Kind.{Kind}
 use Rattle.bpf_kinds.specs.declared.kind.Kind.TheVariants.{Number, Nothing}
 use Rattle.bpf_meaning.specs.State.{register_value}

@@ -1,66 +1,104 @@
 -- The one pass over a code: it goes over places upwards, takes the state at each, and propagates what the transfer function gives to where
--- the edges lead. What it keeps is an annotation as a list of states, by place.
-use Rattle.std.specs.Prelude.{◌≡◌, ℕ, pos, ◌+◌, ◌-◌, ◌<◌, List, ◌∷◌, length, get_or, replicate, slice_set, Option, Some, None, IfSome, option_map, Ok, Err}
+-- the edges lead. What it keeps are states ahead of it: that at the place to which it has come, and those that wait at targets of jumps.
+use Rattle.std.specs.Prelude.{◌≡◌, ◌≢◌, ℕ, ℤ, pos, ◌+◌, ◌<◌, ◌≤◌, ◌==◌, if◌then◌else◌, List, [], ◌∷◌, length, Option, Some, None, option_map, Ok, Err}
 use Rattle.std.specs.declared.boxed.Box.{Box}
 use Rattle.bpf_insn.specs.Code.{spelling}
 use Rattle.bpf_insn.specs.Jump.{jump_distance}
 use Rattle.bpf_insn.specs.declared.instruction.Insn.{Insn}
-use Rattle.bpf_flow.specs.Flow.{target_of}
+use Rattle.bpf_flow.specs.Flow.{IsForward, JumpsBy, target_of}
 use Rattle.bpf_verify.specs.Annotation.{Annotation}
 use Rattle.bpf_verify.specs.State.{AbstractState, Unreached, Reached, Edges, entry, join, IsProper, AreProperEdges}
 use Rattle.bpf_verify.specs.Transfer.{transfer}
+use Rattle.bpf_verify.specs.declared.ahead.KnownEdges.{KnownEdges}
 use Rattle.bpf_verify.specs.declared.fault.VerifyFault.{VerifyFault}
 use Rattle.bpf_verify.specs.declared.fault.VerifyFault.TheVariants.{Refused, Memory}
-use Rattle.bpf_verify.specs.declared.pass.Way.{Way}
 use Rattle.bpf_verify.specs.declared.state.Known.{Known}
 
--- the state that is kept of a place
+-- the states ahead of the pass over a code: where it has come to, the state on the edge from the instruction before that place, and the
+-- states that wait, by place
+pub record Ahead : Type 0 where
+  pub code : List Insn
+  pub place : ℕ
+  pub straight : AbstractState
+  pub waiting : List (ℕ × AbstractState)
+
+-- the state of what is known, if an edge is reached
 abbrev pub state_of : {A : Type 0} → Option (Box Known A) → AbstractState
 state_of None = Unreached
 state_of (Some known) = Reached known.value
 
--- states by place, as an annotation
-abbrev pub annotation_of : List AbstractState → Annotation
-annotation_of states place = get_or states place Unreached
+-- the states of what is known by place
+abbrev pub states_in : {A : Type 0} → List (ℕ × Box Known A) → List (ℕ × AbstractState)
+states_in [] = []
+states_in (known ∷ others) = (known.0, Reached known.1.value) ∷ states_in others
 
--- each of them is proper
-abbrev pub AreProper : List AbstractState → Type 0
-AreProper states = (place : ℕ) → IsProper (annotation_of states place)
+-- the states ahead, by what is known on the edge from the instruction before the place and at targets of jumps
+abbrev pub states_ahead : {A : Type 0} → List Insn → ℕ → Option (Box Known A) → List (ℕ × Box Known A) → Ahead
+states_ahead code place straight waiting = record { code = code; place = place; straight = state_of straight; waiting = states_in waiting }
 
--- at first nothing but place 0 is reached
-abbrev pub first : ℕ → List AbstractState
-first places = Reached entry ∷ replicate (places - 1) Unreached
+-- the state that waits at a place
+abbrev pub waiting_at : List (ℕ × AbstractState) → Annotation
+waiting_at [] place = Unreached
+waiting_at (state ∷ others) place = if place == state.0 then state.1 else waiting_at others place
 
--- the state is taken from a place
-abbrev pub taken : List AbstractState → ℕ → List AbstractState
-taken states place = slice_set states place Unreached
+-- each state is proper
+abbrev pub AreProper : Annotation → Type 0
+AreProper states = (place : ℕ) → IsProper (states place)
 
 -- a state is joined into the one at a place, if it's known which
-abbrev pub joined : List AbstractState → ℕ → AbstractState → List AbstractState
-joined states place state = slice_set states place (join (annotation_of states place) state)
+abbrev pub joined : Annotation → ℕ → AbstractState → Annotation
+joined states place state other = if other == place then join (states other) state else states other
 
-abbrev pub joined_if : List AbstractState → Option ℕ → AbstractState → List AbstractState
+abbrev pub joined_if : Annotation → Option ℕ → AbstractState → Annotation
 joined_if states None state = states
 joined_if states (Some place) state = joined states place state
 
+-- the states that are kept, as an annotation: at the place to which the pass has come, the one on the edge from the instruction before it
+-- is joined into what waits there
+abbrev pub kept : Ahead → Annotation
+kept ahead = joined (waiting_at ahead.waiting) ahead.place ahead.straight
+
+-- at first place 0 is reached, and nothing waits
+abbrev pub first : List Insn → Ahead
+first code = record { code = code; place = 0; straight = Reached entry; waiting = [] }
+
+-- a jump before a place leads to that place or to a later one
+pub record IsTargetAhead (code : List Insn) (place to : ℕ) : Type 0 where
+  pub jump : ℕ
+  pub passed : jump < place
+  pub distance : ℤ
+  pub jumps : JumpsBy code jump distance
+  pub leads : target_of jump distance ≡ pos to
+  pub ahead : place ≤ to
+
+-- the code's jumps go forward, the states that are kept are proper, and those that wait do so at targets ahead of jumps that were passed
+pub record AreAhead (ahead : Ahead) : Type 0 where
+  pub forward : IsForward ahead.code
+  pub straight : IsProper ahead.straight
+  pub proper : AreProper (waiting_at ahead.waiting)
+  pub wait : (to : ℕ) → waiting_at ahead.waiting to ≢ Unreached → IsTargetAhead ahead.code ahead.place to
+
+-- what is known on the edges out of an instruction, as states
+abbrev pub edges_of : {A : Type 0} → KnownEdges A → Edges
+edges_of edges = record { next = state_of edges.next; target = state_of edges.target }
+
 -- the states on the edges of an instruction are joined into those where they lead: at the target of a jump, and at the next place
-abbrev pub propagated : List AbstractState → ℕ → Option ℕ → Edges → List AbstractState
+abbrev pub propagated : Annotation → ℕ → Option ℕ → Edges → Annotation
 propagated states next target edges = joined (joined_if states target edges.target) next edges.next
 
--- a way leads to one of the places, if to any
-abbrev pub LeadsWithin : Way → List AbstractState → Type 0
-LeadsWithin way states = IfSome way.to (λ to. to < length states)
-
--- a visit of an instruction: no check of it fails, its state is taken, and the states on its edges are propagated
-pub record Visits (place : ℕ) (insn : Insn) (before after : List AbstractState) : Type 0 where
+-- A visit of the instruction at the place to which the pass has come: no check of it fails in the state there, and the pass goes on to the
+-- next place, with the states on the edges propagated.
+pub record Visits (insn : Insn) (before after : Ahead) : Type 0 where
   pub edges : Edges
-  pub passes : transfer (annotation_of before place) insn ≡ Ok edges
+  pub passes : transfer (kept before before.place) insn ≡ Ok edges
   pub proper : AreProperEdges edges
   pub target : Option ℕ
-  pub leads : option_map pos target ≡ option_map (target_of place) (jump_distance insn)
-  pub states : after ≡ propagated (taken before place) (place + length (spelling insn)) target edges
+  pub leads : option_map pos target ≡ option_map (target_of before.place) (jump_distance insn)
+  pub place : after.place ≡ before.place + length (spelling insn)
+  pub code : after.code ≡ before.code
+  pub states : (other : ℕ) → before.place < other → kept after other ≡ propagated (kept before) after.place target edges other
 
 -- why a visit is refused: this check of the instruction is the first that fails, or want of memory
-abbrev pub IsVisitFault : List AbstractState → ℕ → Insn → VerifyFault → Type 0
-IsVisitFault before place insn (Refused at cause) = (at ≡ place) × (transfer (annotation_of before place) insn ≡ Err cause)
-IsVisitFault before place insn Memory = Unit {0}
+abbrev pub IsVisitFault : Ahead → Insn → VerifyFault → Type 0
+IsVisitFault before insn (Refused place cause) = (place ≡ before.place) × (transfer (kept before place) insn ≡ Err cause)
+IsVisitFault before insn Memory = Unit {0}

@@ -1,6 +1,6 @@
 -- Abstract states: what is known of each register and of the frame before an instruction, whatever the segment, or that no edge leads
 -- there. They stand in order: a state below another says more, and the bottom is that which isn't reached.
-use Rattle.std.specs.Prelude.{◌≡◌, ℕ, pos, List, [], ◌∷◌, length, slice_set, get_or}
+use Rattle.std.specs.Prelude.{◌≡◌, ℕ, pos, [], ◌∷◌, length, slice_set, get_or}
 use Rattle.bpf_frame.specs.FrameMap as map
 use Rattle.bpf_kinds.specs.Kind as kind
 use Rattle.bpf_kinds.specs.Offsets as offsets

@@ -1,5 +1,5 @@
 -- Codes that were verified, and the sorts of memory that their loads and stores reach.
-use Rattle.std.specs.Prelude.{◌≡◌, ℕ, List, [], ◌∷◌, length, get_or, Option, Some, None}
+use Rattle.std.specs.Prelude.{◌≡◌, ℕ, List, [], ◌∷◌, length, map, get_or, Option, Some, None}
 use Rattle.bpf_insn.specs.Code.{index_at, instruction_at}
 use Rattle.bpf_insn.specs.declared.instruction.Insn.{Insn}
 use Rattle.bpf_insn.specs.declared.instruction.Insn.TheVariants.{Load, StoreImmediate, Store}
@@ -45,3 +45,10 @@ pub record HasBaseAreas (code : List Insn) (areas : List (Option Area)) : Type 0
 abbrev pub entries_of : List Insn → List (Option Area) → List Entry
 entries_of (insn ∷ code) (area ∷ areas) = record { insn = insn; area = area } ∷ entries_of code areas
 entries_of code areas = []
+
+-- and what they are made of
+abbrev pub instructions_in : List Entry → List Insn
+instructions_in entries = map (λ entry. entry.insn) entries
+
+abbrev pub areas_in : List Entry → List (Option Area)
+areas_in entries = map (λ entry. entry.area) entries

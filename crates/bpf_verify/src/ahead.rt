@@ -1,66 +1,129 @@
-//! The states at places that the pass hasn't come to.
-ghost use Rattle.std.specs.Prelude.{◌≡◌, ◌<◌, length, IfOk, IfSome};
-ghost use Rattle.bpf_verify.specs.State.{IsProperKnown, Reached, join};
-ghost use Rattle.bpf_verify.specs.Pass.{AreProper, annotation_of, first, joined, state_of, taken};
+//! The states ahead of the pass.
+ghost use Rattle.std.specs.Prelude.{◌≡◌, ◌+◌, ◌<◌, ℕ, length, option_map, pos, IfOk, IfSome, IsSome, OnOk, Some};
+ghost use Rattle.bpf_flow.specs.Flow.{IsForward, target_of};
+ghost use Rattle.bpf_insn.specs.Code.{HasProgramSize, instruction_at, spelling, word_count};
+ghost use Rattle.bpf_insn.specs.Jump.{jump_distance};
+ghost use Rattle.bpf_verify.specs.Pass.{AreProper, IsTargetAhead, edges_of, first, joined_if, kept, state_of, waiting_at};
+ghost use Rattle.bpf_verify.specs.State.{AreProperEdges, IsProperKnown, Reached, Unreached, join};
 
 use crate::state::Known;
+use bpf_flow::Flow;
+use bpf_insn::Insn;
 use std::alloc::{AllocError, Allocator};
+use std::collections::BTreeMap;
 use std::marker::Model;
 
-/// The states at places that the pass hasn't come to. Contracts see them as an annotation: a list of abstract states, by place. What is known
-/// takes memory only at places that are reached, and until it is taken.
+/// What is known on the edges out of an instruction, where they are reached.
 #[derive(Drop)]
-pub(crate) struct StatesAhead<A: Allocator> {
-    states: Vec<Option<Box<Known, A>>, A>,
+pub(crate) struct KnownEdges<A: Allocator> {
+    /// To the next one.
+    pub next: Option<Box<Known, A>>,
+    /// To a jump's target.
+    pub target: Option<Box<Known, A>>,
 }
 
-impl<A: Allocator> Model for StatesAhead<A> {
-    ghost use Rattle.std.specs.Prelude.{List, map};
-    ghost use Rattle.bpf_verify.specs.Pass.{AreProper, state_of};
-    ghost use Rattle.bpf_verify.specs.State.{AbstractState};
-
-    ghost Value = { List AbstractState };
-
-    ghost view = { λ ahead. map state_of ahead.states.items };
-
-    ghost invariant = { λ ahead. AreProper (map state_of ahead.states.items) };
+/// What is known ahead of the pass: at the place to which it has come, and at targets of jumps that it has passed. Each state is dropped as the
+/// pass gets there, so the memory grows with the number of targets ahead, and not with the code.
+#[derive(Drop)]
+pub(crate) struct StatesAhead<'a, A: Allocator> {
+    flow: &'a Flow<A>,
+    /// The place to which the pass has come.
+    place: usize,
+    /// What is known there on the edge from the instruction before it.
+    straight: Option<Box<Known, A>>,
+    /// What is known at targets of jumps, by their places.
+    waiting: BTreeMap<usize, Box<Known, A>, A>,
 }
 
-impl<A: Allocator + Copy> StatesAhead<A> {
-    /// So many places, of which none but place 0 is reached: what is known there is what is known at the start.
-    pub fn first(alloc: A, places: usize) -> Result<Self, AllocError>
-        requires { 0 < places }
-        ensures { IfOk result (λ ahead. ahead ≡ first places) }
+impl<'a, A: Allocator> Model for StatesAhead<'a, A> {
+    ghost use Rattle.bpf_verify.specs.Pass.{Ahead, AreAhead, states_ahead};
+
+    ghost Value = { Ahead };
+
+    ghost view = { λ ahead. states_ahead ahead.flow.now.code ahead.place ahead.straight ahead.waiting.entries };
+
+    ghost invariant = { λ ahead. AreAhead (states_ahead ahead.flow.now.code ahead.place ahead.straight ahead.waiting.entries) };
+}
+
+impl<'a, A: Allocator + Copy> StatesAhead<'a, A> {
+    /// None but place 0 is reached: what is known there is what is known at the start.
+    pub fn first(alloc: A, flow: &'a Flow<A>) -> Result<Self, AllocError>
+        requires { IsForward flow.now.code }
+        ensures { IfOk result (λ ahead. ahead ≡ first flow.now.code) }
     {
-        let mut states = Vec::with_capacity(alloc, places)?;
-        states.push(Some(Box::new(alloc, Known::entry())?))?;
-        for _ in 1..places {
-            states.push(None)?;
-        }
-        Ok(StatesAhead { states })
+        let entry = Box::new(alloc, Known::entry())?;
+        Ok(StatesAhead {
+            flow,
+            place: 0,
+            straight: Some(entry),
+            waiting: BTreeMap::new(alloc),
+        })
+    }
+
+    /// Keeps what is known on the edges out of the instruction that was taken last: to the place behind it, and to its target, if it's a jump.
+    pub fn propagate(
+        &mut self,
+        target: Option<usize>,
+        edges: KnownEdges<A>,
+    ) -> Result<(), AllocError>
+        requires target { IfSome target (IsTargetAhead self.old.code self.old.place) }
+        requires proper { AreProperEdges (edges_of edges) }
+        ensures code { self.new.code ≡ self.old.code }
+        ensures place { self.new.place ≡ self.old.place }
+        ensures proper_states { AreProper (kept self.new) }
+        ensures straight { OnOk result (self.new.straight ≡ (edges_of edges).next) }
+        ensures waiting { OnOk result ((other : ℕ) → waiting_at self.new.waiting other ≡ joined_if (waiting_at self.old.waiting) target (edges_of edges).target other) }
+    {
+        self.straight = edges.next;
+        let Some(target) = target else {
+            return Ok(());
+        };
+        let Some(known) = edges.target else {
+            return Ok(());
+        };
+        let there = self.waiting.remove(&target);
+        self.waiting.insert(target, meet(there, known))?;
+        Ok(())
     }
 }
 
-impl<A: Allocator> StatesAhead<A> {
-    /// Takes what is known at a place, if it's reached.
-    pub fn take(&mut self, place: usize) -> Option<Box<Known, A>>
-        requires { place < length self.old }
-        ensures value { state_of result ≡ annotation_of self.old place }
+impl<'a, A: Allocator> StatesAhead<'a, A> {
+    /// The place to which the pass has come.
+    pub fn place(&self) -> usize
+        ensures { result ≡ self.now.place }
+    {
+        self.place
+    }
+
+    /// Where the instruction there jumps, if it's a jump.
+    pub fn target(&self) -> Option<usize>
+        requires { IsSome (instruction_at self.now.code self.now.place) }
+        ensures value { IfSome (instruction_at self.now.code self.now.place)
+            (λ insn. option_map pos result ≡ option_map (target_of self.now.place) (jump_distance insn)) }
+        ensures later { IfSome result (λ target. self.now.place < target) }
+        ensures begins { IfSome result (λ target. IsSome (instruction_at self.now.code target)) }
+    {
+        self.flow.target(self.place)
+    }
+
+    /// Takes what is known at the instruction to whose place the pass has come, if it's reached, and goes on to the place behind it.
+    pub fn take(&mut self, insn: Insn) -> Option<Box<Known, A>>
+        requires sized { HasProgramSize (word_count self.old.code) }
+        requires stands { instruction_at self.old.code self.old.place ≡ Some insn }
+        ensures value { state_of result ≡ kept self.old self.old.place }
         ensures proper { IfSome result (λ known. IsProperKnown known.value) }
-        ensures states { self.new ≡ taken self.old place }
-        ensures proper_states { AreProper self.new }
+        ensures code { self.new.code ≡ self.old.code }
+        ensures place { self.new.place ≡ self.old.place + length (spelling insn) }
+        ensures proper_states { AreProper (kept self.new) }
+        ensures straight { self.new.straight ≡ Unreached }
+        ensures waiting { (other : ℕ) → self.old.place < other → waiting_at self.new.waiting other ≡ waiting_at self.old.waiting other }
     {
-        self.states[place].take()
-    }
-
-    /// Joins what is known on an edge into what is known at the place where it leads.
-    pub fn join(&mut self, place: usize, known: Box<Known, A>)
-        requires within { place < length self.old }
-        requires proper { IsProperKnown known.value }
-        ensures { self.new ≡ joined self.old place (Reached known.value) }
-    {
-        let there = self.states[place].take();
-        self.states[place] = Some(meet(there, known));
+        let there = self.waiting.remove(&self.place);
+        self.place += insn.words();
+        let Some(known) = self.straight.take() else {
+            return there;
+        };
+        Some(meet(there, known))
     }
 }
 

@@ -1,14 +1,13 @@
 //! The one pass over a code.
-ghost use Rattle.std.specs.Prelude.{◌≡◌, ◌<◌, ◌+◌, length, IfOk, IfErr, IfSome, OnOk, Some};
-ghost use Rattle.bpf_insn.specs.Code.{HasProgramSize, instruction_at, spelling, word_count};
+ghost use Rattle.std.specs.Prelude.{◌≡◌, IfOk, IfErr, OnOk, Some};
+ghost use Rattle.bpf_insn.specs.Code.{HasProgramSize, instruction_at, word_count};
 ghost use Rattle.bpf_meaning.specs.Run.{IsSafe};
 ghost use Rattle.bpf_verify.specs.Annotation.{HasGoodAnnotation, IsAccepted, IsVerifyFault, area_of};
-ghost use Rattle.bpf_verify.specs.Pass.{IsVisitFault, LeadsWithin, Visits, annotation_of, joined_if, propagated};
-ghost use Rattle.bpf_verify.specs.State.{AreProperEdges, IsProper};
+ghost use Rattle.bpf_verify.specs.Pass.{AreProper, IsVisitFault, Visits, edges_of, kept, state_of};
 ghost use Rattle.bpf_verify.specs.Transfer.{edges_to, on_edge};
 ghost use Rattle.bpf_verify.specs.declared.fault.VerifyFault.TheVariants.{Memory};
 
-use crate::ahead::StatesAhead;
+use crate::ahead::{KnownEdges, StatesAhead};
 use crate::comparison::Comparison;
 use crate::fault::VerifyFault;
 use crate::memory::area_of;
@@ -20,35 +19,10 @@ use bpf_flow::Flow;
 use bpf_insn::{Area, Insn};
 use std::alloc::{AllocError, Allocator};
 
-/// Where the edges out of an instruction lead.
-#[derive(Clone, Copy)]
-struct Places {
-    /// The place behind it.
-    next: usize,
-    /// That of a jump's target.
-    target: Option<usize>,
-}
-
-/// An edge out of a conditional jump, and the place where it leads.
-#[derive(Clone, Copy)]
-struct Way {
-    edge: Edge,
-    to: Option<usize>,
-}
-
-/// What a visit of an instruction tells.
-#[derive(Clone, Copy)]
-struct Visited {
-    /// The place behind it.
-    next: usize,
-    /// What its base points into, where it's a load or a store that is reached.
-    area: Option<Area>,
-}
-
 /// Finds the verdict on a code, in one pass over its instructions in order: it refuses at the first place where a check fails by what is
-/// known before it. By the rules no more can be known: no other annotation goes further. Its time grows with the instructions. It takes
-/// memory for a pointer a word of the code, for what is known at those places ahead that are reached, and for what is kept of each
-/// instruction.
+/// known before it. By the rules no more can be known: no other annotation goes further. It looks at each instruction once, and copies
+/// what is known only where two edges leave one. It takes memory for what is kept of each instruction, and for what is known at the place
+/// to which it has come and at targets ahead of jumps that it has passed.
 pub fn verify<A: Allocator + Copy>(alloc: A, flow: Flow<A>) -> Result<Verified<A>, VerifyFault>
     ensures ok { IfOk result (λ verified. (verified.code ≡ flow.code) × HasGoodAnnotation flow.code) }
     ensures areas { IfOk result (λ verified. IsAccepted flow.code verified.areas) }
@@ -66,97 +40,69 @@ fn pass<A: Allocator + Copy>(alloc: A, flow: &Flow<A>) -> Result<Vec<Option<Area
     ensures ok { IfOk result (λ areas. IsAccepted flow.now.code areas.items) }
     ensures err { IfErr result (IsVerifyFault flow.now.code) }
 {
-    let code = flow.code();
-    // Behind the last instruction there is a place too, though nothing leads there.
-    let mut ahead = StatesAhead::first(alloc, code.words() + 1)?;
-    let mut areas = Vec::with_capacity(alloc, code.instructions().len())?;
-    let mut place = 0;
-    for insn in code.instructions() {
-        let visited = visit(alloc, flow, place, *insn, &mut ahead)?;
-        areas.push_reserved(visited.area);
-        place = visited.next;
+    let instructions = flow.code().instructions();
+    let mut areas = Vec::with_capacity(alloc, instructions.len())?;
+    let mut ahead = StatesAhead::first(alloc, flow)?;
+    for insn in instructions {
+        areas.push_reserved(visit(alloc, *insn, &mut ahead)?);
     }
     Ok(areas)
 }
 
-/// Takes what is known at an instruction's place, and propagates what is known behind it, unless one of its checks fails.
+/// Takes what is known at the instruction to which the pass has come, and propagates what is known behind it, unless one of its checks fails.
+/// The answer is what its base points into, where it's a load or a store that is reached.
 fn visit<A: Allocator + Copy>(
     alloc: A,
-    flow: &Flow<A>,
-    place: usize,
     insn: Insn,
-    ahead: &mut StatesAhead<A>,
-) -> Result<Visited, VerifyFault>
-    requires sized { HasProgramSize (word_count flow.now.code) }
-    requires stands { instruction_at flow.now.code place ≡ Some insn }
-    requires places { length ahead.old ≡ word_count flow.now.code + 1 }
-    ensures next { IfOk result (λ visited. visited.next ≡ place + length (spelling insn)) }
-    ensures area { IfOk result (λ visited. visited.area ≡ area_of (annotation_of ahead.old place) insn) }
-    ensures ok { OnOk result (Visits place insn ahead.old ahead.new) }
-    ensures err { IfErr result (IsVisitFault ahead.old place insn) }
+    ahead: &mut StatesAhead<'_, A>,
+) -> Result<Option<Area>, VerifyFault>
+    requires sized { HasProgramSize (word_count ahead.old.code) }
+    requires stands { instruction_at ahead.old.code ahead.old.place ≡ Some insn }
+    ensures area { IfOk result (λ area. area ≡ area_of (kept ahead.old ahead.old.place) insn) }
+    ensures ok { OnOk result (Visits insn ahead.old ahead.new) }
+    ensures proper { OnOk result (AreProper (kept ahead.new)) }
+    ensures err { IfErr result (IsVisitFault ahead.old insn) }
 {
-    let places = Places {
-        next: place + insn.words(),
-        target: flow.target(place),
-    };
-    let Some(mut known) = ahead.take(place) else {
-        return Ok(Visited {
-            next: places.next,
-            area: None,
-        });
+    let place = ahead.place();
+    let target = ahead.target();
+    let Some(mut known) = ahead.take(insn) else {
+        return Ok(None);
     };
     let area = area_of(&known, insn);
     let successors = match transfer(&mut known, insn) {
         Ok(successors) => successors,
         Err(cause) => return Err(VerifyFault::Refused { place, cause }),
     };
-    propagate(alloc, known, successors, places, ahead)?;
-    Ok(Visited {
-        next: places.next,
-        area,
-    })
+    ahead.propagate(target, follow(alloc, known, successors)?)?;
+    Ok(area)
 }
 
-/// Joins what is known behind an instruction into what is known where control goes.
-fn propagate<A: Allocator + Copy>(
+/// What is known on the edges out of an instruction, by what is known behind it and where control goes.
+fn follow<A: Allocator + Copy>(
     alloc: A,
     known: Box<Known, A>,
     successors: Successors,
-    places: Places,
-    ahead: &mut StatesAhead<A>,
-) -> Result<(), AllocError>
-    requires next { places.next < length ahead.old }
-    requires target { IfSome places.target (λ target. target < length ahead.old) }
-    requires proper { AreProperEdges (edges_to known.value successors) }
-    ensures { OnOk result (ahead.new ≡ propagated ahead.old places.next places.target (edges_to known.value successors)) }
+) -> Result<KnownEdges<A>, AllocError>
+    ensures { IfOk result (λ edges. edges_of edges ≡ edges_to known.value successors) }
 {
     match successors {
-        Successors::End => Ok(()),
-        Successors::Next => {
-            ahead.join(places.next, known);
-            Ok(())
-        }
-        Successors::Target => {
-            if let Some(target) = places.target {
-                ahead.join(target, known);
-            }
-            Ok(())
-        }
+        Successors::End => Ok(KnownEdges {
+            next: None,
+            target: None,
+        }),
+        Successors::Next => Ok(KnownEdges {
+            next: Some(known),
+            target: None,
+        }),
+        Successors::Target => Ok(KnownEdges {
+            next: None,
+            target: Some(known),
+        }),
         Successors::Branch {
             comparison,
-            next: edge,
-            target: edge_of_target,
-        } => {
-            let next = Way {
-                edge,
-                to: Some(places.next),
-            };
-            let target = Way {
-                edge: edge_of_target,
-                to: places.target,
-            };
-            branch(alloc, known, comparison, next, target, ahead)
-        }
+            next,
+            target,
+        } => branch(alloc, known, comparison, next, target),
     }
 }
 
@@ -165,55 +111,45 @@ fn branch<A: Allocator + Copy>(
     alloc: A,
     known: Box<Known, A>,
     comparison: Comparison,
-    next: Way,
-    target: Way,
-    ahead: &mut StatesAhead<A>,
-) -> Result<(), AllocError>
-    requires next { LeadsWithin next ahead.old }
-    requires target { LeadsWithin target ahead.old }
-    requires proper_next { IsProper (on_edge known.value comparison next.edge) }
-    requires proper_target { IsProper (on_edge known.value comparison target.edge) }
-    ensures { OnOk result (ahead.new ≡ joined_if (joined_if ahead.old target.to (on_edge known.value comparison target.edge))
-        next.to (on_edge known.value comparison next.edge)) }
+    next: Edge,
+    target: Edge,
+) -> Result<KnownEdges<A>, AllocError>
+    ensures next { IfOk result (λ edges. (edges_of edges).next ≡ on_edge known.value comparison next) }
+    ensures target { IfOk result (λ edges. (edges_of edges).target ≡ on_edge known.value comparison target) }
 {
-    match (next.edge, target.edge) {
-        (Edge::Unreached, _) => {
-            follow(comparison, known, target, ahead);
-            Ok(())
-        }
-        (_, Edge::Unreached) => {
-            follow(comparison, known, next, ahead);
-            Ok(())
-        }
+    match (next, target) {
+        (Edge::Unreached, _) => Ok(KnownEdges {
+            next: None,
+            target: on_edge(known, comparison, target),
+        }),
+        (_, Edge::Unreached) => Ok(KnownEdges {
+            next: on_edge(known, comparison, next),
+            target: None,
+        }),
         _ => {
             let taken = Box::new(alloc, known.duplicate())?;
-            follow(comparison, taken, target, ahead);
-            follow(comparison, known, next, ahead);
-            Ok(())
+            Ok(KnownEdges {
+                next: on_edge(known, comparison, next),
+                target: on_edge(taken, comparison, target),
+            })
         }
     }
 }
 
 /// The same on one edge.
-fn follow<A: Allocator>(
-    comparison: Comparison,
+fn on_edge<A: Allocator>(
     mut known: Box<Known, A>,
-    way: Way,
-    ahead: &mut StatesAhead<A>,
-)
-    requires within { LeadsWithin way ahead.old }
-    requires proper { IsProper (on_edge known.value comparison way.edge) }
-    ensures { ahead.new ≡ joined_if ahead.old way.to (on_edge known.value comparison way.edge) }
+    comparison: Comparison,
+    edge: Edge,
+) -> Option<Box<Known, A>>
+    ensures { state_of result ≡ on_edge known.value comparison edge }
 {
-    let Some(to) = way.to else {
-        return;
-    };
-    match way.edge {
-        Edge::Unreached => {}
-        Edge::Unchanged => ahead.join(to, known),
+    match edge {
+        Edge::Unreached => None,
+        Edge::Unchanged => Some(known),
         Edge::Narrows(both) => {
             comparison.narrow(&mut known, both);
-            ahead.join(to, known);
+            Some(known)
         }
     }
 }

@@ -1,13 +1,16 @@
 //! Codes that are safe to run.
 ghost use Rattle.std.specs.Prelude.{◌≡◌, length, IfOk};
+ghost use Rattle.std.specs.List.{list_all};
 ghost use Rattle.bpf_flat.specs.Flat.{AreFlatForms};
+ghost use Rattle.bpf_meaning.specs.RecordAlone.{instruction_reads_record_alone, reads_record_alone};
 ghost use Rattle.bpf_meaning.specs.Run.{IsSafe};
 ghost use Rattle.bpf_verify.specs.Annotation.{IsAccepted};
 ghost use Rattle.bpf_verify.specs.Verified.{HasBaseAreas, entries_of};
 
 use bpf_flat::{FlatInsn, flat_forms};
 use bpf_flow::Flow;
-use bpf_insn::{Area, Code, Insn};
+use bpf_insn::{Area, Insn};
+use bpf_meaning::instruction_reads_record_alone;
 use std::alloc::{AllocError, Allocator};
 use std::marker::Model;
 
@@ -24,25 +27,24 @@ pub struct Entry {
 /// a record with the fields `code`, the list of its instructions, and `areas`, the list of what their bases point into.
 #[derive(Drop)]
 pub struct Verified<A: Allocator> {
-    code: Code<A>,
     entries: Vec<Entry, A>,
     flat_forms: Vec<FlatInsn, A>,
 }
 
 impl<A: Allocator> Model for Verified<A> {
-    ghost use Rattle.std.specs.Prelude.{◌≡◌, length, map};
+    ghost use Rattle.std.specs.Prelude.{length};
     ghost use Rattle.bpf_flat.specs.Flat.{AreFlatForms};
     ghost use Rattle.bpf_meaning.specs.Run.{IsSafe};
-    ghost use Rattle.bpf_verify.specs.Verified.{Contents, HasBaseAreas};
+    ghost use Rattle.bpf_verify.specs.Verified.{Contents, HasBaseAreas, areas_in, instructions_in};
 
     ghost Value = { Contents };
 
-    ghost view = { λ verified. record { code = verified.code; areas = map (λ entry. entry.area) verified.entries.items } };
+    ghost view = { λ verified. record { code = instructions_in verified.entries.items; areas = areas_in verified.entries.items } };
 
-    ghost invariant = { λ verified. IsSafe verified.code
-        × HasBaseAreas verified.code (map (λ entry. entry.area) verified.entries.items)
-        × (map (λ entry. entry.insn) verified.entries.items ≡ verified.code)
-        × AreFlatForms verified.code (map (λ entry. entry.area) verified.entries.items) (length verified.code) verified.flat_forms.items };
+    ghost invariant = { λ verified. IsSafe (instructions_in verified.entries.items)
+        × HasBaseAreas (instructions_in verified.entries.items) (areas_in verified.entries.items)
+        × AreFlatForms (instructions_in verified.entries.items) (areas_in verified.entries.items)
+        (length (instructions_in verified.entries.items)) verified.flat_forms.items };
 }
 
 impl<A: Allocator + Copy> Verified<A> {
@@ -53,10 +55,10 @@ impl<A: Allocator + Copy> Verified<A> {
         ensures areas { IfOk result (λ verified. verified.areas ≡ areas.now) }
     {
         let flat_forms = flat_forms(alloc, &flow, areas)?;
-        let code = flow.into_code();
-        let entries = entries_of(alloc, code.instructions(), areas)?;
+        // What finds instructions by place is freed before the entries take memory.
+        let instructions = flow.into_code().into_instructions();
+        let entries = entries_of(alloc, instructions.as_slice(), areas)?;
         Ok(Verified {
-            code,
             entries,
             flat_forms,
         })
@@ -82,14 +84,6 @@ fn entries_of<A: Allocator>(
 }
 
 impl<A: Allocator> Verified<A> {
-    /// The code, lent.
-    pub fn code(&self) -> &Code<A>
-        ensures value { result.now ≡ self.now.code }
-        ensures safe { IsSafe self.now.code }
-    {
-        &self.code
-    }
-
     /// The instructions in order, an entry each, lent.
     pub fn entries(&self) -> &[Entry]
         ensures value { result.now ≡ entries_of self.now.code self.now.areas }
@@ -107,4 +101,20 @@ impl<A: Allocator> Verified<A> {
     {
         self.flat_forms.as_slice()
     }
+
+    /// Whether the code asks for nothing of a segment but its type 1 record: it calls no helper function that reads alternate names or address
+    /// ranges. Such a code answers alike on all segments of the same record.
+    pub fn reads_record_alone(&self) -> bool
+        ensures { result ≡ reads_record_alone self.now.code }
+    {
+        read_record_alone(self.entries.as_slice())
+    }
+}
+
+fn read_record_alone(entries: &[Entry]) -> bool
+    ensures { result ≡ list_all (λ entry. instruction_reads_record_alone entry.insn) entries.now }
+{
+    entries
+        .iter()
+        .all(|entry| instruction_reads_record_alone(entry.insn))
 }

@@ -78,17 +78,27 @@ extractd dis --program p.bpf; ! call 1 full; 3; refused 60 Write; p.bpf: {asm ex
 extractd dis --program p.bpf; ! call 1 nothing; 3; refused 61 WriteZero; p.bpf: {asm exit}
 extractd dis --program p.bpf; exit\n ! call 2 full; 3; error: the output can't be written: no space left;
   p.bpf: {asm exit}
-extractd asm --source p.s; {asm exit *4096}; 0;; p.s: {exit\n*4096}
-extractd asm --source p.s;; 1; refused 26 line 4097 CodeFault(12); p.s: {exit\n*4097}
-extractd verify --program p.bpf; accepted\n; 0;; p.bpf: {asm mov r0, 1*4095}{asm exit}
-extractd verify --program p.bpf;; 1; refused 12 TooLong; p.bpf: {asm mov r0, 1*4096}{asm exit}
-extractd run --program p.bpf --data d 01001; {0\trt1\n*3}; 0;; p.bpf: {asm mov r0, 1*4095}{asm exit};
+";
+
+/// Programs of about as many words as there may be.
+pub const LONG: &str = r"
+extractd asm --source p.s; {asm exit *65536}; 0;; p.s: {exit\n*65536}
+extractd asm --source p.s;; 1; refused 26 line 65537 CodeFault(12); p.s: {exit\n*65537}
+extractd asm --source p.s; {asm mov r0, 1 | ja +32767 | mov r0, 1 *32767 | exit}; 0;;
+  p.s: mov r0, 1\nja far\n{mov r0, 1\n*32767}far:\nexit\n
+extractd asm --source p.s;; 1; refused 25 line 2 LabelTooFar; p.s: mov r0, 1\nja far\n{mov r0, 1\n*32768}far:\nexit\n
+extractd asm --source p.s; {asm mov r0, 1 | ja32 +32768 | mov r0, 1 *32768 | exit}; 0;;
+  p.s: mov r0, 1\nja32 far\n{mov r0, 1\n*32768}far:\nexit\n
+extractd verify --program p.bpf; accepted\n; 0;; p.bpf: {asm mov r0, 1*65535}{asm exit}
+extractd verify --program p.bpf;; 1; refused 11 NotWhole; p.bpf: {asm mov r0, 1*65535}{asm exit}\x00
+extractd verify --program p.bpf;; 1; refused 12 TooLong; p.bpf: {asm mov r0, 1*65536}{asm exit}
+extractd run --program p.bpf --data d 01001; {0\trt1\n*3}; 0;; p.bpf: {asm mov r0, 1*65535}{asm exit};
   d/TGR01001.RT1: {rt1\n*3}
-extractd trace --program p.bpf --data d --line 1 --limit 4096 01001; exit 1 score 0\n; 0;;
-  p.bpf: {asm mov r0, 1*4095}{asm exit}; d/TGR01001.RT1: {rt1}\n
-extractd trace --program p.bpf --data d --line 1 --limit 4095 01001; running\n; 0;;
-  p.bpf: {asm mov r0, 1*4095}{asm exit}; d/TGR01001.RT1: {rt1}\n
-extractd dis --program p.bpf; {exit\n*4096}; 0;; p.bpf: {asm exit *4096}
-extractd dis --program p.bpf;; 1; refused 12 TooLong; p.bpf: {asm exit *4097}
-extractd dis --program p.bpf;; 3; error: p.bpf: broken pipe; p.bpf: {asm exit *4096} ! call 9 pipe
+extractd trace --program p.bpf --data d --line 1 --limit 65536 01001; exit 1 score 0\n; 0;;
+  p.bpf: {asm mov r0, 1*65535}{asm exit}; d/TGR01001.RT1: {rt1}\n
+extractd trace --program p.bpf --data d --line 1 --limit 65535 01001; running\n; 0;;
+  p.bpf: {asm mov r0, 1*65535}{asm exit}; d/TGR01001.RT1: {rt1}\n
+extractd dis --program p.bpf; {exit\n*65536}; 0;; p.bpf: {asm exit *65536}
+extractd dis --program p.bpf;; 1; refused 12 TooLong; p.bpf: {asm exit *65537}
+extractd dis --program p.bpf;; 3; error: p.bpf: broken pipe; p.bpf: {asm exit *65536} ! call 129 pipe
 ";

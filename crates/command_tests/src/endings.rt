@@ -1,7 +1,7 @@
 //! How commands end on files: the tables of these rows, and what reads them.
 use super::conversions::{DOCUMENTED, PROGRAMS, SOURCES};
 use super::counties::{COUNTIES, OPENINGS};
-use super::devices::CASES;
+use super::devices::{CASES, LONG};
 use super::geocodes::GEOCODES;
 use super::running::{Ending, content_of, contents_of, files_of, run};
 use super::runs::FILES;
@@ -64,6 +64,14 @@ fn endings(rt: HostRuntime) -> Result<(), Fail> {
         let rows = table(rt.alloc(), text.trim())?;
         let wrong = wrong_row(rt.alloc(), &rows)?;
         assert!(rt; wrong.is_empty(), "{wrong}");
+    }
+    Ok(())
+}
+
+#[test]
+fn long_programs(rt: HostRuntime) -> Result<(), Fail> {
+    for row in table(rt.alloc(), LONG.trim())?.lines() {
+        assert!(rt; is_ending(rt.alloc(), row, "")?, "{row}");
     }
     Ok(())
 }

@@ -50,7 +50,7 @@ geocode 151 main 01001 01003;; 3; error: d/TGR01003.RT1: not found; d/TGR01001.R
 verify; accepted\n; 0;; p.bpf: {every}
 verify; accepted\n; 0;; p.bpf: {roads}
 verify;; 1; refused 40 place 0 ReadsNothing(0); p.bpf: {stuck}
-verify;; 1; refused 12 TooLong; p.bpf: {long}
+verify;; 1; refused 33 place 4096 LastNotExit; p.bpf: {asm mov r0, 1 *4097}
 verify;; 3; error: p.bpf: broken pipe; p.bpf: {every} ! call 2 pipe
 asm; {asm mov r0, 1 | ja +0 | exit}; 0;; p.s: mov r0, 1\nja out\nout:\nexit\n
 asm; {asm exit *2000}; 0;; p.s: {exit\n*2000}

@@ -43,18 +43,19 @@ fn each_growth(rt: HostRuntime) -> Result<(), Fail> {
 }
 
 // How a file is read, how many bytes it has, how many of the first of these are kept, how many reads there are, of 4,096
-// bytes and one behind the last, and how many growths, or `+` for some. Of a program that is too long 4,096 words are
+// bytes and one behind the last, and how many growths, or `+` for some. Of a program that is too long 65,536 words are
 // kept, and a further one, or the part of one that it ends with.
 const LENGTHS: &str = "\
 program; 0; 0; 1; 1
 program; 7; 7; 2; 1
 program; 4096; 4096; 2; 1
-program; 32768; 32768; 9; 1
-program; 32769; 32769; 10; 1
 program; 32776; 32776; 10; 1
-program; 32777; 32769; 10; 1
-program; 100000; 32776; 26; 1
-program; 100001; 32769; 26; 1
+program; 524288; 524288; 129; 1
+program; 524289; 524289; 130; 1
+program; 524296; 524296; 130; 1
+program; 524297; 524289; 130; 1
+program; 600000; 524296; 148; 1
+program; 600001; 524289; 148; 1
 file; 0; 0; 1; 0
 file; 1; 1; 2; +
 file; 4096; 4096; 2; +
@@ -110,10 +111,19 @@ fn is_read_refused(alloc: Global, bytes: &[u8], row: &str, device: Device) -> Op
     (is_right && input.failed_reads() == u64::from(was_refused)).then_some(was_refused)
 }
 
-/// How many reads failed in turn in this way, up to the first that isn't reached.
+// Where there are more reads, so many of the last ones fail.
+const MOST_READS: u64 = 30;
+
+/// The first read that fails in a row's sweep.
+fn first_read(row: &str) -> u64 {
+    let reads: u64 = cell(row, 3).parse().unwrap_or(1);
+    reads.saturating_sub(MOST_READS).wrapping_add(1)
+}
+
+/// How many reads there are up to the last one that failed in turn in this way, before the first that isn't reached.
 fn reads(alloc: Global, bytes: &[u8], row: &str, way: &str) -> Option<u64> {
     let device = Device::new(way);
-    for call in 1..=u64::MAX {
+    for call in first_read(row)..=u64::MAX {
         if !is_read_refused(alloc, bytes, row, device.at_call(call))? {
             return call.checked_sub(1);
         }

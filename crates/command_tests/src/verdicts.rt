@@ -16,7 +16,7 @@ const RUN: &str = "extractd run --program p.bpf --data d 01001";
 const PROGRAMS: &str = r"
 ; refused 10 Empty; ! call 1 pipe; ! call 1 full
 hex 95000000000000; refused 11 NotWhole; ! call 1 pipe; ! call 1 full
-exit *4097; refused 12 TooLong; ! call 1 pipe; ! call 1 full
+exit *65537; refused 12 TooLong; ! call 1 pipe; ! call 1 full
 hex 0000000000000000 | exit; refused 13 place 0 UnknownOpcode; ! call 1 pipe; ! call 1 full
 hex b70b000001000000 | exit; refused 14 place 0 BadRegister; ! call 1 pipe; ! call 1 full
 hex b710000001000000 | exit; refused 15 place 0 UnusedNotZero; ! call 1 pipe; ! call 1 full

@@ -1,5 +1,5 @@
 -- Refusals of a program are of no device.
-use Rattle.std.proofs.Common.{◌≡◌, ◌≢◌, ℕ, Option, Some, None, ap, sym, ◌∙◌}
+use Rattle.std.proofs.Common.{◌≡◌, ◌≢◌, ℕ, Option, Some, ap, ◌∙◌}
 use Rattle.bpf_flow.specs.FlowFault as flow_fault
 use Rattle.bpf_flow.specs.declared.fault.FlowFault.{FlowFault}
 use Rattle.bpf_flow.specs.declared.fault.FlowFault.TheVariants as flow
@@ -19,8 +19,7 @@ use Rattle.extract.specs.ProgramFault as program_fault
 use Rattle.extract.specs.Refusal.{class_of}
 use Rattle.extract.specs.declared.program.ProgramFault.{ProgramFault}
 use Rattle.extract.specs.declared.program.ProgramFault.TheVariants as program
-use Rattle.extract.specs.declared.refusal.Class.{Class}
-use Rattle.extract.specs.declared.refusal.Class.TheVariants.{Refused, Device, Memory}
+use Rattle.extract.specs.declared.refusal.Class.TheVariants.{Device}
 
 -- refusals with this number are of no device
 abbrev pub IsNoDevice : Option ℕ → Type 0

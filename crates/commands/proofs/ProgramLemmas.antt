@@ -1,5 +1,5 @@
 -- What is kept of a program has its code, or its first fault.
-use Rattle.std.proofs.Common.{◌≡◌, ◌≢◌, ◌⊎◌, ℕ, ◌+◌, ◌*◌, ◌/◌, ◌%◌, ◌<◌, ◌≤◌, List, [], ◌++◌, length, take, ◌-◌, Option, Some, None, Result, Ok, Err, IfErr, IfOk, is_ok, min, if◌then◌else◌, inl, inr, refl, ap, sym, subst, ◌∙◌, arith}
+use Rattle.std.proofs.Common.{◌≡◌, ◌≢◌, ◌⊎◌, ℕ, ◌+◌, ◌*◌, ◌%◌, ◌<◌, ◌≤◌, List, [], ◌++◌, length, take, ◌-◌, Option, Some, None, Result, Ok, Err, IfErr, IfOk, is_ok, min, if◌then◌else◌, inl, inr, refl, ap, sym, subst, ◌∙◌, arith}
 use Rattle.std.specs.Io.KnownBytes.{Appends, Consumes, IsAtEnd, Keeps}
 use Rattle.std.proofs.Math.Seq.{take-append-add}
 use Rattle.std.proofs.lemmas.List.{append-nil, length-append, length-take, length-take-le, take-append-le, take_all, take_min}
@@ -11,7 +11,7 @@ use Rattle.bpf_insn.specs.declared.fault.CodeFault.{CodeFault}
 use Rattle.bpf_insn.specs.declared.fault.CodeFault.TheVariants as code
 use Rattle.bpf_insn.specs.declared.instruction.Insn.{Insn}
 use Rattle.bpf_insn.proofs.CodeLemmas.{word_count_of}
-use Rattle.extract.specs.Extracting.{HasSafeCode, HasWritten, IsExtracted, IsLoadRefusal, IsMemoryRefusal, IsOutcome, IsProgramRefusal, IsWriteRefusal, StopsAtLine, before_rt1, in_rt1}
+use Rattle.extract.specs.Extracting.{HasWritten, IsLoadRefusal, IsOutcome, StopsAtLine, before_rt1, in_rt1}
 use Rattle.extract.specs.Program.{IsProgramFault, IsSafeProgram}
 use Rattle.extract.specs.declared.fault.ExtractFault.{ExtractFault}
 use Rattle.extract.specs.declared.fault.ExtractFault.TheVariants as extract

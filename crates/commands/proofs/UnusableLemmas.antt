@@ -1,5 +1,5 @@
 -- What failures show of files and of the output.
-use Rattle.std.proofs.Common.{◌≡◌, ◌≢◌, ◌⊎◌, ◌==◌, ◌||◌, Bool, true, false, if◌then◌else◌, ℕ, List, Option, Some, None, Bor, Result, Ok, Err, IfErr, IsErrAnd, inl, inr, refl, ap, sym, subst, ◌∙◌, arith}
+use Rattle.std.proofs.Common.{◌≡◌, ◌≢◌, ◌⊎◌, ◌==◌, ◌||◌, true, false, if◌then◌else◌, ℕ, List, Option, Some, None, Bor, Result, Ok, Err, IfErr, IsErrAnd, inl, inr, refl, ap, sym, subst, ◌∙◌, arith}
 use Rattle.std.specs.Io.KnownBytes.{Keeps}
 use Rattle.std.specs.declared.io.Error.{Error}
 use Rattle.std.proofs.lemmas.Bool.Decides.{eqb_tells}
@@ -8,12 +8,11 @@ use Rattle.tl_fields.specs.Device.{Reader, WriteCounts, Writer}
 use Rattle.tl_fields.specs.declared.writing.WriteFault.{WriteFault}
 use Rattle.tl_fields.specs.declared.writing.WriteFault.TheVariants as write
 use Rattle.tl_records.specs.LineFlaw as line_flaw
-use Rattle.tl_records.specs.declared.fault.LineFault.{LineFault}
 use Rattle.tl_records.specs.declared.fault.LineFlaw.{LineFlaw}
 use Rattle.tl_records.specs.declared.fault.LineFlaw.TheVariants as flaw
 use Rattle.tl_segments.specs.County.{CountyReaders, IsCountyFault, before_rt1, in_rt1}
 use Rattle.tl_segments.specs.LoadFault as load_number
-use Rattle.tl_segments.specs.Loading.{ComesAfter, IsFileFault, IsFirstFault, IsJoinedFault, Readers, in_rt4, in_rt5, in_rt6}
+use Rattle.tl_segments.specs.Loading.{ComesAfter, IsFileFault, IsJoinedFault, in_rt4, in_rt5, in_rt6}
 use Rattle.tl_segments.specs.declared.fault.CountyFile as county_file
 use Rattle.tl_segments.specs.declared.fault.CountyFile.TheVariants.{Rt1}
 use Rattle.tl_segments.specs.declared.fault.LoadFault.{LoadFault}
@@ -24,12 +23,12 @@ use Rattle.extract.specs.Extracting as extracting
 use Rattle.extract.specs.Refusal.{IsRefusalWith, class_of}
 use Rattle.extract.specs.declared.fault.ExtractFault.{ExtractFault}
 use Rattle.extract.specs.declared.fault.ExtractFault.TheVariants as extract
-use Rattle.extract.specs.declared.refusal.Class.TheVariants.{Refused, Device, Memory}
+use Rattle.extract.specs.declared.refusal.Class.TheVariants.{Refused, Device}
 use Rattle.extract.specs.declared.refusal.Refusal as of_library
 use Rattle.commands.specs.County.{county_readers}
-use Rattle.commands.specs.Failure.{IsOfCountyFile, IsOfFile, Says, SaysLine, TellsWrite, class_status, refusal_status, status}
-use Rattle.commands.specs.Files.{CountsFileFault, Disk, HasFailedRead, TellsFailure, TellsUse, input_failed_reads}
-use Rattle.commands.specs.Unusable.{IsUnusable, TellsCause, TellsDevice, of_open, of_read, of_source, of_write, source_of}
+use Rattle.commands.specs.Failure.{IsOfFile, Says, SaysLine, TellsWrite, class_status, refusal_status, status}
+use Rattle.commands.specs.Files.{CountsFileFault, Disk, HasFailedRead, TellsFailure, TellsUse}
+use Rattle.commands.specs.Unusable.{IsUnusable, TellsCause, of_open, of_read, of_source, of_write, source_of}
 use Rattle.commands.specs.declared.request.Request.{Request}
 use Rattle.commands.specs.declared.county.CountyInputs.{CountyInputs}
 use Rattle.commands.specs.declared.failure.Failure.{Failure}

@@ -1,5 +1,5 @@
 -- What can't be used, where the exit status is 3: a count shows that an open, a read or a write failed, or a source isn't UTF-8.
-use Rattle.std.specs.Prelude.{◌≡◌, ◌≢◌, ◌⊎◌, ℕ, List, Option, Some, None, ⊤, Result, Ok, Err, IsUtf8}
+use Rattle.std.specs.Prelude.{◌≡◌, ◌≢◌, ◌⊎◌, ℕ, List, Option, Some, None, ⊤, Result, IsUtf8}
 use Rattle.std.specs.Io.KnownBytes.{Keeps}
 use Rattle.std.specs.declared.io.Error.{Error}
 use Rattle.tl_fields.specs.Counted.{CountsFault, CountsFlush}

@@ -1,5 +1,6 @@
 //! `verify`: whether a program is accepted.
-ghost use Rattle.std.specs.Prelude.{◌≢◌, ◌≡◌, IfErr};
+ghost use Rattle.std.specs.Prelude.{◌≢◌, ◌≡◌, IfOk, IfErr};
+ghost use Rattle.extract.specs.Program.{IsSafeProgram, IsProgramFault};
 ghost use Rattle.tl_fields.specs.Device.{writer};
 ghost use Rattle.commands.specs.Command.{IsCarriedOut};
 ghost use Rattle.commands.specs.Failure.{TellsOpens, status};
@@ -9,7 +10,9 @@ ghost use Rattle.commands.specs.Unusable.{TellsCause, source_of};
 
 use crate::failure::{Failure, write};
 use crate::files::{Files, read_program_file};
-use extract::{Refusal, accept};
+use bpf_insn::decode;
+use bpf_verify::Verified;
+use extract::{ProgramFault, Refusal, accept_code};
 use std::alloc::Allocator;
 use tl_fields::CountedWrite;
 
@@ -40,9 +43,22 @@ impl<'a> Verify<'a> {
             Ok(program) => program,
             Err(fault) => return Err(Failure::of_file(self.program, fault)),
         };
-        match accept(alloc, program.as_slice()) {
+        match accept_owned(alloc, program) {
             Ok(_verified) => write(out, b"accepted\n"),
             Err(fault) => Err(Failure::Refusal(Refusal::from(fault))),
         }
     }
+}
+
+/// Accepts a program, or refuses it. Its bytes are freed before the verifier takes memory.
+fn accept_owned<A: Allocator + Copy>(
+    alloc: A,
+    program: Vec<u8, A>,
+) -> Result<Verified<A>, ProgramFault>
+    ensures ok { IfOk result (λ verified. IsSafeProgram program.items verified.code) }
+    ensures err { IfErr result (IsProgramFault program.items) }
+{
+    let code = decode(alloc, program.as_slice())?;
+    drop(program);
+    accept_code(alloc, code)
 }

@@ -1,17 +1,13 @@
 -- A program has one verdict, want of memory aside.
-use Rattle.std.proofs.Common.{◌≡◌, ◌≢◌, ℕ, List, refl, sym, ap, ◌∙◌, subst}
+use Rattle.std.proofs.Common.{◌≡◌, ◌≢◌, ℕ, List, Result, Ok, Err, IfErr, refl, sym, ap, ◌∙◌, subst}
 use Rattle.bpf_flow.proofs.FlowLemmas.{has_no_fault, one_fault_lem}
 use Rattle.bpf_flow.specs.Flow as flow
-use Rattle.bpf_flow.specs.Flow.{IsForward}
 use Rattle.bpf_insn.proofs.CodeLemmas as code_of
 use Rattle.bpf_insn.specs.Code.{IsCodeOf}
 use Rattle.bpf_insn.specs.declared.instruction.Insn.{Insn}
 use Rattle.bpf_verify.proofs.VerdictLemmas as verdict
 use Rattle.bpf_verify.specs.Annotation.{IsVerifyFault}
-use Rattle.bpf_verify.specs.declared.fault.VerifyFault.{VerifyFault}
-use Rattle.bpf_verify.specs.declared.fault.VerifyFault.TheVariants as verify_fault
-use Rattle.extract.specs.Program.{IsSafeProgram, IsProgramFault}
-use Rattle.extract.specs.ProgramFault.{of_verify}
+use Rattle.extract.specs.Program.{IsSafeProgram, IsProgramFault, IsFaultOfCode}
 use Rattle.extract.specs.declared.program.ProgramFault.{ProgramFault}
 use Rattle.extract.specs.declared.program.ProgramFault.TheVariants.{Code, Flow, Verify, Memory}
 
@@ -47,7 +43,18 @@ one_fault program (Verify a) (Flow b) is also first second =
 one_fault program (Verify a) (Verify b) is also first second =
     ap Verify (verdict.one_fault also.0 a b (subst (λ (c : List Insn). IsVerifyFault c a) (same_code program is.0 also.0 is.1 also.1) is.3) also.3 is.4 also.4)
 
--- what the verifier says of a program's code is said of the program
-pub verify_fault_is : (program : List ℕ) (code : List Insn) (fault : VerifyFault) → IsCodeOf program code → IsForward code → IsVerifyFault code fault → IsProgramFault program (of_verify fault)
-verify_fault_is program code verify_fault.Memory is forward refused = tt
-verify_fault_is program code (verify_fault.Refused place cause) is forward refused = (code, is, forward, refused, λ same. cc)
+-- a fault of a program's code is one of the program
+program_fault : (program : List ℕ) (code : List Insn) (fault : ProgramFault) → IsCodeOf program code → IsFaultOfCode code fault → IsProgramFault program fault
+program_fault program code (Code fault) is of = absurd of
+program_fault program code (Flow fault) is of = (code, is, of)
+program_fault program code (Verify fault) is of = (code, is, of.0, of.1, of.2)
+program_fault program code Memory is of = tt
+
+module _ {V : Type 0} (program : List ℕ) (code : List Insn) where
+  pub refused_by_code : (result : Result V ProgramFault) → IsCodeOf program code → IfErr result (IsFaultOfCode code) → IfErr result (IsProgramFault program)
+  refused_by_code (Ok accepted) is of = tt
+  refused_by_code (Err fault) is of = program_fault program code fault is of
+
+  pub refused_for_memory : (result : Result V ProgramFault) → IsSafeProgram program code → IfErr result (IsProgramFault program) → IfErr result (λ fault. fault ≡ Memory)
+  refused_for_memory (Ok accepted) safe is = tt
+  refused_for_memory (Err fault) safe is = no_fault program code fault safe is

@@ -21,6 +21,12 @@ pub record IsSafeProgram (program : List ℕ) (code : List Insn) : Type 0 where
   pub accepted : HasGoodAnnotation code
   pub safe : IsSafe code
 
+-- The same of a code alone, whatever bytes it's of.
+pub record IsSafeCode (code : List Insn) : Type 0 where
+  pub forward : IsForward code
+  pub accepted : HasGoodAnnotation code
+  pub safe : IsSafe code
+
 -- 10 to 18 are the first fault of the bytes, 30 to 33 the first fault of their code; 40 to 51 come of a forward code alone
 abbrev pub IsProgramFault : List ℕ → ProgramFault → Type 0
 IsProgramFault program (Code fault) = code.IsFirstFault program fault × (fault ≢ code_fault.Memory)
@@ -28,3 +34,10 @@ IsProgramFault program (Flow fault) = (code : List Insn) × IsCodeOf program cod
 IsProgramFault program (Verify fault) =
     (code : List Insn) × IsCodeOf program code × IsForward code × IsVerifyFault code fault × (fault ≢ verify_fault.Memory)
 IsProgramFault program Memory = Unit {0}
+
+-- the same of a code alone, which has no fault of the bytes
+abbrev pub IsFaultOfCode : List Insn → ProgramFault → Type 0
+IsFaultOfCode code (Code fault) = ⊥
+IsFaultOfCode code (Flow fault) = flow.IsFirstFault code fault
+IsFaultOfCode code (Verify fault) = IsForward code × IsVerifyFault code fault × (fault ≢ verify_fault.Memory)
+IsFaultOfCode code Memory = Unit {0}

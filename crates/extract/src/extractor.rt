@@ -12,7 +12,6 @@ use crate::fault::ExtractFault;
 use crate::program::accept;
 use crate::rows::write_row_if_chosen;
 use bpf_machine::Bare;
-use bpf_meaning::reads_record_alone;
 use bpf_verify::Verified;
 use std::alloc::Allocator;
 use tl_fields::{CountedRead, CountedWrite};
@@ -60,7 +59,7 @@ fn load_index<A: Allocator + Copy, R: CountedRead>(
     ensures err { IfErr result (λ fault. IsJoinedFault fault
         (readers R.remaining R.failed_reads rt4.old rt5.old rt6.old) (readers R.remaining R.failed_reads rt4.new rt5.new rt6.new)) }
 {
-    if reads_record_alone(verified.code()) {
+    if verified.reads_record_alone() {
         Index::check(alloc, rt4, rt5, rt6)?;
         return Ok(Index::new(alloc));
     }

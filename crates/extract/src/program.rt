@@ -1,13 +1,13 @@
 //! Programs that are accepted: their bytes are a code that is safe to run.
 ghost use Rattle.std.specs.Prelude.{◌≡◌, List, IfOk, IfErr};
 ghost use Rattle.bpf_insn.specs.declared.instruction.Insn.{Insn};
-ghost use Rattle.extract.specs.Program.{IsSafeProgram, IsProgramFault};
+ghost use Rattle.extract.specs.Program.{IsSafeProgram, IsProgramFault, IsSafeCode, IsFaultOfCode};
 ghost use Rattle.extract.specs.ProgramFault as program_fault;
 ghost use Rattle.extract.specs.ProgramFault.{of_code, of_flow, of_verify};
 
 use arrayvec::ArrayString;
 use bpf_flow::{Flow, FlowFault};
-use bpf_insn::{CodeFault, decode, memory_name, refusal_line};
+use bpf_insn::{Code, CodeFault, decode, memory_name, refusal_line};
 use bpf_verify::{Verified, VerifyFault, verify};
 use std::alloc::Allocator;
 use thiserror::Error;
@@ -95,8 +95,8 @@ impl ProgramFault {
     }
 }
 
-/// Accepts a program, which `bpf_machine::run` then takes, or refuses it: its bytes are looked at first, then where its jumps lead and how it
-/// ends, and then what its instructions do. What is accepted keeps the allocator, and nothing of `program`.
+/// Accepts a program, which `bpf_machine::run` then takes, or refuses it: its bytes are looked at first, and then its code, as `accept_code`
+/// does. What is accepted keeps the allocator, and nothing of `program`.
 pub fn accept<A: Allocator + Copy>(alloc: A, program: &[u8]) -> Result<Verified<A>, ProgramFault>
     ensures ok { IfOk result (λ verified. IsSafeProgram program.now verified.code) }
     ensures err { IfErr result (IsProgramFault program.now) }
@@ -104,6 +104,20 @@ pub fn accept<A: Allocator + Copy>(alloc: A, program: &[u8]) -> Result<Verified<
     ensures only { (code : List Insn) → IsSafeProgram program.now code → IfErr result (λ fault. fault ≡ ProgramFault.Memory) }
 {
     let code = decode(alloc, program)?;
+    accept_code(alloc, code)
+}
+
+/// Accepts a code, or refuses it: where its jumps lead and how it ends is looked at first, and then what its instructions do. Who decodes a
+/// program and frees its bytes before this call doesn't hold them while the code is verified.
+pub fn accept_code<A: Allocator + Copy>(
+    alloc: A,
+    code: Code<A>,
+) -> Result<Verified<A>, ProgramFault>
+    ensures ok { IfOk result (λ verified. (verified.code ≡ code) × IsSafeCode code) }
+    ensures err { IfErr result (IsFaultOfCode code) }
+    // A safe code is refused for want of memory alone.
+    ensures only { IsSafeCode code → IfErr result (λ fault. fault ≡ ProgramFault.Memory) }
+{
     let flow = Flow::of(code)?;
     let verified = verify(alloc, flow)?;
     Ok(verified)

@@ -21,6 +21,14 @@ backward; refused 30 place 1 BackwardJump
 stuck; refused 40 place 0 ReadsNothing(0)
 argument; refused 50 place 5 BadArgument(3)";
 
+fn words(verified: &Verified<&Refusing<Global>>) -> u64 {
+    let words = verified
+        .entries()
+        .iter()
+        .map(|entry| entry.insn.words() as u64);
+    words.fold(0, |sum, words| sum.wrapping_add(words))
+}
+
 /// How many growths of a program's acceptance are refused in turn, each with want of memory, before it ends as a row says.
 fn accept_refusals(alloc: Global, row: &str) -> Option<u64> {
     let program = program(alloc, cell(row, 0))?;
@@ -33,7 +41,7 @@ fn accept_refusals(alloc: Global, row: &str) -> Option<u64> {
         } else {
             cell(row, 1)
         };
-        let given = accepted.map(|verified| verified.code().words() as u64);
+        let given = accepted.map(|verified| words(&verified));
         if !is_outcome(given.map_err(|fault| fault.line()), said) {
             return None;
         }

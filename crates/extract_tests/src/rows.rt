@@ -151,11 +151,12 @@ fn are_calls(cell: &str, reads: u64, writes: u64) -> bool {
 }
 
 // Programs of as many words as there may be, or one more.
-const SIZES: &str = r"mov r0, 1 *4095 | exit; {rt1\n*3};;;; ok 3; {0\trt1\n*3}
-lddw r0, 0x1 *2047 | mov r0, 1 | exit; {rt1\n};;;; ok 1; 0\t{rt1}\n
-mov r0, 1 | ja +4093 | mov r0, 0 *4093 | exit; {rt1\n*3};;;; ok 3; {0\trt1\n*3}
-ldxb r2, [r1+55] | jne r2, 65, +4092 | mov r0, 1 *4092 | exit *2; {rt1\n};;;; refused 40 place 4094 ReadsNothing(0);
-mov r0, 1 *4096 | exit; {rt1\n*3};;;; refused 12 TooLong;";
+const SIZES: &str = r"mov r0, 1 *65535 | exit; {rt1\n*3};;;; ok 3; {0\trt1\n*3}
+lddw r0, 0x1 *32767 | mov r0, 1 | exit; {rt1\n};;;; ok 1; 0\t{rt1}\n
+mov r0, 1 | ja32 +65533 | mov r0, 0 *65533 | exit; {rt1\n*3};;;; ok 3; {0\trt1\n*3}
+mov r3, 1 *32766 | ldxb r2, [r1+55] | jne r2, 65, +32766 | mov r0, 1 *32766 | exit *2; {rt1\n};;;;
+  refused 40 place 65534 ReadsNothing(0);
+mov r0, 1 *65536 | exit; {rt1\n*3};;;; refused 12 TooLong;";
 
 #[test]
 fn sizes(rt: HostRuntime) -> Result<(), Fail> {

@@ -108,8 +108,8 @@ next -> none
 fetch 3 -> 600 600 139328 of scored_roads
 
 3
-submit mov r0, 1 *4095 | exit -> 1
-submit mov r0, 1 *4096 | exit -> refused 12 TooLong
+submit mov r0, 1 *65535 | exit -> 1
+submit mov r0, 1 *65536 | exit -> refused 12 TooLong
 turn 1 -> 3 3
 fetch 1 -> 3 3 693 of every
 

@@ -96,7 +96,7 @@ POST /verify HTTP/1.1\r\nContent-Length: 16\r\n\r\n{every}POST /jobs HTTP/1.1\r\
   => 200 text accepted\n
 POST /verify HTTP/1.1\r\nContent-Length: 16\r\n\r\n{every*4000} => 200 text accepted\n
 POST /assemble HTTP/1.1\r\nContent-Length: 4\r\n\r\nexit 1 => 200 octets {stuck}
-POST /verify HTTP/1.1\r\nContent-Length: 32768\r\n\r\n{every*2048}{stuck} => 200 text accepted\n
+POST /verify HTTP/1.1\r\nContent-Length: 524288\r\n\r\n{every*32768}{stuck} => 200 text accepted\n
 GET /jobs/1 HTTP/1.1\r\nContent-Length: 5\r\n\r\n => 200 octets 1 1\n0\t{rt1}\n
 GET /jobs/1 HTTP/1.1\r\nContent-Length: x\r\nContent-Length:\r\nTransfer-Encoding: chunked\r\n\r\n
   => 200 octets 1 1\n0\t{rt1}\n

@@ -3,15 +3,11 @@ use crate::tables::{wrong_in_script, wrong_in_table};
 use fixtures::table;
 use std::test::Fail;
 
-// Words stand in hexadecimal where they are what is tested. Three programs are as long as one may be.
+// Words stand in hexadecimal where they are what is tested.
 const PROGRAMS: &str = r"POST /verify HTTP/1.1 >> {every} => 200 text accepted\n
 POST /verify HTTP/1.1 >> {roads} => 200 text accepted\n
-POST /verify HTTP/1.1 >> {asm mov r0, 1 *4095 | exit} => 200 text accepted\n
-POST /verify HTTP/1.1 >> {every*2048} => 200 text accepted\n
 POST /verify HTTP/1.1 >> => 422 refused 10 Empty
 POST /verify HTTP/1.1 >> \x95\x00\x00\x00\x00\x00\x00 => 422 refused 11 NotWhole
-POST /verify HTTP/1.1 >> {every*2048}\x00 => 422 refused 11 NotWhole
-POST /verify HTTP/1.1 >> {every*2048}{stuck} => 422 refused 12 TooLong
 POST /verify HTTP/1.1 >> {unknown} => 422 refused 13 place 0 UnknownOpcode
 POST /verify HTTP/1.1 >> {unused} => 422 refused 15 place 0 UnusedNotZero
 POST /verify HTTP/1.1 >> {cut} => 422 refused 17 place 1 CutWide
@@ -44,13 +40,11 @@ POST /disassemble HTTP/1.1 >> {backward} => 200 text mov r0, 1\nja -1\nexit\n
 POST /disassemble HTTP/1.1 >> {wide} => 200 text ja +1\nlddw r0, 0x0000000000000001\nexit\n
 POST /disassemble HTTP/1.1 >> => 422 refused 10 Empty
 POST /disassemble HTTP/1.1 >> \x95 => 422 refused 11 NotWhole
-POST /disassemble HTTP/1.1 >> {every*2048}{stuck} => 422 refused 12 TooLong
 POST /disassemble HTTP/1.1 >> {unknown} => 422 refused 13 place 0 UnknownOpcode
 POST /disassemble HTTP/1.1 >> {cut} => 422 refused 17 place 1 CutWide
 POST /extract HTTP/1.1 >> {every} => 200 octets 0\t{rt1}\n
 POST /extract HTTP/1.1 >> {scored} => 200 octets 18446744073709551615\t{rt1}\n
 POST /extract HTTP/1.1 >> {never} => 200 octets
-POST /extract HTTP/1.1 >> {asm mov r0, 1 *4095 | exit} => 200 octets 0\t{rt1}\n
 POST /extract HTTP/1.1 >> => 422 refused 10 Empty
 POST /extract HTTP/1.1 >> {stuck}\x00 => 422 refused 11 NotWhole
 POST /extract HTTP/1.1 >> {backward} => 422 refused 30 place 1 BackwardJump
@@ -60,6 +54,20 @@ POST /extract HTTP/1.1 >> {stuck} => 422 refused 40 place 0 ReadsNothing(0)";
 fn programs(rt: HostRuntime) -> Result<(), Fail> {
     let table = table(rt.alloc(), PROGRAMS)?;
     assert_eq!(rt; wrong_in_table(rt.alloc(), &table), Ok(None));
+    Ok(())
+}
+
+// Three programs are as long as one may be, and the others longer.
+const LONG: &str = r"POST /verify HTTP/1.1 >> {asm mov r0, 1 *65535 | exit} => 200 text accepted\n
+POST /verify HTTP/1.1 >> {every*32768} => 200 text accepted\n
+POST /verify HTTP/1.1 >> {every*32768}\x00 => 422 refused 11 NotWhole
+POST /verify HTTP/1.1 >> {every*32768}{stuck} => 422 refused 12 TooLong
+POST /disassemble HTTP/1.1 >> {every*32768}{stuck} => 422 refused 12 TooLong
+POST /extract HTTP/1.1 >> {asm mov r0, 1 *65535 | exit} => 200 octets 0\t{rt1}\n";
+
+#[test]
+fn long_programs(rt: HostRuntime) -> Result<(), Fail> {
+    assert_eq!(rt; wrong_in_table(rt.alloc(), LONG), Ok(None));
     Ok(())
 }
 

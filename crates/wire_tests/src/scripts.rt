@@ -144,14 +144,14 @@ fn turns(rt: HostRuntime) -> Result<(), Fail> {
 
 // A program of as many words as one may have.
 const LONG: &str = r"{rt1\n*2}
-POST /jobs HTTP/1.1 >> {asm mov r0, 1 *4095 | exit} => 200 text 1\n
+POST /jobs HTTP/1.1 >> {asm mov r0, 1 *65535 | exit} => 200 text 1\n
 turn => 2 2
 GET /jobs/1{end} => 200 octets 2 2\n{0\trt1\n*2}";
 
 #[test]
 fn long(rt: HostRuntime) -> Result<(), Fail> {
     let script = table(rt.alloc(), LONG)?;
-    assert_eq!(rt; wrong_in_script(rt.alloc(), &script, 409), Ok(None));
+    assert_eq!(rt; wrong_in_script(rt.alloc(), &script, 262_147), Ok(None));
     Ok(())
 }
 
@@ -160,7 +160,7 @@ const FULL: &str = r"{rt1}\n
 jobs => 64
 POST /jobs HTTP/1.1 >> {every} => 503 refused 70 Full
 POST /jobs HTTP/1.1 >> {stuck} => 503 refused 70 Full
-POST /jobs HTTP/1.1 >> {every*2048}{stuck} => 503 refused 70 Full
+POST /jobs HTTP/1.1 >> {every*32768}{stuck} => 503 refused 70 Full
 POST /jobs HTTP/1.1\r\n\r\n{stuck} => 411
 POST /jobs HTTP/1.1\r\nTransfer-Encoding: chunked\r\nContent-Length: 8\r\n\r\n{stuck} => 411
 POST /jobs HTTP/1.1\r\nContent-Length: 9\r\n\r\n{stuck} => 400

@@ -243,8 +243,9 @@ fn is_right_in_all_ways(
 ) -> bool {
     let length = row.length();
     for cut in 0..length {
-        let way = whole().cut_at(cut);
-        if is_tried(cut, length) && !is_right_before(alloc, state, row, way, behind) {
+        if is_tried(cut, length)
+            && !is_right_before(alloc, state, row, whole().cut_at(cut), behind)
+        {
             return false;
         }
     }

@@ -1,5 +1,5 @@
 //! How many words a program may have, and codes that are built and not read.
-use crate::codes::is_written;
+use crate::codes::{code_of, instruction_of, is_written};
 use bpf_insn::{Code, CodeBuilder, CodeFault, Insn, WORD_LIMIT, WritableRegister, decode};
 use fixtures::{cell, program};
 use std::alloc::Global;
@@ -7,15 +7,19 @@ use std::alloc::Global;
 // Words, and what they give: how many instructions and words, or a refusal.
 const SIZES: &str = "\
 hex 9500000000000000; 1 1
-hex 9500000000000000 *4095; 4095 4095
-hex 9500000000000000 *4096; 4096 4096
-hex 9500000000000000 *4096 | hex 00; refused 11 NotWhole
-hex 9500000000000000 *4097; refused 12 TooLong
+hex 9500000000000000 *4097; 4097 4097
+hex 9500000000000000 *65535; 65535 65535
+hex 9500000000000000 *65536; 65536 65536
+hex 9500000000000000 *65536 | hex 00; refused 11 NotWhole
+hex 9500000000000000 *65537; refused 12 TooLong
+hex 9500000000000000 *65537 | hex 00; refused 11 NotWhole
 hex 1800000000000000 0000000000000000; 1 2
-hex 1800000000000000 0000000000000000 *2048; 2048 4096
-hex 1800000000000000 0000000000000000 *2047 | hex 9500000000000000; 2048 4095
-hex 1800000000000000 0000000000000000 *2047 | hex 1800000000000000; refused 17 place 4094 CutWide
-hex 1800000000000000 0000000000000000 *2048 | hex 9500000000000000; refused 12 TooLong";
+hex 1800000000000000 0000000000000000 *32768; 32768 65536
+hex 1800000000000000 0000000000000000 *32767 | hex 9500000000000000; 32768 65535
+hex 1800000000000000 0000000000000000 *32767 | hex 1800000000000000; refused 17 place 65534 CutWide
+hex 9500000000000000 *65535 | hex 1800000000000000; refused 17 place 65535 CutWide
+hex 1800000000000000 0000000000000000 *32768 | hex 9500000000000000; refused 12 TooLong
+hex 9500000000000000 *65535 | hex 1800000000000000 0000000000000000; refused 12 TooLong";
 
 /// Whether bytes are a code of so many instructions and words, which is written as the same bytes, or are refused with this
 /// line.
@@ -37,6 +41,40 @@ fn sizes(rt: HostRuntime) {
     for row in SIZES.lines() {
         let bytes = program(rt.alloc(), cell(row, 0)).expect(&rt, row);
         assert!(rt; gives_size(rt.alloc(), &bytes, cell(row, 1)), "{row}");
+    }
+}
+
+// Places in long programs, the indexes of the instructions that begin there, those instructions, and the programs.
+const PLACES: &str = "\
+1; 1; ja32 +65000; mov r0, 1 | ja32 +65000 | lddw r2, 0x1 *32500 | mov r3, 1 *533 | exit
+65000; 32501; lddw r2, 0x1; mov r0, 1 | ja32 +65000 | lddw r2, 0x1 *32500 | mov r3, 1 *533 | exit
+65001; none; none; mov r0, 1 | ja32 +65000 | lddw r2, 0x1 *32500 | mov r3, 1 *533 | exit
+65002; 32502; mov r3, 1; mov r0, 1 | ja32 +65000 | lddw r2, 0x1 *32500 | mov r3, 1 *533 | exit
+65535; 33035; exit; mov r0, 1 | ja32 +65000 | lddw r2, 0x1 *32500 | mov r3, 1 *533 | exit
+65536; none; none; mov r0, 1 | ja32 +65000 | lddw r2, 0x1 *32500 | mov r3, 1 *533 | exit
+32768; 32768; mov r0, 1; mov r0, 1 *65535 | exit
+65535; 65535; exit; mov r0, 1 *65535 | exit";
+
+/// Whether the instruction that begins at a row's place in its program is the one of the row, and has the row's index.
+fn has_place(alloc: Global, row: &str) -> Option<bool> {
+    let code = code_of(alloc, cell(row, 3))?;
+    let place = cell(row, 0).parse().ok()?;
+    let (index, insn) = (code.index_at(place), code.at(place));
+    Some(match index {
+        Some(index) => {
+            cell(row, 1).parse() == Ok(index)
+                && code.place(index) == place
+                && insn == instruction_of(alloc, cell(row, 2))
+                && code.instructions().get(index).copied() == insn
+        }
+        None => insn.is_none() && cell(row, 1) == "none",
+    })
+}
+
+#[test]
+fn places(rt: HostRuntime) {
+    for row in PLACES.lines() {
+        assert!(rt; has_place(rt.alloc(), row) == Some(true), "{row}");
     }
 }
 
@@ -77,15 +115,15 @@ fn limit(rt: HostRuntime) {
     }
     // One word is left: a wide load has no room, and another instruction has.
     let wide = builder.push(WIDE);
-    assert!(rt; (wide, builder.words()) == (Err(CodeFault::TooLong), 4_095));
+    assert!(rt; (wide, builder.words()) == (Err(CodeFault::TooLong), 65_535));
     let last = (
         builder.push(Insn::Exit),
         builder.push(Insn::Exit),
         builder.push(WIDE),
     );
     assert!(rt; last == (Ok(()), Err(CodeFault::TooLong), Err(CodeFault::TooLong)));
-    let bytes = program(rt.alloc(), "exit *4096").expect(&rt, "a program");
-    assert!(rt; builds(rt.alloc(), builder, (4_096, 4_096), &bytes));
+    let bytes = program(rt.alloc(), "exit *65536").expect(&rt, "a program");
+    assert!(rt; builds(rt.alloc(), builder, (65_536, 65_536), &bytes));
 }
 
 /// A builder gives no code of no instruction.

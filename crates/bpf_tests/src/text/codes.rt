@@ -33,7 +33,12 @@ ja -32768; hex 0500008000000000
 ja +32767; hex 0500ff7f00000000
 ja32 -2147483648; hex 0600000000000080
 ja32 +2147483647; hex 06000000ffffff7f
-call -1; hex 85000000ffffffff";
+call -1; hex 85000000ffffffff
+mov r0, 1\nja far\n{mov r0, 1\n*32767}far:\nexit; mov r0, 1 | hex 0500ff7f00000000 | mov r0, 1 *32767 | exit
+mov r0, 1\nja32 far\n{mov r0, 1\n*32768}far:\nexit; mov r0, 1 | hex 0600000000800000 | mov r0, 1 *32768 | exit
+far:\n{mov r0, 1\n*32767}jeq r0, 1, far; mov r0, 1 *32767 | hex 1500008001000000
+far:\n{mov r0, 1\n*32768}ja32 far; mov r0, 1 *32768 | hex 06000000ff7fffff
+ja32 far\n{exit\n*65535}far:; hex 06000000ffff0000 | exit *65535";
 
 /// Whether a text means the code of these bytes.
 fn means(alloc: Global, text: &str, bytes: &[u8]) -> bool {

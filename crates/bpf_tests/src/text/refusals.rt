@@ -67,6 +67,9 @@ a:\na:\nexit; refused 24 line 2 DoubleLabel
 a:\n\na: \x3b again\nfrob; refused 24 line 3 DoubleLabel
 ja nowhere; refused 23 line 1 UnknownLabel
 a:\nja b\nja a\nja c; refused 23 line 2 UnknownLabel
+mov r0, 1\nja far\n{mov r0, 1\n*32768}far:\nexit; refused 25 line 2 LabelTooFar
+far:\n{mov r0, 1\n*32768}jne32 r0, r1, far; refused 25 line 32770 LabelTooFar
+jeq r0, 1, far\nja nowhere\n{exit\n*32767}far:; refused 25 line 1 LabelTooFar
 ja b\nfrob; refused 21 line 2 UnknownMnemonic
 exit\r; refused 20 line 1 Syntax
 exit\r\r\n; refused 20 line 1 Syntax

@@ -7,8 +7,10 @@ use std::alloc::{AllocError, Global};
 use std::test::Fail;
 
 // Texts, and how many words each has, or its refusal.
-const SIZES: &str = r"{exit\n*4096}; 4096
-{exit\n*4097}; refused 26 line 4097 CodeFault(12)
+const SIZES: &str = r"{exit\n*65536}; 65536
+{exit\n*65537}; refused 26 line 65537 CodeFault(12)
+{exit\n*65534}lddw r0, 1; 65536
+{exit\n*65535}lddw r0, 1; refused 26 line 65536 CodeFault(12)
 {\x3b nothing\n*69930}{exit\n*70}; 70
 {\x3b nothing\n*69930}{exit\n*69}frob; refused 21 line 70000 UnknownMnemonic";
 
@@ -19,14 +21,14 @@ fn sizes(rt: HostRuntime) {
     }
 }
 
-// Lines as the disassembler writes them, and how often a program has room for each.
+// Lines as the disassembler writes them, and how often each stands in a program: the first two as often as one has room for.
 const LINES: &str = "\
-exit; 4096
-lddw r9, 0x1122334455667788; 2048
-stdw [r10-32768], -2147483648; 4096
-jsgt32 r10, -2147483648, -32768; 4096
-movsx16_32 r9, r10; 4096
-ja32 +2147483647; 4096";
+exit; 65536
+lddw r9, 0x1122334455667788; 32768
+jsgt32 r10, -2147483648, -32768; 10000
+stdw [r10-32768], -2147483648; 1000
+movsx16_32 r9, r10; 1000
+ja32 +2147483647; 1000";
 
 /// Whether so many lines mean the program of these words, and are written of it.
 fn is_turned(alloc: Global, row: &str) -> Option<bool> {
@@ -57,8 +59,8 @@ fn labels(alloc: Global, jumps: u32) -> Result<String, AllocError> {
 
 #[test]
 fn as_many_labels_as_fit(rt: HostRuntime) -> Result<(), Fail> {
-    let text = labels(rt.alloc(), 4095)?;
-    let words = program(rt.alloc(), "ja +0 *4095 | exit").ok_or("words")?;
+    let text = labels(rt.alloc(), 65_535)?;
+    let words = program(rt.alloc(), "ja +0 *65535 | exit").ok_or("words")?;
     let code = assemble(rt.alloc(), &text).expect(&rt, "a code");
     assert!(rt; is_written(rt.alloc(), &code, &words));
     Ok(())

@@ -3,10 +3,10 @@ use Rattle.std.specs.Prelude.{vec_capacity}
 use Rattle.bpf_verify.proofs.PassLemmas.{IsOnItsWay}
 use Rattle.bpf_verify.proofs.pass.pass.Given as goal
 
--- an annotation is good up to the place that the pass has come to, from there on it is what is kept, and so many areas were found; there is
--- room for all of them
+-- an annotation is good up to the place to which the pass has come, from there on it is what is kept, and so many areas were found; there
+-- is room for all of them
 abbrev pub invariant-loop-insn : goal.invariant-loop-insn
 invariant-loop-insn g l = record {
-  way : IsOnItsWay l.flow.code (take l.insn-index l.flow.code) l.place l.ahead l.areas.items;
+  way : IsOnItsWay l.flow.code (take l.insn-index l.flow.code) l.ahead l.areas.items;
   room : length l.flow.code ≤ vec_capacity l.areas;
 }

@@ -1,11 +1,12 @@
-use Rattle.std.proofs.Common.{◌≤◌, ℕ, List, length, inl, inr, arith, subst, sym}
+use Rattle.std.proofs.Common.{◌≤◌, ◌*◌, ℕ, List, length, inl, inr, arith, subst, sym}
+use Rattle.bpf_insn.specs.declared.code.TheConstants.{WORD_LIMIT}
 use Rattle.commands.specs.declared.files.TheConstants.{MOST_KEPT}
 use Rattle.commands.proofs.ProgramLemmas.{cut_kept, few_kept, front_kept}
 use Rattle.commands.proofs.files.cut_behind.Goals as goal
 
 pub returns-then-len : goal.returns-then-len
 returns-then-len g c = λ program is of.
-    let short : length c.args.front.now.items ≤ 32768 = omega (arith, c.if-len.true, c.len.ensures) in
+    let short : length c.args.front.now.items ≤ 8 * WORD_LIMIT = omega (arith, c.if-len.true, c.len.ensures) in
     (front_kept program c.args.front.now.items c.args.remainder is of (inl short), subst (λ (bytes : List ℕ). length bytes ≤ MOST_KEPT) (sym is) (few_kept MOST_KEPT program))
 
 pub returns-then-remainder-eq0 : goal.returns-then-remainder-eq0

@@ -1,4 +1,4 @@
-use Rattle.std.proofs.Common.{sym, ap, ◌∙◌}
+use Rattle.std.proofs.Common.{sym, ◌∙◌}
 use Rattle.std.specs.Prelude.{IsTrue}
 use Rattle.tl_segments.specs.Joining.{no_lines}
 use Rattle.bpf_meaning.specs.RecordAlone.{reads_record_alone}
@@ -9,7 +9,7 @@ pub returns-then-reads_record_alone-clause-ok : goal.returns-then-reads_record_a
 returns-then-reads_record_alone-clause-ok g c =
     let code = c.args.verified.now.code in
     let checked = c.in_ok-check.ensures.ok in
-    let alone : IsTrue (reads_record_alone code) = ap reads_record_alone (sym c.code.ensures.value) ∙ sym c.reads_record_alone.ensures ∙ c.if-reads_record_alone.true in
+    let alone : IsTrue (reads_record_alone code) = sym c.reads_record_alone.ensures ∙ c.if-reads_record_alone.true in
     record { own = no_lines; index_of = c.new.ensures; joined = checked.0; reads = checked.1; alike = alike_alone code checked.0 alone }
 
 pub returns-clause-ok : goal.returns-clause-ok

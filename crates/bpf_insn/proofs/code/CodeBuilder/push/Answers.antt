@@ -2,8 +2,11 @@ use Rattle.std.proofs.Common.{◌≡◌, ◌≤◌, ◌+◌, arith, ◌∙◌, r
 use Rattle.bpf_insn.specs.Code.{word_count}
 use Rattle.bpf_insn.specs.Form.{spelling}
 use Rattle.bpf_insn.specs.declared.code.TheConstants.{WORD_LIMIT}
-use Rattle.bpf_insn.proofs.PlaceLemmas.{all_grow}
+use Rattle.bpf_insn.proofs.PlaceLemmas.{all_grow, few_instructions}
 use Rattle.bpf_insn.proofs.code.CodeBuilder.push.Goals as goal
+
+pub overflow_cast-len : goal.overflow_cast-len
+overflow_cast-len g c = let few = few_instructions c.self.inside.instructions.items in let within = c.self.invariant.2 in omega (arith, c.len.ensures, ap length c.reserve.ensures.items)
 
 pub invariant_of-self-2 : goal.invariant_of-self-2
 invariant_of-self-2 g c =

@@ -1,34 +1,63 @@
-use Rattle.std.proofs.Common.{◌≡◌, ◌<◌, ℕ, List, map, length, slice_set, Option, sym, ap, ◌∙◌, subst, arith}
-use Rattle.std.proofs.lemmas.List.{map-set, length-map}
-use Rattle.std.specs.declared.boxed.Box.{Box}
-use Rattle.bpf_verify.specs.Pass.{AreProper, annotation_of, state_of, taken}
-use Rattle.bpf_verify.specs.State.{AbstractState, IsProper, Unreached}
-use Rattle.bpf_verify.specs.declared.state.Known.{Known}
-use Rattle.bpf_verify.proofs.PassLemmas.{state-found, is_found_proper, written_proper}
+use Rattle.std.proofs.Common.{◌≡◌, ◌+◌, Some, sym, ap, ◌∙◌, subst, arith}
+use Rattle.bpf_insn.specs.Code.{instruction_at}
+use Rattle.bpf_insn.proofs.SpanLemmas.{ends_within}
+use Rattle.bpf_verify.specs.Pass.{Ahead, kept, state_of, states_ahead, states_in, waiting_at}
+use Rattle.bpf_verify.specs.State.{Reached, Unreached}
+use Rattle.bpf_verify.proofs.AheadLemmas.{found_proper, here_is, kept_proper, left_behind, moved_ahead, waits, waits_after}
+use Rattle.bpf_verify.proofs.PassLemmas.{join-bottom}
 use Rattle.bpf_verify.proofs.ahead.StatesAhead.take.Goals as goal
 
--- a box that is taken out of the list
-taken-is : {A : Type 0} (items : List (Option (Box Known A))) (place : ℕ) (left : Option (Box Known A)) → state_of left ≡ Unreached → map state_of (slice_set items place left) ≡ taken (map state_of items) place
-taken-is items place left is = map-set state_of items place left ∙ ap (slice_set (map state_of items) place) is
+pub overflow_add-self : goal.overflow_add-self
+overflow_add-self g c =
+    let at = ap (λ (a : Ahead). a.place) c.self.view_is in
+    let ends = ends_within c.args.self.now.code c.args.self.now.place c.args.insn c.requires.stands in
+    let sized = c.requires.sized.1 in omega (arith, at)
+
+pub meet-requires-clause-there : goal.meet-requires-clause-there
+meet-requires-clause-there g c = found_proper c.self.inside.waiting.entries c.self.inside.place c.remove-there.result c.self.invariant.proper c.remove-there.ensures.value
 
 pub invariant_of-self : goal.invariant_of-self
 invariant_of-self g c =
-    subst AreProper (sym (taken-is c.self.inside.states.items c.args.place c.take.new.self (ap state_of c.take.ensures.after)))
-    (written_proper (map state_of c.self.inside.states.items) c.args.place Unreached c.self.invariant tt)
+    let stands = subst (λ (a : Ahead). instruction_at a.code a.place ≡ Some c.args.insn) (sym c.self.view_is) c.requires.stands in
+    rw (c.take.ensures.after) (moved_ahead _ (states_in c.remove-there.new.self.entries) (c.self.inside.place + c.words.result) c.args.insn c.self.invariant stands (ap (λ n. c.self.inside.place + n) c.words.ensures) (waits_after c.self.inside.waiting c.remove-there.new.self c.self.inside.place _ c.remove-there.ensures.updates))
+
+pub returns-in_default-clause-value : goal.returns-in_default-clause-value
+returns-in_default-clause-value g c =
+    sym (join-bottom (state_of c.remove-there.result))
+    ∙ here_is (states_ahead c.self.inside.flow.now.code c.self.inside.place c.self.inside.straight c.self.inside.waiting.entries) (state_of c.remove-there.result) Unreached (ap state_of c.remove-there.ensures.value ∙ sym (waits c.self.inside.waiting.entries c.self.inside.place))
+    (sym (ap state_of c.in_default.is) ∙ ap state_of c.take.ensures.value)
+    ∙ ap (λ (a : Ahead). kept a a.place) c.self.view_is
+
+pub returns-in_default-clause-proper : goal.returns-in_default-clause-proper
+returns-in_default-clause-proper g c = found_proper c.self.inside.waiting.entries c.self.inside.place c.remove-there.result c.self.invariant.proper c.remove-there.ensures.value
+
+pub returns-in_default-clause-proper_states : goal.returns-in_default-clause-proper_states
+returns-in_default-clause-proper_states g c = kept_proper _ (invariant_of-self g c)
+
+pub returns-in_default-clause-waiting : goal.returns-in_default-clause-waiting
+returns-in_default-clause-waiting g c = λ other past.
+    let at = ap (λ (a : Ahead). a.place) c.self.view_is in
+    left_behind _ _ c.self.inside.place other (waits_after c.self.inside.waiting c.remove-there.new.self c.self.inside.place _ c.remove-there.ensures.updates) (omega (arith, at))
+    ∙ ap (λ (a : Ahead). waiting_at a.waiting other) c.self.view_is
+
+pub invariant_of-self-2 : goal.invariant_of-self-2
+invariant_of-self-2 g c =
+    let stands = subst (λ (a : Ahead). instruction_at a.code a.place ≡ Some c.args.insn) (sym c.self.view_is) c.requires.stands in
+    rw (c.take.ensures.after) (moved_ahead _ (states_in c.remove-there.new.self.entries) (c.self.inside.place + c.words.result) c.args.insn c.self.invariant stands (ap (λ n. c.self.inside.place + n) c.words.ensures) (waits_after c.self.inside.waiting c.remove-there.new.self c.self.inside.place _ c.remove-there.ensures.updates))
 
 pub returns-clause-value : goal.returns-clause-value
 returns-clause-value g c =
-    let within : c.args.place < length c.self.inside.states.items = omega (arith, length-map c.self.inside.states.items state_of, ap length c.self.view_is, c.requires) in
-    ap state_of c.take.ensures.value ∙ state-found c.self.inside.states.items c.args.place c.index_mut.result.now within c.index_mut.ensures.value
-    ∙ ap (λ (states : List AbstractState). annotation_of states c.args.place) c.self.view_is
-
-pub returns-clause-proper : goal.returns-clause-proper
-returns-clause-proper g c =
-    is_found_proper c.take.result (subst IsProper (sym (returns-clause-value g c)) (subst AreProper c.self.view_is c.self.invariant c.args.place))
-
-pub returns-clause-states : goal.returns-clause-states
-returns-clause-states g c =
-    taken-is c.self.inside.states.items c.args.place c.take.new.self (ap state_of c.take.ensures.after) ∙ ap (λ (states : List AbstractState). taken states c.args.place) c.self.view_is
+    c.meet.ensures.value
+    ∙ here_is (states_ahead c.self.inside.flow.now.code c.self.inside.place c.self.inside.straight c.self.inside.waiting.entries) (state_of c.remove-there.result) (Reached c.in-Some.known.value)
+    (ap state_of c.remove-there.ensures.value ∙ sym (waits c.self.inside.waiting.entries c.self.inside.place))
+    (sym (ap state_of c.in-Some.is) ∙ ap state_of c.take.ensures.value)
+    ∙ ap (λ (a : Ahead). kept a a.place) c.self.view_is
 
 pub returns-clause-proper_states : goal.returns-clause-proper_states
-returns-clause-proper_states g c = invariant_of-self g c
+returns-clause-proper_states g c = kept_proper _ (invariant_of-self-2 g c)
+
+pub returns-clause-waiting : goal.returns-clause-waiting
+returns-clause-waiting g c = λ other past.
+    let at = ap (λ (a : Ahead). a.place) c.self.view_is in
+    left_behind _ _ c.self.inside.place other (waits_after c.self.inside.waiting c.remove-there.new.self c.self.inside.place _ c.remove-there.ensures.updates) (omega (arith, at))
+    ∙ ap (λ (a : Ahead). waiting_at a.waiting other) c.self.view_is

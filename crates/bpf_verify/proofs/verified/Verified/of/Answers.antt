@@ -1,11 +1,9 @@
-use Rattle.std.proofs.Common.{◌≡◌, List, Option, length, sym, ap, ◌∙◌, subst}
+use Rattle.std.proofs.Common.{◌≡◌, List, Option, length, ap, ◌∙◌}
 use Rattle.bpf_insn.specs.declared.instruction.Insn.{Insn}
 use Rattle.bpf_insn.specs.declared.value.Area.{Area}
-use Rattle.bpf_verify.specs.Verified.{HasBaseAreas, entries_of}
+use Rattle.bpf_verify.specs.Verified.{areas_in, entries_of, instructions_in}
 use Rattle.bpf_verify.specs.declared.verified.Entry.{Entry}
-use Rattle.bpf_flat.specs.Flat.{AreFlatForms}
-use Rattle.bpf_meaning.specs.Run.{IsSafe}
-use Rattle.bpf_verify.proofs.AreaLemmas.{areas_hold, areas_in, areas_in-entries_of, immediates_of_forms, instructions_in, instructions_in-entries_of, length-areas_from}
+use Rattle.bpf_verify.proofs.AreaLemmas.{areas_hold, areas_in-entries_of, immediates_of_forms, instructions_in-entries_of, length-areas_from}
 use Rattle.bpf_verify.proofs.SoundRuns.{good_is_safe}
 use Rattle.bpf_verify.proofs.verified.Verified.of.Goals as goal
 
@@ -26,20 +24,19 @@ flat_forms-requires g c =
 pub invariant_of-result : goal.invariant_of-result
 invariant_of-result g c =
     let accepted = c.requires in
-    let same = c.into_code-code.ensures.value in
+    let forward = c.into_code.ensures.forward in
     let immediates = immediates_of_forms c.args.flow.code c.args.areas.now c.in_ok-flat_forms.flat_forms.items c.in_ok-flat_forms.ensures in
-    let holds = areas_hold c.args.flow.code c.args.areas.now c.into_code-code.ensures.forward immediates accepted in
-    let made = are_made_of _ _ _ _ c.in_ok-entries.ensures (c.instructions.ensures.value ∙ same) holds.count in
-    let safe = good_is_safe c.args.flow.code c.into_code-code.ensures.forward immediates (accepted.annotation, accepted.is_least.good) in (
-      subst IsSafe (sym same) safe,
-      subst (λ (code : List Insn). HasBaseAreas code (areas_in c.in_ok-entries.entries.items)) (sym same) (subst (HasBaseAreas c.args.flow.code) (sym made.bases) holds),
-      made.instructions ∙ sym same,
-      subst (λ (code : List Insn). AreFlatForms code (areas_in c.in_ok-entries.entries.items) (length code) c.in_ok-flat_forms.flat_forms.items) (sym same)
-          (subst (λ (areas : List (Option Area)). AreFlatForms c.args.flow.code areas (length c.args.flow.code) c.in_ok-flat_forms.flat_forms.items) (sym made.bases) c.in_ok-flat_forms.ensures),
-    )
+    let safe = good_is_safe c.args.flow.code forward immediates (accepted.annotation, accepted.is_least.good) in
+    let holds = areas_hold c.args.flow.code c.args.areas.now forward immediates accepted in
+    let made = are_made_of _ _ c.args.flow.code _ c.in_ok-entries.ensures (c.as_slice.ensures.value ∙ c.into_instructions-instructions.ensures.value ∙ c.into_code.ensures.value) holds.count in
+    rw (made.instructions, made.bases) (safe, holds, c.in_ok-flat_forms.ensures)
+
+pub returns-clause-code : goal.returns-clause-code
+returns-clause-code g c =
+    let count = ap length c.requires.are ∙ length-areas_from c.requires.annotation 0 c.args.flow.code in
+    let made = are_made_of _ _ c.args.flow.code _ c.in_ok-entries.ensures (c.as_slice.ensures.value ∙ c.into_instructions-instructions.ensures.value ∙ c.into_code.ensures.value) count in made.instructions
 
 pub returns-clause-areas : goal.returns-clause-areas
 returns-clause-areas g c =
-    let immediates = immediates_of_forms c.args.flow.code c.args.areas.now c.in_ok-flat_forms.flat_forms.items c.in_ok-flat_forms.ensures in
-    let holds = areas_hold c.args.flow.code c.args.areas.now c.into_code-code.ensures.forward immediates c.requires in
-    let made = are_made_of _ _ _ _ c.in_ok-entries.ensures (c.instructions.ensures.value ∙ c.into_code-code.ensures.value) holds.count in made.bases
+    let count = ap length c.requires.are ∙ length-areas_from c.requires.annotation 0 c.args.flow.code in
+    let made = are_made_of _ _ c.args.flow.code _ c.in_ok-entries.ensures (c.as_slice.ensures.value ∙ c.into_instructions-instructions.ensures.value ∙ c.into_code.ensures.value) count in made.bases
