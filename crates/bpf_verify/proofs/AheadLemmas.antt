@@ -4,6 +4,7 @@ use Rattle.std.proofs.lemmas.Bool.{cases_lt, false≢true}
 use Rattle.std.proofs.lemmas.Bool.Decides.{nat_tests}
 use Rattle.std.specs.BTreeMap.{BTreeMap, Updates, is_at}
 use Rattle.std.specs.Map.{lookup}
+use Rattle.std.specs.Option.{unwrap_or}
 use Rattle.std.specs.Ordering.{nat_cmp}
 use Rattle.std.specs.declared.boxed.Box.{Box}
 use Rattle.bpf_insn.proofs.CodeLemmas.{length-spelling_positive}
@@ -78,7 +79,7 @@ waits [] place = refl
 waits {A} (known ∷ others) place = by (waits others place) (place == known.0) (is_at (nat_cmp place) known.0) (sym (test_is place known.0))
   where
     by : waiting_at (states_in others) place ≡ state_of (lookup (is_at (nat_cmp place)) others) → (here test : Bool) → here ≡ test
-        → (if here then Reached known.1.value else waiting_at (states_in others) place) ≡ state_of (cond test (Some known.1) (lookup (is_at (nat_cmp place)) others))
+        → unwrap_or (cond here (Some (Reached known.1.value)) (lookup (λ at. place == at) (states_in others))) Unreached ≡ state_of (cond test (Some known.1) (lookup (is_at (nat_cmp place)) others))
     by rest true true same = refl
     by rest false false same = rest
     by rest true false same = absurd (let no : ⊥ = cc in no)

@@ -1,6 +1,8 @@
 -- The one pass over a code: it goes over places upwards, takes the state at each, and propagates what the transfer function gives to where
 -- the edges lead. What it keeps are states ahead of it: that at the place to which it has come, and those that wait at targets of jumps.
-use Rattle.std.specs.Prelude.{◌≡◌, ◌≢◌, ℕ, ℤ, pos, ◌+◌, ◌<◌, ◌≤◌, ◌==◌, if◌then◌else◌, List, [], ◌∷◌, length, Option, Some, None, option_map, Ok, Err}
+use Rattle.std.specs.Prelude.{◌≡◌, ◌≢◌, ℕ, ℤ, pos, ◌+◌, ◌<◌, ◌≤◌, ◌==◌, if◌then◌else◌, List, [], length, map, Option, Some, None, option_map, Ok, Err}
+use Rattle.std.specs.Map.{lookup}
+use Rattle.std.specs.Option.{unwrap_or}
 use Rattle.std.specs.declared.boxed.Box.{Box}
 use Rattle.bpf_insn.specs.Code.{spelling}
 use Rattle.bpf_insn.specs.Jump.{jump_distance}
@@ -29,8 +31,7 @@ state_of (Some known) = Reached known.value
 
 -- the states of what is known by place
 abbrev pub states_in : {A : Type 0} → List (ℕ × Box Known A) → List (ℕ × AbstractState)
-states_in [] = []
-states_in (known ∷ others) = (known.0, Reached known.1.value) ∷ states_in others
+states_in known = map (λ there. (there.0, Reached there.1.value)) known
 
 -- the states ahead, by what is known on the edge from the instruction before the place and at targets of jumps
 abbrev pub states_ahead : {A : Type 0} → List Insn → ℕ → Option (Box Known A) → List (ℕ × Box Known A) → Ahead
@@ -38,8 +39,7 @@ states_ahead code place straight waiting = record { code = code; place = place; 
 
 -- the state that waits at a place
 abbrev pub waiting_at : List (ℕ × AbstractState) → Annotation
-waiting_at [] place = Unreached
-waiting_at (state ∷ others) place = if place == state.0 then state.1 else waiting_at others place
+waiting_at states place = unwrap_or (lookup (λ at. place == at) states) Unreached
 
 -- each state is proper
 abbrev pub AreProper : Annotation → Type 0
