@@ -389,10 +389,6 @@ END
     printf 'x\n' >> county/TGR01001.RT1
     try_case 1 $rows 'refused 1 rt1 line 401 WrongLength' 'extractd run --program "$all" --data county 01001'
     try_case 1 0 'refused 1 rt1 line 401 WrongLength' 'extractd trace --program "$all" --data county --line 1 --limit 9 01001'
-    # 80,000 lines of type 1, 18 MB, in 8 MB of memory.
-    try_county 456
-    for line in {1..200}; do cat "$top/examples/TGR01001.RT1"; done > county/TGR01001.RT1
-    try_case 0 $((200 * rows)) '' '(ulimit -v 8192 && extractd run --program "$all" --data county 01001)'
     # 1,000 lines of a TLID that no type 1 line has, and one more.
     try_county 1
     for type in 4 6; do
