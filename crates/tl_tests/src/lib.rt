@@ -1,22 +1,25 @@
-//! Tests of the crates of records and segments: `tl_fields`, `tl_records`, `tl_segments` and `geocode`. They go through public calls, and
-//! stand in a crate of their own since a crate with tests is proved once without them and once with them.
+//! Tests of the crates of records and segments: `tl_fields`, `tl_records`, `tl_segments` and `geocode`. They go through
+//! public calls, and stand in a crate of their own since a crate with tests is proved once without them and once with
+//! them.
 #![tactic(auto)]
 
 #[cfg(test)]
-mod fields;
+mod counties;
 #[cfg(test)]
-mod files;
+mod failures;
+#[cfg(test)]
+mod fields;
 #[cfg(test)]
 mod hits;
 #[cfg(test)]
-mod notation;
+mod lines;
 #[cfg(test)]
-mod queries;
+mod plain;
 #[cfg(test)]
 mod readers;
 #[cfg(test)]
-mod records;
+mod seen;
 #[cfg(test)]
-mod segments;
+mod sweep;
 #[cfg(test)]
-mod sizes;
+mod writers;

@@ -1,0 +1,86 @@
+//! The lines of files, worked by hand.
+use fixtures::{bytes, cell};
+use std::alloc::Global;
+use std::io::BufReader;
+use tl_fields::{Buffered, CountedRead, Counting};
+use tl_records::{Line, read_line};
+
+// A file, and what is read of it in turn, each followed by LF: a line, or a fault, after which the reading goes on
+// where it stopped.
+const FILES: &str = r"
+;
+ab\ncd\n; ab\ncd\n
+ab\r\ncd\r\n; ab\ncd\n
+ab\r\ncd; ab\ncd\n
+ab\n\r\ncd; ab\n\ncd\n
+\n\r\n\n; \n\n\n
+\n\na; \n\na\n
+a\rb\r\r\nc\r\n; a\rb\r\nc\n
+\r; \r\n
+\xe9\xff\x80\x00\n; \xe9\xff\x80\x00\n
+\x0b\x0c\x85\n\x20; \x0b\x0c\x85\n\x20\n
+{rt1}\r\n{rt1}\n{rt1}; {rt1}\n{rt1}\n{rt1}\n
+{x*228}\r\n{y*229}\r\n{x*230}\n{y*230}; {x*228}\n{y*229}\n{x*230}\n{y*230}\n
+{x*229}\r; {x*229}\r\n
+{x*230}\r\nab; WrongLength\n\nab\n
+{x*231}\nab; WrongLength\n\nab\n
+{x*231}; WrongLength\n
+a\n{x*233}\nab\n; a\nWrongLength\nxx\nab\n
+{x*462}ab\n{x*231}; WrongLength\nWrongLength\nab\nWrongLength\n";
+
+// A buffer of each size, 0 where there is none: from one byte at a time to more than a line has.
+const SIZES: &str = "0 1 3 100 230 231 232 8192";
+
+/// Tells whether these lines and faults are read in turn, each with the next number, and no more.
+fn are_lines<R: CountedRead>(reader: &mut R, expected: &[u8]) -> bool {
+    let mut line = Line::new();
+    let mut rest = expected;
+    for _ in 0..=expected.len() {
+        let next = line.number().wrapping_add(1);
+        let after = match read_line(reader, &mut line) {
+            Ok(Some(())) if line.number() == next => rest.strip_prefix(line.bytes()),
+            Ok(Some(())) => None,
+            Ok(None) => return rest.is_empty() && line.bytes().is_empty(),
+            Err(fault) if fault.line == u64::from(next) => rest.strip_prefix(
+                fault.name().as_bytes(),
+            ),
+            Err(_) => None,
+        };
+        let Some([b'\n', after @ ..]) = after else {
+            return false;
+        };
+        rest = after;
+    }
+    false
+}
+
+/// Tells whether a file has these lines through a buffer of this size.
+fn are_lines_through(alloc: Global, file: &[u8], lines: &[u8], size: usize) -> bool {
+    if size == 0 {
+        return are_lines(&mut Counting::new(file), lines);
+    }
+    match BufReader::with_capacity(alloc, size, file) {
+        Ok(buffer) => are_lines(&mut Buffered::new(buffer), lines),
+        Err(_) => false,
+    }
+}
+
+/// Tells whether the file of a row has its lines through a buffer of each size.
+fn is_file(alloc: Global, row: &str) -> bool {
+    let (Ok(file), Ok(lines)) = (bytes(alloc, cell(row, 0)), bytes(alloc, cell(row, 1))) else {
+        return false;
+    };
+    for size in SIZES.split(' ') {
+        if !are_lines_through(alloc, &file, &lines, size.parse().unwrap_or(1)) {
+            return false;
+        }
+    }
+    true
+}
+
+#[test]
+fn files(rt: HostRuntime) {
+    for row in FILES.trim().lines() {
+        assert!(rt; is_file(rt.alloc(), row), "{row}");
+    }
+}

@@ -1,0 +1,77 @@
+//! What segments have, as a row says it.
+use std::alloc::Allocator;
+use tl_fields::field;
+use tl_segments::Segment;
+
+/// What is seen of segments, and what a row says of them: of each one the TLID, a `+` before each of its alternate
+/// names, and a `/` before the address at which each of its further ranges starts on the left; or `counts`, how many
+/// segments there are, and how many alternate names and ranges they have together.
+#[derive(Clone, Copy)]
+pub struct Seen<'a> {
+    said: &'a str,
+    /// What is still to be said, if all that was seen so far is what the row says.
+    rest: Option<&'a [u8]>,
+    segments: u64,
+    names: u64,
+    ranges: u64,
+}
+
+impl<'a> Seen<'a> {
+    pub fn new(said: &'a str) -> Self {
+        Seen {
+            said,
+            rest: Some(said.as_bytes()),
+            segments: 0,
+            names: 0,
+            ranges: 0,
+        }
+    }
+
+    /// Sees the next segment.
+    pub fn see<A: Allocator>(&mut self, segment: &Segment<A>) {
+        self.segments = self.segments.wrapping_add(1);
+        self.names = self.names.wrapping_add(segment.names());
+        self.ranges = self.ranges.wrapping_add(segment.ranges());
+        self.rest = say_ranges(segment, say_names(segment, self.rest));
+    }
+
+    /// Tells whether that is all that the row says.
+    pub fn is_all(&self) -> bool {
+        self.rest == Some(b"") || self.has_counts()
+    }
+
+    fn has_counts(&self) -> bool {
+        let mut words = self.said.split(' ');
+        words.next() == Some("counts")
+            && words.next().unwrap_or("").parse() == Ok(self.segments)
+            && words.next().unwrap_or("").parse() == Ok(self.names)
+            && words.next().unwrap_or("").parse() == Ok(self.ranges)
+    }
+}
+
+/// Takes a sign and what a field holds off what is still to be said, if it begins with them.
+fn say<'a>(said: Option<&'a [u8]>, sign: &[u8], field: &[u8]) -> Option<&'a [u8]> {
+    said?.strip_prefix(sign)?.strip_prefix(field.trim_ascii())
+}
+
+/// Says the TLID of a segment, and its alternate names.
+fn say_names<'a, A: Allocator>(segment: &Segment<A>, said: Option<&'a [u8]>) -> Option<&'a [u8]> {
+    let mut said = say(
+        Some(said?.trim_ascii_start()),
+        b"",
+        field(segment.bytes(), 6, 15),
+    );
+    for n in 1..=segment.names() {
+        said = say(said, b"+", segment.name(n)?);
+    }
+    said
+}
+
+/// Says the starts of a segment's further ranges.
+fn say_ranges<'a, A: Allocator>(segment: &Segment<A>, said: Option<&'a [u8]>) -> Option<&'a [u8]> {
+    let mut said = said;
+    for n in 1..segment.ranges() {
+        said = say(said, b"/", segment.range(n)?.fraddl);
+    }
+    said
+}
