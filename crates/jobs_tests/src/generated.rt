@@ -1,146 +1,69 @@
-//! Lists of events that are made by numbers, beside a plain table.
-use crate::plain::{Asked, PlainTable, does_same, has_same};
-use crate::tables::{ACCEPTED, table_of};
-use fixtures::cell;
-use jobs::Jobs;
+//! Lists of events that are made by numbers, beside the plain table.
+use crate::pair::Pair;
+use crate::plain::Asked;
+use fixtures::{Refusing, cell};
 use std::alloc::Global;
 
-/// Numbers that look as if they were drawn, the same ones for the same seed.
-#[derive(Drop)]
-struct Numbers {
-    state: u64,
-}
+// What programs are drawn of, nine of the nineteen refused.
+const PROGRAMS: &str = "every two never roads tlids scored_roads every two roads tlids \
+empty part unknown cut backward outside endless stuck pointer";
 
-impl Numbers {
-    fn of(seed: u64) -> Self {
-        Numbers { state: seed }
-    }
-
-    /// A number below a bound.
-    fn below(&mut self, bound: u64) -> u64 {
-        self.state = self
-            .state
-            .wrapping_mul(6_364_136_223_846_793_005)
-            .wrapping_add(1_442_695_040_888_963_407);
-        (self.state >> 33).checked_rem(bound).unwrap_or(0)
-    }
-}
-
-const REFUSED: [&str; 10] = [
-    "empty", "part", "unknown", "cut", "backward", "outside", "endless", "stuck", "beyond",
-    "pointer",
-];
-
-/// A program, of which three in four are accepted.
-fn drawn_program(numbers: &mut Numbers) -> &'static str {
-    if numbers.below(4) == 0 {
-        REFUSED
-            .get(numbers.below(10) as usize)
-            .copied()
-            .unwrap_or("empty")
-    } else {
-        ACCEPTED
-            .get(numbers.below(6) as usize)
-            .copied()
-            .unwrap_or("every")
-    }
-}
-
-/// An id: mostly one of the last that were given, or the next one, and now and then an odd one.
-fn drawn_id(numbers: &mut Numbers, given: u64) -> u64 {
-    match numbers.below(20) {
-        0 => 0,
-        1 => u64::MAX,
-        2..=8 => numbers.below(given.saturating_add(2)),
-        _ => given.saturating_add(1).saturating_sub(numbers.below(8)),
-    }
-}
-
-/// An event, whose kinds come in shares.
-fn drawn_event(numbers: &mut Numbers, shares: &Shares, given: u64) -> Asked {
-    let id = drawn_id(numbers, given);
-    let drawn = numbers.below(100);
-    if drawn < shares.submits {
-        Asked::Submit(drawn_program(numbers))
-    } else if drawn < shares.drops {
-        Asked::Drop(id)
-    } else if drawn < shares.fetches {
-        Asked::Fetch(id)
-    } else {
-        Asked::Turn(id)
-    }
-}
-
-/// The shares of kinds of events, of which turns have the rest up to 100.
-#[derive(Clone, Copy)]
-struct Shares {
-    submits: u64,
-    /// With submits.
-    drops: u64,
-    /// With both.
-    fetches: u64,
-}
-
-// Seeds, how many segments the counties have, how many events there are, how many of 100 are submits, these with drops, and both with fetches, and
-// whether the table is full at the end.
+// The seed; the sizes of the counties; how many events there are; the ten words that they are drawn of; and whether the table is full at the end.
 const LISTS: &str = "\
-1; 300 0 257 43; 400; 20; 30; 50; false
-2; 600; 400; 20; 35; 45; false
-3; 0 1 255 0 256 1; 400; 15; 30; 60; false
-4; 257; 300; 30; 60; 80; false
-5; 0; 200; 30; 50; 70; false
-6; 256 256; 400; 90; 92; 96; true
-7; 1000 100; 500; 50; 53; 65; true";
+1; 300 0 257 43; 400; submit submit drop fetch fetch turn turn turn turn turn; false
+2; 600; 400; submit submit submit drop fetch turn turn turn turn turn; false
+3; 0 1 255 0 256 1; 400; submit submit drop drop fetch fetch fetch turn turn turn; false
+4; 257; 300; submit submit submit drop drop drop fetch fetch turn turn; false
+5; 0; 200; submit submit submit drop drop fetch fetch turn turn turn; false
+6; 256 256; 400; submit submit submit submit submit submit submit submit fetch turn; true
+7; 1000 100; 500; submit submit submit submit submit drop fetch turn turn turn; true";
 
-/// The number in a cell of a row.
-fn number(row: &str, place: usize) -> u64 {
-    cell(row, place).parse().unwrap_or(0)
+/// Draws a number below a bound, the same ones for the same seed.
+fn drawn(state: &mut u64, bound: u64) -> u64 {
+    *state = state
+        .wrapping_mul(6_364_136_223_846_793_005)
+        .wrapping_add(1_442_695_040_888_963_407);
+    (*state >> 33).checked_rem(bound).unwrap_or(0)
 }
 
-/// The number of segments that a row's counties have.
-fn total_of(row: &str) -> u64 {
-    let mut total: u64 = 0;
-    for size in cell(row, 1).split_whitespace() {
-        total = total.wrapping_add(size.parse().unwrap_or(0));
-    }
-    total
-}
-
-/// The number of the first event of a row's list that a table does otherwise than the plain one, if there is one.
-fn wrong_event(
-    alloc: Global,
-    row: &str,
-    jobs: &mut Jobs<Global>,
-    plain: &mut PlainTable,
-) -> Option<u64> {
-    let mut numbers = Numbers::of(number(row, 0));
-    let shares = Shares {
-        submits: number(row, 3),
-        drops: number(row, 4),
-        fetches: number(row, 5),
+/// Draws an event. Its id is mostly one of the last eight, and now and then any that was given, the next one, or an odd one.
+fn drawn_event(state: &mut u64, words: &'static str, next_id: u64) -> Asked {
+    let id = match drawn(state, 20) {
+        0 => u64::MAX,
+        1..=7 => drawn(state, next_id.saturating_add(1)),
+        _ => next_id.saturating_sub(drawn(state, 8)),
     };
-    for event in 0..number(row, 2) {
-        let asked = drawn_event(&mut numbers, &shares, plain.given());
-        if !does_same(alloc, jobs, plain, asked) {
-            return Some(event);
+    let word = words.split(' ').nth(drawn(state, 10) as usize);
+    let program = PROGRAMS.split(' ').nth(drawn(state, 19) as usize);
+    Asked {
+        word: word.unwrap_or("turn"),
+        program: program.unwrap_or("every"),
+        id: Some(id),
+    }
+}
+
+/// Tells whether a table does what is drawn for a row as the plain one does, and has the same jobs at the end.
+fn does_same(pair: &mut Pair<'_>, row: &'static str) -> bool {
+    let mut state = cell(row, 0).parse().unwrap_or(0);
+    let count: u64 = cell(row, 2).parse().unwrap_or(0);
+    for _ in 0..count {
+        let asked = drawn_event(&mut state, cell(row, 3), pair.plain.next_id());
+        if pair.is_refused(asked, 0) != Some(false) {
+            return false;
         }
     }
-    None
-}
-
-/// Whether a table does a row's list as the plain one does, and has the same jobs then.
-fn is_list_right(alloc: Global, row: &str) -> Option<bool> {
-    let mut jobs = table_of(alloc, alloc, cell(row, 1))?;
-    let mut plain = PlainTable::new(alloc, total_of(row));
-    let is_right = wrong_event(alloc, row, &mut jobs, &mut plain).is_none()
-        && has_same(alloc, &mut jobs, &mut plain)
-        && cell(row, 6).parse() == Ok(plain.is_full());
-    Some(is_right)
+    pair.has_same() && cell(row, 4).parse() == Ok(pair.plain.is_full())
 }
 
 #[test]
 fn lists(rt: HostRuntime) {
     for row in LISTS.lines() {
-        assert_eq!(rt; is_list_right(rt.alloc(), row), Some(true), "{row}");
+        let heap = Refusing::new(rt.alloc());
+        let pair = Pair::new(rt.alloc(), &heap, cell(row, 1));
+        let is_same = match pair {
+            Some(mut pair) => does_same(&mut pair, row),
+            None => false,
+        };
+        assert!(rt; is_same, "{row}");
     }
 }

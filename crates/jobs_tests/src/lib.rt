@@ -1,18 +1,16 @@
-//! Tests of the crate `jobs`. They go through its public calls, and stand in a crate of their own since a crate with tests is
-//! proved once without them and once with them.
+//! Tests of the crate `jobs` through its public calls. They have a crate of their own because a crate with tests is proved twice, once without
+//! them and once with them.
 #![tactic(auto)]
 
 #[cfg(test)]
-mod counties;
+mod advances;
 #[cfg(test)]
 mod generated;
 #[cfg(test)]
-mod many_jobs;
+mod pair;
 #[cfg(test)]
 mod plain;
 #[cfg(test)]
-mod sweep;
+mod scripts;
 #[cfg(test)]
-mod tables;
-#[cfg(test)]
-mod worked;
+mod segments;

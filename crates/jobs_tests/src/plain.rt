@@ -1,225 +1,167 @@
-//! A plain program for tables of jobs: it keeps each job alone, by its program and the number of its turns.
-use crate::tables::{are_plain_rows, is_fault};
-use fixtures::{program, refusal};
-use jobs::{Event, JobFault, Jobs, Reply};
-use std::alloc::{Allocator, Global};
+//! A plain program for tables of jobs. It keeps each job alone, by its program and the number of its segments done.
+use crate::segments::{LINE_LENGTH, rows_of};
+use fixtures::refusal;
+use jobs::Reply;
+use std::alloc::{AllocError, Global};
 
-/// What is asked of both.
+/// What is asked of a table: `submit` with a program, or `turn`, `fetch` or `drop` with an id.
 #[derive(Clone, Copy)]
-pub enum Asked {
-    Submit(&'static str),
-    Turn(u64),
-    Fetch(u64),
-    Drop(u64),
+pub struct Asked {
+    pub word: &'static str,
+    pub program: &'static str,
+    /// `None` means the job of the next turn.
+    pub id: Option<u64>,
 }
 
-/// A job, without its rows.
-#[derive(Clone, Copy)]
-struct PlainJob {
-    id: u64,
-    program: &'static str,
-    turns: u64,
-}
-
-impl PlainJob {
-    fn done(&self, total: u64) -> u64 {
-        self.turns.saturating_mul(256).min(total)
+impl Asked {
+    /// Reads words such as `submit every`, `turn 2` and `turn next`.
+    pub fn new(words: &'static str) -> Self {
+        let (word, program) = words.split_once(' ').unwrap_or((words, ""));
+        Asked {
+            word,
+            program,
+            id: program.parse().ok(),
+        }
     }
 }
 
-/// A table: the open jobs, and how many ids were given.
+#[derive(Clone, Copy)]
+struct PlainJob {
+    program: &'static str,
+    done: u64,
+    is_open: bool,
+}
+
+/// A table of all jobs that were ever opened, in the order of their ids, which count from 1.
 #[derive(Drop)]
 pub struct PlainTable {
+    alloc: Global,
+    lines: Vec<u8>,
     total: u64,
-    open: Vec<PlainJob>,
-    given: u64,
+    jobs: Vec<PlainJob>,
 }
 
 impl PlainTable {
-    pub fn new(alloc: Global, total: u64) -> Self {
+    /// Makes a table over the segments of these lines.
+    pub fn new(alloc: Global, lines: Vec<u8>) -> Self {
+        let total = (lines.len() / LINE_LENGTH) as u64;
         PlainTable {
+            alloc,
+            lines,
             total,
-            open: Vec::new(alloc),
-            given: 0,
+            jobs: Vec::new(alloc),
         }
     }
 
-    /// How many ids were given.
-    pub fn given(&self) -> u64 {
-        self.given
+    /// Returns the id that the next job gets.
+    pub fn next_id(&self) -> u64 {
+        (self.jobs.len() as u64).wrapping_add(1)
     }
 
     pub fn is_full(&self) -> bool {
-        self.open.len() == 64
+        let mut open: u64 = 0;
+        for job in &self.jobs {
+            open = open.wrapping_add(u64::from(job.is_open));
+        }
+        open == 64
     }
 
-    /// The unfinished job with the fewest segments done, the first one of several.
+    /// Returns the open job with the fewest segments done of those that have any left, the first of several.
     pub fn next_turn(&self) -> Option<u64> {
-        let unfinished = self
-            .open
-            .iter()
-            .filter(|job| job.done(self.total) < self.total);
-        let next = unfinished.min_by_key(|job| (job.turns, job.id))?;
-        Some(next.id)
-    }
-
-    fn place_of(&self, id: u64) -> Result<usize, &'static str> {
-        let place = self.open.iter().position(|job| job.id == id);
-        place.ok_or("refused 71 NoJob")
-    }
-
-    fn submit(&mut self, program: &'static str) -> Result<u64, &'static str> {
-        if self.is_full() {
-            return Err("refused 70 Full");
-        }
-        if refusal(program) != "" {
-            return Err(refusal(program));
-        }
-        self.given = self.given.wrapping_add(1);
-        let id = self.given;
-        let job = PlainJob {
-            id,
-            program,
-            turns: 0,
-        };
-        match self.open.push(job) {
-            Ok(()) => Ok(id),
-            Err(_) => Err("no memory for the plain table"),
-        }
-    }
-
-    /// Does what is asked, whatever the answer.
-    pub fn follow(&mut self, asked: Asked) {
-        match asked {
-            Asked::Submit(program) => drop(self.submit(program)),
-            Asked::Turn(id) => drop(self.turn(id, 1)),
-            Asked::Fetch(_) => {}
-            Asked::Drop(id) => drop(self.remove(id)),
-        }
-    }
-
-    /// Adds so many turns to a job, and answers it.
-    fn turn(&mut self, id: u64, turns: u64) -> Result<PlainJob, &'static str> {
-        let place = self.place_of(id)?;
-        let job = self.open.get_mut(place).ok_or("no such place")?;
-        job.turns = job.turns.saturating_add(turns);
-        Ok(*job)
-    }
-
-    fn remove(&mut self, id: u64) -> Result<(), &'static str> {
-        let place = self.place_of(id)?;
-        if place < self.open.len() {
-            self.open.remove(place);
-        }
-        Ok(())
-    }
-}
-
-/// Whether a table replies to what is asked as the plain one does, and names the same next turn then.
-pub fn does_same<A: Allocator + Copy>(
-    alloc: Global,
-    jobs: &mut Jobs<A>,
-    plain: &mut PlainTable,
-    asked: Asked,
-) -> bool {
-    let is_same = match asked {
-        Asked::Submit(program) => submits_same(alloc, jobs, plain, program),
-        Asked::Turn(id) => turns_same(jobs, plain, id),
-        Asked::Fetch(id) => fetches_same(alloc, jobs, plain, id),
-        Asked::Drop(id) => drops_same(jobs, plain, id),
-    };
-    is_same && jobs.next_turn() == plain.next_turn()
-}
-
-fn submits_same<A: Allocator + Copy>(
-    alloc: Global,
-    jobs: &mut Jobs<A>,
-    plain: &mut PlainTable,
-    name: &'static str,
-) -> bool {
-    let Some(program) = program(alloc, name) else {
-        return false;
-    };
-    let expected = plain.submit(name);
-    match jobs.apply(Event::Submit(&program)) {
-        Reply::Submitted(id) => expected == Ok(id),
-        Reply::Refused(fault) => is_refused(&fault, expected.err()),
-        _ => false,
-    }
-}
-
-fn turns_same<A: Allocator + Copy>(jobs: &mut Jobs<A>, plain: &mut PlainTable, id: u64) -> bool {
-    let expected = plain.turn(id, 1);
-    match jobs.apply(Event::Turn(id)) {
-        Reply::Turned { done, total } => match expected {
-            Ok(job) => total == plain.total && done == job.done(total),
-            Err(_) => false,
-        },
-        Reply::Refused(fault) => is_refused(&fault, expected.err()),
-        _ => false,
-    }
-}
-
-fn fetches_same<A: Allocator + Copy>(
-    alloc: Global,
-    jobs: &mut Jobs<A>,
-    plain: &mut PlainTable,
-    id: u64,
-) -> bool {
-    let expected = plain.turn(id, 0);
-    match jobs.apply(Event::Fetch(id)) {
-        Reply::Rows { done, total, rows } => match expected {
-            Ok(job) => {
-                total == plain.total
-                    && done == job.done(total)
-                    && are_plain_rows(alloc, rows, job.program, done)
+        let mut next = None;
+        let mut fewest = self.total;
+        for (place, job) in self.jobs.iter().enumerate() {
+            if job.is_open && job.done < fewest {
+                fewest = job.done;
+                next = Some((place as u64).wrapping_add(1));
             }
-            Err(_) => false,
-        },
-        Reply::Refused(fault) => is_refused(&fault, expected.err()),
-        _ => false,
+        }
+        next
     }
-}
 
-fn drops_same<A: Allocator + Copy>(jobs: &mut Jobs<A>, plain: &mut PlainTable, id: u64) -> bool {
-    let expected = plain.remove(id);
-    match jobs.apply(Event::Drop(id)) {
-        Reply::Dropped => expected.is_ok(),
-        Reply::Refused(fault) => is_refused(&fault, expected.err()),
-        _ => false,
+    fn submit(&mut self, program: &'static str) -> Result<Vec<u8>, AllocError> {
+        let refusal = if self.is_full() {
+            "refused 70 Full"
+        } else {
+            refusal(program)
+        };
+        if refusal != "" {
+            return refusal.as_bytes().to_vec(self.alloc);
+        }
+        self.jobs.push(PlainJob {
+            program,
+            done: 0,
+            is_open: true,
+        })?;
+        text_of(self.alloc, Reply::Submitted(self.jobs.len() as u64))
     }
-}
 
-fn is_refused(fault: &JobFault, line: Option<&'static str>) -> bool {
-    line.is_some_and(|line| is_fault(fault, line))
-}
-
-/// Whether a table has the jobs that the plain one has, none with another of the ids that were given or of the next one, and names the same next turn.
-pub fn has_same<A: Allocator + Copy>(
-    alloc: Global,
-    jobs: &mut Jobs<A>,
-    plain: &mut PlainTable,
-) -> bool {
-    for id in 0..=plain.given.saturating_add(1) {
-        if !does_same(alloc, jobs, plain, Asked::Fetch(id)) {
-            return false;
+    /// Does what is asked, and replies in full.
+    pub fn reply(&mut self, asked: Asked) -> Result<Vec<u8>, AllocError> {
+        if asked.word == "submit" {
+            return self.submit(asked.program);
+        }
+        let (alloc, total) = (self.alloc, self.total);
+        let id = asked.id.or(self.next_turn()).unwrap_or(0);
+        match self.jobs.get_mut(id.wrapping_sub(1) as usize) {
+            Some(job) if job.is_open => reply_of(alloc, &self.lines, total, job, asked.word),
+            _ => b"refused 71 NoJob".to_vec(alloc),
         }
     }
-    true
+
+    /// Writes what a script says in full. Where it names a program, as `256 600 59136 of every`, the rows that the program chooses stand in place
+    /// of its name.
+    pub fn in_full(&self, said: &str) -> Result<Vec<u8>, AllocError> {
+        let Some((numbers, program)) = said.split_once(" of ") else {
+            return said.as_bytes().to_vec(self.alloc);
+        };
+        let (done, _) = numbers.split_once(' ').unwrap_or((numbers, ""));
+        let mut text = format!(in self.alloc; "{numbers}\n")?.into_bytes();
+        let done = done.parse().unwrap_or(0);
+        text.extend_from_slice(&rows_of(self.alloc, &self.lines, program, done)?)?;
+        Ok(text)
+    }
 }
 
-/// Whether a table has the jobs that the plain one has, none with the next id, and names the same next turn.
-pub fn has_open<A: Allocator + Copy>(
+/// Does what is asked of an open job over so many of these lines, and replies in full.
+fn reply_of(
     alloc: Global,
-    jobs: &mut Jobs<A>,
-    plain: &mut PlainTable,
-) -> bool {
-    for place in 0..plain.open.len() {
-        let id = plain.open.get(place).map_or(0, |job| job.id);
-        if !does_same(alloc, jobs, plain, Asked::Fetch(id)) {
-            return false;
+    lines: &[u8],
+    total: u64,
+    job: &mut PlainJob,
+    word: &str,
+) -> Result<Vec<u8>, AllocError> {
+    match word {
+        "turn" => {
+            job.done = job.done.saturating_add(256).min(total);
+            let done = job.done;
+            text_of(alloc, Reply::Turned { done, total })
+        }
+        "drop" => {
+            job.is_open = false;
+            text_of(alloc, Reply::Dropped)
+        }
+        _ => {
+            let done = job.done;
+            let rows = rows_of(alloc, lines, job.program, done)?;
+            let rows = rows.as_slice();
+            text_of(alloc, Reply::Rows { done, total, rows })
         }
     }
-    let next = plain.given.saturating_add(1);
-    does_same(alloc, jobs, plain, Asked::Fetch(next))
+}
+
+/// Writes a reply in full.
+pub fn text_of(alloc: Global, reply: Reply<'_>) -> Result<Vec<u8>, AllocError> {
+    let text = match reply {
+        Reply::Submitted(id) => format!(in alloc; "{id}"),
+        Reply::Turned { done, total } => format!(in alloc; "{done} {total}"),
+        Reply::Rows { done, total, rows } => format!(in alloc; "{done} {total} {}\n", rows.len()),
+        Reply::Dropped => String::from_str(alloc, "dropped"),
+        Reply::Refused(fault) => String::from_str(alloc, fault.line().as_str()),
+    };
+    let mut text = text?.into_bytes();
+    if let Reply::Rows { rows, .. } = reply {
+        text.extend_from_slice(rows)?;
+    }
+    Ok(text)
 }

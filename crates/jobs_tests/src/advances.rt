@@ -1,0 +1,87 @@
+//! Turns of programs without a table, and the names of a table's faults.
+use crate::segments::{LINE_LENGTH, counties_of, lines_of, rows_of};
+use bpf_verify::Verified;
+use extract::accept;
+use fixtures::{Refusing, cell, program};
+use jobs::{COUNTY_LIMIT, JobFault, advance};
+use std::alloc::{AllocError, Global};
+use tl_segments::County;
+
+// The sizes of the counties, a program, and whether growths of its turns are refused.
+const TURNS: &str = "\
+; every; false
+0 0; every; false
+1; scored_roads; true
+100 0 500; every; true
+100 0 500; scored_roads; true
+100 0 500; never; false
+255 1 1 255; roads; true
+257 256 0 255 600 1; tlids; true";
+
+/// Appends the rows of all turns, each growth of which is refused once, and returns how many are. Returns `None` where a refused growth changes the
+/// rows, or a turn doesn't go over the next 256 segments or the rest.
+fn refusals<'a>(
+    heap: &'a Refusing<Global>,
+    verified: &Verified<&'a Refusing<Global>>,
+    counties: &[County<&'a Refusing<Global>>],
+    total: u64,
+    rows: &mut Vec<u8, &'a Refusing<Global>>,
+) -> Option<u64> {
+    if counties.len() > COUNTY_LIMIT {
+        return None;
+    }
+    let (mut done, mut nth, mut refused): (u64, u64, u64) = (0, 1, 0);
+    for _attempt in 0..u64::MAX {
+        let before = rows.len();
+        heap.refuse(nth);
+        match advance(verified, counties, done, rows) {
+            Ok(now) if now == done => return Some(refused),
+            Ok(now) => {
+                if now != done.saturating_add(256).min(total) {
+                    return None;
+                }
+                (done, nth) = (now, 1);
+            }
+            Err(AllocError) => {
+                if !heap.was_refused() || rows.len() != before {
+                    return None;
+                }
+                nth = nth.wrapping_add(1);
+                refused = refused.wrapping_add(1);
+            }
+        }
+    }
+    None
+}
+
+/// Tells whether the turns of a row make the rows that the program chooses, and refuse growths as it says.
+fn are_turns_right(alloc: Global, row: &str) -> Option<bool> {
+    let heap = Refusing::new(alloc);
+    let lines = lines_of(alloc, cell(row, 0)).ok()?;
+    let total = (lines.len() / LINE_LENGTH) as u64;
+    let counties = counties_of(&heap, &lines, cell(row, 0))?;
+    let verified = accept(&heap, &program(alloc, cell(row, 1))?).ok()?;
+    let mut rows = Vec::new(&heap);
+    let refused = refusals(&heap, &verified, &counties, total, &mut rows)?;
+    let plain = rows_of(alloc, &lines, cell(row, 1), total).ok()?;
+    Some(rows.as_slice() == plain.as_slice() && cell(row, 2).parse() == Ok(refused > 0))
+}
+
+#[test]
+fn each_growth(rt: HostRuntime) {
+    for row in TURNS.lines() {
+        assert!(rt; are_turns_right(rt.alloc(), row) == Some(true), "{row}");
+    }
+}
+
+#[test]
+fn names(rt: HostRuntime) {
+    let (full, missing) = (JobFault::Full, JobFault::NoJob);
+    let refused = match accept(rt.alloc(), &[]) {
+        Err(fault) => JobFault::from(fault),
+        Ok(_) => full,
+    };
+    assert!(rt; full.number() == Some(70) && full.name() == "Full");
+    assert!(rt; missing.number() == Some(71) && missing.name() == "NoJob");
+    assert!(rt; refused.number() == Some(72) && refused.name() == "Refused");
+}
