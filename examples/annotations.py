@@ -1,7 +1,7 @@
 #!/usr/bin/env python3
 """Writes generated programs with their verdicts, found by a search for annotations.
 
-    python3 annotations.py             the rows of the table in crates/bpf_tests/src/generated.rt
+    python3 annotations.py             the file examples/verdicts/generated.txt
     python3 annotations.py PROGRAM     the verdict on one program, `|` between its lines
 
 A verdict is `accepted`, or the refusal's line. The rules are those of docs/verifier.md, written down a second time here: kinds, their order,
@@ -1451,7 +1451,7 @@ def row(draw, family, subject, known):
             text = finished(draw, body, name, ask) if name else linked(body + ["exit"])
             if len("accepted; " + text) > columns:
                 continue
-            line = "%s; %s" % (judged(text, SAMPLES), text)
+            line = "%s; %s" % (text, judged(text, SAMPLES))
         except TooLarge:
             continue
         if len(line) <= columns and line not in known:
@@ -1459,25 +1459,31 @@ def row(draw, family, subject, known):
 
 
 def wrapped(line):
-    """A row in lines, of which those behind the first begin with two blanks."""
+    """A row in lines: one that ends with `|` goes on in the next one."""
     if len(line) <= COLUMNS:
         return [line]
     first = line[: COLUMNS + 1].rpartition(" | ")[0] + " |"
-    return [first] + wrapped("  " + line[len(first) + 1 :])
+    return [first] + wrapped("    " + line[len(first) + 1 :])
+
+
+HEAD = [
+    "# Verdicts on generated programs. annotations.py writes this file, from the seed that stands in it: it searches for",
+    "# annotations, and joins no states.",
+]
 
 
 def table():
-    """The rows as a constant of Rust, groups with their titles."""
+    """The lines of the file: groups of rows, each below its title."""
     draw, known = Draw(SEED), set()
-    lines = ["const VERDICTS: &str = concat!("]
+    lines = list(HEAD)
     for title, family, subjects in GROUPS:
         if title:
-            lines += ['",'] * bool(known) + ["    // " + title, '    "\\']
+            lines += ["", "# " + title]
         for subject in subjects:
             line = row(draw, family, subject, known)
             lines += wrapped(line)
             known.add(line)
-    return lines + ['"', ");"]
+    return lines
 
 
 def main(arguments):

@@ -1,5 +1,5 @@
-//! Codes of programs as text.
-use bpf_insn::{Code, Insn, decode, encode};
+//! Codes of programs as text, and codes that are built.
+use bpf_insn::{Code, CodeBuilder, CodeFault, Insn, decode};
 use fixtures::program;
 use std::alloc::{Allocator, Global};
 
@@ -9,15 +9,13 @@ pub fn code_of(alloc: Global, text: &str) -> Option<Code<Global>> {
     decode(alloc, &bytes).ok()
 }
 
-/// The instruction that a line of program text writes.
-pub fn instruction_of(alloc: Global, line: &str) -> Option<Insn> {
-    code_of(alloc, line)?.at(0)
-}
-
-/// Whether a code is written as these bytes.
-pub fn is_written<A: Allocator>(alloc: Global, code: &Code<A>, bytes: &[u8]) -> bool {
-    match encode(alloc, code) {
-        Ok(encoded) => encoded.as_slice() == bytes,
-        Err(_) => false,
+/// Adds instructions to those of a builder, up to the first that it refuses.
+pub fn push_all<A: Allocator>(
+    builder: &mut CodeBuilder<A>,
+    instructions: &[Insn],
+) -> Result<(), CodeFault> {
+    for insn in instructions {
+        builder.push(*insn)?;
     }
+    Ok(())
 }

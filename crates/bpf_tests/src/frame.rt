@@ -1,14 +1,11 @@
 //! Maps beside those of a plain program over 512 truth values.
-ghost use Rattle.std.specs.Prelude.{◌<◌, ◌≤◌, ◌+◌, ◌^◌, IfSome};
+ghost use Rattle.std.specs.Prelude.{◌<◌, ◌^◌, IfSome};
 ghost use Rattle.bpf_frame.specs.FrameMap.{IsProper};
-
-mod slots;
 
 use bpf_frame::FrameMap;
 use bpf_insn::{FRAME_LENGTH, SLOTS};
 use bpf_kinds::{Kind, Order};
 use fixtures::cell;
-use std::mem::size_of;
 
 // What is marked in a map and in another, each by the first offset and how many; whether the first has the same marks as the other, more,
 // fewer or others; and the bytes that are written in both, by the first of each run and how many.
@@ -54,55 +51,25 @@ fn is_map(row: &str) -> Option<bool> {
     let (_, written) = marked(cell(row, 3))?;
     let mut joined = map.duplicate();
     joined.join_with(&other);
+    let order = match (map.leq(&other), other.leq(&map)) {
+        (true, true) => "same",
+        (true, false) => "more",
+        (false, true) => "fewer",
+        (false, false) => "others",
+    };
     Some(
-        order_of(&map, &other) == cell(row, 2)
-            && has_exactly(&map.join(&other), &written)
-            && has_exactly(&other.join(&map), &written)
-            && has_exactly(&joined, &written),
+        order == cell(row, 2)
+            && has_exactly(&joined, &written)
+            && has_exactly(&other.join(&map), &written),
     )
 }
 
 #[test]
 fn maps(rt: HostRuntime) {
+    assert!(rt; size_of::<FrameMap>() == 64 + SLOTS * size_of::<Kind>());
     for row in MAPS.lines() {
         assert!(rt; is_map(row) == Some(true), "{row}");
     }
-}
-
-#[test]
-fn runs(rt: HostRuntime) {
-    for from in 0..=FRAME_LENGTH {
-        assert!(rt; has_runs(from), "{from}");
-    }
-}
-
-#[test]
-fn size(rt: HostRuntime) {
-    assert!(rt; size_of::<FrameMap>() == 64 + SLOTS * size_of::<Kind>());
-}
-
-/// Whether runs of bytes from an offset on are marked as their truth values say: of few bytes, of as many as one or two lanes have or one
-/// more or less, and of all up to the end.
-fn has_runs(from: usize) -> bool
-    requires { from ≤ FRAME_LENGTH }
-{
-    for len in [0, 1, 2, 63, 64, 65, 128, FRAME_LENGTH - from] {
-        if from + len <= FRAME_LENGTH && !is_run(from, len) {
-            return false;
-        }
-    }
-    true
-}
-
-/// Whether a map in which so many bytes from an offset on are marked says that these are written and no others.
-fn is_run(from: usize, len: usize) -> bool
-    requires { from + len ≤ FRAME_LENGTH }
-{
-    let mut map = FrameMap::unwritten();
-    map.mark(from, len);
-    let mut written = [false; FRAME_LENGTH];
-    written[from..from + len].fill(true);
-    has_exactly(&map, &written)
 }
 
 /// The map with so many bytes marked from each offset on, and these bytes as truth values.
@@ -130,16 +97,6 @@ fn run_of(text: &str) -> Option<(usize, usize)>
         usize::from(from.parse::<u16>().ok()?),
         usize::from(len.parse::<u16>().ok()?),
     ))
-}
-
-/// How the marks of one map are to those of another.
-fn order_of<Known: Order>(map: &Known, other: &Known) -> &'static str {
-    match (map.leq(other), other.leq(map)) {
-        (true, true) => "same",
-        (true, false) => "more",
-        (false, true) => "fewer",
-        (false, false) => "others",
-    }
 }
 
 /// Whether a map says of just these bytes that they are written: of each two neighbours, and from each offset to the last of its run and no

@@ -1,5 +1,6 @@
 //! Tests of the crates of BPF programs, `bpf_insn` to `bpf_machine`. They go through public calls, and stand in a crate of their own since a
-//! crate with tests is proved once without them and once with them.
+//! crate with tests is proved once without them and once with them. They have what only the libraries show, and the worked rows that the
+//! libraries are specified by. Further rows, which the built program answers, are in examples/rows and examples/verdicts.
 #![tactic(auto)]
 
 #[cfg(test)]
@@ -9,10 +10,6 @@ mod flow;
 #[cfg(test)]
 mod frame;
 #[cfg(test)]
-mod generated;
-#[cfg(test)]
-mod helpers;
-#[cfg(test)]
 mod insn;
 #[cfg(test)]
 mod kinds;
@@ -21,10 +18,4 @@ mod machine;
 #[cfg(test)]
 mod meaning;
 #[cfg(test)]
-mod segments;
-#[cfg(test)]
 mod sweep;
-#[cfg(test)]
-mod text;
-#[cfg(test)]
-mod verify;

@@ -1,50 +1,137 @@
-//! Each growth that a call takes refused once, and calls that take none.
-use crate::codes::is_written;
-use crate::machine::agree;
-use crate::meaning::{is_exit, is_stepped};
-use crate::verify::has_entries;
-use bpf_flat::{FlatInsn, flat_forms};
+//! Calls that take memory, with each growth refused in turn.
+use crate::codes::push_all;
+use bpf_flat::flat_forms;
 use bpf_flow::Flow;
-use bpf_insn::{Area, Code, CodeBuilder, CodeFault, Insn, Register, decode, encode};
-use bpf_machine::{Bare, run_in};
+use bpf_insn::{Area, Code, CodeBuilder, CodeFault, Register, decode, encode};
 use bpf_text::{SourceFault, assemble, assemble_source, disassemble, disassemble_program};
 use bpf_verify::{Verified, verify};
-use fixtures::{Files, Refusing, bytes, cell, county};
-use std::alloc::{AllocError, Allocator, Global};
-use tl_segments::Segment;
+use fixtures::{Refusing, bytes, cell, program, table};
+use std::alloc::{AllocError, Global};
+use std::test::Fail;
 
-// Programs as the disassembler writes them, the verdicts on them, and of those that are accepted, whether they read the record
-// alone and what they answer on that of Main Street: straight ones, ones with jumps to twenty places and to one, and ones that
-// are refused behind those.
-const PROGRAMS: &str = r"mov r0, 1\nexit\n; accepted; alone; 1
-{mov r0, 1\n*300}{lddw r2, 0x0000000000000001\n*100}{stdw [r10-8], 7\n*100}ldxdw r0, [r10-8]\nexit\n; accepted; alone; 7
-ldxb r2, [r1+55]\nmov r0, 1\n{jeq r2, 65, +20\n*20}{mov r0, 1\n*20}exit\n; accepted; alone; 1
-ldxb r2, [r1+55]\nmov r0, 1\njgt r2, 65, +2\njset r2, 3, +1\ncall 3\nexit\n; accepted; joined; 1
-{mov r0, 1\n*30}ldxb r0, [r1+228]\nexit\n; refused 44 place 30 OutOfBounds
-ldxb r2, [r1+55]\n{jeq r2, 65, +20\n*20}{mov r3, 1\n*20}exit\n; refused 40 place 41 ReadsNothing(0)";
+// Calls, a text, a program, and what the calls say of these: `accepted` where one is written as the other, or the refusal.
+const ROWS: &str = concat!(
+    // Words: their number, a wide load without its second word, and a field that is unused and not 0.
+    r"decode disassemble verify;;; refused 10 Empty
+decode disassemble verify;; hex b7000000010000; refused 11 NotWhole
+decode disassemble verify;; hex b710000001000000 | exit; refused 15 place 0 UnusedNotZero
+decode disassemble verify;; hex 1800000001000000; refused 17 place 0 CutWide
+",
+    // Texts.
+    r"assemble source; ldxb r2, [r1+55]\nmov r0, 0\njne r2, 65, out\nmov r0, 1\nout:\nexit\n;
+  hex 7112370000000000 b700000000000000 5502010041000000 b700000001000000 9500000000000000; accepted
+decode disassemble; ldxb r2, [r1+55]\nmov r0, 0\njne r2, 65, +1\nmov r0, 1\nexit\n;
+  hex 7112370000000000 b700000000000000 5502010041000000 b700000001000000 9500000000000000; accepted
+assemble source; ja over\nlddw r1, 0x1\nover:\nexit;
+  hex 0500020000000000 1801000001000000 0000000000000000 9500000000000000; accepted
+assemble source; ja end\nend:; hex 0500000000000000; accepted
+assemble source; a:\nja32 a\nja b\nb:\nja a; ja32 -1 | ja +0 | ja -3; accepted
+assemble source;;; refused 26 line 1 CodeFault(10)
+assemble source; frob r0;; refused 21 line 1 UnknownMnemonic
+assemble source; mov r0;; refused 20 line 1 Syntax
+assemble source; mov r11, 1;; refused 20 line 1 Syntax
+assemble source; mov r0, 2147483648;; refused 22 line 1 NumberRange
+assemble source; a:\na:\nexit;; refused 24 line 2 DoubleLabel
+assemble source; ja nowhere;; refused 23 line 1 UnknownLabel
+assemble source; mov r10, 1;; refused 26 line 1 CodeFault(18)
+assemble source; {ja end\n*60}end:\nmov r0;; refused 20 line 62 Syntax
+assemble source; a1:\na2:\na3:\na4:\na5:\na6:\na7:\na8:\na9:\na5:\n;; refused 24 line 10 DoubleLabel
+assemble source; {mov r0, 1\n*300}ja nowhere;; refused 23 line 301 UnknownLabel
+assemble source; {mov r0, 1\n*300}frob;; refused 21 line 301 UnknownMnemonic
+source; exit\n\xff\n;; not UTF-8
+",
+    // Programs that take memory, straight ones, and ones with jumps to twenty places and to one.
+    r"assemble source decode disassemble verify flatten; mov r0, 1\nexit\n; mov r0, 1 | exit; accepted
+assemble source decode disassemble verify flatten; {mov r0, 1\n*300}{lddw r2, 0x0000000000000001\n*100}{stdw [r10-8],
+  7\n*100}ldxdw r0, [r10-8]\nexit\n; mov r0, 1 *300 | lddw r2, 0x1 *100 | stdw [r10-8], 7 *100 | ldxdw r0, [r10-8] |
+  exit; accepted
+assemble source decode disassemble verify flatten; ldxb r2, [r1+55]\nmov r0, 1\n{jeq r2, 65, +20\n*20}{mov r0, 1\n*20}exit\n;
+  ldxb r2, [r1+55] | mov r0, 1 | jeq r2, 65, +20 *20 | mov r0, 1 *20 | exit; accepted
+assemble source decode disassemble verify flatten; ldxb r2, [r1+55]\nmov r0, 1\njgt r2, 65, +2\njset r2, 3, +1\ncall 3\nexit\n;
+  ldxb r2, [r1+55] | mov r0, 1 | jgt r2, 65, +2 | jset r2, 3, +1 | call 3 | exit; accepted
+verify;; mov r0, 1 *30 | ldxb r0, [r1+228] | exit; refused 44 place 30 OutOfBounds
+verify;; ldxb r2, [r1+55] | jeq r2, 65, +20 *20 | mov r3, 1 *20 | exit; refused 40 place 41 ReadsNothing(0)
+",
+    // Jumps, and the last instruction.
+    r"verify;; ja +1 | lddw r0, 0x1 | exit; refused 32 place 0 IntoWide
+verify;; ja +1 | lddw r0, 0x1; refused 32 place 0 IntoWide
+verify;; mov r0, 1 | ja -1 | exit; refused 30 place 1 BackwardJump
+verify;; mov r0, 1; refused 33 place 0 LastNotExit
+verify;; ja +0; refused 31 place 0 OutOfProgram
+",
+    // Refusals of the verifier.
+    r"verify;; exit; refused 40 place 0 ReadsNothing(0)
+verify;; ldxb r0, [r1+228] | exit; refused 44 place 0 OutOfBounds
+verify;; ldxb r3, [r1+55] | jeq r3, 65, +1 | mov r2, 1 | mov r0, r2 | exit; refused 40 place 3 ReadsNothing(2)
+verify;; mov r6, r1 | mov r1, 0 | call 1 | add r6, r0 | ldxb r0, [r6+0] | exit; refused 41 place 3 PointerArithmetic
+verify;; mov r2, 1 | stxdw [r10-8], r2 | ldxw r3, [r10-8] | ldxdw r0, [r10-12] | exit; refused 45 place 3 UnwrittenFrame
+verify;; stb [r10+0], 1 | mov r2, 1 | stxdw [r10-8], r2 | ldxw r3, [r10-8] | ldxw r0, [r10-4] | exit;
+  refused 44 place 0 OutOfBounds
+verify;; mov r2, -1 | add r1, r2 | ldxb r0, [r1+0] | exit; refused 44 place 2 OutOfBounds
+verify;; mov r1, 0 | mov r2, r10 | add r2, -4 | mov r3, 4 | call 7 | exit; refused 45 place 4 UnwrittenFrame
+verify;; stw [r10-4], 0x6e69616d | mov r1, 0 | mov r2, r10 | add r2, -4 | mov r3, 31 | call 7 | exit;
+  refused 50 place 5 BadArgument(3)
+verify;; stw [r10-4], 0x6e69616d | mov r1, 0 | mov r2, r10 | add r2, -4 | mov r3, 4 | call 7 | mov r0, r1 | exit;
+  refused 40 place 6 ReadsNothing(1)
+verify;; add r1, 228 | ldxb r0, [r1+0] | exit; refused 44 place 1 OutOfBounds
+verify;; mov r2, 5 | ldxb r0, [r2+0] | exit; refused 43 place 1 NotPointer
+verify;; ldxb r0, [r10-8] | exit; refused 45 place 0 UnwrittenFrame
+verify;; add r1, 32768 | exit; refused 41 place 0 PointerArithmetic
+verify;; add r1, 32767 | add r1, 1 | exit; refused 42 place 1 LeavesArea
+verify;; mov r0, 0 | ldxb r2, [r1+55] | jgt r2, 228, +2 | add r1, r2 | ldxb r0, [r1+0] | exit;
+  refused 44 place 4 OutOfBounds
+verify;; ldxb r2, [r1+55] | mov r3, r1 | jeq r2, 65, +1 | mov r3, 0 | ldxb r0, [r3+0] | exit;
+  refused 40 place 4 ReadsNothing(3)
+verify;; mov r0, r1 | exit; refused 51 place 1 ExitNotNumber
+verify;; mov r0, 0 | jeq r1, 0, +0 | exit; refused 48 place 1 ComparesPointer
+verify;; mov r1, 0 | mov r2, r10 | add r2, -4 | mov r3, 3 | call 6 | ldxw r0, [r10-4] | exit;
+  refused 45 place 5 UnwrittenFrame
+verify;; call 10 | exit; refused 49 place 0 UnknownHelper
+verify;; ldxb r3, [r1+55] | and r3, 1 | mov r2, r10 | add r2, -2 | add r2, r3 | stb [r2+0], 7 | ldxb r0, [r10-2] | exit;
+  refused 45 place 6 UnwrittenFrame
+verify;; stb [r1+0], 1 | ldxb r3, [r1+55] | and r3, 1 | mov r2, r10 | add r2, -2 | add r2, r3 | stb [r2+0], 7 |
+  ldxb r0, [r10-2] | exit; refused 46 place 0 WritesRecord
+verify;; stxw [r10-8], r1 | ldxb r3, [r1+55] | and r3, 1 | mov r2, r10 | add r2, -2 | add r2, r3 | stb [r2+0], 7 |
+  ldxb r0, [r10-2] | exit; refused 47 place 0 StoresPointer
+verify;; add r1, -32768 | ldxb r0, [r1+32767] | exit; refused 44 place 1 OutOfBounds
+verify;; ldxb r2, [r1+55] | add r2, -1 | add r1, r2 | ldxb r0, [r1+0] | exit; refused 41 place 2 PointerArithmetic
+verify;; ldxb r2, [r1+55] | sdiv r2, 2 | add r1, r2 | ldxb r0, [r1+0] | exit; refused 41 place 2 PointerArithmetic
+verify;; ldxb r2, [r1+55] | mov r0, 1 | jne r2, r2, +1 | exit | ldxb r0, [r9+0] | exit;
+  refused 40 place 4 ReadsNothing(9)
+verify;; ldxb r2, [r1+55] | mov r0, 1 | jset r2, 240, +2 | add r1, r2 | ldxb r0, [r1+0] | exit;
+  refused 44 place 4 OutOfBounds
+verify;; stxdw [r10-12], r1 | exit; refused 47 place 0 StoresPointer
+verify;; stxw [r10-8], r1 | exit; refused 47 place 0 StoresPointer
+verify;; stxdw [r10+0], r1 | exit; refused 44 place 0 OutOfBounds
+verify;; stxdw [r10-8], r1 | ldxw r0, [r10-8] | exit; refused 45 place 1 UnwrittenFrame
+verify;; stxdw [r10-8], r1 | stb [r10-1], 0 | ldxdw r1, [r10-8] | exit; refused 45 place 2 UnwrittenFrame
+verify;; ldxb r2, [r1+55] | stxdw [r10-8], r1 | jeq r2, 65, +1 | stxdw [r10-8], r10 | ldxdw r3, [r10-8] | mov r0, 1 |
+  exit; refused 45 place 4 UnwrittenFrame
+"
+);
 
-/// The calls that take memory.
-const CALLS: [&str; 8] = [
-    "decode",
-    "encode",
-    "assemble",
-    "assemble_source",
-    "disassemble",
-    "disassemble_program",
-    "verify",
-    "flat_forms",
-];
+// The same of long texts and programs, most of as many words as one may have, or of one more.
+const LONG: &str = r"decode disassemble verify;; exit *65537; refused 12 TooLong
+decode disassemble verify;; lddw r0, 0x1 *32768 | exit; refused 12 TooLong
+decode disassemble verify;; exit *65535 | hex 1800000000000000; refused 17 place 65535 CutWide
+decode; {exit\n*65536}; exit *65536; accepted
+disassemble; {lddw r9, 0x1122334455667788\n*32768}; lddw r9, 0x1122334455667788 *32768; accepted
+assemble; mov r0, 1\nja far\n{mov r0, 1\n*32768}far:\nexit;; refused 25 line 2 LabelTooFar
+source; mov r0, 1\nja far\n{mov r0, 1\n*32767}far:\nexit; mov r0, 1 | hex 0500ff7f00000000 | mov r0, 1 *32767 | exit;
+  accepted
+assemble; mov r0, 1\nja32 far\n{mov r0, 1\n*32768}far:\nexit;
+  mov r0, 1 | hex 0600000000800000 | mov r0, 1 *32768 | exit; accepted
+source; {exit\n*65537};; refused 26 line 65537 CodeFault(12)
+verify;; exit *65535 | ja -32768; refused 30 place 65535 BackwardJump
+verify;; ja32 +65535 | mov r0, 1 *65534 | exit; refused 31 place 0 OutOfProgram
+verify;; ja32 +65533 | mov r0, 1 *65532 | lddw r0, 0x1 | exit; refused 32 place 0 IntoWide
+verify;; exit *65535 | mov r0, 1; refused 33 place 65535 LastNotExit
+verify;; mov r0, 1 *65534 | mov r0, r9 | exit; refused 40 place 65534 ReadsNothing(9)
+verify;; stdw [r10-8], 1 *65534 | ldxdw r0, [r10-8] | exit; accepted
+verify;; mov r0, 1 | lddw r2, 0x1122334455667788 *32767 | exit; accepted
+verify;; ldxb r0, [r1+55] | jne r0, 65, +32767 | jne r0, 65, +0 *65533 | exit; accepted";
 
-// Texts, and the code that they mean, as the disassembler writes it, or their refusals.
-const TEXTS: &str = r"a:\nja32 a\nja b\nb:\nja a; ja32 -1\nja +0\nja -3\n
-{mov r0, 1\n*300}exit; {mov r0, 1\n*300}exit\n
-{ja end\n*60}end:\nmov r0; refused 20 line 62 Syntax
-a1:\na2:\na3:\na4:\na5:\na6:\na7:\na8:\na9:\na5:\n; refused 24 line 10 DoubleLabel
-{mov r0, 1\n*300}ja nowhere; refused 23 line 301 UnknownLabel
-{mov r0, 1\n*300}frob; refused 21 line 301 UnknownMnemonic
-{exit\n*65537}; refused 26 line 65537 CodeFault(12)";
-
-/// A text and the words that it means, none where it is refused.
+/// A text and the words that it means.
 #[derive(Drop)]
 struct Program {
     text: Vec<u8>,
@@ -52,367 +139,195 @@ struct Program {
 }
 
 impl Program {
-    fn new(alloc: Global, text: &str, meaning: &str) -> Option<Self> {
-        let text = bytes(alloc, text).ok()?;
-        if meaning.starts_with("refused") {
-            let words = Vec::new(alloc);
-            return Some(Program { text, words });
-        }
-        let words = assemble_source(alloc, &bytes(alloc, meaning).ok()?).ok()?;
+    fn of(alloc: Global, row: &str) -> Option<Self> {
+        let text = bytes(alloc, cell(row, 1)).ok()?;
+        let words = program(alloc, cell(row, 2))?;
         Some(Program { text, words })
     }
 }
 
-/// What a call gave: what it should, want of memory, or anything else.
-#[derive(Clone, Copy)]
-enum Outcome {
-    Right,
-    Memory,
-    Wrong,
-}
+type Heap = Refusing<Global>;
 
-impl Outcome {
-    fn new(is_right: bool) -> Self {
-        if is_right {
-            Outcome::Right
-        } else {
-            Outcome::Wrong
-        }
-    }
-
-    fn refused(line: &str, expected: &str) -> Self {
-        match line {
-            "refused memory" => Outcome::Memory,
-            _ => Outcome::new(line == expected),
-        }
-    }
-
-    /// Whether this is what a call should give of which a growth was refused or none.
-    fn is_due(self, was_refused: bool) -> bool {
-        match self {
-            Outcome::Right => !was_refused,
-            Outcome::Memory => was_refused,
-            Outcome::Wrong => false,
-        }
+/// What a call should say: what a row says, or out of memory where a growth was refused.
+fn due<'a>(heap: &Heap, said: &'a str) -> &'a str {
+    if heap.was_refused() {
+        "refused memory"
+    } else {
+        said
     }
 }
 
-/// What the call with a name gives of a program, where the growth with this number is refused.
-fn outcome_of(
-    alloc: Global,
-    heap: &Refusing<Global>,
-    call: &str,
-    program: &Program,
-    verdict: &str,
-    nth: u64,
-) -> Option<Outcome> {
-    match call {
-        "decode" => Some(decoded(alloc, heap, program, nth)),
-        "encode" => encoded(alloc, heap, program, nth),
-        "assemble" => assembled(alloc, heap, program, verdict, nth),
-        "assemble_source" => Some(source_assembled(heap, program, verdict, nth)),
-        "disassemble" => disassembled(alloc, heap, program, nth),
-        "disassemble_program" => Some(program_disassembled(heap, program, nth)),
-        "verify" => verified(alloc, heap, program, verdict, nth),
-        _ => flattened(alloc, heap, program, nth),
+/// Whether these are the bytes that a call should give.
+fn is_same(heap: &Heap, given: Result<Vec<u8, &Heap>, AllocError>, bytes: &[u8]) -> bool {
+    match given {
+        Ok(given) => !heap.was_refused() && given.as_slice() == bytes,
+        Err(AllocError) => heap.was_refused(),
     }
 }
 
-fn decoded(alloc: Global, heap: &Refusing<Global>, program: &Program, nth: u64) -> Outcome {
-    heap.refuse(nth);
-    match decode(heap, &program.words) {
-        Ok(code) => Outcome::new(is_written(alloc, &code, &program.words)),
-        Err(fault) => Outcome::refused(fault.line().as_str(), ""),
+/// Whether a text is assembled, and the code encoded, as a row says.
+fn is_assembled(heap: &Heap, program: &Program, said: &str) -> bool {
+    let text = str::from_utf8(&program.text).unwrap_or("");
+    match assemble(heap, text) {
+        Ok(code) => said == "accepted" && is_same(heap, encode(heap, &code), &program.words),
+        Err(fault) => fault.line().as_str() == due(heap, said),
     }
 }
 
-fn encoded(alloc: Global, heap: &Refusing<Global>, program: &Program, nth: u64) -> Option<Outcome> {
-    let code = decode(alloc, &program.words).ok()?;
-    heap.refuse(nth);
-    Some(match encode(heap, &code) {
-        Ok(words) => Outcome::new(words.as_slice() == program.words.as_slice()),
-        Err(AllocError) => Outcome::Memory,
-    })
-}
-
-fn assembled(
-    alloc: Global,
-    heap: &Refusing<Global>,
-    program: &Program,
-    refusal: &str,
-    nth: u64,
-) -> Option<Outcome> {
-    let text = str::from_utf8(&program.text).ok()?;
-    heap.refuse(nth);
-    Some(match assemble(heap, text) {
-        Ok(code) => Outcome::new(is_written(alloc, &code, &program.words)),
-        Err(fault) => Outcome::refused(fault.line().as_str(), refusal),
-    })
-}
-
-fn source_assembled(
-    heap: &Refusing<Global>,
-    program: &Program,
-    refusal: &str,
-    nth: u64,
-) -> Outcome {
-    heap.refuse(nth);
+fn is_source(heap: &Heap, program: &Program, said: &str) -> bool {
     match assemble_source(heap, &program.text) {
-        Ok(words) => Outcome::new(words.as_slice() == program.words.as_slice()),
-        Err(SourceFault::Text(fault)) => Outcome::refused(fault.line().as_str(), refusal),
-        Err(SourceFault::Memory) => Outcome::Memory,
-        Err(SourceFault::NotUtf8) => Outcome::Wrong,
+        Ok(words) => said == "accepted" && is_same(heap, Ok(words), &program.words),
+        Err(SourceFault::Text(fault)) => fault.line().as_str() == due(heap, said),
+        Err(SourceFault::Memory) => heap.was_refused(),
+        Err(SourceFault::NotUtf8) => said == "not UTF-8",
     }
 }
 
-fn disassembled(
-    alloc: Global,
-    heap: &Refusing<Global>,
-    program: &Program,
-    nth: u64,
-) -> Option<Outcome> {
-    let code = decode(alloc, &program.words).ok()?;
-    heap.refuse(nth);
-    Some(match disassemble(heap, &code) {
-        Ok(text) => Outcome::new(text.as_bytes() == program.text.as_slice()),
-        Err(AllocError) => Outcome::Memory,
-    })
+/// Whether words are decoded, and the code built again and disassembled, as a row says.
+fn is_decoded(heap: &Heap, program: &Program, said: &str) -> bool {
+    match decode(heap, &program.words) {
+        Ok(code) => {
+            said == "accepted"
+                && is_built(heap, &code)
+                && (heap.was_refused() || is_disassembled(heap, &code, &program.text))
+        }
+        Err(fault) => fault.line().as_str() == due(heap, said),
+    }
 }
 
-fn program_disassembled(heap: &Refusing<Global>, program: &Program, nth: u64) -> Outcome {
-    heap.refuse(nth);
+/// The last register that may be written.
+const LAST: Register = Register { number: 9 };
+
+/// Whether a builder takes the instructions of a code, and gives the same code without a growth.
+fn is_built(heap: &Heap, code: &Code<&Heap>) -> bool {
+    let mut builder = CodeBuilder::new(heap);
+    let pushed = push_all(&mut builder, code.instructions());
+    let asked = heap.count();
+    let (words, destination) = (builder.words(), builder.destination(LAST));
+    match (pushed, builder.finish()) {
+        (Ok(()), Ok(built)) => {
+            words == code.words()
+                && destination.is_ok()
+                && built.instructions() == code.instructions()
+                && heap.count() == asked
+        }
+        (pushed, _) => pushed == Err(CodeFault::Memory) && heap.was_refused(),
+    }
+}
+
+fn is_disassembled(heap: &Heap, code: &Code<&Heap>, text: &[u8]) -> bool {
+    match disassemble(heap, code) {
+        Ok(disassembled) => is_same(heap, Ok(disassembled.into_bytes()), text),
+        Err(AllocError) => heap.was_refused(),
+    }
+}
+
+fn is_text(heap: &Heap, program: &Program, said: &str) -> bool {
     match disassemble_program(heap, &program.words) {
-        Ok(text) => Outcome::new(text.as_bytes() == program.text.as_slice()),
-        Err(fault) => Outcome::refused(fault.line().as_str(), ""),
+        Ok(text) => said == "accepted" && is_same(heap, Ok(text.into_bytes()), &program.text),
+        Err(fault) => fault.line().as_str() == due(heap, said),
     }
 }
 
-/// The flow of a program, whose code keeps the allocator that refuses.
-fn flow_of<'a>(
-    heap: &'a Refusing<Global>,
-    program: &Program,
-) -> Option<Flow<&'a Refusing<Global>>> {
-    heap.refuse(0);
-    let code = decode(heap, &program.words).ok()?;
-    Flow::of(code).ok()
-}
-
-fn verified(
-    alloc: Global,
-    heap: &Refusing<Global>,
-    program: &Program,
-    verdict: &str,
-    nth: u64,
-) -> Option<Outcome> {
-    let code = decode(alloc, &program.words).ok()?;
-    let flow = flow_of(heap, program)?;
-    heap.refuse(nth);
-    Some(match verify(heap, flow) {
-        Ok(verified) => Outcome::new(verdict == "accepted" && has_all(&verified, &code)),
-        Err(fault) => Outcome::refused(fault.line().as_str(), verdict),
-    })
-}
-
-/// Whether each instruction of a code that is accepted has its entry and its flat form.
-fn has_all<'a>(verified: &Verified<&'a Refusing<Global>>, code: &Code<Global>) -> bool {
-    has_entries(verified, code) && verified.flat_forms().len() == code.instructions().len()
-}
-
-fn flattened(
-    alloc: Global,
-    heap: &Refusing<Global>,
-    program: &Program,
-    nth: u64,
-) -> Option<Outcome> {
-    let flow = flow_of(heap, program)?;
-    let code = flow.code().instructions();
-    let areas: Vec<Option<Area>> = code.iter().map(|_| None).collect(alloc).ok()?;
-    if areas.len() != code.len() {
-        return None;
-    }
-    heap.refuse(nth);
-    Some(match flat_forms(heap, &flow, &areas) {
-        Ok(forms) => Outcome::new(
-            forms.len() == code.len() && forms.last().is_some_and(is_flat_exit),
-        ),
-        Err(AllocError) => Outcome::Memory,
-    })
-}
-
-fn is_flat_exit(form: &FlatInsn) -> bool {
-    matches!(form, FlatInsn::Exit)
-}
-
-/// How many growths of a call were refused in turn, up to the first that isn't reached.
-fn refusals(alloc: Global, call: &str, program: &Program, verdict: &str) -> Option<u64> {
-    let heap = Refusing::new(alloc);
-    for nth in 1..=u64::MAX {
-        let outcome = outcome_of(alloc, &heap, call, program, verdict, nth)?;
-        if !outcome.is_due(heap.was_refused()) {
-            return None;
-        }
-        if !heap.was_refused() {
-            return nth.checked_sub(1);
-        }
-    }
-    None
-}
-
-#[test]
-fn programs(rt: HostRuntime) {
-    for row in PROGRAMS.lines() {
-        let program = Program::new(rt.alloc(), cell(row, 0), cell(row, 0)).expect(&rt, row);
-        for call in CALLS {
-            let refused = refusals(rt.alloc(), call, &program, cell(row, 1)).unwrap_or(0);
-            assert!(rt; refused > 0, "{call}: {row}");
-        }
+/// What is found out of a program that is accepted, or whether it is refused as it should be.
+pub fn verified<'a>(heap: &'a Heap, words: &[u8], said: &str) -> Result<Verified<&'a Heap>, bool> {
+    let flow = match decode(heap, words) {
+        Ok(code) => Flow::of(code),
+        Err(fault) => return Err(fault.line().as_str() == due(heap, said)),
+    };
+    match flow {
+        Ok(flow) => match verify(heap, flow) {
+            Ok(verified) => Ok(verified),
+            Err(fault) => Err(fault.line().as_str() == due(heap, said)),
+        },
+        Err(fault) => Err(fault.line().as_str() == due(heap, said)),
     }
 }
 
-#[test]
-fn texts(rt: HostRuntime) {
-    for row in TEXTS.lines() {
-        let program = Program::new(rt.alloc(), cell(row, 0), cell(row, 1)).expect(&rt, row);
-        for call in ["assemble", "assemble_source"] {
-            let refused = refusals(rt.alloc(), call, &program, cell(row, 1)).unwrap_or(0);
-            assert!(rt; refused > 0, "{call}: {row}");
-        }
+/// Whether words are verified as a row says.
+fn is_verified(heap: &Heap, words: &[u8], said: &str) -> bool {
+    match verified(heap, words, said) {
+        Ok(_verified) => due(heap, said) == "accepted",
+        Err(is_right) => is_right,
     }
 }
 
-/// Pushes an instruction. Whether it is refused exactly where a growth was, and then leaves the builder as it was, so that it
-/// can be pushed again.
-fn is_pushed<'a>(
-    heap: &'a Refusing<Global>,
-    builder: &mut CodeBuilder<&'a Refusing<Global>>,
-    insn: Insn,
-) -> bool {
-    let (words, was_refused) = (builder.words(), heap.was_refused());
-    match builder.push(insn) {
-        Ok(()) => heap.was_refused() == was_refused,
-        Err(CodeFault::Memory) => {
-            heap.was_refused() != was_refused
-                && builder.words() == words
-                && builder.push(insn).is_ok()
-        }
+/// Whether each instruction of words has its flat form.
+fn is_flattened(heap: &Heap, words: &[u8]) -> bool {
+    let flow = match decode(heap, words) {
+        Ok(code) => Flow::of(code),
+        Err(_) => return heap.was_refused(),
+    };
+    match flow {
+        Ok(flow) => is_flat(heap, &flow),
         Err(_) => false,
     }
 }
 
-/// Whether a builder takes the registers up to 9 as destinations, and not the frame pointer.
-fn tells_destinations(builder: &CodeBuilder<&Refusing<Global>>) -> bool {
-    for number in 0..=10 {
-        let destination = builder.destination(Register { number });
-        let told = destination.map(|register| register.number).ok();
-        if told != (number < 10).then_some(number) {
+/// Whether each instruction of a flow, of 1000 at most, has its flat form.
+fn is_flat<'a>(heap: &'a Heap, flow: &Flow<&'a Heap>) -> bool {
+    let areas: [Option<Area>; 1000] = [None; 1000];
+    let count = flow.code().instructions().len();
+    if count > areas.len() {
+        return false;
+    }
+    match flat_forms(heap, flow, &areas[..count]) {
+        Ok(forms) => !heap.was_refused() && forms.len() == count,
+        Err(AllocError) => heap.was_refused(),
+    }
+}
+
+/// Whether the call with a name says what it should.
+fn is_given(heap: &Heap, call: &str, program: &Program, said: &str) -> bool {
+    match call {
+        "assemble" => is_assembled(heap, program, said),
+        "source" => is_source(heap, program, said),
+        "decode" => is_decoded(heap, program, said),
+        "disassemble" => is_text(heap, program, said),
+        "verify" => is_verified(heap, &program.words, said),
+        _ => is_flattened(heap, &program.words),
+    }
+}
+
+/// Whether that is so with each growth refused in turn, from one number on up to the first that isn't reached.
+fn is_swept(alloc: Global, call: &str, program: &Program, said: &str, first: u64) -> bool {
+    let heap = Refusing::new(alloc);
+    for nth in first..=u64::MAX {
+        heap.refuse(nth);
+        if !is_given(&heap, call, program, said) {
             return false;
         }
-    }
-    true
-}
-
-/// Whether a growth of the builder of a code was refused, where the one with this number is; nothing where it isn't built.
-fn is_build_refused(heap: &Refusing<Global>, code: &Code<Global>, nth: u64) -> Option<bool> {
-    heap.refuse(nth);
-    let mut builder = CodeBuilder::new(heap);
-    for insn in code.instructions() {
-        if !is_pushed(heap, &mut builder, *insn) {
-            return None;
+        if !heap.was_refused() {
+            return nth != 1 || said != "accepted";
         }
     }
-    let (asked, was_refused) = (heap.count(), heap.was_refused());
-    let is_told = tells_destinations(&builder);
-    let built = builder.finish().ok()?;
-    let is_built = built.instructions() == code.instructions() && built.words() == code.words();
-    (is_told && is_built && heap.count() == asked).then_some(was_refused)
+    false
 }
 
-/// How many growths of the builder of a code were refused in turn.
-fn build_refusals(alloc: Global, code: &Code<Global>) -> Option<u64> {
-    let heap = Refusing::new(alloc);
-    for nth in 1..=u64::MAX {
-        if !is_build_refused(&heap, code, nth)? {
-            return nth.checked_sub(1);
+/// Whether each call of a row is swept so.
+fn are_swept(alloc: Global, row: &str, first: u64) -> Option<bool> {
+    let program = Program::of(alloc, row)?;
+    for call in cell(row, 0).split_whitespace() {
+        if !is_swept(alloc, call, &program, cell(row, 3), first) {
+            return Some(false);
         }
     }
-    None
+    Some(true)
 }
 
 #[test]
-fn builders(rt: HostRuntime) {
-    for row in PROGRAMS.lines() {
-        let program = Program::new(rt.alloc(), cell(row, 0), cell(row, 0)).expect(&rt, row);
-        let code = decode(rt.alloc(), &program.words).expect(&rt, row);
-        let refused = build_refusals(rt.alloc(), &code).unwrap_or(0);
-        assert!(rt; refused > 0, "{row}");
+fn calls(rt: HostRuntime) -> Result<(), Fail> {
+    for row in table(rt.alloc(), ROWS)?.lines() {
+        assert!(rt; are_swept(rt.alloc(), row, 1) == Some(true), "{row}");
     }
+    Ok(())
 }
 
-/// Whether the flow of a program is made without a growth, and so is all that is asked of it.
-fn is_flow_without_growth(heap: &Refusing<Global>, program: &Program) -> Option<bool> {
-    heap.refuse(0);
-    let code = decode(heap, &program.words).ok()?;
-    heap.refuse(1);
-    let flow = Flow::of(code).ok()?;
-    let first = flow.code().at(0)?;
-    let is_first = flow.next(0) == first.words() && flow.target(0).is_none();
-    let code = flow.into_code();
-    let words = code.words();
-    let is_whole = words == program.words.len() / 8 && code.into_instructions().len() <= words;
-    Some(is_first && is_whole && heap.count() == 0)
-}
-
-/// Whether a program comes to an answer in a machine, and again in the same one.
-fn is_run_twice<A: Allocator, B: Allocator>(
-    verified: &Verified<A>,
-    segment: &Segment<B>,
-    said: &str,
-) -> bool {
-    let mut bare = Bare::start();
-    for _ in 0..2 {
-        let answer = run_in(&mut bare, verified, segment);
-        if !is_exit(said, answer.r0, answer.score) {
-            return false;
-        }
-    }
-    true
-}
-
-/// Whether a program that is accepted runs to a row's answer without a growth, by steps, at once and by the tracer.
-fn runs_without_growth(
-    alloc: Global,
-    heap: &Refusing<Global>,
-    files: &Files,
-    program: &Program,
-    row: &str,
-) -> Option<bool> {
-    let code = decode(alloc, &program.words).ok()?;
-    let flow = flow_of(heap, program)?;
-    let county = county(heap, files).ok()?;
-    let segment = county.segments().first()?;
-    let verified = verify(heap, flow).ok()?;
-    heap.refuse(1);
-    let is_right = agree(&verified, &code, segment)
-        && has_all(&verified, &code)
-        && is_run_twice(&verified, segment, cell(row, 3))
-        && is_stepped(&code, segment, cell(row, 3))
-        && verified.reads_record_alone() == (cell(row, 2) == "alone");
-    Some(is_right && heap.count() == 0)
-}
-
-/// Whether a row's program is looked at and, if it is accepted, run without a growth.
-fn takes_none(alloc: Global, row: &str) -> Option<bool> {
-    let heap = Refusing::new(alloc);
-    let program = Program::new(alloc, cell(row, 0), cell(row, 0))?;
-    let files = Files::new(alloc, r"{rt1}\n; {rt4}\n; {rt5}\n; {rt6}\n", 0).ok()?;
-    let is_flow = is_flow_without_growth(&heap, &program)?;
-    let is_accepted = cell(row, 1) == "accepted";
-    Some(is_flow && (!is_accepted || runs_without_growth(alloc, &heap, &files, &program, row)?))
-}
-
+/// No growth has the number 0, so none is refused.
 #[test]
-fn calls_without_growth(rt: HostRuntime) {
-    for row in PROGRAMS.lines() {
-        assert!(rt; takes_none(rt.alloc(), row) == Some(true), "{row}");
+fn long_programs(rt: HostRuntime) -> Result<(), Fail> {
+    for row in table(rt.alloc(), LONG)?.lines() {
+        assert!(rt; are_swept(rt.alloc(), row, 0) == Some(true), "{row}");
     }
+    Ok(())
 }

@@ -3,4 +3,4 @@ use Rattle.bpf_tests.proofs.machine.stepped.Given as goal
 
 -- the machine is on its way
 abbrev pub invariant-loop-steps : goal.invariant-loop-steps
-invariant-loop-steps l = IsOnItsWay l.verified.code l.segment l.bare
+invariant-loop-steps g l = IsOnItsWay l.verified.code l.segment l.bare

@@ -1,6 +1,0 @@
-use Rattle.bpf_machine.specs.Machine.{IsOnItsWay}
-use Rattle.bpf_tests.proofs.machine.driven.Given as goal
-
--- the machine is on its way
-abbrev pub invariant-loop-steps : goal.invariant-loop-steps
-invariant-loop-steps g l = IsOnItsWay l.verified.code l.segment l.bare
