@@ -21,13 +21,15 @@
 # Then the rows of examples/verdicts, which are such programs; there a line that begins with `#` says what the rows below it are of. Each program is
 # also sent to the server, which has to say the same.
 #
+# Then the tables of examples/rows, by rows.py.
+#
 # Then the program over files that are missing or faulty, and the outcomes of a trace: each text of an error has to stand in docs/refusals.md. And
 # examples/verdicts/generated.txt has to be what annotations.py writes.
 #
 # At last exhaustion.sh, which stands beside it: the program without memory, room or descriptors enough.
 #
 # Prints what failed, and ends with 0 where nothing did, else with 1. It needs bash and coreutils, and takes less than two minutes. The blocks ```http
-# need curl, annotations.py needs python3, and exhaustion.sh both.
+# need curl, annotations.py and rows.py need python3, and exhaustion.sh both.
 
 set -u
 export LC_ALL=C
@@ -586,6 +588,13 @@ try_calls() {
     fi
 }
 
+# The tables of rows.
+try_rows() {
+    local said
+    command -v python3 > /dev/null || { skip "examples/rows (there is no python3 here)"; return; }
+    if said=$(python3 -B examples/rows.py "$program"); then tried=$((tried + ${said%% *})); else fail "examples/rows" "$said"; fi
+}
+
 # A program of 4,003 words, nearly all of them conditional jumps: of it `verify` and the server say the same, too.
 try_long_program() {
     mkdir -p "$scratch/long" && cd "$scratch/long" || exit 1
@@ -605,6 +614,7 @@ for rows in examples/verdicts/*.txt; do
     try_verdict_rows "$rows"
 done
 try_long_program
+try_rows
 try_cases
 echo "$tried passed, $failed failed"
 "$top/examples/exhaustion.sh" "$program" || failed=$((failed + 1))

@@ -1,0 +1,303 @@
+#!/usr/bin/env python3
+"""Asks a built program the rows of the tables in examples/rows, and reports each row that it answers differently.
+
+    python3 rows.py PATH_TO_extractd [TABLE..]
+
+A line that begins with `#` is a comment, one that begins with two blanks continues the row above, and `;` separates cells. A table's kind is its name up to
+the first `_` or `.`:
+
+words    bytes; their text, with ` | ` between its lines, or a refusal. `dis` writes the text, and `asm` of the text writes the bytes; or `dis` and
+         `verify` refuse the bytes.
+sources  a text; the program that it means, or a refusal: by `asm`.
+values   an instruction; what it makes of r1 and r2, `x,y=z`, or of its one operand, `x=z`, in hexadecimal. A jump makes 1 if it is taken, else 0.
+answers  an outcome; a program; maybe the county's four files, else those of a segment with two alternate names and a further range; maybe a limit of
+         steps. `trace` ends so on line 1: with `N` in r0 and `score S` unless that is 0, `running`, or stuck as the refusal says. `run` of
+         a program that is accepted writes the row of line 1 if N isn't 0.
+extracts a program; the county's four files; `ok` and the number of rows, or a refusal; the rows: by `run`.
+
+Programs and bytes are written as in the tests: crates/fixtures has the notation, its named programs, its records and their fields.
+"""
+# Needs Python 3.8 or later, and nothing else.
+
+import os
+import re
+import subprocess
+import sys
+import tempfile
+from concurrent.futures import ThreadPoolExecutor
+from pathlib import Path
+from typing import Callable, Dict, Iterable, Iterator, List, NamedTuple, Optional, Tuple
+
+TOP = Path(__file__).resolve().parent.parent
+ROWS = Path(__file__).with_name("rows")
+FIXTURES = TOP / "crates" / "fixtures" / "src"
+COUNTY = "01001"
+# A limit that no row's run comes to.
+STEPS = "100000"
+NAMED = [
+    r"{rt1}\n",
+    r"{rt4 FEAT2=8}\n",
+    r"{rt5 FENAME=Elm}\n{rt5 FEAT=8}\n",
+    r"{rt6 FRADDR=200 TOADDR=300 ZIPL=36068 ZIPR=36068}\n",
+]
+
+
+class Said(NamedTuple):
+    """What a command ended with."""
+
+    status: int
+    output: bytes
+    errors: str
+
+    def is_refused(self, line: str) -> bool:
+        return (self.status, self.errors) == (1, line + "\n")
+
+
+def constant(file: str, name: str) -> str:
+    """Returns a text of the tests' library: the literal of a constant, without its line continuations."""
+    source = (FIXTURES / file).read_text(encoding="utf-8")
+    literal = re.search(rf'const {name}: [^=]*=\s*b?"((?:[^"\\]|\\.|\\\n)*)"', source)
+    if not literal:
+        sys.exit(f"{file} has no constant {name}")
+    return re.sub(r"\\\n\s*", "", literal[1])
+
+
+def cells_of(row: str) -> List[str]:
+    return [cell.strip() for cell in row.split(";")]
+
+
+def unescaped(text: str) -> bytes:
+    simple = {"n": b"\n", "r": b"\r", "t": b"\t"}
+    pieces = re.split(r"\\(x[0-9a-f]{2}|[nrt])", text)
+    return b"".join(
+        piece.encode() if number % 2 == 0 else simple.get(piece) or bytes([int(piece[1:], 16)])
+        for number, piece in enumerate(pieces)
+    )
+
+
+class Notation:
+    """The notation of programs and bytes."""
+
+    def __init__(self, assemble: Callable[[str], bytes]) -> None:
+        self.assemble = assemble
+        self.words: Dict[str, bytes] = {}
+        self.programs = dict(cells_of(row)[:2] for row in constant("programs.rt", "PROGRAMS").splitlines())
+        self.records = {name.lower(): constant("records.rt", name).encode() for name in ("RT1", "RT4", "RT5", "RT6")}
+        self.places = self.read_places()
+
+    @staticmethod
+    def read_places() -> Dict[Tuple[str, str], slice]:
+        places = {}
+        for row in constant("records.rt", "FIELDS").splitlines():
+            record, *words = row.split()
+            for field, first, last in zip(words[::3], words[1::3], words[2::3]):
+                places[record, field] = slice(int(first) - 1, int(last))
+        return places
+
+    def line(self, line: str) -> bytes:
+        """Returns the words of a line of a program."""
+        if line.startswith("hex "):
+            return bytes.fromhex(line[len("hex ") :])
+        if line not in self.words:
+            self.words[line] = self.assemble(line) if line else b""
+        return self.words[line]
+
+    def program(self, text: str) -> bytes:
+        """Returns the bytes of a program with this name or text."""
+        program = b""
+        for line in self.programs.get(text, text).split("|"):
+            line, _, count = line.strip().partition(" *")
+            program += self.line(line) * int(count or "1")
+        return program
+
+    def record(self, words: str) -> bytes:
+        """Returns a record's example line with its changes: texts over fields, and places that are kept."""
+        name, *changes = words.split()
+        line = self.records[name]
+        for change in changes:
+            field, is_text, text = change.partition("=")
+            if is_text:
+                place = self.places[name, field]
+                width = place.stop - place.start
+                line = line[: place.start] + unescaped(text).replace(b"_", b" ").ljust(width)[:width] + line[place.stop :]
+            else:
+                first, _, last = change.partition("..")
+                line = line[int(first or "1") - 1 : int(last or len(line))]
+        return line
+
+    def named(self, name: str) -> bytes:
+        """Returns what stands in braces, without a count: a record, a row of one, a program or a text."""
+        if name.startswith("rt"):
+            return self.record(name)
+        score, is_row, record = name.partition(r"\t")
+        if is_row and record.startswith("rt"):
+            return unescaped(score) + b"\t" + self.record(record)
+        if name.startswith("asm "):
+            return self.program(name[len("asm ") :])
+        return self.program(name) if name in self.programs else unescaped(name)
+
+    def braced(self, text: str) -> bytes:
+        numbered = re.fullmatch(r"(rt.*)#(\d+)\.\.(\d+)", text)
+        if numbered:
+            line = self.with_end(numbered[1])
+            tlids = range(int(numbered[2]), int(numbered[3]) + 1)
+            return b"".join(line[:5] + b"%010d" % tlid + line[15:] for tlid in tlids)
+        counted = re.fullmatch(r"(.*)\*(\d+)", text)
+        return self.with_end(counted[1]) * int(counted[2]) if counted else self.with_end(text)
+
+    def with_end(self, text: str) -> bytes:
+        return self.named(text[:-2]) + b"\n" if text.endswith(r"\n") else self.named(text)
+
+    def bytes(self, text: str) -> bytes:
+        pieces = re.split(r"\{([^}]*)\}", text)
+        return b"".join(self.braced(piece) if number % 2 else unescaped(piece) for number, piece in enumerate(pieces))
+
+
+class Asked:
+    """The built program, in a folder of its own for each row."""
+
+    def __init__(self, program: str) -> None:
+        self.extractd = program
+        self.notation = Notation(self.assemble)
+
+    def run(self, folder: str, *words: str) -> Said:
+        ran = subprocess.run([self.extractd, *words], cwd=folder, stdin=subprocess.DEVNULL, stdout=subprocess.PIPE, stderr=subprocess.PIPE)
+        return Said(ran.returncode, ran.stdout, ran.stderr.decode(errors="replace"))
+
+    def asm(self, folder: str, text: bytes) -> Said:
+        Path(folder, "p.s").write_bytes(text)
+        return self.run(folder, "asm", "--source", "p.s")
+
+    def assemble(self, text: str) -> bytes:
+        with tempfile.TemporaryDirectory() as folder:
+            said = self.asm(folder, text.encode())
+        if said.status:
+            raise ValueError(f"{text}: {said.errors.strip()}")
+        return said.output
+
+    def write_files(self, folder: str, cells: List[str]) -> None:
+        for number, cell in zip("1456", cells):
+            Path(folder, f"TGR{COUNTY}.RT{number}").write_bytes(self.notation.bytes(cell))
+
+    def write_program(self, folder: str, program: bytes) -> None:
+        Path(folder, "p.bpf").write_bytes(program)
+
+    def words(self, folder: str, row: List[str]) -> Optional[str]:
+        program, said = self.notation.program(row[0]), row[1]
+        self.write_program(folder, program)
+        shown = self.run(folder, "dis", "--program", "p.bpf")
+        if said.startswith("refused"):
+            verdict = self.run(folder, "verify", "--program", "p.bpf")
+            return None if shown.is_refused(said) and verdict.is_refused(said) else f"{shown} and {verdict}"
+        text = "".join(line.strip() + "\n" for line in said.split("|")).encode()
+        made = self.asm(folder, text)
+        return None if shown == Said(0, text, "") and made == Said(0, program, "") else f"{shown} and {made}"
+
+    def sources(self, folder: str, row: List[str]) -> Optional[str]:
+        made = self.asm(folder, self.notation.bytes(row[0]))
+        if row[1].startswith("refused"):
+            return None if made.is_refused(row[1]) else str(made)
+        return None if made == Said(0, self.notation.program(row[1]), "") else str(made)
+
+    def values(self, folder: str, row: List[str]) -> Optional[str]:
+        """All of a row's values are asked by one program, which answers the number of the first that is wrong, counted from 1, or else 0."""
+        made = self.asm(folder, "\n".join([*value_lines(row[0], row[1].split()), ""]).encode())
+        self.write_program(folder, made.output)
+        self.write_files(folder, NAMED)
+        said = self.trace(folder, STEPS)
+        return None if made.status == 0 and said == Said(0, b"exit 0 score 0\n", "") else f"{made.errors} {said}"
+
+    def trace(self, folder: str, limit: str) -> Said:
+        return self.run(folder, "trace", "--program", "p.bpf", "--data", ".", "--line", "1", "--limit", limit, COUNTY)
+
+    def answers(self, folder: str, row: List[str]) -> Optional[str]:
+        self.write_program(folder, self.notation.program(row[1]))
+        self.write_files(folder, row[2:6] if len(row) > 2 else NAMED)
+        said = self.trace(folder, row[6] if len(row) > 6 else STEPS)
+        if said != Said(0, traced(row[0]), ""):
+            return str(said)
+        if self.run(folder, "verify", "--program", "p.bpf").status:
+            return None
+        answer, _, score = row[0].partition(" score ")
+        line = Path(folder, f"TGR{COUNTY}.RT1").read_bytes()[:228]
+        chosen = b"" if answer == "0" else (score or "0").encode() + b"\t" + line + b"\n"
+        rows = self.run(folder, "run", "--program", "p.bpf", "--data", ".", COUNTY)
+        return None if rows == Said(0, chosen, "") else str(rows)
+
+    def extracts(self, folder: str, row: List[str]) -> Optional[str]:
+        self.write_program(folder, self.notation.program(row[0]))
+        self.write_files(folder, row[1:5])
+        said = self.run(folder, "run", "--program", "p.bpf", "--data", ".", COUNTY)
+        rows = self.notation.bytes(row[6] if len(row) > 6 else "")
+        is_counted = row[5] != f"ok {rows.count(10)}" and not row[5].startswith("refused")
+        ended = said.status == 0 and not said.errors if row[5].startswith("ok") else said.is_refused(row[5])
+        return None if ended and said.output == rows and not is_counted else str(said)
+
+    def wrong(self, kind: str, row: str) -> Optional[str]:
+        """Returns what is wrong with a row, if anything is."""
+        ask: Dict[str, Callable[[str, List[str]], Optional[str]]] = {
+            "words": self.words,
+            "sources": self.sources,
+            "values": self.values,
+            "answers": self.answers,
+            "extracts": self.extracts,
+        }
+        try:
+            with tempfile.TemporaryDirectory() as folder:
+                return ask[kind](folder, cells_of(row))
+        except (IndexError, KeyError, ValueError) as error:
+            return f"the row can't be read: {error!r}"
+
+
+def value_lines(instruction: str, values: Iterable[str]) -> Iterator[str]:
+    """Yields a program that answers which of these values an instruction doesn't make, as program text."""
+    is_jump = instruction.startswith("j")
+    for number, value in enumerate(values, 1):
+        operands, _, made = value.partition("=")
+        x, _, y = operands.partition(",")
+        yield from (f"mov r6, {number}", f"lddw r1, 0x{x}", f"lddw r2, 0x{y or x}")
+        if is_jump:
+            yield from ("mov r4, 1", f"{instruction.rpartition(',')[0]}, +1", "mov r4, 0", "mov r1, r4")
+        else:
+            yield instruction
+        yield from (f"lddw r3, 0x{made}", "jne r1, r3, out")
+    yield from ("mov r6, 0", "out:", "mov r0, r6", "exit")
+
+
+def traced(outcome: str) -> bytes:
+    """Returns the line that `trace` writes of an outcome."""
+    stuck = re.fullmatch(r"refused (\d+) place (\d+) \S+", outcome)
+    if stuck:
+        return f"stuck place {stuck[2]} cause {stuck[1]}\n".encode()
+    if outcome == "running":
+        return b"running\n"
+    answer, _, score = outcome.partition(" score ")
+    return f"exit {answer} score {score or 0}\n".encode()
+
+
+def rows_of(table: Path) -> List[str]:
+    text = re.sub(r"\n  +", " ", table.read_text(encoding="utf-8"))
+    return [line for line in text.splitlines() if line and not line.startswith("#")]
+
+
+def main() -> int:
+    if len(sys.argv) < 2 or not os.access(sys.argv[1], os.X_OK):
+        print(f"usage: {sys.argv[0]} PATH_TO_extractd [TABLE..]", file=sys.stderr)
+        return 1
+    asked = Asked(os.path.realpath(sys.argv[1]))
+    tables = [Path(table) for table in sys.argv[2:]] or sorted(ROWS.glob("*.txt"))
+    tried = failed = 0
+    with ThreadPoolExecutor(os.cpu_count()) as pool:
+        for table in tables:
+            kind, rows = re.split(r"[_.]", table.name)[0], rows_of(table)
+            for row, wrong in zip(rows, pool.map(lambda row: asked.wrong(kind, row), rows)):
+                tried += 1
+                if wrong:
+                    failed += 1
+                    print(f"FAILED: {table.name}: {row[:300]}\nand it is {wrong[:600]}")
+    print(f"{tried - failed} passed, {failed} failed")
+    return 1 if failed or not tried else 0
+
+
+if __name__ == "__main__":
+    sys.exit(main())
