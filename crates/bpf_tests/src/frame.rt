@@ -1,5 +1,5 @@
 //! Maps beside those of a plain program over 512 truth values.
-ghost use Rattle.std.specs.Prelude.{◌<◌, ◌^◌, IfSome};
+ghost use Rattle.std.specs.Prelude.{IfSome};
 ghost use Rattle.bpf_frame.specs.FrameMap.{IsProper};
 
 use bpf_frame::FrameMap;
@@ -80,7 +80,7 @@ fn marked(text: &str) -> Option<(FrameMap, [bool; FRAME_LENGTH])>
     let mut written = [false; FRAME_LENGTH];
     for run in text.split_whitespace() {
         let (from, len) = run_of(run)?;
-        if from + len <= FRAME_LENGTH {
+        if len <= FRAME_LENGTH && from <= FRAME_LENGTH - len {
             map.mark(from, len);
             written[from..from + len].fill(true);
         }
@@ -88,15 +88,10 @@ fn marked(text: &str) -> Option<(FrameMap, [bool; FRAME_LENGTH])>
     Some((map, written))
 }
 
-/// An offset below 65,536, and how many bytes.
-fn run_of(text: &str) -> Option<(usize, usize)>
-    ensures { IfSome result (λ run. (run.0 < 2 ^ 16) × (run.1 < 2 ^ 16)) }
-{
+/// An offset, and how many bytes.
+fn run_of(text: &str) -> Option<(usize, usize)> {
     let (from, len) = text.split_once('+')?;
-    Some((
-        usize::from(from.parse::<u16>().ok()?),
-        usize::from(len.parse::<u16>().ok()?),
-    ))
+    Some((from.parse().ok()?, len.parse().ok()?))
 }
 
 /// Whether a map says of just these bytes that they are written: of each two neighbours, and from each offset to the last of its run and no

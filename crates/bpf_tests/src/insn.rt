@@ -1,6 +1,7 @@
 //! Opcodes, and codes that are built and not decoded.
-use crate::codes::{code_of, push_all};
-use bpf_insn::{Code, CodeBuilder, CodeFault, Insn, Register, WritableRegister, decode, encode};
+use bpf_insn::{
+    Code, CodeBuilder, CodeFault, Insn, Register, WORD_LIMIT, WritableRegister, decode, encode,
+};
 use std::alloc::Global;
 
 // The opcodes of the instruction table, class by class.
@@ -55,23 +56,26 @@ const WIDE: Insn = Insn::WideLoad {
     next_immediate: 2,
 };
 
-/// A builder takes as many words as fit and no more, and gives no code of no instruction.
+/// A builder takes as many words as fit and no more.
 #[test]
 fn limit(rt: HostRuntime) {
     let mut builder = CodeBuilder::new(rt.alloc());
-    let exits = code_of(rt.alloc(), "exit *65535").expect(&rt, "a code");
-    assert!(rt; push_all(&mut builder, exits.instructions()) == Ok(()));
+    for _ in 1..WORD_LIMIT {
+        let _ = builder.push(Insn::Exit);
+    }
     // One word is left: a wide load has no room, and another instruction has.
     let pushed = (
-        builder.push(WIDE),
         builder.words(),
+        builder.push(WIDE),
         builder.push(Insn::Exit),
     );
-    let further = (builder.push(Insn::Exit), builder.push(WIDE));
-    assert!(rt; pushed == (Err(CodeFault::TooLong), 65_535, Ok(())));
-    assert!(rt; further == (Err(CodeFault::TooLong), Err(CodeFault::TooLong)));
-    let code = builder.finish().expect(&rt, "a code");
-    assert!(rt; (code.words(), code.instructions().len()) == (65_536, 65_536));
+    let further = (
+        builder.words(),
+        builder.push(WIDE),
+        builder.push(Insn::Exit),
+    );
+    assert!(rt; pushed == (65_535, Err(CodeFault::TooLong), Ok(())));
+    assert!(rt; further == (65_536, Err(CodeFault::TooLong), Err(CodeFault::TooLong)));
 }
 
 #[test]

@@ -1,8 +1,7 @@
 //! Calls that take memory, with each growth refused in turn.
-use crate::codes::push_all;
 use bpf_flat::flat_forms;
 use bpf_flow::Flow;
-use bpf_insn::{Area, Code, CodeBuilder, CodeFault, Register, decode, encode};
+use bpf_insn::{Area, Code, CodeBuilder, CodeFault, Insn, Register, decode, encode};
 use bpf_text::{SourceFault, assemble, assemble_source, disassemble, disassemble_program};
 use bpf_verify::{Verified, verify};
 use fixtures::{Refusing, bytes, cell, program, table};
@@ -195,23 +194,35 @@ fn is_decoded(heap: &Heap, program: &Program, said: &str) -> bool {
     }
 }
 
-/// The last register that may be written.
-const LAST: Register = Register { number: 9 };
+/// Adds instructions to those of a builder, up to the first that it refuses.
+fn push_all(builder: &mut CodeBuilder<&Heap>, instructions: &[Insn]) -> Result<(), CodeFault> {
+    for insn in instructions {
+        builder.push(*insn)?;
+    }
+    Ok(())
+}
 
-/// Whether a builder takes the instructions of a code, and gives the same code without a growth.
+/// Whether a builder takes the instructions of a code, and gives the same code.
 fn is_built(heap: &Heap, code: &Code<&Heap>) -> bool {
     let mut builder = CodeBuilder::new(heap);
-    let pushed = push_all(&mut builder, code.instructions());
-    let asked = heap.count();
-    let (words, destination) = (builder.words(), builder.destination(LAST));
-    match (pushed, builder.finish()) {
-        (Ok(()), Ok(built)) => {
-            words == code.words()
-                && destination.is_ok()
+    match push_all(&mut builder, code.instructions()) {
+        Ok(()) => is_finished(heap, builder, code),
+        Err(fault) => fault == CodeFault::Memory && heap.was_refused(),
+    }
+}
+
+/// Whether a builder gives a code, and takes no memory for what it is asked then.
+fn is_finished(heap: &Heap, builder: CodeBuilder<&Heap>, code: &Code<&Heap>) -> bool {
+    let (asked, words) = (heap.count(), builder.words());
+    let is_writable = builder.destination(Register { number: 9 }).is_ok();
+    match builder.finish() {
+        Ok(built) => {
+            is_writable
+                && words == built.words()
                 && built.instructions() == code.instructions()
                 && heap.count() == asked
         }
-        (pushed, _) => pushed == Err(CodeFault::Memory) && heap.was_refused(),
+        Err(_) => false,
     }
 }
 
