@@ -1467,8 +1467,8 @@ def wrapped(line):
 
 
 HEAD = [
-    "# Verdicts on generated programs. annotations.py writes this file, from the seed that stands in it: it searches for",
-    "# annotations, and joins no states.",
+    "# Verdicts on generated programs. annotations.py writes this file, from a fixed seed: it searches for annotations, and",
+    "# joins no states.",
 ]
 
 

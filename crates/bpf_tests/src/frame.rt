@@ -104,9 +104,9 @@ fn has_exactly(map: &FrameMap, written: &[bool; FRAME_LENGTH]) -> bool {
         }
         let run = from < end && end <= FRAME_LENGTH && map.all_written(from, end - 1);
         let beyond = from <= end && end < FRAME_LENGTH && map.all_written(from, end);
-        let behind = from + 1 < FRAME_LENGTH && written[from + 1];
+        let next = from + 1 < FRAME_LENGTH && written[from + 1];
         let both = from + 1 < FRAME_LENGTH && map.all_written(from, from + 1);
-        if run != written[from] || beyond || both != (written[from] && behind) {
+        if run != written[from] || beyond || both != (written[from] && next) {
             return false;
         }
     }

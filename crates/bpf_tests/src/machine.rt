@@ -9,8 +9,8 @@ use fixtures::{RT1, Refusing, cell, program};
 use std::alloc::{Allocator, Global};
 use tl_segments::Segment;
 
-// What register 0 holds at a program's end, and the score if it isn't 0; the program; maybe the area of each instruction's base, R for the record, F for the
-// frame and - for none; and `joined` if the program asks for more than the record.
+// What register 0 holds at a program's end, and the score if it isn't 0; the program; maybe the area of each instruction's base, R for the
+// record, F for the frame and - for none; and `joined` if the program asks for more than the record.
 const PROGRAMS: &str = concat!(
     // Operations and jumps.
     "\
@@ -108,7 +108,7 @@ fn stepped<A: Allocator, B: Allocator>(
     (bare, None)
 }
 
-/// Whether a program comes to an answer by a run, in a machine that is used again, and by steps.
+/// Whether a program comes to an answer by a run, in a machine that is reused, and by steps.
 fn runs_to<A: Allocator, B: Allocator>(
     verified: &Verified<A>,
     segment: &Segment<B>,
@@ -121,6 +121,7 @@ fn runs_to<A: Allocator, B: Allocator>(
         && is_answer(stepped(verified, segment, verified.entries().len()).1, said)
 }
 
+/// Whether there is an answer, which a cell says.
 fn is_answer(answer: Option<Answer>, said: &str) -> bool {
     match answer {
         Some(Answer { r0, score }) => is_exit(said, r0, score),
@@ -128,7 +129,7 @@ fn is_answer(answer: Option<Answer>, said: &str) -> bool {
     }
 }
 
-/// Whether a code comes to an answer by steps of the tracer, and by the tracer, in no more steps than it has words.
+/// Whether a code comes to an answer by the tracer and by its steps, in no more of them than the code has words.
 fn traces_to<A: Allocator, B: Allocator>(code: &Code<A>, segment: &Segment<B>, said: &str) -> bool {
     let mut state = State::start();
     for _steps in 0..code.words() {
@@ -210,7 +211,7 @@ fn machine_after(alloc: Global, text: &str, count: usize) -> Option<Bare> {
 const POINTER: &str =
     "mov r6, r1 | mov r1, 0 | call 1 | and r0, 15 | add r6, r0 | ldxb r0, [r6+0] | exit";
 
-// Pointers that are put into the last two slots, into the record and behind the frame.
+// Pointers that are put into the last two slots: into the record, and to the end of the frame.
 const KEPT: &str = "add r1, 5 | stxdw [r10-8], r1 | stxdw [r10-16], r10 | mov r0, 1 | exit";
 
 /// Pointers are bare words, in registers and in the frame.

@@ -145,6 +145,7 @@ impl Program {
     }
 }
 
+/// The allocator that refuses a growth.
 type Heap = Refusing<Global>;
 
 /// What a call should say: what a row says, or out of memory where a growth was refused.
@@ -173,6 +174,7 @@ fn is_assembled(heap: &Heap, program: &Program, said: &str) -> bool {
     }
 }
 
+/// Whether a text is converted to a program's bytes as a row says.
 fn is_source(heap: &Heap, program: &Program, said: &str) -> bool {
     match assemble_source(heap, &program.text) {
         Ok(words) => said == "accepted" && is_same(heap, Ok(words), &program.words),
@@ -186,7 +188,7 @@ fn is_source(heap: &Heap, program: &Program, said: &str) -> bool {
 fn is_decoded(heap: &Heap, program: &Program, said: &str) -> bool {
     match decode(heap, &program.words) {
         Ok(code) => {
-            said == "accepted"
+            due(heap, said) == "accepted"
                 && is_built(heap, &code)
                 && (heap.was_refused() || is_disassembled(heap, &code, &program.text))
         }
@@ -217,15 +219,17 @@ fn is_finished(heap: &Heap, builder: CodeBuilder<&Heap>, code: &Code<&Heap>) -> 
     let is_writable = builder.destination(Register { number: 9 }).is_ok();
     match builder.finish() {
         Ok(built) => {
-            is_writable
+            !heap.was_refused()
+                && heap.count() == asked
+                && is_writable
                 && words == built.words()
                 && built.instructions() == code.instructions()
-                && heap.count() == asked
         }
         Err(_) => false,
     }
 }
 
+/// Whether a code is disassembled as this text.
 fn is_disassembled(heap: &Heap, code: &Code<&Heap>, text: &[u8]) -> bool {
     match disassemble(heap, code) {
         Ok(disassembled) => is_same(heap, Ok(disassembled.into_bytes()), text),
@@ -233,6 +237,7 @@ fn is_disassembled(heap: &Heap, code: &Code<&Heap>, text: &[u8]) -> bool {
     }
 }
 
+/// Whether a program's bytes are converted to text as a row says.
 fn is_text(heap: &Heap, program: &Program, said: &str) -> bool {
     match disassemble_program(heap, &program.words) {
         Ok(text) => said == "accepted" && is_same(heap, Ok(text.into_bytes()), &program.text),
@@ -263,7 +268,7 @@ fn is_verified(heap: &Heap, words: &[u8], said: &str) -> bool {
     }
 }
 
-/// Whether each instruction of words has its flat form.
+/// Whether words are decoded, and each instruction has its flat form.
 fn is_flattened(heap: &Heap, words: &[u8]) -> bool {
     let flow = match decode(heap, words) {
         Ok(code) => Flow::of(code),
@@ -300,7 +305,7 @@ fn is_given(heap: &Heap, call: &str, program: &Program, said: &str) -> bool {
     }
 }
 
-/// Whether that is so with each growth refused in turn, from one number on up to the first that isn't reached.
+/// Whether that is so with each growth refused in turn, from one number up to the first that isn't reached.
 fn is_swept(alloc: Global, call: &str, program: &Program, said: &str, first: u64) -> bool {
     let heap = Refusing::new(alloc);
     for nth in first..=u64::MAX {
@@ -334,7 +339,7 @@ fn calls(rt: HostRuntime) -> Result<(), Fail> {
     Ok(())
 }
 
-/// No growth has the number 0, so none is refused.
+/// No growth is refused, since none has the number 0.
 #[test]
 fn long_programs(rt: HostRuntime) -> Result<(), Fail> {
     for row in table(rt.alloc(), LONG)?.lines() {
