@@ -1,0 +1,52 @@
+//! Extracts by programs of as many words as there may be, of counties of real sizes, and in little memory.
+use crate::extracts::Case;
+use extract::extract;
+use fixtures::{cell, is_outcome, table};
+use linked_list_allocator::LocalHeap;
+use std::alloc::Global;
+use std::test::Fail;
+use tl_fields::{Buffered, Counting};
+
+// A program, the files of types 1, 4, 5 and 6, the outcome, the rows, and how many bytes of memory there are.
+//
+// First programs of as many words as there may be, or one more. Then 70,000 lines of type 1 in little memory, and joined
+// files of 25,000 TLIDs each: `every` reads the record alone, so that they are only checked for it. The score of `counts`
+// is 10,000 times the number of alternate names, and the number of ranges.
+const LARGE: &str = r"mov r0, 1 *65535 | exit; {rt1\n*3};;;; ok 3; {0\trt1\n*3}; 16777216
+lddw r0, 0x1 *32767 | mov r0, 1 | exit; {rt1\n};;;; ok 1; 0\t{rt1}\n; 16777216
+mov r0, 1 | ja32 +65533 | mov r0, 0 *65533 | exit; {rt1\n*3};;;; ok 3; {0\trt1\n*3}; 16777216
+mov r3, 1 *32766 | ldxb r2, [r1+55] | jne r2, 65, +32766 | mov r0, 1 *32766 | exit *2; {rt1\n};;;;
+  refused 40 place 65534 ReadsNothing(0);; 16777216
+mov r0, 1 *65536 | exit; {rt1\n*3};;;; refused 12 TooLong;; 16777216
+counts; {rt1\n*70000}; {rt4\n*2}; {rt5}\n; {rt6\n*2}; ok 70000; {20003\trt1\n*70000}; 16384
+every; {rt1\n*3}; {rt4\n#1..25000}; {rt5}\n; {rt6\n#30001..55000}; ok 3; {0\trt1\n*3}; 16777216
+counts; {rt1 TLID=1}\n{rt1 TLID=25000}\n{rt1 TLID=25001}\n{rt1 TLID=30001}\n{rt1 TLID=55000}\n;
+  {rt4\n#1..25000}; {rt5}\n; {rt6\n#30001..55000}; ok 5;
+  {10001\trt1 TLID=1}\n{10001\trt1 TLID=25000}\n{1\trt1 TLID=25001}\n{2\trt1 TLID=30001}\n{2\trt1 TLID=55000}\n;
+  16777216";
+
+/// Tells whether an extract through buffers does what a row says.
+fn is_large(alloc: Global, row: &str) -> Option<bool> {
+    let heap = LocalHeap::new(alloc, cell(row, 7).parse().ok()?).ok()?;
+    let case = Case::new(alloc, row)?;
+    let mut out = Counting::new(Vec::new(alloc));
+    let given = extract(
+        &heap,
+        &case.program,
+        &mut Buffered::new(case.files.rt1.as_slice()),
+        &mut Buffered::new(case.files.rt4.as_slice()),
+        &mut Buffered::new(case.files.rt5.as_slice()),
+        &mut Buffered::new(case.files.rt6.as_slice()),
+        &mut out,
+    );
+    let is_given = is_outcome(given.map_err(|fault| fault.line()), cell(row, 5));
+    Some(is_given && *out.get_ref() == case.rows)
+}
+
+#[test]
+fn large_extracts(rt: HostRuntime) -> Result<(), Fail> {
+    for row in table(rt.alloc(), LARGE)?.lines() {
+        assert_eq!(rt; is_large(rt.alloc(), row), Some(true), "{row}");
+    }
+    Ok(())
+}
