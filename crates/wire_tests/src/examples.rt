@@ -1,12 +1,9 @@
 //! The examples of docs/http.md in its order, row for row: examples/try.sh compares the document with the tables, and sends it to the program.
-use crate::tables::{wrong_in_script, wrong_in_table};
-use fixtures::table;
-use std::test::Fail;
 
 // The blocks with whole replies, an empty line between: the county, then each request of curl and its reply. Turns are those behind the connections.
 //
 // Of what curl sends its version is fixed, and the Content-Type of a body is left out, which isn't looked at.
-const BLOCKS: &str = r"one
+pub const BLOCKS: &str = r"one
 POST /verify{curl} >> {every} => =200 OK; text/plain; 9; accepted\n
 POST /verify{curl} >> {stuck} => =422 Unprocessable Entity; text/plain; 35; refused 40 place 0 ReadsNothing(0)\n
 
@@ -42,16 +39,8 @@ POST /jobs{curl} >> => =503 Service Unavailable; text/plain; 16; refused 70 Full
 one
 PUT /jobs/1{curl} => =405 Method Not Allowed; text/plain; 19; method not allowed\n; GET, DELETE";
 
-#[test]
-fn blocks(rt: HostRuntime) -> Result<(), Fail> {
-    for script in table(rt.alloc(), BLOCKS)?.split("\n\n") {
-        assert_eq!(rt; wrong_in_script(rt.alloc(), script, 1), Ok(None));
-    }
-    Ok(())
-}
-
 // The block of which parts of the replies are shown, between the last two of those. Any 400 segments stand for the example county.
-const TURNS: &str = r"{rt1\n*400}
+pub const TURNS: &str = r"{rt1\n*400}
 POST /jobs{curl} >> {every} => 200 text 1\n
 turn => 256 400
 GET /jobs/1{curl} => 200 octets 256 400\n{0\trt1\n*256}
@@ -61,15 +50,9 @@ turn => none
 GET /jobs/1{curl} => 200 octets 400 400\n{0\trt1\n*400}
 DELETE /jobs/1{curl} => 200 text dropped\n";
 
-#[test]
-fn turns(rt: HostRuntime) -> Result<(), Fail> {
-    let script = table(rt.alloc(), TURNS)?;
-    assert_eq!(rt; wrong_in_script(rt.alloc(), &script, 17), Ok(None));
-    Ok(())
-}
-
 // The requests that are shown byte for byte.
-const REQUESTS: &str = r"GET /geocode HTTP/2.0\r\n\r\n => 400
+pub const REQUESTS: &str = r"{rt1}\n
+GET /geocode HTTP/2.0\r\n\r\n => 400
 GET  /geocode HTTP/1.1\r\n\r\n => 400
 GET /geocode HTTP/1.1\r\nHost : a\r\n\r\n => 400
 GET /geocode HTTP/1.1\r\nX: a\r\n b\r\n\r\n => 400
@@ -99,7 +82,8 @@ GET /jobs/0 HTTP/1.0\r\n\r\n => 404
 DELETE /jobs/18446744073709551616 HTTP/1.1\r\n\r\n => 404";
 
 // Those of which it counts what comes next. One that is silent then is left to the tests of clients that are slow.
-const ENDS: &str = r" => 80
+pub const ENDS: &str = r"{rt1}\n
+ => 80
 \r\n\r\n => 400
 GET /jobs/0 HTTP/1.1\r\n => 400
 GET /jobs/0 HTTP/1.1\r\nX: {a*8192} => 400
@@ -107,12 +91,3 @@ GET /jobs/0 HTTP/1.1\r\n{X: a\r\n*64}\r\n => 404
 GET /jobs/0 HTTP/1.1\r\n{X: a\r\n*65}\r\n => 400
 POST /verify HTTP/1.1\r\nContent-Length: 16\r\n\r\n{asm mov r0, 1 | hex 95000000000000} => 400
 POST /verify HTTP/1.1\r\nContent-Length: 0016\r\n\r\n{every}any other bytes => 200 text accepted\n";
-
-#[test]
-fn requests(rt: HostRuntime) -> Result<(), Fail> {
-    for rows in [REQUESTS, ENDS] {
-        let rows = table(rt.alloc(), rows)?;
-        assert_eq!(rt; wrong_in_table(rt.alloc(), &rows), Ok(None));
-    }
-    Ok(())
-}

@@ -1,19 +1,18 @@
 //! The lengths of bodies, and what comes first of what is wrong.
-use crate::tables::wrong_in_table;
-use fixtures::table;
-use std::test::Fail;
 
+// A job is there before each table, and no id is used by its rows.
+//
 // First lengths that are numbers, and then none; two; the names of headers; transfer codings; bodies; other methods; and what comes first.
-const LENGTHS: &str = r"POST /verify HTTP/1.1\r\nContent-Length: 16\r\n\r\n{every}
+pub const LENGTHS: &str = r"{rt1}\n
+jobs => 1
+turn => 1 1
+POST /verify HTTP/1.1\r\nContent-Length: 16\r\n\r\n{every}
   => 200 text accepted\n
 POST /verify HTTP/1.1\r\nContent-Length:16\r\n\r\n{every} => 200 text accepted\n
 POST /verify HTTP/1.1\r\nContent-Length: \t  16 \t\r\n\r\n{every} => 200 text accepted\n
 POST /verify HTTP/1.1\r\nContent-Length: 0000000000000000000000000000000016\r\n\r\n{every} => 200 text accepted\n
-POST /verify HTTP/1.1\r\nContent-Length: {0*4000}16\r\n\r\n{every} => 200 text accepted\n
 POST /verify HTTP/1.1\r\nContent-Length: 0\r\n\r\n => 422 refused 10 Empty
 POST /verify HTTP/1.1\r\nContent-Length: 000\r\n\r\n{every} => 422 refused 10 Empty
-POST /verify HTTP/1.1\r\nContent-Length: 1048576\r\n\r\n{every*65536} => 422 refused 12 TooLong
-POST /verify HTTP/1.1\r\nContent-Length: 1048575\r\n\r\n{every*65536} => 422 refused 11 NotWhole
 POST /verify HTTP/1.1\r\nContent-Length: 1048577\r\n\r\n{every*100}
   => =413 Payload Too Large; text/plain; 10; too large\n
 POST /verify HTTP/1.1\r\nContent-Length: 00000001048577\r\n\r\n => 413
@@ -22,7 +21,6 @@ POST /verify HTTP/1.1\r\nContent-Length: 18446744073709551616\r\n\r\n{every} => 
 POST /verify HTTP/1.1\r\nContent-Length: 18446744073709551632\r\n\r\n{every} => 413
 POST /verify HTTP/1.1\r\nContent-Length: 340282366920938463463374607431768211472\r\n\r\n{every} => 413
 POST /verify HTTP/1.1\r\nContent-Length: {9*30}\r\n\r\n{every} => 413
-POST /verify HTTP/1.1\r\nContent-Length: {9*8000}\r\n\r\n{every} => 413
 POST /verify HTTP/1.1\r\nContent-Length:\r\n\r\n{every} => 400
 POST /verify HTTP/1.1\r\nContent-Length: \t \r\n\r\n{every} => 400
 POST /verify HTTP/1.1\r\nContent-Length: +16\r\n\r\n{every} => 400
@@ -87,16 +85,13 @@ POST /verify HTTP/1.1\r\nTE: chunked\r\nTrailer: x\r\nContent-Length: 16\r\n\r\n
 POST /verify HTTP/1.1\r\nContent-Length: 17\r\n\r\n{every} => 400
 POST /verify HTTP/1.1\r\nContent-Length: 1\r\n\r\n => 400
 POST /verify HTTP/1.1\r\nContent-Length: 1048576\r\n\r\n => 400
-POST /verify HTTP/1.1\r\nContent-Length: 1048576\r\n\r\n{every*65535}{stuck}\x00\x00\x00\x00\x00\x00\x00 => 400
 POST /assemble HTTP/1.1\r\nContent-Length: 5\r\n\r\nexit => 400
 POST /jobs HTTP/1.1\r\nContent-Length: 17\r\n\r\n{every} => 400
 POST /verify HTTP/1.1\r\nContent-Length: 8\r\n\r\n{every} => 422 refused 33 place 0 LastNotExit
 POST /verify HTTP/1.1\r\nContent-Length: 16\r\n\r\n{every}\x00 => 200 text accepted\n
 POST /verify HTTP/1.1\r\nContent-Length: 16\r\n\r\n{every}POST /jobs HTTP/1.1\r\nContent-Length: 16\r\n\r\n{every}
   => 200 text accepted\n
-POST /verify HTTP/1.1\r\nContent-Length: 16\r\n\r\n{every*4000} => 200 text accepted\n
 POST /assemble HTTP/1.1\r\nContent-Length: 4\r\n\r\nexit 1 => 200 octets {stuck}
-POST /verify HTTP/1.1\r\nContent-Length: 524288\r\n\r\n{every*32768}{stuck} => 200 text accepted\n
 GET /jobs/1 HTTP/1.1\r\nContent-Length: 5\r\n\r\n => 200 octets 1 1\n0\t{rt1}\n
 GET /jobs/1 HTTP/1.1\r\nContent-Length: x\r\nContent-Length:\r\nTransfer-Encoding: chunked\r\n\r\n
   => 200 octets 1 1\n0\t{rt1}\n
@@ -123,11 +118,16 @@ POST /verify HTTP/1.1\r\nContent-Length: 1048577\r\nContent-Length: 16\r\n\r\n{e
 POST /verify HTTP/1.1\r\nContent-Length: 1048577\r\nContent-Length: x\r\n\r\n{every} => 400
 POST /jobs HTTP/1.1\r\nContent-Length: 1048577\r\n\r\n{every} => 413
 POST /jobs HTTP/1.1\r\nContent-Length: 9\r\n\r\n{stuck} => 400
-POST /assemble HTTP/1.1\r\nContent-Length: 2\r\n\r\n\xff => 400";
+POST /assemble HTTP/1.1\r\nContent-Length: 2\r\n\r\n\xff => 400
+turn => none
+job => 2";
 
-#[test]
-fn lengths(rt: HostRuntime) -> Result<(), Fail> {
-    let table = table(rt.alloc(), LENGTHS)?;
-    assert_eq!(rt; wrong_in_table(rt.alloc(), &table), Ok(None));
-    Ok(())
-}
+// Long bodies, and lengths of many digits.
+pub const LARGE: &str = r"{rt1}\n
+POST /verify HTTP/1.1\r\nContent-Length: {0*4000}16\r\n\r\n{every} => 200 text accepted\n
+POST /verify HTTP/1.1\r\nContent-Length: 1048576\r\n\r\n{every*65536} => 422 refused 12 TooLong
+POST /verify HTTP/1.1\r\nContent-Length: 1048575\r\n\r\n{every*65536} => 422 refused 11 NotWhole
+POST /verify HTTP/1.1\r\nContent-Length: {9*8000}\r\n\r\n{every} => 413
+POST /verify HTTP/1.1\r\nContent-Length: 1048576\r\n\r\n{every*65535}{stuck}\x00\x00\x00\x00\x00\x00\x00 => 400
+POST /verify HTTP/1.1\r\nContent-Length: 16\r\n\r\n{every*4000} => 200 text accepted\n
+POST /verify HTTP/1.1\r\nContent-Length: 524288\r\n\r\n{every*32768}{stuck} => 200 text accepted\n";

@@ -1,15 +1,13 @@
-//! Tests of the crate `wire`. They go through its public calls, and stand in a crate of their own since a crate with tests is proved once
-//! without them and once with them.
+//! Tests of the crate `wire` through its public calls. They have a crate of their own because a crate with tests is proved twice, once without
+//! them and once with them.
 #![tactic(auto)]
 
 #[cfg(test)]
-mod devices;
-#[cfg(test)]
 mod examples;
 #[cfg(test)]
-mod heads;
+mod failures;
 #[cfg(test)]
-mod http;
+mod heads;
 #[cfg(test)]
 mod lengths;
 #[cfg(test)]
@@ -17,14 +15,12 @@ mod notation;
 #[cfg(test)]
 mod queries;
 #[cfg(test)]
-mod replies;
-#[cfg(test)]
 mod routes;
+#[cfg(test)]
+mod rows;
 #[cfg(test)]
 mod scripts;
 #[cfg(test)]
-mod serving;
-#[cfg(test)]
-mod sweep;
+mod server;
 #[cfg(test)]
 mod tables;

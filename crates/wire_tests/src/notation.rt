@@ -1,15 +1,12 @@
-//! What the tables name beside the common notation, and states over counties.
+//! What the tables name beyond the common notation, and counties.
 use fixtures::{Files, bytes, county};
-use jobs::COUNTY_LIMIT;
 use std::alloc::{AllocError, Allocator, Global};
 use tl_segments::County;
-use wire::State;
 
 // The end of a head without headers, and of one with those of curl, whose version doesn't matter.
 const END: &str = r" HTTP/1.1\r\n\r\n";
 
-const CURL: &str =
-    r" HTTP/1.1\r\nHost: 127.0.0.1:8080\r\nUser-Agent: curl/8.5.0\r\nAccept: */*\r\n\r\n";
+const CURL: &str = r" HTTP/1.1\r\nHost: 127.0.0.1:8080\r\nUser-Agent: curl/8.5.0\r\nAccept: */*";
 
 // The segment of examples/one, and its county.
 const LANTERN: &str =
@@ -31,15 +28,16 @@ add r0, -72         ; H is 72: 0 for hydrography alone
 exit
 ";
 
-const NAMES: [(&str, &str); 5] = [
+const NAMES: [(&str, &str); 6] = [
     ("{end}", END),
-    ("{curl}", CURL),
+    ("{curl}", r"{head of curl}\r\n\r\n"),
+    ("{head of curl}", CURL),
     ("{lantern}", LANTERN),
     ("{not_water}", NOT_WATER),
     ("{not_water.s}", NOT_WATER_TEXT),
 ];
 
-/// A text in the common notation, without these names.
+/// Returns a text in the common notation, without these names.
 fn spelled_out(alloc: Global, text: &str) -> Result<String, AllocError> {
     let mut spelled = String::from_str(alloc, text)?;
     for (name, meant) in NAMES {
@@ -48,32 +46,25 @@ fn spelled_out(alloc: Global, text: &str) -> Result<String, AllocError> {
     Ok(spelled)
 }
 
-/// The bytes of a text.
+/// Returns the bytes of a text.
 pub fn bytes_of(alloc: Global, text: &str) -> Result<Vec<u8>, AllocError> {
     bytes(alloc, &spelled_out(alloc, text)?)
 }
 
-/// The counties of these files of types 1, 4, 5 and 6, which `;` parts, with `|` between counties; that of examples/one; or none, `-`.
+/// Makes the counties of these files of types 1, 4, 5 and 6, with `;` between files and `|` between counties; that of examples/one; or none, `-`.
 pub fn counties_of<A: Allocator + Copy>(
     alloc: A,
-    files: Global,
+    global: Global,
     text: &str,
 ) -> Option<Vec<County<A>, A>> {
     let text = if text == "one" { ONE } else { text };
-    let text = spelled_out(files, text).ok()?;
+    let text = spelled_out(global, text).ok()?;
     let mut counties = Vec::new(alloc);
-    for cells in text.split('|').filter(|cells| *cells != "-") {
-        let files = Files::new(files, cells, 0).ok()?;
-        counties.push(county(alloc, &files).ok()?).ok()?;
+    for cells in text.split('|') {
+        if cells != "-" {
+            let files = Files::new(global, cells, 0).ok()?;
+            counties.push(county(alloc, &files).ok()?).ok()?;
+        }
     }
     Some(counties)
-}
-
-/// A state over counties.
-pub fn state_of<A: Allocator + Copy>(alloc: A, files: Global, counties: &str) -> Option<State<A>> {
-    let counties = counties_of(alloc, files, counties)?;
-    if counties.len() > COUNTY_LIMIT {
-        return None;
-    }
-    State::new(files, alloc, counties).ok()
 }

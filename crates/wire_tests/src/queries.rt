@@ -1,10 +1,8 @@
 //! What the route of the geocoder answers.
-use crate::tables::{wrong_in_script, wrong_in_table};
-use fixtures::table;
-use std::test::Fail;
 
 // Queries over Main Street, which has 101 to 199 on its left and 100 to 198 on its right.
-const QUERIES: &str = r"GET /geocode?number=151&name=main&zip=36067{end}
+pub const QUERIES: &str = r"{rt1}\n
+GET /geocode?number=151&name=main&zip=36067{end}
   => 200 text 123456789\tL\t-86494898\t32405102\n
 GET /geocode?number=151&name=main{end} => 200 text 123456789\tL\t-86494898\t32405102\n
 GET /geocode?number=150&name=main&zip=36067{end} => 200 text 123456789\tR\t-86494898\t32405102\n
@@ -111,16 +109,9 @@ GET /geocode?number=151&name=main HTTP/1.0\r\n\r\n => 200 text 123456789\tL\t-86
 POST /geocode?number=151&name=main HTTP/1.1 >> number=151&name=main => 405 GET
 HEAD /geocode?number=151&name=main{end} => 405 GET";
 
-#[test]
-fn queries(rt: HostRuntime) -> Result<(), Fail> {
-    let table = table(rt.alloc(), QUERIES)?;
-    assert_eq!(rt; wrong_in_table(rt.alloc(), &table), Ok(None));
-    Ok(())
-}
-
 // Counties, and what queries over them find: addresses that go down; ends exchanged; an end without a latitude; a second
 // range on the left, of no ZIP code; an alternate name; three counties; more than a thousand hits; no county.
-const COUNTIES: &str = r"{rt1 FRADDL=________199 TOADDL=________101}\n
+pub const COUNTIES: &str = r"{rt1 FRADDL=________199 TOADDL=________101}\n
 GET /geocode?number=151&name=main{end} => 200 text 123456789\tL\t-86495103\t32404897\n
 GET /geocode?number=152&name=main{end} => 200 text 123456789\tR\t-86494694\t32405306\n
 
@@ -157,11 +148,3 @@ GET /geocode?number=151&name=main{end} => 200 text {123456789\tL\t-86494898\t324
 -
 GET /geocode?number=151&name=main{end} => 200 text
 GET /geocode?number=151{end} => 400";
-
-#[test]
-fn counties(rt: HostRuntime) -> Result<(), Fail> {
-    for script in table(rt.alloc(), COUNTIES)?.split("\n\n") {
-        assert_eq!(rt; wrong_in_script(rt.alloc(), script, 1), Ok(None));
-    }
-    Ok(())
-}

@@ -1,10 +1,8 @@
 //! What the routes of programs answer.
-use crate::tables::{wrong_in_script, wrong_in_table};
-use fixtures::table;
-use std::test::Fail;
 
 // Words stand in hexadecimal where they are what is tested.
-const PROGRAMS: &str = r"POST /verify HTTP/1.1 >> {every} => 200 text accepted\n
+pub const PROGRAMS: &str = r"{rt1}\n
+POST /verify HTTP/1.1 >> {every} => 200 text accepted\n
 POST /verify HTTP/1.1 >> {roads} => 200 text accepted\n
 POST /verify HTTP/1.1 >> => 422 refused 10 Empty
 POST /verify HTTP/1.1 >> \x95\x00\x00\x00\x00\x00\x00 => 422 refused 11 NotWhole
@@ -50,29 +48,17 @@ POST /extract HTTP/1.1 >> {stuck}\x00 => 422 refused 11 NotWhole
 POST /extract HTTP/1.1 >> {backward} => 422 refused 30 place 1 BackwardJump
 POST /extract HTTP/1.1 >> {stuck} => 422 refused 40 place 0 ReadsNothing(0)";
 
-#[test]
-fn programs(rt: HostRuntime) -> Result<(), Fail> {
-    let table = table(rt.alloc(), PROGRAMS)?;
-    assert_eq!(rt; wrong_in_table(rt.alloc(), &table), Ok(None));
-    Ok(())
-}
-
 // Three programs are as long as one may be, and the others longer.
-const LONG: &str = r"POST /verify HTTP/1.1 >> {asm mov r0, 1 *65535 | exit} => 200 text accepted\n
+pub const LONG: &str = r"{rt1}\n
+POST /verify HTTP/1.1 >> {asm mov r0, 1 *65535 | exit} => 200 text accepted\n
 POST /verify HTTP/1.1 >> {every*32768} => 200 text accepted\n
 POST /verify HTTP/1.1 >> {every*32768}\x00 => 422 refused 11 NotWhole
 POST /verify HTTP/1.1 >> {every*32768}{stuck} => 422 refused 12 TooLong
 POST /disassemble HTTP/1.1 >> {every*32768}{stuck} => 422 refused 12 TooLong
 POST /extract HTTP/1.1 >> {asm mov r0, 1 *65535 | exit} => 200 octets 0\t{rt1}\n";
 
-#[test]
-fn long_programs(rt: HostRuntime) -> Result<(), Fail> {
-    assert_eq!(rt; wrong_in_table(rt.alloc(), LONG), Ok(None));
-    Ok(())
-}
-
 // The counties, and what an extract over them has. The last are of as many segments as a job's turn has, and of one more.
-const COUNTIES: &str = r"-
+pub const COUNTIES: &str = r"-
 POST /extract HTTP/1.1 >> {every} => 200 octets
 POST /extract HTTP/1.1 >> {stuck} => 422 refused 40 place 0 ReadsNothing(0)
 
@@ -92,11 +78,3 @@ POST /extract HTTP/1.1 >> {every} => 200 octets {0\trt1\n*256}
 
 {rt1\n*200} | {rt1\n*57}
 POST /extract HTTP/1.1 >> {every} => 200 octets {0\trt1\n*257}";
-
-#[test]
-fn counties(rt: HostRuntime) -> Result<(), Fail> {
-    for script in table(rt.alloc(), COUNTIES)?.split("\n\n") {
-        assert_eq!(rt; wrong_in_script(rt.alloc(), script, 1), Ok(None));
-    }
-    Ok(())
-}

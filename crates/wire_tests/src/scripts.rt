@@ -1,12 +1,9 @@
 //! Requests and turns that follow each other.
-use crate::tables::wrong_in_script;
-use fixtures::table;
-use std::test::Fail;
 
 // Scripts with an empty line between: the counties, and then requests and turns, each with what comes of it.
 //
 // The first has what an id is and isn't. Then come jobs side by side over two counties, and jobs over no segments.
-const SCRIPTS: &str = r"{rt1\n*2}
+pub const SCRIPTS: &str = r"{rt1\n*2}
 turn => none
 GET /jobs/1{end} => 404
 DELETE /jobs/1{end} => 404
@@ -101,16 +98,8 @@ GET /jobs/1{end} => 404
 GET /jobs/2{end} => 200 octets 0 0\n
 turn => none";
 
-#[test]
-fn scripts(rt: HostRuntime) -> Result<(), Fail> {
-    for script in table(rt.alloc(), SCRIPTS)?.split("\n\n") {
-        assert_eq!(rt; wrong_in_script(rt.alloc(), script, 1), Ok(None));
-    }
-    Ok(())
-}
-
 // Two jobs side by side over 600 segments, with a refused program between them.
-const TURNS: &str = r"{rt1\n*600}
+pub const TURNS: &str = r"{rt1\n*600}
 POST /jobs HTTP/1.1 >> {every} => 200 text 1\n
 GET /jobs/1{end} => 200 octets 0 600\n
 GET /jobs/1{end} => 200 octets 0 600\n
@@ -135,28 +124,14 @@ turn => none
 GET /jobs/2{end} => 200 octets 600 600\n{18446744073709551615\trt1\n*600}
 POST /extract HTTP/1.1 >> {every} => 200 octets {0\trt1\n*600}";
 
-#[test]
-fn turns(rt: HostRuntime) -> Result<(), Fail> {
-    let script = table(rt.alloc(), TURNS)?;
-    assert_eq!(rt; wrong_in_script(rt.alloc(), &script, 17), Ok(None));
-    Ok(())
-}
-
 // A program of as many words as one may have.
-const LONG: &str = r"{rt1\n*2}
+pub const LONG: &str = r"{rt1\n*2}
 POST /jobs HTTP/1.1 >> {asm mov r0, 1 *65535 | exit} => 200 text 1\n
 turn => 2 2
 GET /jobs/1{end} => 200 octets 2 2\n{0\trt1\n*2}";
 
-#[test]
-fn long(rt: HostRuntime) -> Result<(), Fail> {
-    let script = table(rt.alloc(), LONG)?;
-    assert_eq!(rt; wrong_in_script(rt.alloc(), &script, 262_147), Ok(None));
-    Ok(())
-}
-
 // What is asked where as many jobs are open as may be: a body is looked at before that, and a program behind.
-const FULL: &str = r"{rt1}\n
+pub const FULL: &str = r"{rt1}\n
 jobs => 64
 POST /jobs HTTP/1.1 >> {every} => 503 refused 70 Full
 POST /jobs HTTP/1.1 >> {stuck} => 503 refused 70 Full
@@ -184,10 +159,3 @@ turn => 1 1
 GET /jobs/1{end} => 200 octets 1 1\n0\t{rt1}\n
 GET /jobs/2{end} => 200 octets 0 1\n
 POST /jobs HTTP/1.1 >> {two} => 503 refused 70 Full";
-
-#[test]
-fn full(rt: HostRuntime) -> Result<(), Fail> {
-    let script = table(rt.alloc(), FULL)?;
-    assert_eq!(rt; wrong_in_script(rt.alloc(), &script, 7), Ok(None));
-    Ok(())
-}
