@@ -1,30 +1,23 @@
 //! Arguments that ask for nothing: usage faults, and calls for help.
-use super::running::run;
-use command_line::read_serve;
-use fixtures::{cell, table};
+use super::cases::Case;
+use command_line::{ArgumentsFault, read_serve};
+use fixtures::{Device, bytes, cell, table, taken, writer};
 use std::alloc::{AllocError, Global};
 use std::test::Fail;
-use tl_fields::Counting;
 
-// The command, how the text for the user begins, and what it has somewhere in it: the program's name in a usage line, its version, an example of each
-// command.
+// The command line, how the text for the user begins, and what it has somewhere in it: the program's name in a usage
+// line, its version, an example of each command.
 const TEXTS: &str = r#"
 extractd; error: 'extractd' requires a subcommand
 extractd run; error:
-extractd run --program p.bpf 01001; error:
 extractd run --data d 01001; error:
 extractd run --program p.bpf --data d; error:
-extractd run --program p.bpf --data; error:
-extractd run --program p.bpf --program p.bpf --data d 01001; error:
 extractd run --program p.bpf --data d --data d 01001; error:
-extractd run --program p.bpf --data d 01001 01001; error:
 extractd run --program p.bpf --data d --limit 1 01001; error:
-extractd run --program p.bpf --data d 0100; error: CODE is five digits, and "0100" isn't
 extractd run --program p.bpf --data d 010010; error: CODE is five digits, and "010010" isn't
 extractd run --program p.bpf --data d 0100a; error: CODE is five digits, and "0100a" isn't
 extractd run --program p.bpf --data d 0100١; error: CODE is five digits, and "0100١" isn't
 extractd run --program p.bpf --data d ''; error: CODE is five digits, and "" isn't
-extractd frob; error:
 extractd verify; error:
 extractd verify --program; error:
 extractd verify p.bpf; error:
@@ -49,10 +42,8 @@ extractd trace --program p.bpf --data d --limit 1 01001; error:
 extractd trace --program p.bpf --line 1 --limit 1 01001; error:
 extractd trace --data d --line 1 --limit 1 01001; error:
 extractd trace --program p.bpf --data d --line 1 --limit 1; error:
-extractd trace --program p.bpf --data d --line 1 --line 1 --limit 1 01001; error:
 extractd trace --program p.bpf --data d --line 1 --limit 1 1001; error: CODE is five digits, and "1001" isn't
 extractd trace --program p.bpf --data d --line '' --limit 1 01001; error: --line is 1 to 19 digits, and "" isn't
-extractd trace --program p.bpf --data d --line +1 --limit 1 01001; error: --line is 1 to 19 digits, and "+1" isn't
 extractd trace --program p.bpf --data d --line 1a --limit 1 01001; error: --line is 1 to 19 digits, and "1a" isn't
 extractd trace --program p.bpf --data d --line 1 --limit 10000000000000000000 01001;
   error: --limit is 1 to 19 digits, and "10000000000000000000" isn't
@@ -63,7 +54,6 @@ extractd geocode --data d --name Main 01001; error:
 extractd geocode --number 1 --name Main 01001; error:
 extractd geocode --data d --number 1 --number 1 --name Main 01001; error:
 extractd geocode --data d --number 1 --name Main --program p.bpf 01001; error:
-extractd serve --data d --port 8080 01001; error: serve wants a socket
 extractd serve --data d --port 8080; error: the following required arguments were not provided:
 extractd serve --help; Answers requests
 extractd --help;; extractd serve --data tiger --port 8080 01001
@@ -76,24 +66,18 @@ extractd geocode --help; Writes where
 extractd verify --help; Says whether
 extractd asm --help; Writes the BPF
 extractd dis --help; Writes a program
-extractd --version; extractd 0.1.0
 extractd geocode --data d --number '' --name main 01001; error: --number is 1 to 11 digits, and "" isn't
 extractd geocode --data d --number 100000000151 --name main 01001;
   error: --number is 1 to 11 digits, and "100000000151" isn't
 extractd geocode --data d --number 151a --name main 01001; error: --number is 1 to 11 digits, and "151a" isn't
-extractd geocode --data d --number 164-20 --name main 01001; error: --number is 1 to 11 digits, and "164-20" isn't
-extractd geocode --data d --number 151 --name '' 01001; error: --name is 1 to 30 bytes, and "" isn't
 extractd geocode --data d --number 151 --name main___________________________ 01001;
   error: --name is 1 to 30 bytes, and "main                           " isn't
 extractd geocode --data d --number 151 --name äääääääääääääääm 01001;
   error: --name is 1 to 30 bytes, and "äääääääääääääääm" isn't
 extractd geocode --data d --number 151 --name main --zip 000000360670 01001;
   error: --zip is 1 to 11 digits, and "000000360670" isn't
-extractd geocode --data d --number 151 --name main --zip 3606x 01001;
-  error: --zip is 1 to 11 digits, and "3606x" isn't
+extractd geocode --data d --number 151 --name main --zip 3606x 01001; error: --zip is 1 to 11 digits, and "3606x" isn't
 extractd geocode --data d --number 151 --name main 010010; error: CODE is five digits, and "010010" isn't
-extractd geocode --data d --number 151 --name main 01001 0100; error: CODE is five digits, and "0100" isn't
-extractd geocode --data d --number 151 --name main; error: the following required arguments were not provided:
 extractd run;; Usage: extractd run --program <FILE> --data <DIR> <CODE>
 extractd trace;; Usage: extractd trace --program <FILE> --data <DIR> --line <N> --limit <L> <CODE>
 extractd verify;; Usage: extractd verify --program <FILE>
@@ -116,13 +100,13 @@ extractd asm --help;; extractd asm --source street.s > street.bpf
 extractd dis --help;; extractd dis --program street.bpf
 "#;
 
-/// Whether the text for the user is as a row says, and nothing is opened: the arguments come first.
+/// Tells whether the text for the user is as a row says, and nothing is opened: the arguments come first.
 fn is_usage(alloc: Global, row: &str) -> Result<bool, AllocError> {
-    let ending = run(alloc, cell(row, 0), &[], "", "")?;
-    let said = str::from_utf8(ending.said.as_slice()).unwrap_or("");
+    let case = Case::new(alloc, row)?;
+    let ending = case.ended(alloc, None, case.faults())?;
+    let said = ending.said();
     let is_text = said.starts_with(cell(row, 1)) && said.contains(cell(row, 2));
-    let is_nothing_done = ending.written.is_empty() && ending.opened.is_empty();
-    Ok(ending.status == 2 && is_text && said.ends_with("\n") && is_nothing_done)
+    Ok(is_text && ending.is_with("2", b"") && ending.opened.is_empty())
 }
 
 #[test]
@@ -133,41 +117,48 @@ fn usage(rt: HostRuntime) -> Result<(), Fail> {
     Ok(())
 }
 
-// What stands behind `serve`, and the status and the text of the fault, or the port and how many counties are asked for.
+// The arguments of `serve`, and the port and how many counties are asked for, or the status and the text of the fault.
 const SERVES: &str = r#"
---data d --port 8080 01001; 8080; 1
---data d --port 1 01001 01003 01001; 1; 3
---port 65535 01001 01003 --data d; 65535; 2
---data d --port 0 01001; 2; error: --port is 1 to 65535, and "0" isn't
---data d --port 65536 01001; 2; error: --port is 1 to 65535, and "65536" isn't
---data d --port +80 01001; 2; error: --port is 1 to 65535, and "+80" isn't
---data d --port http 01001; 2; error: --port is 1 to 65535, and "http" isn't
---data d --port 8080 0100; 2; error: CODE is five digits, and "0100" isn't
+serve --data d --port 8080 01001; 8080; 1
+serve --data d --port 1 01001 01003 01001; 1; 3
+serve --port 65535 01001 01003 --data d; 65535; 2
+serve --data d --port 0 01001; 2; error: --port is 1 to 65535, and "0" isn't\n
+serve --data d --port 65536 01001; 2; error: --port is 1 to 65535, and "65536" isn't\n
+serve --data d --port +80 01001; 2; error: --port is 1 to 65535, and "+80" isn't\n
+serve --data d --port http 01001; 2; error: --port is 1 to 65535, and "http" isn't\n
+serve --data d --port 8080 0100; 2; error: CODE is five digits, and "0100" isn't\n
 "#;
 
-/// Whether the words of a row ask for what it says.
+/// Tells whether the arguments of a row ask for what it says.
 fn is_serve(alloc: Global, row: &str) -> Result<bool, AllocError> {
-    let mut words = Vec::new(alloc);
-    words.push("serve")?;
-    for word in cell(row, 0).split_whitespace() {
-        words.push(word)?;
-    }
-    match read_serve(alloc, words.as_slice()) {
+    let words: Vec<&str> = cell(row, 0).split_whitespace().collect(alloc)?;
+    let text = bytes(alloc, cell(row, 2))?;
+    let number = cell(row, 1);
+    Ok(match read_serve(alloc, &words) {
         Ok(serve) => {
-            Ok(
-                serve.data == "d"
-                    && cell(row, 1).parse() == Ok(serve.port)
-                    && cell(row, 2).parse() == Ok(serve.codes.len()),
-            )
+            serve.data == "d"
+                && number.parse() == Ok(serve.port)
+                && cell(row, 2).parse() == Ok(serve.codes.len())
         }
-        Err(fault) => {
-            let mut said = Counting::new(Vec::new(alloc));
-            fault.report(&mut said);
-            let said = said.into_inner();
-            let said = str::from_utf8(said.as_slice()).unwrap_or("");
-            Ok(cell(row, 1).parse() == Ok(fault.status()) && said.trim() == cell(row, 2))
+        Err(fault) => number.parse() == Ok(fault.status()) && is_said(alloc, &fault, &text),
+    })
+}
+
+// How standard error fails.
+const WAYS: &str = "pipe, interrupted, full, nothing, by 1 pipe, by 1 interrupted, by 1 nothing";
+
+/// Tells whether a fault's text is said up to where standard error fails.
+fn is_said(alloc: Global, fault: &ArgumentsFault<'_>, text: &[u8]) -> bool {
+    for way in WAYS.split(", ") {
+        for count in 0..=text.len() {
+            let mut errors = writer(alloc, Device::new(way).after(count));
+            fault.report(&mut errors);
+            if text.get(..count) != Some(taken(&errors)) {
+                return false;
+            }
         }
     }
+    true
 }
 
 #[test]

@@ -68,37 +68,37 @@ extractd trace --line 1 --limit 1 --program p.bpf --data d 01001;; 3; refused 5 
 
 // The names of the files in the order in which they are opened.
 pub const OPENINGS: &str = r"
-extractd run --program p.bpf --data d 01001 => p.bpf d/TGR01001.RT1 d/TGR01001.RT4 d/TGR01001.RT5 d/TGR01001.RT6;
+extractd run --program p.bpf --data d 01001 > p.bpf d/TGR01001.RT1 d/TGR01001.RT4 d/TGR01001.RT5 d/TGR01001.RT6;
   0\t{rt1}\n; 0;; p.bpf: {every}; d/TGR01001.RT1: {rt1}\n
-extractd run --program p.bpf --data d 01001 => p.bpf d/TGR01001.RT1 d/TGR01001.RT4;; 3;
+extractd run --program p.bpf --data d 01001 > p.bpf d/TGR01001.RT1 d/TGR01001.RT4;; 3;
   error: d/TGR01001.RT4: permission denied; p.bpf: {every}; d/TGR01001.RT1: {rt1}\n; d/TGR01001.RT4: ! closed denied;
   d/TGR01001.RT5: ! closed denied; d/TGR01001.RT6: ! closed denied
-extractd run --program p.bpf --data d 01001 => p.bpf d/TGR01001.RT1 d/TGR01001.RT4 d/TGR01001.RT5;; 3;
+extractd run --program p.bpf --data d 01001 > p.bpf d/TGR01001.RT1 d/TGR01001.RT4 d/TGR01001.RT5;; 3;
   error: d/TGR01001.RT5: not a directory; p.bpf: {every}; d/TGR01001.RT1: {rt1}\n; d/TGR01001.RT4:;
   d/TGR01001.RT5: ! closed file; d/TGR01001.RT6: ! closed denied
-extractd run --program p.bpf --data d 01001 => p.bpf d/TGR01001.RT1 d/TGR01001.RT4 d/TGR01001.RT5 d/TGR01001.RT6;;
+extractd run --program p.bpf --data d 01001 > p.bpf d/TGR01001.RT1 d/TGR01001.RT4 d/TGR01001.RT5 d/TGR01001.RT6;;
   3; error: d/TGR01001.RT6: too many links; p.bpf: {every}; d/TGR01001.RT1: {rt1}\n; d/TGR01001.RT4:; d/TGR01001.RT5:;
   d/TGR01001.RT6: ! closed other
-extractd run --program p.bpf --data d 01001 => p.bpf d/TGR01001.RT1 d/TGR01001.RT4 d/TGR01001.RT5;; 4; refused
+extractd run --program p.bpf --data d 01001 > p.bpf d/TGR01001.RT1 d/TGR01001.RT4 d/TGR01001.RT5;; 4; refused
   memory; p.bpf: {every}; d/TGR01001.RT1: {rt1}\n; d/TGR01001.RT4:; d/TGR01001.RT5: ! closed memory; d/TGR01001.RT6:
-extractd run --program p.bpf --data d 01001 => p.bpf d/TGR01001.RT1;; 3; error: d/TGR01001.RT1: not found;
+extractd run --program p.bpf --data d 01001 > p.bpf d/TGR01001.RT1;; 3; error: d/TGR01001.RT1: not found;
   p.bpf: {every}; d/TGR01001.RT4: ! closed denied; d/TGR01001.RT5:; d/TGR01001.RT6:
-extractd run --program p.bpf --data d 01001 => p.bpf;; 3; error: p.bpf: not found; d/TGR01001.RT4:; d/TGR01001.RT5:;
+extractd run --program p.bpf --data d 01001 > p.bpf;; 3; error: p.bpf: not found; d/TGR01001.RT4:; d/TGR01001.RT5:;
   d/TGR01001.RT6:
-extractd run --program p.bpf --data d 01001 => p.bpf d/TGR01001.RT1 d/TGR01001.RT4 d/TGR01001.RT5 d/TGR01001.RT6;;
+extractd run --program p.bpf --data d 01001 > p.bpf d/TGR01001.RT1 d/TGR01001.RT4 d/TGR01001.RT5 d/TGR01001.RT6;;
   3; error: d/TGR01001.RT6: permission denied; p.bpf: ! call 1 pipe; d/TGR01001.RT1: {rt1}\n; d/TGR01001.RT4:;
   d/TGR01001.RT5:; d/TGR01001.RT6: ! closed denied
-extractd run --program p.bpf --data d 01001 => p.bpf d/TGR01001.RT1 d/TGR01001.RT4 d/TGR01001.RT5 d/TGR01001.RT6;;
+extractd run --program p.bpf --data d 01001 > p.bpf d/TGR01001.RT1 d/TGR01001.RT4 d/TGR01001.RT5 d/TGR01001.RT6;;
   3; error: p.bpf: broken pipe; p.bpf: ! call 1 pipe; d/TGR01001.RT1: {rt1}\n; d/TGR01001.RT4:; d/TGR01001.RT5:;
   d/TGR01001.RT6:
-extractd trace --line 0 --limit 0 --program p.bpf --data d 01001 => p.bpf d/TGR01001.RT1 d/TGR01001.RT4
+extractd trace --line 0 --limit 0 --program p.bpf --data d 01001 > p.bpf d/TGR01001.RT1 d/TGR01001.RT4
   d/TGR01001.RT5 d/TGR01001.RT6;; 3; error: d/TGR01001.RT6: permission denied; p.bpf: ! call 1 pipe;
   d/TGR01001.RT1: {rt1}\n; d/TGR01001.RT4:; d/TGR01001.RT5:; d/TGR01001.RT6: ! closed denied
-extractd trace --line 0 --limit 0 --program p.bpf --data d 01001 => p.bpf d/TGR01001.RT1 d/TGR01001.RT4
+extractd trace --line 0 --limit 0 --program p.bpf --data d 01001 > p.bpf d/TGR01001.RT1 d/TGR01001.RT4
   d/TGR01001.RT5 d/TGR01001.RT6;; 3; error: p.bpf: broken pipe; p.bpf: ! call 1 pipe; d/TGR01001.RT1: {rt1}\n;
   d/TGR01001.RT4:; d/TGR01001.RT5:; d/TGR01001.RT6:
-extractd trace --line 0 --limit 0 --program p.bpf --data d 01001 => p.bpf;; 3; error: p.bpf: not found;
+extractd trace --line 0 --limit 0 --program p.bpf --data d 01001 > p.bpf;; 3; error: p.bpf: not found;
   d/TGR01001.RT4:; d/TGR01001.RT5:; d/TGR01001.RT6:
-extractd trace --line 1 --limit 2 --program p.bpf --data d 01001 => p.bpf d/TGR01001.RT1;; 4; refused memory;
+extractd trace --line 1 --limit 2 --program p.bpf --data d 01001 > p.bpf d/TGR01001.RT1;; 4; refused memory;
   p.bpf: {every}; d/TGR01001.RT1: ! closed memory; d/TGR01001.RT4:; d/TGR01001.RT5:; d/TGR01001.RT6:
 ";

@@ -4,6 +4,8 @@
 #[cfg(test)]
 mod arguments;
 #[cfg(test)]
+mod cases;
+#[cfg(test)]
 mod conversions;
 #[cfg(test)]
 mod counties;
@@ -12,19 +14,13 @@ mod devices;
 #[cfg(test)]
 mod endings;
 #[cfg(test)]
-mod faults;
-#[cfg(test)]
-mod file_faults;
+mod files;
 #[cfg(test)]
 mod geocodes;
 #[cfg(test)]
-mod output_faults;
-#[cfg(test)]
-mod readers;
+mod reads;
 #[cfg(test)]
 mod requests;
-#[cfg(test)]
-mod running;
 #[cfg(test)]
 mod runs;
 #[cfg(test)]

@@ -1,158 +1,418 @@
-//! Each growth of each request, and each growth and each read of a file, refused in turn.
-use super::readers::places;
-use super::requests::{Case, REQUESTS};
-use super::running::MemoryFile;
-use commands::{FileFault, read_program, read_to_end};
-use fixtures::{Device, Reader, Refusing, cell, reader, table};
-use std::alloc::Global;
+//! Each growth of requests, and each open, read, write and flush of requests and of command lines, fails in turn.
+use super::cases::{Case, Ending, Faults, filled, parts};
+use super::files::Access;
+use fixtures::{Device, Refusing, cell, table, taken};
+use std::alloc::{AllocError, Global};
 use std::test::Fail;
 
-/// Whether the growth with this number was refused to a request; nothing where the ending is wrong.
-fn is_refused(alloc: Global, case: &Case<'_>, files: &[MemoryFile<'_>], nth: u64) -> Option<bool> {
-    let heap = Refusing::new(alloc);
-    heap.refuse(nth);
-    let sound = Device::new("");
-    let ending = case.answered(alloc, &heap, files, sound, sound)?;
-    let is_right = if heap.was_refused() {
-        case.is_wanting(&ending)
-    } else {
-        case.is_as_said(&ending)
-    };
-    is_right.then_some(heap.was_refused())
+// Rows as `Case` has them. After `reads` stands how many reads there are of a file that isn't read to its end. Each
+// line of type 1 that `run` takes gives a row.
+const REQUESTS: &str = r"
+extractd run --program p.bpf --data d 01001; 0\t{rt1}\n0\t{rt1}\n; 0;; p.bpf: {every}; d/TGR01001.RT1: {rt1\n*2}
+extractd run --program p.bpf --data d 01001;; 0;; p.bpf: {every}; d/TGR01001.RT1:
+extractd run --program p.bpf --data d 01001; 10002\t{rt1}\n; 0;; p.bpf: {counts}; d/TGR01001.RT1: {rt1}\n;
+  d/TGR01001.RT4: {rt4}\n; d/TGR01001.RT5: {rt5}\n; d/TGR01001.RT6: {rt6}\n
+extractd run --program p.bpf --data d 01001;; 1; refused 40 place 0 ReadsNothing(0); p.bpf: {stuck};
+  d/TGR01001.RT1: {rt1}\n ! reads 0
+extractd run --program p.bpf --data d 01001; 0\t{rt1}\n; 1; refused 2 rt1 line 2 WrongType; p.bpf: {every};
+  d/TGR01001.RT1: {rt1}\n{rt1 RT=4}\n ! reads 458
+extractd run --program p.bpf --data d 01001;; 1; refused 4 rt5 line 1 BadFeature; p.bpf: {every};
+  d/TGR01001.RT1: {rt1}\n ! reads 0; d/TGR01001.RT4: {rt4}\n; d/TGR01001.RT5: {rt5 FEAT=x}\n ! reads 57
+extractd run --program p.bpf --data d 01001;; 3; error: d/TGR01001.RT1: not found; p.bpf: {every} ! reads 0
+extractd run --program p.bpf --data d 01001;; 3; error: d/TGR01001.RT6: permission denied; p.bpf: {every} ! reads 0;
+  d/TGR01001.RT1: {rt1}\n ! reads 0; d/TGR01001.RT6: ! closed denied
+extractd trace --program p.bpf --data d --line 1 --limit 2 01001; exit 1 score 0\n; 0;; p.bpf: {every};
+  d/TGR01001.RT1: {rt1}\n
+extractd trace --program p.bpf --data d --line 1 --limit 9 01001; exit 1 score 0\n; 0;; p.bpf: {asm call 3 | exit};
+  d/TGR01001.RT1: {rt1}\n; d/TGR01001.RT4: {rt4}\n; d/TGR01001.RT5: {rt5}\n; d/TGR01001.RT6: {rt6}\n
+extractd trace --program p.bpf --data d --line 1 --limit 1 01001; running\n; 0;; p.bpf: {every};
+  d/TGR01001.RT1: {rt1}\n
+extractd trace --program p.bpf --data d --line 1 --limit 1 01001; stuck place 0 cause 40\n; 0;; p.bpf: {stuck};
+  d/TGR01001.RT1: {rt1}\n
+extractd trace --program p.bpf --data d --line 1 --limit 1 01001;; 1; refused 10 Empty; p.bpf:;
+  d/TGR01001.RT1: {rt1}\n ! reads 0
+extractd trace --program p.bpf --data d --line 1 --limit 1 01001;; 1; refused 1 rt1 line 1 WrongLength; p.bpf: {every};
+  d/TGR01001.RT1: {rt1 ..227}\n ! reads 228
+extractd trace --program p.bpf --data d --line 2 --limit 1 01001;; 2; error: the type 1 file has no line 2;
+  p.bpf: {every}; d/TGR01001.RT1: {rt1}\n
+extractd geocode --data d --number 151 --name main 01001 01003;
+  123456789\tL\t-86494898\t32405102\n7\tL\t-86494898\t32405102\n; 0;; d/TGR01001.RT1: {rt1}\n;
+  d/TGR01003.RT1: {rt1 TLID=7}\n
+extractd geocode --data d --number 151 --name oak 01001; 123456789\tL\t-86494898\t32405102\n; 0;;
+  d/TGR01001.RT1: {rt1}\n; d/TGR01001.RT4: {rt4}\n; d/TGR01001.RT5: {rt5}\n
+extractd geocode --data d --number 151 --name elm 01001 01003;; 0;; d/TGR01001.RT1: {rt1}\n; d/TGR01003.RT1:
+extractd geocode --data d --number 151 --name main 01001;; 1; refused 1 rt1 line 1 WrongLength;
+  d/TGR01001.RT1: {rt1 ..227}\n ! reads 228
+extractd geocode --data d --number 151 --name main 01001 01003;; 3; error: d/TGR01003.RT1: not found;
+  d/TGR01001.RT1: {rt1}\n
+extractd verify --program p.bpf; accepted\n; 0;; p.bpf: {every}
+extractd verify --program p.bpf; accepted\n; 0;; p.bpf: {roads}
+extractd verify --program p.bpf;; 1; refused 40 place 0 ReadsNothing(0); p.bpf: {stuck}
+extractd verify --program p.bpf;; 1; refused 33 place 4096 LastNotExit; p.bpf: {asm mov r0, 1 *4097}
+extractd verify --program p.bpf;; 3; error: p.bpf: broken pipe; p.bpf: {every} ! call 2 pipe
+extractd asm --source p.s; {asm mov r0, 1 | ja +0 | exit}; 0;; p.s: mov r0, 1\nja out\nout:\nexit\n
+extractd asm --source p.s; {asm exit *2000}; 0;; p.s: {exit\n*2000}
+extractd asm --source p.s;; 1; refused 21 line 1 UnknownMnemonic; p.s: frob r0\n
+extractd asm --source p.s;; 3; error: p.s: not UTF-8; p.s: exit\n\xff\n
+extractd dis --program p.bpf; mov r0, 1\nexit\n; 0;; p.bpf: {every}
+extractd dis --program p.bpf; {exit\n*600}; 0;; p.bpf: {asm exit *600}
+extractd dis --program p.bpf;; 1; refused 13 place 0 UnknownOpcode; p.bpf: {unknown}
+extractd verify --program p.bpf; accepted\n ! call 2 full; 3; error: the output can't be written: no space left;
+  p.bpf: {every}
+";
+
+// Command lines that ask for nothing.
+const ARGUMENTS: &str = r#"
+extractd run --program p.bpf --data d 0100;; 2; error: CODE is five digits, and "0100" isn't
+extractd trace --program p.bpf --data d --line 1a --limit 1 01001;; 2; error: --line is 1 to 19 digits, and "1a" isn't
+extractd geocode --data d --number 151 --name '' 01001;; 2; error: --name is 1 to 30 bytes, and "" isn't
+extractd serve --data d --port 8080 01001;; 2; error: serve wants a socket
+extractd run --program p.bpf 01001;; 2; error: the following required arguments were not provided:\n  --data
+  <DIR>\n\nUsage: extractd run --program <FILE> --data <DIR> <CODE>\n\nFor more information, try '--help'.
+extractd --version;; 2; extractd 0.1.0
+"#;
+
+// How an open or a read of a file fails, the status, what is said, and, where not each call fails so, how many calls
+// there are from one that fails to the next.
+const INPUTS: &str = "\
+open; closed denied; 3; error: FILE: permission denied
+open; closed other; 3; error: FILE: too many links
+open; closed memory; 4; refused memory
+read; interrupted; 3; error: FILE: operation interrupted
+read; pipe; 3; error: FILE: broken pipe; 10
+read; blocked; 3; error: FILE: operation would block; 10
+read; late; 3; error: FILE: timed out; 10";
+
+// How a refused growth ends.
+const GROWTH: &str = "growth;; 4; refused memory";
+
+// What is said of a read of a county's file that fails.
+const UNREAD: &str = "refused 5 rtTYPE line LINE Read";
+
+// The same of a write, which fails after so many bytes, of a flush, which fails after all, and of standard error.
+const OUTPUTS: &str = "\
+write; interrupted; 3; refused 60 Write
+write; pipe; 3; refused 60 Write; 10
+write; blocked; 3; refused 60 Write; 10
+write; full; 3; refused 60 Write; 10
+write; nothing; 3; refused 61 WriteZero
+write; by 1 interrupted; 3; refused 60 Write
+write; by 1 pipe; 3; refused 60 Write; 10
+write; by 1 blocked; 3; refused 60 Write; 10
+write; by 1 full; 3; refused 60 Write; 10
+write; by 1 nothing; 3; refused 61 WriteZero; 10
+flush; by 1 interrupted; 3; error: the output can't be written: operation interrupted
+flush; by 1 pipe; 3; error: the output can't be written: broken pipe
+flush; by 1 blocked; 3; error: the output can't be written: operation would block
+flush; by 1 full; 3; error: the output can't be written: no space left
+word; interrupted
+word; pipe;;; 10
+word; full;;; 10
+word; nothing
+word; by 1 interrupted;;; 10
+word; by 1 full;;; 10
+word; by 1 nothing;;; 10";
+
+// The same of command lines, which make the same requests.
+const LINE_INPUTS: &str = "\
+open; closed denied; 3; error: FILE: permission denied
+read; interrupted; 3; error: FILE: operation interrupted";
+
+const LINE_OUTPUTS: &str = "\
+write; by 1 interrupted; 3; refused 60 Write
+flush; by 1 interrupted; 3; error: the output can't be written: operation interrupted
+word; by 1 interrupted";
+
+// No write fails of a request that writes more bytes: they are handed over in one write, as fewer are.
+const MOST_WRITTEN: usize = 1000;
+
+/// Calls of a row's request that fail in turn, in one way.
+#[derive(Clone, Copy)]
+struct Trial<'a, 'b, 'c> {
+    case: &'a Case<'c>,
+    /// The memory of the request, which is made by its command line if there is none.
+    heap: Option<&'b Refusing<Global>>,
+    /// A row of a table above.
+    way: &'static str,
+    /// The place of the file that fails.
+    file: usize,
 }
 
-/// How many growths were refused in turn, up to the first that isn't reached.
-fn refusals(alloc: Global, row: &str) -> Option<u64> {
-    let case = Case::new(alloc, row).ok()?;
-    let files = case.files(alloc).ok()?;
-    for nth in 1..=u64::MAX {
-        if !is_refused(alloc, &case, &files, nth)? {
-            return nth.checked_sub(1);
+impl<'c> Trial<'_, '_, 'c> {
+    /// The faults with which the call at this place fails, counted from 0.
+    fn faults(&self, place: usize) -> Faults<'c> {
+        let device = Device::new(cell(self.way, 1));
+        let faults = self.case.faults();
+        match cell(self.way, 0) {
+            "open" => self.file_faults(device, place == 0),
+            "read" => self.file_faults(at_call(device, place), false),
+            "growth" => faults,
+            "write" => Faults {
+                out: device.after(place),
+                ..faults
+            },
+            "word" => Faults {
+                errors: device.after(place),
+                ..faults
+            },
+            _ => Faults {
+                out: at_call(device, self.case.written.len().saturating_add(place)),
+                ..faults
+            },
         }
     }
-    None
+
+    fn file_faults(&self, device: Device, is_closed: bool) -> Faults<'c> {
+        Faults {
+            name: self.name(),
+            access: Access { device, is_closed },
+            ..self.case.faults()
+        }
+    }
+
+    /// The name of the file that fails.
+    fn name(&self) -> &'c str {
+        match self.case.files.get(self.file) {
+            Some(file) => file.name,
+            None => "",
+        }
+    }
+
+    /// How many such calls there are, if they are to fail.
+    fn calls(&self) -> Option<usize> {
+        let row = self.case.row;
+        let length = self.case.written.len();
+        match cell(self.way, 0) {
+            "open" => self.reads().and(Some(1)),
+            "read" => self.reads(),
+            _ if self.file > 0 => None,
+            "word" => Some(self.case.said.len()),
+            _ if cell(row, 1).contains("!") => None,
+            "flush" => Some(usize::from(cell(row, 2) != "2")),
+            _ => (length <= MOST_WRITTEN).then_some(length),
+        }
+    }
+
+    /// How many reads there are of the file, unless it fails anyway: a program and a source are read in pieces of 4,096
+    /// bytes, a county's file byte by byte, and one read more finds the end.
+    fn reads(&self) -> Option<usize> {
+        let file = self.case.files.get(self.file)?;
+        let length = file.bytes.len();
+        let (_, fault) = parts(cell(self.case.row, self.file.saturating_add(4)), '!');
+        match fault.strip_prefix("reads ") {
+            Some(number) => number.parse().ok(),
+            None if !fault.is_empty() => None,
+            None if file.name.starts_with("d/") => length.checked_add(1),
+            None => length.div_ceil(4096).checked_add(1),
+        }
+    }
+
+    /// Tells whether an ending is that of the failed call at this place.
+    fn is_failure(&self, alloc: Global, ending: &Ending, place: usize) -> bool {
+        let (row, written) = (self.case.row, self.case.written.as_slice());
+        let is_refused = ending.said() == cell(self.way, 3);
+        match cell(self.way, 0) {
+            "open" | "read" => self.is_unusable(alloc, ending, place) == Ok(true),
+            "growth" => is_refused && self.is_with_rows(ending),
+            "write" => is_refused && ending.is_with("3", written.get(..place).unwrap_or(b"")),
+            "word" => {
+                ending.is_with(cell(row, 2), written)
+                    && Some(taken(&ending.errors)) == self.case.said.get(..place)
+            }
+            _ if cell(row, 2) == "0" => is_refused && ending.is_with("3", written),
+            _ => self.case.is_ended(ending),
+        }
+    }
+
+    /// Tells whether an ending is that of a file that can't be used: nothing is written, but of an extract the rows of
+    /// the lines before.
+    fn is_unusable(
+        &self,
+        alloc: Global,
+        ending: &Ending,
+        place: usize,
+    ) -> Result<bool, AllocError> {
+        let lines = self.lines_before(place);
+        let rows = match self.name() {
+            "d/TGR01001.RT1" if self.is_extract() => lines,
+            _ => 0,
+        };
+        let refusal = self.refusal(alloc, lines)?;
+        Ok(
+            self.is_with_rows(ending)
+                && line_count(taken(&ending.out)) == rows
+                && ending.opened.contains(self.name())
+                && ending.said() == refusal.as_str(),
+        )
+    }
+
+    /// Tells whether the status is that of the way, and nothing is written, but of an extract whole rows.
+    fn is_with_rows(&self, ending: &Ending) -> bool {
+        let written = taken(&ending.out);
+        let are_rows = self.case.written.starts_with(written) && written.ends_with(b"\n");
+        ending.is_with(cell(self.way, 2), written)
+            && (written.is_empty() || self.is_extract() && are_rows)
+    }
+
+    /// Tells whether rows are written while the type 1 file is read.
+    fn is_extract(&self) -> bool {
+        self.case.row.starts_with("extractd run ")
+    }
+
+    /// How many lines of a county's file there are before the read at this place.
+    fn lines_before(&self, place: usize) -> usize {
+        match self.case.files.get(self.file) {
+            Some(file) => line_count(file.bytes.get(..place).unwrap_or(b"")),
+            None => 0,
+        }
+    }
+
+    /// What is said of the file, after so many of whose lines a read fails.
+    fn refusal(&self, alloc: Global, lines: usize) -> Result<String, AllocError> {
+        let name = self.name();
+        if cell(self.way, 0) == "open" || !name.starts_with("d/") {
+            return filled(alloc, cell(self.way, 3), &[("FILE", name)]);
+        }
+        let kind = name.get(name.len().saturating_sub(1)..).unwrap_or("");
+        let line = "1234".get(lines..=lines).unwrap_or("");
+        filled(alloc, UNREAD, &[("TYPE", kind), ("LINE", line)])
+    }
+
+    /// Tells whether the request ends as it has to where the call at this place fails, or at the end none does.
+    fn is_right(&self, alloc: Global, place: usize, end: usize) -> bool {
+        match self.case.ended(alloc, self.heap, self.faults(place)) {
+            Ok(ending) if place < end => self.is_failure(alloc, &ending, place),
+            Ok(ending) => self.case.is_ended(&ending),
+            Err(_) => false,
+        }
+    }
+
+    /// Counts the growths of the request, each of which was refused once. `None` where it ends otherwise than it has
+    /// to.
+    fn refused_growths(&self, alloc: Global, heap: &Refusing<Global>) -> Option<u64> {
+        if !self.is_right(alloc, 0, 0) {
+            return None;
+        }
+        let growths = heap.count();
+        for nth in 1..=growths {
+            heap.refuse(nth);
+            if !self.is_right(alloc, 0, 1) {
+                return None;
+            }
+        }
+        Some(growths)
+    }
+
+    /// Tells whether this is so of the calls that the way says, and of their end.
+    fn is_swept(&self, alloc: Global) -> bool {
+        let Some(end) = self.calls() else {
+            return true;
+        };
+        let step = cell(self.way, 4).parse().unwrap_or(1);
+        for place in 0..=end {
+            let is_due = place == end || place.checked_rem(step) == Some(0);
+            if is_due && !self.is_right(alloc, place, end) {
+                return false;
+            }
+        }
+        true
+    }
+}
+
+/// The device whose call at this place fails, counted from 0.
+fn at_call(device: Device, place: usize) -> Device {
+    device.at_call((place as u64).wrapping_add(1))
+}
+
+fn line_count(bytes: &[u8]) -> usize {
+    let mut count: usize = 0;
+    for byte in bytes {
+        count = count.wrapping_add(usize::from(*byte == b'\n'));
+    }
+    count
+}
+
+/// Tells whether calls of a row's request, or of its command line, fail as they have to in each of these ways.
+fn is_swept(
+    alloc: Global,
+    row: &str,
+    ways: &'static str,
+    is_line: bool,
+) -> Result<bool, AllocError> {
+    let case = Case::new(alloc, row)?;
+    let heap = Refusing::new(alloc);
+    let heap = if is_line { None } else { Some(&heap) };
+    Ok(is_case_swept(alloc, &case, heap, ways))
+}
+
+/// Tells whether this is so of a case, and of each of its files.
+fn is_case_swept(
+    alloc: Global,
+    case: &Case<'_>,
+    heap: Option<&Refusing<Global>>,
+    ways: &'static str,
+) -> bool {
+    for way in ways.lines() {
+        for file in 0..case.files.len().max(1) {
+            let trial = Trial {
+                case,
+                heap,
+                way,
+                file,
+            };
+            if !trial.is_swept(alloc) {
+                return false;
+            }
+        }
+    }
+    true
+}
+
+#[test]
+fn each_read(rt: HostRuntime) -> Result<(), Fail> {
+    for row in table(rt.alloc(), REQUESTS.trim())?.lines() {
+        assert!(rt; is_swept(rt.alloc(), row, INPUTS, false)?, "{row}");
+        assert!(rt; is_swept(rt.alloc(), row, LINE_INPUTS, true)?, "{row}");
+    }
+    Ok(())
+}
+
+#[test]
+fn each_write(rt: HostRuntime) -> Result<(), Fail> {
+    for row in table(rt.alloc(), REQUESTS.trim())?.lines() {
+        assert!(rt; is_swept(rt.alloc(), row, OUTPUTS, false)?, "{row}");
+        assert!(rt; is_swept(rt.alloc(), row, LINE_OUTPUTS, true)?, "{row}");
+    }
+    Ok(())
+}
+
+#[test]
+fn each_write_of_arguments(rt: HostRuntime) -> Result<(), Fail> {
+    for row in table(rt.alloc(), ARGUMENTS.trim())?.lines() {
+        assert!(rt; is_swept(rt.alloc(), row, LINE_OUTPUTS, true)?, "{row}");
+    }
+    Ok(())
+}
+
+/// Counts the growths of a row's request, each of which was refused once. `None` where it ends otherwise than it has
+/// to.
+fn refused_growths(alloc: Global, row: &str) -> Result<Option<u64>, AllocError> {
+    let case = Case::new(alloc, row)?;
+    let heap = Refusing::new(alloc);
+    let trial = Trial {
+        case: &case,
+        heap: Some(&heap),
+        way: GROWTH,
+        file: 0,
+    };
+    Ok(trial.refused_growths(alloc, &heap))
 }
 
 #[test]
 fn each_growth(rt: HostRuntime) -> Result<(), Fail> {
     for row in table(rt.alloc(), REQUESTS.trim())?.lines() {
-        let refused = refusals(rt.alloc(), row).unwrap_or(0);
+        let refused = refused_growths(rt.alloc(), row)?.unwrap_or(0);
         assert!(rt; refused > 0, "{row}");
     }
     Ok(())
-}
-
-// How a file is read, how many bytes it has, how many of the first of these are kept, how many reads there are, of 4,096
-// bytes and one behind the last, and how many growths, or `+` for some. Of a program that is too long 65,536 words are
-// kept, and a further one, or the part of one that it ends with.
-const LENGTHS: &str = "\
-program; 0; 0; 1; 1
-program; 7; 7; 2; 1
-program; 4096; 4096; 2; 1
-program; 32776; 32776; 10; 1
-program; 524288; 524288; 129; 1
-program; 524289; 524289; 130; 1
-program; 524296; 524296; 130; 1
-program; 524297; 524289; 130; 1
-program; 600000; 524296; 148; 1
-program; 600001; 524289; 148; 1
-file; 0; 0; 1; 0
-file; 1; 1; 2; +
-file; 4096; 4096; 2; +
-file; 4097; 4097; 3; +
-file; 100001; 100001; 26; +";
-
-/// What is read, or why not.
-type Read<'a> = Result<Vec<u8, &'a Refusing<Global>>, FileFault>;
-
-fn read<'a>(heap: &'a Refusing<Global>, row: &str, input: &mut Reader<'_>) -> Read<'a> {
-    match cell(row, 0) {
-        "program" => read_program(heap, input),
-        _ => read_to_end(heap, input),
-    }
-}
-
-/// Whether as many of the first bytes are kept as a row says.
-fn is_kept(kept: &[u8], bytes: &[u8], row: &str) -> bool {
-    Ok(kept.len()) == cell(row, 2).parse() && bytes.starts_with(kept)
-}
-
-/// Whether the growth with this number was refused to a read of these bytes; nothing where what it gives is wrong.
-fn is_growth_refused(alloc: Global, bytes: &[u8], row: &str, nth: u64) -> Option<bool> {
-    let heap = Refusing::new(alloc);
-    heap.refuse(nth);
-    let is_right = match read(&heap, row, &mut reader(bytes, Device::new(""))) {
-        Ok(kept) => !heap.was_refused() && is_kept(&kept, bytes, row),
-        Err(FileFault::Memory) => heap.was_refused(),
-        Err(FileFault::Unusable(_)) => false,
-    };
-    is_right.then_some(heap.was_refused())
-}
-
-/// How many growths were refused in turn, up to the first that isn't reached.
-fn growths(alloc: Global, bytes: &[u8], row: &str) -> Option<u64> {
-    for nth in 1..=u64::MAX {
-        if !is_growth_refused(alloc, bytes, row, nth)? {
-            return nth.checked_sub(1);
-        }
-    }
-    None
-}
-
-/// Whether the device went wrong in a read of these bytes; nothing where what that gives is wrong.
-fn is_read_refused(alloc: Global, bytes: &[u8], row: &str, device: Device) -> Option<bool> {
-    let heap = Refusing::new(alloc);
-    let mut input = reader(bytes, device);
-    let (is_right, was_refused) = match read(&heap, row, &mut input) {
-        Ok(kept) => (is_kept(&kept, bytes, row), false),
-        Err(FileFault::Memory) => (false, false),
-        Err(FileFault::Unusable(_)) => (true, true),
-    };
-    (is_right && input.failed_reads() == u64::from(was_refused)).then_some(was_refused)
-}
-
-// Where there are more reads, so many of the last ones fail.
-const MOST_READS: u64 = 30;
-
-/// The first read that fails in a row's sweep.
-fn first_read(row: &str) -> u64 {
-    let reads: u64 = cell(row, 3).parse().unwrap_or(1);
-    reads.saturating_sub(MOST_READS).wrapping_add(1)
-}
-
-/// How many reads there are up to the last one that failed in turn in this way, before the first that isn't reached.
-fn reads(alloc: Global, bytes: &[u8], row: &str, way: &str) -> Option<u64> {
-    let device = Device::new(way);
-    for call in first_read(row)..=u64::MAX {
-        if !is_read_refused(alloc, bytes, row, device.at_call(call))? {
-            return call.checked_sub(1);
-        }
-    }
-    None
-}
-
-/// Whether as many were refused as a cell says.
-fn is_count(refused: Option<u64>, cell: &str) -> bool {
-    match refused {
-        Some(refused) if cell == "+" => refused > 0,
-        Some(refused) => Ok(refused) == cell.parse(),
-        None => false,
-    }
-}
-
-/// Whether the sweeps of a row are as it says.
-fn is_swept(alloc: Global, row: &str) -> Option<bool> {
-    let bytes = places(alloc, cell(row, 1).parse().ok()?).ok()?;
-    let are_read = ["pipe", "interrupted", "blocked", "late"].iter().all(|way| is_count(
-        reads(alloc, &bytes, row, way),
-        cell(row, 3),
-    ));
-    Some(are_read && is_count(growths(alloc, &bytes, row), cell(row, 4)))
-}
-
-#[test]
-fn each_read_and_growth(rt: HostRuntime) {
-    for row in LENGTHS.lines() {
-        assert_eq!(rt; is_swept(rt.alloc(), row), Some(true), "{row}");
-    }
 }

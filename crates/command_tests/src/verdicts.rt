@@ -1,86 +1,73 @@
 //! The commands `verify` and `run` on programs that are accepted, and on programs that are refused.
-use super::running::{MemoryFile, content_of, file_of, run};
-use fixtures::{bytes, cell, program, table};
+use super::cases::filled;
+use super::endings::is_right;
+use fixtures::{cell, table};
 use std::alloc::{AllocError, Global};
 use std::test::Fail;
 
-const VERIFY: &str = "extractd verify --program p.bpf";
-
-const RUN: &str = "extractd run --program p.bpf --data d 01001";
-
-// The program, what is said of it, a type 1 file, and its rows. Of a program that is refused every read of the type 1
-// file and every write to the output goes wrong, so that none is made.
-//
-// One or two programs for each sort of refusal, and for each that is accepted what it chooses. A rule's other rows stand in
-// examples/verdicts.
+// The program, what is said of it, a type 1 file, and its rows. One or two programs for each sort of refusal, and what
+// each chooses that is accepted. A rule's other rows are in examples/verdicts.
 const PROGRAMS: &str = r"
-; refused 10 Empty; ! call 1 pipe; ! call 1 full
-hex 95000000000000; refused 11 NotWhole; ! call 1 pipe; ! call 1 full
-exit *65537; refused 12 TooLong; ! call 1 pipe; ! call 1 full
-hex 0000000000000000 | exit; refused 13 place 0 UnknownOpcode; ! call 1 pipe; ! call 1 full
-hex b70b000001000000 | exit; refused 14 place 0 BadRegister; ! call 1 pipe; ! call 1 full
-hex b710000001000000 | exit; refused 15 place 0 UnusedNotZero; ! call 1 pipe; ! call 1 full
-hex d400000008000000 | exit; refused 16 place 0 BadWidth; ! call 1 pipe; ! call 1 full
-hex 1800000001000000; refused 17 place 0 CutWide; ! call 1 pipe; ! call 1 full
-hex b70a000001000000 | exit; refused 18 place 0 WritesFramePointer; ! call 1 pipe; ! call 1 full
-exit; refused 40 place 0 ReadsNothing(0); ! call 1 pipe; ! call 1 full
+; refused 10 Empty
+hex 95000000000000; refused 11 NotWhole
+exit *65537; refused 12 TooLong
+hex 0000000000000000 | exit; refused 13 place 0 UnknownOpcode
+hex b70b000001000000 | exit; refused 14 place 0 BadRegister
+hex b710000001000000 | exit; refused 15 place 0 UnusedNotZero
+hex d400000008000000 | exit; refused 16 place 0 BadWidth
+hex 1800000001000000; refused 17 place 0 CutWide
+hex b70a000001000000 | exit; refused 18 place 0 WritesFramePointer
+exit; refused 40 place 0 ReadsNothing(0)
 mov r0, 1 | exit;; {rt1}\n; 0\t{rt1}\n
 ldxb r0, [r1+227] | exit;; {rt1}\n; 0\t{rt1}\n
-ldxb r0, [r1+228] | exit; refused 44 place 0 OutOfBounds; ! call 1 pipe; ! call 1 full
-ja +1 | lddw r0, 0x1 | exit; refused 32 place 0 IntoWide; ! call 1 pipe; ! call 1 full
-mov r0, 1 | ja -1 | exit; refused 30 place 1 BackwardJump; ! call 1 pipe; ! call 1 full
-mov r0, 1; refused 33 place 0 LastNotExit; ! call 1 pipe; ! call 1 full
-ja +0; refused 31 place 0 OutOfProgram; ! call 1 pipe; ! call 1 full
-ldxb r3, [r1+55] | jeq r3, 65, +1 | mov r2, 1 | mov r0, r2 | exit; refused 40 place 3 ReadsNothing(2); ! call 1 pipe;
-  ! call 1 full
+ldxb r0, [r1+228] | exit; refused 44 place 0 OutOfBounds
+ja +1 | lddw r0, 0x1 | exit; refused 32 place 0 IntoWide
+mov r0, 1 | ja -1 | exit; refused 30 place 1 BackwardJump
+mov r0, 1; refused 33 place 0 LastNotExit
+ja +0; refused 31 place 0 OutOfProgram
+ldxb r3, [r1+55] | jeq r3, 65, +1 | mov r2, 1 | mov r0, r2 | exit; refused 40 place 3 ReadsNothing(2)
 mov r2, 0 | ldxb r3, [r1+55] | jeq r3, 65, +1 | mov r2, 1 | mov r0, r2 | exit;; {rt1}\n
 mov r0, 7 | div r0, 0 | exit;; {rt1}\n
 mov r0, 7 | mod r0, 0 | exit;; {rt1}\n; 0\t{rt1}\n
 lddw r0, 0x100000007 | mod32 r0, 0 | jeq r0, 7, +1 | mov r0, 0 | exit;; {rt1}\n; 0\t{rt1}\n
 mov r2, 1 | stxdw [r10-8], r2 | ldxw r3, [r10-8] | ldxw r0, [r10-4] | exit;; {rt1}\n
-mov r2, 1 | stxdw [r10-8], r2 | ldxw r3, [r10-8] | ldxdw r0, [r10-12] | exit; refused 45 place 3 UnwrittenFrame;
-  ! call 1 pipe; ! call 1 full
+mov r2, 1 | stxdw [r10-8], r2 | ldxw r3, [r10-8] | ldxdw r0, [r10-12] | exit; refused 45 place 3 UnwrittenFrame
 stb [r10+0], 1 | mov r2, 1 | stxdw [r10-8], r2 | ldxw r3, [r10-8] | ldxw r0, [r10-4] | exit;
-  refused 44 place 0 OutOfBounds; ! call 1 pipe; ! call 1 full
+  refused 44 place 0 OutOfBounds
 stb [r1+0], 1 | ldxb r3, [r1+55] | and r3, 1 | mov r2, r10 | add r2, -2 | add r2, r3 | stb [r2+0], 7 |
-  ldxb r0, [r10-2] | exit; refused 46 place 0 WritesRecord; ! call 1 pipe; ! call 1 full
+  ldxb r0, [r10-2] | exit; refused 46 place 0 WritesRecord
 stxw [r10-8], r1 | ldxb r3, [r1+55] | and r3, 1 | mov r2, r10 | add r2, -2 | add r2, r3 | stb [r2+0], 7 |
-  ldxb r0, [r10-2] | exit; refused 47 place 0 StoresPointer; ! call 1 pipe; ! call 1 full
-call 10 | exit; refused 49 place 0 UnknownHelper; ! call 1 pipe; ! call 1 full
-mov r6, r1 | mov r1, 0 | call 1 | add r6, r0 | ldxb r0, [r6+0] | exit; refused 41 place 3 PointerArithmetic;
-  ! call 1 pipe; ! call 1 full
-mov r1, 0 | mov r2, r10 | add r2, -4 | mov r3, 4 | call 7 | exit; refused 45 place 4 UnwrittenFrame; ! call 1 pipe;
-  ! call 1 full
+  ldxb r0, [r10-2] | exit; refused 47 place 0 StoresPointer
+call 10 | exit; refused 49 place 0 UnknownHelper
+mov r6, r1 | mov r1, 0 | call 1 | add r6, r0 | ldxb r0, [r6+0] | exit; refused 41 place 3 PointerArithmetic
+mov r1, 0 | mov r2, r10 | add r2, -4 | mov r3, 4 | call 7 | exit; refused 45 place 4 UnwrittenFrame
 stw [r10-4], 0x6e69616d | mov r1, 0 | mov r2, r10 | add r2, -4 | mov r3, 31 | call 7 | exit;
-  refused 50 place 5 BadArgument(3); ! call 1 pipe; ! call 1 full
+  refused 50 place 5 BadArgument(3)
 stw [r10-4], 0x6e69616d | mov r1, 0 | mov r2, r10 | add r2, -4 | mov r3, 4 | call 7 | mov r0, r1 | exit;
-  refused 40 place 6 ReadsNothing(1); ! call 1 pipe; ! call 1 full
-mov r1, 0 | mov r2, r10 | add r2, -4 | mov r3, 3 | call 6 | ldxw r0, [r10-4] | exit; refused 45 place 5 UnwrittenFrame;
-  ! call 1 pipe; ! call 1 full
+  refused 40 place 6 ReadsNothing(1)
+mov r1, 0 | mov r2, r10 | add r2, -4 | mov r3, 3 | call 6 | ldxw r0, [r10-4] | exit; refused 45 place 5 UnwrittenFrame
 ldxb r3, [r1+55] | and r3, 1 | mov r2, r10 | add r2, -2 | add r2, r3 | stb [r2+0], 7 | ldxb r0, [r10-2] | exit;
-  refused 45 place 6 UnwrittenFrame; ! call 1 pipe; ! call 1 full
+  refused 45 place 6 UnwrittenFrame
 mov r2, 1 | add r2, -1 | add r1, r2 | ldxb r0, [r1+227] | exit;; {rt1}\n; 0\t{rt1}\n
 mov r2, -1 | add r1, r2 | ldxb r0, [r1+228] | exit;; {rt1}\n; 0\t{rt1}\n
-mov r2, -1 | add r1, r2 | ldxb r0, [r1+0] | exit; refused 44 place 2 OutOfBounds; ! call 1 pipe; ! call 1 full
+mov r2, -1 | add r1, r2 | ldxb r0, [r1+0] | exit; refused 44 place 2 OutOfBounds
 mov32 r2, -1 | mov r0, 0 | jne r2, -1, +1 | mov r0, 1 | exit;; {rt1}\n
 mov32 r2, -1 | mov r0, 0 | jne32 r2, -1, +1 | mov r0, 1 | exit;; {rt1}\n; 0\t{rt1}\n
 mov r0, 1 | ja +1 | ldxb r0, [r9+0] | exit;; {rt1}\n; 0\t{rt1}\n
 lddw r0, 0x1122334455667788 | be16 r0 | jeq r0, 34935, +1 | mov r0, 0 | exit;; {rt1}\n; 0\t{rt1}\n
 lddw r0, 0x1122334455667788 | le32 r0 | jeq r0, 1432778632, +1 | mov r0, 0 | exit;; {rt1}\n; 0\t{rt1}\n
-add r1, 228 | ldxb r0, [r1+0] | exit; refused 44 place 1 OutOfBounds; ! call 1 pipe; ! call 1 full
-mov r2, 5 | ldxb r0, [r2+0] | exit; refused 43 place 1 NotPointer; ! call 1 pipe; ! call 1 full
-ldxb r0, [r10-8] | exit; refused 45 place 0 UnwrittenFrame; ! call 1 pipe; ! call 1 full
-add r1, 32768 | exit; refused 41 place 0 PointerArithmetic; ! call 1 pipe; ! call 1 full
-add r1, 32767 | add r1, 1 | exit; refused 42 place 1 LeavesArea; ! call 1 pipe; ! call 1 full
+add r1, 228 | ldxb r0, [r1+0] | exit; refused 44 place 1 OutOfBounds
+mov r2, 5 | ldxb r0, [r2+0] | exit; refused 43 place 1 NotPointer
+ldxb r0, [r10-8] | exit; refused 45 place 0 UnwrittenFrame
+add r1, 32768 | exit; refused 41 place 0 PointerArithmetic
+add r1, 32767 | add r1, 1 | exit; refused 42 place 1 LeavesArea
 mov r0, 0 | ldxb r2, [r1+55] | jgt r2, 227, +2 | add r1, r2 | ldxb r0, [r1+0] | exit;; {rt1}\n; 0\t{rt1}\n
 mov r0, 0 | ldxb r2, [r1+55] | jgt r2, 227, +2 | add r1, r2 | ldxb r0, [r1+0] | add r0, -32 | exit;; {rt1}\n
-mov r0, 0 | ldxb r2, [r1+55] | jgt r2, 228, +2 | add r1, r2 | ldxb r0, [r1+0] | exit; refused 44 place 4 OutOfBounds;
-  ! call 1 pipe; ! call 1 full
+mov r0, 0 | ldxb r2, [r1+55] | jgt r2, 228, +2 | add r1, r2 | ldxb r0, [r1+0] | exit; refused 44 place 4 OutOfBounds
 mov r0, 0 | ldxb r2, [r1+55] | jsgt r2, 227, +2 | add r1, r2 | ldxb r0, [r1+0] | exit;; {rt1}\n; 0\t{rt1}\n
-ldxb r2, [r1+55] | mov r3, r1 | jeq r2, 65, +1 | mov r3, 0 | ldxb r0, [r3+0] | exit; refused 40 place 4 ReadsNothing(3);
-  ! call 1 pipe; ! call 1 full
-mov r0, r1 | exit; refused 51 place 1 ExitNotNumber; ! call 1 pipe; ! call 1 full
-mov r0, 0 | jeq r1, 0, +0 | exit; refused 48 place 1 ComparesPointer; ! call 1 pipe; ! call 1 full
+ldxb r2, [r1+55] | mov r3, r1 | jeq r2, 65, +1 | mov r3, 0 | ldxb r0, [r3+0] | exit; refused 40 place 4 ReadsNothing(3)
+mov r0, r1 | exit; refused 51 place 1 ExitNotNumber
+mov r0, 0 | jeq r1, 0, +0 | exit; refused 48 place 1 ComparesPointer
 mov r1, -13 | smod r1, 3 | mov r6, r1 | call 8 | mov r0, r6 | exit;; {rt1}\n{rt1}\n;
   18446744073709551615\t{rt1}\n18446744073709551615\t{rt1}\n
 mov r6, r1 | mov r1, 0 | call 1 | and r0, 15 | add r6, r0 | ldxb r0, [r6+0] | exit;; {rt1}\n; 0\t{rt1}\n
@@ -100,52 +87,54 @@ mov r1, 0 | mov r2, r10 | add r2, -4 | mov r3, 4 | call 6 | ldxw r1, [r10-4] | c
 mov r1, 1 | mov r2, r10 | add r2, -4 | mov r3, 4 | call 6 | ldxw r1, [r10-4] | call 8 | mov r0, 1 | exit;; {rt1}\n;
   538976288\t{rt1}\n
 add r1, -32768 | add r1, 32767 | ldxb r0, [r1+1] | exit;; {rt1}\n; 0\t{rt1}\n
-add r1, -32768 | ldxb r0, [r1+32767] | exit; refused 44 place 1 OutOfBounds; ! call 1 pipe; ! call 1 full
-ldxb r2, [r1+55] | add r2, -1 | add r1, r2 | ldxb r0, [r1+0] | exit; refused 41 place 2 PointerArithmetic;
-  ! call 1 pipe; ! call 1 full
+add r1, -32768 | ldxb r0, [r1+32767] | exit; refused 44 place 1 OutOfBounds
+ldxb r2, [r1+55] | add r2, -1 | add r1, r2 | ldxb r0, [r1+0] | exit; refused 41 place 2 PointerArithmetic
 mov r0, 1 | ldxb r2, [r1+55] | jeq r2, 0, +4 | add r2, -1 | and r2, 127 | add r1, r2 | ldxb r0, [r1+0] | exit;; {rt1}\n;
   0\t{rt1}\n
 ldxb r2, [r1+55] | div r2, 2 | add r1, r2 | ldxb r0, [r1+0] | exit;; {rt1}\n; 0\t{rt1}\n
-ldxb r2, [r1+55] | sdiv r2, 2 | add r1, r2 | ldxb r0, [r1+0] | exit; refused 41 place 2 PointerArithmetic;
-  ! call 1 pipe; ! call 1 full
+ldxb r2, [r1+55] | sdiv r2, 2 | add r1, r2 | ldxb r0, [r1+0] | exit; refused 41 place 2 PointerArithmetic
 mov r2, 5 | mov r0, 1 | jgt r2, 9, +1 | exit | ldxb r0, [r9+0] | exit;; {rt1}\n; 0\t{rt1}\n
-ldxb r2, [r1+55] | mov r0, 1 | jne r2, r2, +1 | exit | ldxb r0, [r9+0] | exit; refused 40 place 4 ReadsNothing(9);
-  ! call 1 pipe; ! call 1 full
-ldxb r2, [r1+55] | mov r0, 1 | jset r2, 240, +2 | add r1, r2 | ldxb r0, [r1+0] | exit; refused 44 place 4 OutOfBounds;
-  ! call 1 pipe; ! call 1 full
+ldxb r2, [r1+55] | mov r0, 1 | jne r2, r2, +1 | exit | ldxb r0, [r9+0] | exit; refused 40 place 4 ReadsNothing(9)
+ldxb r2, [r1+55] | mov r0, 1 | jset r2, 240, +2 | add r1, r2 | ldxb r0, [r1+0] | exit; refused 44 place 4 OutOfBounds
+stxdw [r10-12], r1 | exit; refused 47 place 0 StoresPointer
+stxdw [r10+0], r1 | exit; refused 44 place 0 OutOfBounds
+stxdw [r10-8], r1 | ldxw r0, [r10-8] | exit; refused 45 place 1 UnwrittenFrame
+stxdw [r10-8], r1 | stb [r10-1], 0 | ldxdw r1, [r10-8] | exit; refused 45 place 2 UnwrittenFrame
+ldxb r2, [r1+55] | and r2, 15 | stxdw [r10-16], r2 | ldxdw r3, [r10-16] | add r1, r3 | ldxb r0, [r1+0] | exit;; {rt1}\n;
+  0\t{rt1}\n
+ldxb r2, [r1+55] | stxdw [r10-8], r1 | jeq r2, 65, +1 | stxdw [r10-8], r10 | ldxdw r3, [r10-8] | mov r0, 1 | exit;
+  refused 45 place 4 UnwrittenFrame
 ldxb r2, [r1+55] | jne r2, 65, +0 *4000 | mov r0, 1 | exit;; {rt1}\n; 0\t{rt1}\n
 ";
 
-/// Whether both commands say and write what a row says.
-fn is_verdict(alloc: Global, row: &str) -> Result<bool, AllocError> {
-    let Some(program) = program(alloc, cell(row, 0)) else {
-        return Ok(false);
-    };
-    let rt1 = bytes(alloc, content_of(cell(row, 2)))?;
-    let rows = bytes(alloc, content_of(cell(row, 3)))?;
-    let files = [
-        file_of("p.bpf", "", program.as_slice()),
-        file_of("d/TGR01001.RT1", cell(row, 2), rt1.as_slice()),
-    ];
-    let verdict: &[u8] = if cell(row, 1).is_empty() {
-        b"accepted\n"
-    } else {
-        b""
-    };
-    Ok(gives(alloc, VERIFY, row, &files, verdict)? && gives(alloc, RUN, row, &files, &rows)?)
-}
+// The rows of the two commands. Of a refused program every read of the type 1 file and every write to the output fails,
+// so that none is made.
+const ACCEPTED: &str = r"
+extractd verify --program p.bpf; accepted\n; 0;; p.bpf: {asm PROGRAM}
+extractd run --program p.bpf --data d 01001; ROWS; 0;; p.bpf: {asm PROGRAM}; d/TGR01001.RT1: LINES
+";
 
-/// Whether a command says what a row says, and writes this.
-fn gives(
-    alloc: Global,
-    command: &str,
-    row: &str,
-    files: &[MemoryFile<'_>],
-    written: &[u8],
-) -> Result<bool, AllocError> {
-    let ending = run(alloc, command, files, cell(row, 3), "")?;
-    let status = if cell(row, 1).is_empty() { "0" } else { "1" };
-    Ok(ending.says(cell(row, 1)) && ending.is_with(status, written))
+const REFUSED: &str = r"
+extractd verify --program p.bpf; ! call 1 full; 1; SAID; p.bpf: {asm PROGRAM}
+extractd run --program p.bpf --data d 01001; ! call 1 full; 1; SAID; p.bpf: {asm PROGRAM}; d/TGR01001.RT1: ! call 1 pipe
+";
+
+/// Tells whether both commands end as a row says.
+fn is_verdict(alloc: Global, row: &str) -> Result<bool, AllocError> {
+    let said = cell(row, 1);
+    let texts = [
+        ("PROGRAM", cell(row, 0)),
+        ("SAID", said),
+        ("LINES", cell(row, 2)),
+        ("ROWS", cell(row, 3)),
+    ];
+    let rows = if said.is_empty() { ACCEPTED } else { REFUSED };
+    let rows = filled(alloc, rows.trim(), &texts)?;
+    let mut is_verdict = true;
+    for row in rows.lines() {
+        is_verdict = is_verdict && is_right(alloc, row)?;
+    }
+    Ok(is_verdict)
 }
 
 #[test]

@@ -9,9 +9,9 @@ use tl_fields::{Buffered, Counting};
 
 // A program, the files of types 1, 4, 5 and 6, the outcome, the rows, and how many bytes of memory there are.
 //
-// First programs of as many words as there may be, or one more. Then 70,000 lines of type 1 in little memory, and joined
-// files of 25,000 TLIDs each: `every` reads the record alone, so that they are only checked for it. The score of `counts`
-// is 10,000 times the number of alternate names, and the number of ranges.
+// First programs of as many words as there may be, or one more. Then 70,000 lines of type 1 in little memory, and
+// joined files of 25,000 TLIDs each: `every` reads the record alone, so that they are only checked for it. The score of
+// `counts` is 10,000 times the number of alternate names, and the number of ranges.
 const LARGE: &str = r"mov r0, 1 *65535 | exit; {rt1\n*3};;;; ok 3; {0\trt1\n*3}; 16777216
 lddw r0, 0x1 *32767 | mov r0, 1 | exit; {rt1\n};;;; ok 1; 0\t{rt1}\n; 16777216
 mov r0, 1 | ja32 +65533 | mov r0, 0 *65533 | exit; {rt1\n*3};;;; ok 3; {0\trt1\n*3}; 16777216

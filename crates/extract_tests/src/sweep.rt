@@ -13,8 +13,8 @@ const JOINED: &str =
     r"every; {rt1\n*2}; {rt4\n*2}; {rt5\n*2}; {rt6\n*2}; ok 2; 0\t{rt1}\n0\t{rt1}\n";
 
 // What fails, a read of a file or a write, and in which ways; the first and the last read, or how many bytes were taken
-// before, at least and at most; the outcome; how many bytes are written, and how many reads and writes there are. `+3` is
-// three more than the read or the bytes. A read or a byte after the last one changes nothing.
+// before, at least and at most; the outcome; how many bytes are written, and how many reads and writes there are. `+3`
+// is three more than the read or the bytes. A read or a byte after the last one changes nothing.
 const FAILURES: &str = "\
 rt4; pipe, interrupted, blocked, late; 1 1; refused 5 rt4 line 1 Read; 0; +0; 0
 rt5; pipe, interrupted, blocked, late; 1 1; refused 5 rt5 line 1 Read; 0; +1; 0
