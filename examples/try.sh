@@ -224,7 +224,7 @@ asked_of() {
 try_example_rows() {
     local line asked held=""
     while IFS= read -r line; do
-        [[ $line == 'const ENDS'* ]] && break
+        [[ $line == *'const ENDS'* ]] && break
         line=${line#*r\"} line=${line%\";}
         case $line in
         'turn => '*) ;;
