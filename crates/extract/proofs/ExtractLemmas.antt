@@ -1,5 +1,6 @@
 -- Extracting line by line: what was read and written so far, and the outcome at each end.
-use Rattle.std.proofs.Common.{◌≡◌, ◌≢◌, ℕ, ◌+◌, ◌<◌, ◌≤◌, ◌^◌, inl, inr, List, [], ◌∷◌, ◌++◌, Some, None, Ok, Err, refl, sym, ap, ◌∙◌, subst, arith}
+use Rattle.std.proofs.Common.{◌≡◌, ◌≢◌, ℕ, ◌+◌, ◌<◌, ◌≤◌, ◌^◌, inl, inr, List, [], ◌∷◌, ◌++◌, Some, None, Ok, Err, refl, sym, ap, ◌∙◌}
+use Rattle.std.proofs.Common.{subst, arith}
 use Rattle.std.specs.Io.KnownBytes.{Appends}
 use Rattle.std.specs.Prelude.{◌⊎◌, IsTrue, Option}
 use Rattle.std.specs.Option.{option_map_or}
@@ -32,9 +33,11 @@ use Rattle.extract.specs.declared.program.ProgramFault.{ProgramFault}
 use Rattle.extract.specs.declared.program.ProgramFault.TheVariants as program_fault
 use Rattle.extract.proofs.RowLemmas.{chosen_count-le, extract_alike, row_alike}
 
--- Lines were read so far, all good, segments made of them with what the index has, and all of the extract of these written: so many rows, at
+-- Lines were read so far, all good, segments made of them with what the index has, and all of the extract of these written: so many rows,
+-- at
 -- most one a line. Nothing failed.
-pub record IsExtractedSoFar {A : Type 0} (index : Index A) (code : List Insn) (rows : ℕ) (line : LineParts) (rt1 rt1' : Reader) (out out' : Writer) : Type 0 where
+pub record IsExtractedSoFar {A : Type 0} (index : Index A) (code : List Insn) (rows : ℕ) (line : LineParts) (rt1 rt1' : Reader)
+    (out out' : Writer) : Type 0 where
   pub lines : List (List ℕ)
   pub read : IsReadSoFar Rt1 lines line rt1 rt1'
   pub segments : List Contents
@@ -45,7 +48,8 @@ pub record IsExtractedSoFar {A : Type 0} (index : Index A) (code : List Insn) (r
   pub written : Appends out.held out'.held text
   pub counts : out'.counts ≡ out.counts
 
-pub nothing_so_far : {A : Type 0} (index : Index A) (code : List Insn) (rows : ℕ) (line : LineParts) (rt1 : Reader) (out : Writer) → rows ≡ 0 → line.number ≡ 0 → IsExtractedSoFar index code rows line rt1 rt1 out out
+pub nothing_so_far : {A : Type 0} (index : Index A) (code : List Insn) (rows : ℕ) (line : LineParts) (rt1 : Reader) (out : Writer)
+    → rows ≡ 0 → line.number ≡ 0 → IsExtractedSoFar index code rows line rt1 rt1 out out
 nothing_so_far index code rows line rt1 out none zeroth = record {
   lines = [];
   read = none_read Rt1 line rt1 zeroth;
@@ -65,7 +69,8 @@ alike_alone code joined alone = record {
   more = λ line some. absurd (nothing_joined (number_in Rt1 line) some);
 }
   where
-    nothing_joined : (found : Option ℕ) → (option_map_or (alternate_names no_lines) found [] ≢ []) ⊎ (option_map_or (further_ranges no_lines) found [] ≢ []) → ⊥
+    nothing_joined : (found : Option ℕ) → (option_map_or (alternate_names no_lines) found [] ≢ [])
+        ⊎ (option_map_or (further_ranges no_lines) found [] ≢ []) → ⊥
     nothing_joined None (inl some) = some refl
     nothing_joined None (inr some) = some refl
     nothing_joined (Some tlid) (inl some) = some refl
@@ -75,7 +80,8 @@ pub alike_itself : (code : List Insn) (joined : JoinedLines) → AnswersAlike co
 alike_itself code joined = record { same = λ line answer score answers. answers; more = λ line some. some }
 
 -- a refused program
-pub program_outcome : (program : List ℕ) (fault : ProgramFault) (readers : CountyReaders) (out : Writer) → IsProgramFault program fault → IsOutcome program (Err (of_program fault)) readers readers out out
+pub program_outcome : (program : List ℕ) (fault : ProgramFault) (readers : CountyReaders) (out : Writer) → IsProgramFault program fault
+    → IsOutcome program (Err (of_program fault)) readers readers out out
 program_outcome program (program_fault.Code fault) readers out is =
     record { first = is; has_number = λ e. cc; unread = refl; unwritten = refl }
 program_outcome program (program_fault.Flow fault) readers out is =
@@ -89,7 +95,8 @@ program_outcome program program_fault.Memory readers out is = record {
 }
 
 -- where memory is wanting for what is joined to type 1 lines, no read failed
-joined_unfailed : (rt1 : Reader) (old new : Readers) → IsJoinedFault load_fault.Memory old new → AreUnfailed (record { rt1 = rt1; joined = old }) (record { rt1 = rt1; joined = new })
+joined_unfailed : (rt1 : Reader) (old new : Readers) → IsJoinedFault load_fault.Memory old new
+    → AreUnfailed (record { rt1 = rt1; joined = old }) (record { rt1 = rt1; joined = new })
 joined_unfailed rt1 old new (in_rt4 wants rt5 rt6) =
     record { rt1 = refl; rt4 = wants; rt5 = ap (λ (r : Reader). r.failed) rt5; rt6 = ap (λ (r : Reader). r.failed) rt6 }
 joined_unfailed rt1 old new (in_rt5 rt4 wants rt6) =
@@ -98,14 +105,16 @@ joined_unfailed rt1 old new (in_rt6 rt4 rt5 wants) =
     record { rt1 = refl; rt4 = rt4.1.reads; rt5 = rt5.1.reads; rt6 = wants }
 
 -- a refused file that is joined to that of type 1
-pub joined_outcome : (program : List ℕ) (code : List Insn) (fault : LoadFault) (rt1 : Reader) (old new : Readers) (out : Writer) → IsSafeProgram program code → IsJoinedFault fault old new → IsOutcome program (Err (of_load fault)) (record { rt1 = rt1; joined = old }) (record { rt1 = rt1; joined = new }) out out
-joined_outcome program code (load_fault.Line file fault) rt1 old new out safe is =
+pub joined_outcome : {program : List ℕ} {code : List Insn} (fault : LoadFault) (rt1 : Reader) {old new : Readers} (out : Writer)
+    → IsSafeProgram program code → IsJoinedFault fault old new
+    → IsOutcome program (Err (of_load fault)) (record { rt1 = rt1; joined = old }) (record { rt1 = rt1; joined = new }) out out
+joined_outcome {code} (load_fault.Line file fault) rt1 out safe is =
     before_rt1 (code, safe) (λ e. cc) is refl refl
-joined_outcome program code (load_fault.TooManyNames line) rt1 old new out safe is =
+joined_outcome {code} (load_fault.TooManyNames line) rt1 out safe is =
     before_rt1 (code, safe) (λ e. cc) is refl refl
-joined_outcome program code (load_fault.TooManyRanges line) rt1 old new out safe is =
+joined_outcome {code} (load_fault.TooManyRanges line) rt1 out safe is =
     before_rt1 (code, safe) (λ e. cc) is refl refl
-joined_outcome program code load_fault.Memory rt1 old new out safe is =
+joined_outcome load_fault.Memory rt1 {old} {new} out safe is =
     record { written = inl (refl, refl); counts = refl; reads = joined_unfailed rt1 old new is }
 
 -- a file's fault is none of the program
@@ -115,9 +124,11 @@ of_load-not_program (load_fault.TooManyNames line) of e = cc
 of_load-not_program (load_fault.TooManyRanges line) of e = cc
 of_load-not_program load_fault.Memory of e = cc
 
-module _ {A : Type 0} (index : Index A) (code : List Insn) (rows : ℕ) (line : LineParts) (rt1 now rt1' : Reader) (out between : Writer) (so_far : IsExtractedSoFar index code rows line rt1 now out between) (number : ℕ) (segment : Contents) where
+module _ {A : Type 0} (index : Index A) (code : List Insn) (rows : ℕ) (line : LineParts) (rt1 now rt1' : Reader) (out between : Writer)
+    (so_far : IsExtractedSoFar index code rows line rt1 now out between) (number : ℕ) (segment : Contents) where
   -- a segment more, and its row if it is chosen
-  pub one_row_more : (more : ℕ) (out' : Writer) → IsSegmentRead index line number segment now rt1' (Ok (Some tt)) → WritesRow code segment (Ok more) between out' → IsExtractedSoFar index code (rows + more) (line_of number segment) rt1 rt1' out out'
+  pub one_row_more : (more : ℕ) (out' : Writer) → IsSegmentRead index line number segment now rt1' (Ok (Some tt))
+      → WritesRow code segment (Ok more) between out' → IsExtractedSoFar index code (rows + more) (line_of number segment) rt1 rt1' out out'
   one_row_more more out' next (answer, score, answers, counted, appended, counts) = record {
     lines = so_far.lines ++ segment.bytes ∷ [];
     read = good_line_more so_far.lines line (line_of number segment) rt1 now rt1' so_far.read next.0;
@@ -128,7 +139,8 @@ module _ {A : Type 0} (index : Index A) (code : List Insn) (rows : ℕ) (line : 
         ∙ sym (segments_push joined so_far.lines segment.bytes);
     text = so_far.text ++ row_if_chosen answer score segment;
     is_extract =
-        subst (λ (n : ℕ). IsExtract code (so_far.segments ++ segment ∷ []) (so_far.text ++ row_if_chosen answer score segment) (rows + n)) (sym counted)
+        subst (λ (n : ℕ). IsExtract code (so_far.segments ++ segment ∷ []) (so_far.text ++ row_if_chosen answer score segment) (rows + n))
+        (sym counted)
         (extract_push code so_far.segments segment so_far.text rows answer score so_far.is_extract answers);
     few = omega (arith, so_far.few, next.0.0.2, counted, chosen_count-le answer);
     written = Appends-append out.held between.held out'.held so_far.text (row_if_chosen answer score segment) so_far.written appended;
@@ -136,11 +148,13 @@ module _ {A : Type 0} (index : Index A) (code : List Insn) (rows : ℕ) (line : 
   }
 
   -- a row more can still be counted
-  pub fits : (more : ℕ) (out' : Writer) → IsSegmentRead index line number segment now rt1' (Ok (Some tt)) → WritesRow code segment (Ok more) between out' → rows + more < 2 ^ 64
+  pub fits : (more : ℕ) (out' : Writer) → IsSegmentRead index line number segment now rt1' (Ok (Some tt))
+      → WritesRow code segment (Ok more) between out' → rows + more < 2 ^ 64
   fits more out' next (answer, score, answers, counted, appended, counts) =
       omega (arith, so_far.few, next.0.0.1, counted, chosen_count-le answer)
 
-  module _ (program : List ℕ) (safe : IsSafeProgram program code) (own joined : JoinedLines) (of_own : IsIndexOf index own) (alike : AnswersAlike code own joined) (old new : Readers) (reads_joined : ReadsJoined joined old new) where
+  module _ (program : List ℕ) (safe : IsSafeProgram program code) (own joined : JoinedLines) (of_own : IsIndexOf index own)
+      (alike : AnswersAlike code own joined) (old new : Readers) (reads_joined : ReadsJoined joined old new) where
     extract_so_far : IsExtract code (segments_of joined so_far.lines) so_far.text rows
     extract_so_far =
         extract_alike code own joined so_far.lines so_far.text rows alike
@@ -158,7 +172,8 @@ module _ {A : Type 0} (index : Index A) (code : List Insn) (rows : ℕ) (line : 
     }
 
     -- the file ended
-    pub end_outcome : IsSegmentRead index line number segment now rt1' (Ok None) → IsOutcome program (Ok rows) (record { rt1 = rt1; joined = old }) (record { rt1 = rt1'; joined = new }) out between
+    pub end_outcome : IsSegmentRead index line number segment now rt1' (Ok None)
+        → IsOutcome program (Ok rows) (record { rt1 = rt1; joined = old }) (record { rt1 = rt1'; joined = new }) out between
     end_outcome next = record {
       code = code;
       is_program = safe;
@@ -177,9 +192,11 @@ module _ {A : Type 0} (index : Index A) (code : List Insn) (rows : ℕ) (line : 
     }
 
     -- the next segment can't be made
-    pub fault_outcome : (fault : LoadFault) → IsSegmentRead index line number segment now rt1' (Err fault) → IsOutcome program (Err (of_load fault)) (record { rt1 = rt1; joined = old }) (record { rt1 = rt1'; joined = new }) out between
+    pub fault_outcome : (fault : LoadFault) → IsSegmentRead index line number segment now rt1' (Err fault)
+        → IsOutcome program (Err (of_load fault)) (record { rt1 = rt1; joined = old }) (record { rt1 = rt1'; joined = new }) out between
     fault_outcome (load_fault.Line file fault) next =
-        in_rt1 joined so_far.lines fault (ap (λ file. load_fault.Line file fault) next.0) reads_joined (at_next_fault so_far.lines line (record { number = number; bytes = next.1.0 }) rt1 now rt1' so_far.read fault next.1.1) has_written
+        in_rt1 joined so_far.lines fault (ap (λ file. load_fault.Line file fault) next.0) reads_joined
+        (at_next_fault so_far.lines line (record { number = number; bytes = next.1.0 }) rt1 now rt1' so_far.read fault next.1.1) has_written
     fault_outcome (load_fault.TooManyNames number) next = absurd next
     fault_outcome (load_fault.TooManyRanges number) next = absurd next
     fault_outcome load_fault.Memory next =
@@ -195,11 +212,19 @@ module _ {A : Type 0} (index : Index A) (code : List Insn) (rows : ℕ) (line : 
             before = has_written;
           });
           counts = so_far.counts;
-          reads = record { rt1 = more.reads.reads; rt4 = reads_joined.rt4.reads; rt5 = reads_joined.rt5.reads; rt6 = reads_joined.rt6.reads };
+          reads = record {
+            rt1 = more.reads.reads;
+            rt4 = reads_joined.rt4.reads;
+            rt5 = reads_joined.rt5.reads;
+            rt6 =
+                reads_joined.rt6.reads;
+          };
         }
 
     -- the writer fails
-    pub write_outcome : (fault : WriteFault) (out' : Writer) → IsSegmentRead index line number segment now rt1' (Ok (Some tt)) → WritesRow code segment (Err fault) between out' → IsOutcome program (Err (Write fault)) (record { rt1 = rt1; joined = old }) (record { rt1 = rt1'; joined = new }) out out'
+    pub write_outcome : (fault : WriteFault) (out' : Writer) → IsSegmentRead index line number segment now rt1' (Ok (Some tt))
+        → WritesRow code segment (Err fault) between out' → IsOutcome program (Err (Write fault)) (record { rt1 = rt1; joined = old })
+        (record { rt1 = rt1'; joined = new }) out out'
     unfolding has_written
     write_outcome fault out' next row = record {
       joined = joined;
@@ -209,5 +234,6 @@ module _ {A : Type 0} (index : Index A) (code : List Insn) (rows : ℕ) (line : 
       reads = (good_line_more so_far.lines line (line_of number segment) rt1 now rt1' so_far.read next.0).reads;
       between = between;
       before = has_written;
-      row = row_alike code own joined segment.bytes fault between out' alike (subst (λ (s : Contents). WritesRow code s (Err fault) between out') (next.1 own of_own) row);
+      row = row_alike segment.bytes fault between out' alike
+          (subst (λ (s : Contents). WritesRow code s (Err fault) between out') (next.1 own of_own) row);
     }

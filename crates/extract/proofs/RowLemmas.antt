@@ -1,5 +1,6 @@
 -- How the rows of segments join, that they are alike where the answers are, and how a row is written part by part.
-use Rattle.std.proofs.Common.{◌≡◌, ℕ, zero, suc, Ok, Err, ◌≤◌, List, [], ◌∷◌, ◌++◌, length, take, refl, sym, ap, subst, ◌∙◌, append_assoc, arith}
+use Rattle.std.proofs.Common.{◌≡◌, ℕ, zero, suc, Ok, Err, ◌≤◌, List, [], ◌∷◌, ◌++◌, length, take, refl, sym, ap, subst, ◌∙◌, append_assoc}
+use Rattle.std.proofs.Common.{arith}
 use Rattle.std.specs.Io.KnownBytes.{Appends}
 use Rattle.std.specs.Prelude.{Result, decimal}
 use Rattle.std.proofs.lemmas.Bool.Decides.{nat_tests}
@@ -21,13 +22,16 @@ chosen_count-le answer = grind (arith, nat_tests)
 
 -- where a code answers alike, so are the extract and a row that a write's fault ended
 
-pub extract_alike : (code : List Insn) (own joined : JoinedLines) (lines : List (List ℕ)) (text : List ℕ) (rows : ℕ) → AnswersAlike code own joined → IsExtract code (segments_of own lines) text rows → IsExtract code (segments_of joined lines) text rows
+pub extract_alike : (code : List Insn) (own joined : JoinedLines) (lines : List (List ℕ)) (text : List ℕ) (rows : ℕ)
+    → AnswersAlike code own joined → IsExtract code (segments_of own lines) text rows → IsExtract code (segments_of joined lines) text rows
 extract_alike code own joined [] text rows alike is = is
 extract_alike code own joined (line ∷ lines) text rows alike is =
     (is.0, is.1, is.2, is.3, alike.same line is.0 is.1 is.4, is.5, is.6, extract_alike code own joined lines is.2 is.3 alike is.7)
 
-pub row_alike : (code : List Insn) (own joined : JoinedLines) (line : List ℕ) (fault : WriteFault) (out out' : Writer) → AnswersAlike code own joined → WritesRow code (segment_of own line) (Err fault) out out' → WritesRow code (segment_of joined line) (Err fault) out out'
-row_alike code own joined line fault out out' alike row = (row.0, row.1, alike.same line row.0 row.1 row.2, row.3, row.4, row.5)
+pub row_alike : {code : List Insn} {own joined : JoinedLines} (line : List ℕ) (fault : WriteFault) (out out' : Writer)
+    → AnswersAlike code own joined → WritesRow code (segment_of own line) (Err fault) out out'
+    → WritesRow code (segment_of joined line) (Err fault) out out'
+row_alike line fault out out' alike row = (row.0, row.1, alike.same line row.0 row.1 row.2, row.3, row.4, row.5)
 
 -- what parts of a text that are written one after the other do to a writer
 
@@ -37,7 +41,8 @@ take-within (suc count) [] more = refl
 take-within (suc count) (byte ∷ text) more = ap (λ (rest : List ℕ). byte ∷ rest) (take-within count text more)
 
 -- a part whose writing failed was the first one
-pub first_failed : (part more : List ℕ) (fault : WriteFault) (old new : Writer) → WritesText part (Err fault) old new → WritesText (part ++ more) (Err fault) old new
+pub first_failed : (part more : List ℕ) (fault : WriteFault) (old new : Writer) → WritesText part (Err fault) old new
+    → WritesText (part ++ more) (Err fault) old new
 first_failed part more fault old new (beginning, counts) = (
   record {
     count = length (take beginning.count part);
@@ -47,7 +52,8 @@ first_failed part more fault old new (beginning, counts) = (
 )
 
 -- a part was written whole, and then others up to the end or to a fault
-pub then_written : (part more : List ℕ) (result : Result (Unit {0}) WriteFault) (old now new : Writer) → WritesText part (Ok tt) old now → WritesText more result now new → WritesText (part ++ more) result old new
+pub then_written : (part more : List ℕ) (result : Result (Unit {0}) WriteFault) (old now new : Writer) → WritesText part (Ok tt) old now
+    → WritesText more result now new → WritesText (part ++ more) result old new
 then_written part more (Ok done) old now new first next =
     (Appends-append old.held now.held new.held part more first.0 next.0, next.1 ∙ first.1)
 then_written part more (Err fault) old now new first next = (
@@ -56,23 +62,28 @@ then_written part more (Err fault) old now new first next = (
 )
 
 -- a row is written in three parts: the score and the tab, the record, the line feed
-module _ (score : ℕ) (segment : Contents) (start bytes : List ℕ) (begins : start ≡ decimal score ++ 9 ∷ []) (is : bytes ≡ segment.bytes) (old : Writer) where
+module _ (score : ℕ) (segment : Contents) (start bytes : List ℕ) (begins : start ≡ decimal score ++ 9 ∷ []) (is : bytes ≡ segment.bytes)
+    (old : Writer) where
   row_is : start ++ bytes ++ 10 ∷ [] ≡ row_of score segment
   row_is =
       ap (λ (front : List ℕ). front ++ 10 ∷ [])
-      (ap (λ (start : List ℕ). start ++ bytes) begins ∙ append_assoc (decimal score) (9 ∷ []) bytes ∙ ap (λ (bytes : List ℕ). decimal score ++ 9 ∷ bytes) is)
+      (ap (λ (start : List ℕ). start ++ bytes) begins ∙ append_assoc (decimal score) (9 ∷ []) bytes
+      ∙ ap (λ (bytes : List ℕ). decimal score ++ 9 ∷ bytes) is)
 
-  pub start_failed : (fault : WriteFault) (new : Writer) → WritesText start (Err fault) old new → WritesText (row_of score segment) (Err fault) old new
+  pub start_failed : (fault : WriteFault) (new : Writer) → WritesText start (Err fault) old new
+      → WritesText (row_of score segment) (Err fault) old new
   start_failed fault new failed =
       subst (λ text. WritesText text (Err fault) old new) row_is
       (first_failed (start ++ bytes) (10 ∷ []) fault old new (first_failed start bytes fault old new failed))
 
-  pub record_failed : (fault : WriteFault) (now new : Writer) → WritesText start (Ok tt) old now → WritesText bytes (Err fault) now new → WritesText (row_of score segment) (Err fault) old new
+  pub record_failed : (fault : WriteFault) (now new : Writer) → WritesText start (Ok tt) old now → WritesText bytes (Err fault) now new
+      → WritesText (row_of score segment) (Err fault) old new
   record_failed fault now new first failed =
       subst (λ text. WritesText text (Err fault) old new) row_is
       (first_failed (start ++ bytes) (10 ∷ []) fault old new (then_written start bytes (Err fault) old now new first failed))
 
-  pub end_written : (result : Result (Unit {0}) WriteFault) (now then new : Writer) → WritesText start (Ok tt) old now → WritesText bytes (Ok tt) now then → WritesText (10 ∷ []) result then new → WritesText (row_of score segment) result old new
+  pub end_written : (result : Result (Unit {0}) WriteFault) (now then new : Writer) → WritesText start (Ok tt) old now
+      → WritesText bytes (Ok tt) now then → WritesText (10 ∷ []) result then new → WritesText (row_of score segment) result old new
   end_written result now then new first second third =
       subst (λ text. WritesText text result old new) row_is
       (then_written (start ++ bytes) (10 ∷ []) result old then new (then_written start bytes (Ok tt) old now then first second) third)

@@ -1,6 +1,5 @@
--- The number, the name and the line of text of an extract's fault.
-use Rattle.std.specs.Prelude.{ℕ, List, Option, Some, None}
-use Rattle.bpf_insn.specs.Refusal.{memory_name, refusal_line}
+-- The refusal of an extract's fault.
+use Rattle.refusals.specs.Refusal.{RefusalParts, memory}
 use Rattle.tl_fields.specs.Writing as write_fault
 use Rattle.extract.specs.ProgramFault as program_fault
 use Rattle.tl_segments.specs.LoadFault as load_fault
@@ -20,20 +19,8 @@ abbrev pub of_load : LoadFault → ExtractFault
 of_load load_variant.Memory = Memory
 of_load fault = Load fault
 
-abbrev pub number : ExtractFault → Option ℕ
-number (Program fault) = program_fault.number fault
-number (Load fault) = load_fault.number fault
-number (Write fault) = Some (write_fault.number fault)
-number Memory = None
-
-abbrev pub name : ExtractFault → List ℕ
-name (Program fault) = program_fault.name fault
-name (Load fault) = load_fault.name fault
-name (Write fault) = write_fault.name fault
-name Memory = memory_name
-
-abbrev pub line : ExtractFault → List ℕ
-line (Program fault) = program_fault.line fault
-line (Load fault) = load_fault.line fault
-line (Write fault) = refusal_line (Some (write_fault.number fault)) (write_fault.name fault)
-line Memory = refusal_line None memory_name
+abbrev pub refusal : ExtractFault → RefusalParts
+refusal (Program fault) = program_fault.refusal fault
+refusal (Load fault) = load_fault.refusal fault
+refusal (Write fault) = write_fault.refusal fault
+refusal Memory = memory

@@ -2,5 +2,4 @@ pub mod ExtractFault
 pub mod Extracting
 pub mod Program
 pub mod ProgramFault
-pub mod Refusal
 pub mod Rows

@@ -1,6 +1,5 @@
--- The number, the name and the line of text of a program's fault.
-use Rattle.std.specs.Prelude.{ℕ, List, Option, Some, None}
-use Rattle.bpf_insn.specs.Refusal.{memory_name, refusal_line}
+-- The refusal of a program.
+use Rattle.refusals.specs.Refusal.{RefusalParts, memory}
 use Rattle.bpf_insn.specs.CodeFault as code_fault
 use Rattle.bpf_insn.specs.declared.fault.CodeFault.{CodeFault}
 use Rattle.bpf_insn.specs.declared.fault.CodeFault.TheVariants as code_variant
@@ -24,20 +23,8 @@ abbrev pub of_verify : VerifyFault → ProgramFault
 of_verify verify_variant.Memory = Memory
 of_verify fault = Verify fault
 
-abbrev pub number : ProgramFault → Option ℕ
-number (Code fault) = code_fault.number fault
-number (Flow fault) = Some (flow_fault.number fault)
-number (Verify fault) = verify_fault.number fault
-number Memory = None
-
-abbrev pub name : ProgramFault → List ℕ
-name (Code fault) = code_fault.name fault
-name (Flow fault) = flow_fault.name fault
-name (Verify fault) = verify_fault.name fault
-name Memory = memory_name
-
-abbrev pub line : ProgramFault → List ℕ
-line (Code fault) = code_fault.line fault
-line (Flow fault) = flow_fault.line fault
-line (Verify fault) = verify_fault.line fault
-line Memory = refusal_line None memory_name
+abbrev pub refusal : ProgramFault → RefusalParts
+refusal (Code fault) = code_fault.refusal fault
+refusal (Flow fault) = flow_fault.refusal fault
+refusal (Verify fault) = verify_fault.refusal fault
+refusal Memory = memory

@@ -1,12 +1,10 @@
 //! Why there is no extract, or no whole one.
 ghost use Rattle.std.specs.Prelude.{◌≡◌};
-ghost use Rattle.extract.specs.ExtractFault as extract_fault;
 ghost use Rattle.extract.specs.ExtractFault.{of_program, of_load};
 ghost use Rattle.extract.specs.declared.fault.ExtractFault.TheVariants.{Write};
 
 use crate::program::ProgramFault;
-use arrayvec::ArrayString;
-use bpf_insn::{memory_name, refusal_line};
+use refusals::{Fault, Refusal};
 use thiserror::Error;
 use tl_fields::WriteFault;
 use tl_segments::LoadFault;
@@ -54,39 +52,17 @@ impl From<WriteFault> for ExtractFault {
     }
 }
 
-impl ExtractFault {
-    /// None for want of memory.
-    pub fn number(&self) -> Option<u8>
-        ensures { result ≡ extract_fault.number self.now }
-    {
-        match *self {
-            ExtractFault::Program(fault) => fault.number(),
-            ExtractFault::Load(fault) => fault.number(),
-            ExtractFault::Write(fault) => Some(fault.number()),
-            ExtractFault::Memory => None,
-        }
-    }
+impl Fault for ExtractFault {
+    ghost use Rattle.extract.specs.ExtractFault.{refusal};
 
-    pub fn name(&self) -> &'static str
-        ensures { result.now ≡ extract_fault.name self.now }
-    {
-        match *self {
-            ExtractFault::Program(fault) => fault.name(),
-            ExtractFault::Load(fault) => fault.name(),
-            ExtractFault::Write(fault) => fault.name(),
-            ExtractFault::Memory => memory_name(),
-        }
-    }
+    ghost refusal_of = { refusal };
 
-    /// The refusal's line of text, without an end of line. It takes no memory.
-    pub fn line(&self) -> ArrayString<64>
-        ensures { result.bytes ≡ extract_fault.line self.now }
-    {
-        match *self {
-            ExtractFault::Program(fault) => fault.line(),
-            ExtractFault::Load(fault) => fault.line(),
-            ExtractFault::Write(fault) => refusal_line(Some(fault.number()), fault.name()),
-            ExtractFault::Memory => refusal_line(None, memory_name()),
+    fn refusal(&self) -> Refusal {
+        match self {
+            ExtractFault::Program(fault) => fault.refusal(),
+            ExtractFault::Load(fault) => fault.refusal(),
+            ExtractFault::Write(fault) => fault.refusal(),
+            ExtractFault::Memory => Refusal::memory(),
         }
     }
 }

@@ -5,11 +5,9 @@ mod extractor;
 mod fault;
 pub mod laws;
 mod program;
-mod refusal;
 mod rows;
 
 pub use extractor::extract;
 pub use fault::ExtractFault;
 pub use program::{ProgramFault, accept, accept_code};
-pub use refusal::{Class, Refusal};
 pub use rows::{LONGEST_ROW, push_row_if_chosen, row, row_text, score_if_chosen};

@@ -2,13 +2,12 @@
 ghost use Rattle.std.specs.Prelude.{◌≡◌, List, IfOk, IfErr};
 ghost use Rattle.bpf_insn.specs.declared.instruction.Insn.{Insn};
 ghost use Rattle.extract.specs.Program.{IsSafeProgram, IsProgramFault, IsSafeCode, IsFaultOfCode};
-ghost use Rattle.extract.specs.ProgramFault as program_fault;
 ghost use Rattle.extract.specs.ProgramFault.{of_code, of_flow, of_verify};
 
-use arrayvec::ArrayString;
 use bpf_flow::{Flow, FlowFault};
-use bpf_insn::{Code, CodeFault, decode, memory_name, refusal_line};
+use bpf_insn::{Code, CodeFault, decode};
 use bpf_verify::{Verified, VerifyFault, verify};
+use refusals::{Fault, Refusal};
 use std::alloc::Allocator;
 use thiserror::Error;
 
@@ -58,39 +57,17 @@ impl From<VerifyFault> for ProgramFault {
     }
 }
 
-impl ProgramFault {
-    /// None for want of memory.
-    pub fn number(&self) -> Option<u8>
-        ensures { result ≡ program_fault.number self.now }
-    {
-        match *self {
-            ProgramFault::Code(fault) => fault.number(),
-            ProgramFault::Flow(fault) => Some(fault.number()),
-            ProgramFault::Verify(fault) => fault.number(),
-            ProgramFault::Memory => None,
-        }
-    }
+impl Fault for ProgramFault {
+    ghost use Rattle.extract.specs.ProgramFault.{refusal};
 
-    pub fn name(&self) -> &'static str
-        ensures { result.now ≡ program_fault.name self.now }
-    {
-        match *self {
-            ProgramFault::Code(fault) => fault.name(),
-            ProgramFault::Flow(fault) => fault.name(),
-            ProgramFault::Verify(fault) => fault.name(),
-            ProgramFault::Memory => memory_name(),
-        }
-    }
+    ghost refusal_of = { refusal };
 
-    /// The refusal's line of text, without an end of line. It takes no memory.
-    pub fn line(&self) -> ArrayString<64>
-        ensures { result.bytes ≡ program_fault.line self.now }
-    {
-        match *self {
-            ProgramFault::Code(fault) => fault.line(),
-            ProgramFault::Flow(fault) => fault.line(),
-            ProgramFault::Verify(fault) => fault.line(),
-            ProgramFault::Memory => refusal_line(None, memory_name()),
+    fn refusal(&self) -> Refusal {
+        match self {
+            ProgramFault::Code(fault) => fault.refusal(),
+            ProgramFault::Flow(fault) => fault.refusal(),
+            ProgramFault::Verify(fault) => fault.refusal(),
+            ProgramFault::Memory => Refusal::memory(),
         }
     }
 }

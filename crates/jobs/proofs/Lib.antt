@@ -2,5 +2,5 @@ mod MapLemmas
 pub mod SegmentLemmas
 mod TableLemmas
 mod NextLemmas
-mod RunLemmas
-mod VerdictLemmas
+pub mod RunLemmas
+pub mod VerdictLemmas

@@ -1,6 +1,7 @@
 -- Whose turn is next, among the first jobs of a table.
 use Rattle.std.specs.List.{Contains}
-use Rattle.std.proofs.Common.{◌≡◌, ℕ, zero, suc, ◌<◌, ◌≤◌, inl, inr, List, [], ◌∷◌, ◌++◌, slice_index_or, Option, Some, None, refl, sym, ap, ◌∙◌, subst, append_assoc, arith}
+use Rattle.std.proofs.Common.{◌≡◌, ℕ, zero, suc, ◌<◌, ◌≤◌, inl, inr, List, [], ◌∷◌, ◌++◌, slice_index_or, Option, Some, None, refl, sym, ap}
+use Rattle.std.proofs.Common.{◌∙◌, subst, append_assoc, arith}
 use Rattle.std.specs.Prelude.{◌⊎◌}
 use Rattle.std.specs.List.{All, AllByRecursion}
 use Rattle.std.proofs.Math.Nat.{eq-or-lt_of_le}
@@ -28,11 +29,13 @@ pub record IsNextSoFar {A : Type 0} (total : ℕ) (entries left : List (ℕ × J
   pub split : entries ≡ seen ++ left
   pub first : FirstOf total (jobs_of seen) next least
 
-pub none_seen : {A : Type 0} (total : ℕ) (entries : List (ℕ × Job A)) (least : ℕ) → least ≡ total → IsNextSoFar total entries entries None least
+pub none_seen : {A : Type 0} (total : ℕ) (entries : List (ℕ × Job A)) (least : ℕ) → least ≡ total
+    → IsNextSoFar total entries entries None least
 none_seen total entries least is = record { seen = []; split = refl; first = (is, λ k d inside. absurd (omega arith)) }
 
 -- all that were seen have ids below that of one behind them
-before_all : {A : Type 0} (seen : List (ℕ × Job A)) (id : ℕ) → AllByRecursion (λ (before : ℕ × Job A). before.0 < id) seen → All (λ other. other.0 < id) (jobs_of seen)
+before_all : {A : Type 0} (seen : List (ℕ × Job A)) (id : ℕ) → AllByRecursion (λ (before : ℕ × Job A). before.0 < id) seen
+    → All (λ other. other.0 < id) (jobs_of seen)
 before_all [] id below = λ k d inside. absurd (omega arith)
 before_all (first ∷ seen) id below = by (before_all seen id below.1)
   where
@@ -46,7 +49,9 @@ least-le total jobs None least first = let is = first.0 in omega arith
 least-le total jobs (Some id) least (job, is, next) = let unfinished = next.unfinished in omega arith
 
 -- a job behind these, with a greater id, that isn't further back
-first_kept : (total : ℕ) (jobs : List (ℕ × JobParts)) (next : Option ℕ) (least : ℕ) (entry : ℕ × JobParts) → All (λ other. other.0 < entry.0) jobs → least ≤ entry.1.done → FirstOf total jobs next least → FirstOf total (jobs ++ entry ∷ []) next least
+first_kept : (total : ℕ) (jobs : List (ℕ × JobParts)) (next : Option ℕ) (least : ℕ) (entry : ℕ × JobParts)
+    → All (λ other. other.0 < entry.0) jobs → least ≤ entry.1.done → FirstOf total jobs next least
+    → FirstOf total (jobs ++ entry ∷ []) next least
 first_kept total jobs None least entry below further first =
     (first.0, All-push (λ (entry : ℕ × JobParts). total ≤ entry.1.done) jobs entry first.1 (let is = first.0 in omega arith))
 first_kept total jobs (Some id) least entry below further (job, is, next) = (
@@ -55,7 +60,8 @@ first_kept total jobs (Some id) least entry below further (job, is, next) = (
   record {
     among = Contains-append_left jobs (entry ∷ []) (id, job) next.among;
     unfinished = next.unfinished;
-    first = All-push (λ (other : ℕ × JobParts). other.1.done < total → IsBefore (id, job) other) jobs entry next.first (λ unfinished. before (eq-or-lt_of_le {n = job.done} {m = entry.1.done} (omega (arith, is))));
+    first = All-push (λ (other : ℕ × JobParts). other.1.done < total → IsBefore (id, job) other) jobs entry next.first
+        (λ unfinished. before (eq-or-lt_of_le {n = job.done} {m = entry.1.done} (omega (arith, is))));
   },
 )
   where
@@ -69,14 +75,16 @@ first_kept total jobs (Some id) least entry below further (job, is, next) = (
     before (inr nearer) = inl nearer
 
 -- one that is further back
-first_taken : (total : ℕ) (jobs : List (ℕ × JobParts)) (next : Option ℕ) (least : ℕ) (entry : ℕ × JobParts) → entry.1.done < least → FirstOf total jobs next least → FirstOf total (jobs ++ entry ∷ []) (Some entry.0) entry.1.done
+first_taken : (total : ℕ) (jobs : List (ℕ × JobParts)) (next : Option ℕ) (least : ℕ) (entry : ℕ × JobParts) → entry.1.done < least
+    → FirstOf total jobs next least → FirstOf total (jobs ++ entry ∷ []) (Some entry.0) entry.1.done
 first_taken total jobs next least entry back first = (
   entry.1,
   refl,
   record {
     among = Contains-append_right jobs (entry ∷ []) entry (0, (omega arith), refl);
     unfinished = (let few = least-le total jobs next least first in omega arith);
-    first = All-push (λ (other : ℕ × JobParts). other.1.done < total → IsBefore entry other) jobs entry (others next first) (λ unfinished. inr (refl, (omega arith)));
+    first = All-push (λ (other : ℕ × JobParts). other.1.done < total → IsBefore entry other) jobs entry (others next first)
+        (λ unfinished. inr (refl, (omega arith)));
   },
 )
   where
@@ -86,9 +94,12 @@ first_taken total jobs next least entry back first = (
 
     others : (next : Option ℕ) → FirstOf total jobs next least → All (λ other. other.1.done < total → IsBefore entry other) jobs
     others None first = λ k d inside unfinished. absurd (let finished = first.1 k d inside in omega arith)
-    others (Some id) (job, is, next) = λ k d inside unfinished. further id job (slice_index_or jobs k d) is (next.first k d inside unfinished)
+    others (Some id) (job, is, next) = λ k d inside unfinished. further id job (slice_index_or jobs k d) is
+        (next.first k d inside unfinished)
 
-module _ {A : Type 0} (total : ℕ) (entries : List (ℕ × Job A)) (entry : ℕ × Job A) (left rest : List (ℕ × Job A)) (last_id : ℕ) (ascend : Ascend 0 entries last_id) (next : Option ℕ) (least : ℕ) (so_far : IsNextSoFar total entries left next least) (splits : left ≡ entry ∷ rest) where
+module _ {A : Type 0} (total : ℕ) (entries : List (ℕ × Job A)) (entry : ℕ × Job A) (left rest : List (ℕ × Job A)) (last_id : ℕ)
+    (ascend : Ascend 0 entries last_id) (next : Option ℕ) (least : ℕ) (so_far : IsNextSoFar total entries left next least)
+    (splits : left ≡ entry ∷ rest) where
   jobs_more : jobs_of (so_far.seen ++ entry ∷ []) ≡ jobs_of so_far.seen ++ (entry.0, parts_of entry.1) ∷ []
   jobs_more = map-append (λ (entry : ℕ × Job A). (entry.0, parts_of entry.1)) so_far.seen (entry ∷ [])
 
@@ -105,7 +116,8 @@ module _ {A : Type 0} (total : ℕ) (entries : List (ℕ × Job A)) (entry : ℕ
     first =
         let below = (less_before 0 so_far.seen entry rest last_id (subst (λ entries. Ascend 0 entries last_id) split_here ascend)).1 in
         subst (λ jobs. FirstOf total jobs next least) (sym jobs_more)
-        (first_kept total (jobs_of so_far.seen) next least (entry.0, parts_of entry.1) (before_all so_far.seen entry.0 below) further so_far.first);
+        (first_kept total (jobs_of so_far.seen) next least (entry.0, parts_of entry.1)
+        (before_all so_far.seen entry.0 below) further so_far.first);
   }
 
   pub job_taken : entry.1.position.done < least → IsNextSoFar total entries rest (Some entry.0) entry.1.position.done
@@ -118,11 +130,14 @@ module _ {A : Type 0} (total : ℕ) (entries : List (ℕ × Job A)) (entry : ℕ
   }
 
 -- of all jobs
-pub all_seen : {A : Type 0} (total : ℕ) (entries left : List (ℕ × Job A)) (next : Option ℕ) (least : ℕ) → IsNextSoFar total entries left next least → left ≡ [] → FirstOf total (jobs_of entries) next least
+pub all_seen : {A : Type 0} (total : ℕ) (entries left : List (ℕ × Job A)) (next : Option ℕ) (least : ℕ)
+    → IsNextSoFar total entries left next least → left ≡ [] → FirstOf total (jobs_of entries) next least
 all_seen total entries left next least so_far none =
-    subst (λ entries. FirstOf total (jobs_of entries) next least) (sym (so_far.split ∙ ap (λ left. so_far.seen ++ left) none ∙ append-nil so_far.seen)) so_far.first
+    subst (λ entries. FirstOf total (jobs_of entries) next least)
+    (sym (so_far.split ∙ ap (λ left. so_far.seen ++ left) none ∙ append-nil so_far.seen)) so_far.first
 
-pub next_turn_is : (table : Table) (next : Option ℕ) (least : ℕ) → Ascend 0 table.jobs table.last_id → FirstOf (total_of table) table.jobs next least → IsNextTurn table next
+pub next_turn_is : (table : Table) (next : Option ℕ) (least : ℕ) → Ascend 0 table.jobs table.last_id
+    → FirstOf (total_of table) table.jobs next least → IsNextTurn table next
 next_turn_is table None least ascend first = first.1
 next_turn_is table (Some id) least ascend (job, is, next) = (
   job,

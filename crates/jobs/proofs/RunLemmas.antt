@@ -1,5 +1,6 @@
 -- Runs of a table: by each step every open job stays what its own submission and its own turns make of it.
-use Rattle.std.proofs.Common.{◌≡◌, ◌≢◌, ℕ, zero, suc, ◌+◌, ◌*◌, ◌<◌, ◌≤◌, nat_eq, inl, inr, List, [], ◌∷◌, ◌++◌, length, take, min, Some, None, refl, sym, ap, ◌∙◌, subst, append_assoc, arith}
+use Rattle.std.proofs.Common.{◌≡◌, ◌≢◌, ℕ, zero, suc, ◌+◌, ◌*◌, ◌<◌, ◌≤◌, nat_eq, inl, inr, List, [], ◌∷◌, ◌++◌, length, take, min, Some}
+use Rattle.std.proofs.Common.{None, refl, sym, ap, ◌∙◌, subst, append_assoc, arith}
 use Rattle.std.specs.List.{cons_option, range_with_len}
 use Rattle.std.proofs.lemmas.Bool.Decides.{nat_tests}
 use Rattle.std.proofs.lemmas.List.{append-nil}
@@ -46,13 +47,17 @@ nothing_so_far counties = record {
 abbrev pub exchange_of : Event → Reply → Exchange
 exchange_of event reply = record { event = event; reply = reply }
 
-ids-more : (past : List Exchange) (event : Event) (reply : Reply) → ids_given (past ++ exchange_of event reply ∷ []) ≡ ids_given past ++ cons_option (given_id event reply) []
+ids-more : (past : List Exchange) (event : Event) (reply : Reply)
+    → ids_given (past ++ exchange_of event reply ∷ []) ≡ ids_given past ++ cons_option (given_id event reply) []
 ids-more past event reply = filter_map-append (λ exchange. given_id exchange.event exchange.reply) past (exchange_of event reply ∷ [])
 
-programs-more : (id : ℕ) (past : List Exchange) (event : Event) (reply : Reply) → programs_of id (past ++ exchange_of event reply ∷ []) ≡ programs_of id past ++ cons_option (program_of id event reply) []
-programs-more id past event reply = filter_map-append (λ exchange. program_of id exchange.event exchange.reply) past (exchange_of event reply ∷ [])
+programs-more : (id : ℕ) (past : List Exchange) (event : Event) (reply : Reply)
+    → programs_of id (past ++ exchange_of event reply ∷ []) ≡ programs_of id past ++ cons_option (program_of id event reply) []
+programs-more id past event reply = filter_map-append (λ exchange. program_of id exchange.event exchange.reply) past
+    (exchange_of event reply ∷ [])
 
-turns-more : (id : ℕ) (past : List Exchange) (event : Event) (reply : Reply) → turns_of id (past ++ exchange_of event reply ∷ []) ≡ turns_of id past + turn_count id event reply
+turns-more : (id : ℕ) (past : List Exchange) (event : Event) (reply : Reply)
+    → turns_of id (past ++ exchange_of event reply ∷ []) ≡ turns_of id past + turn_count id event reply
 turns-more id [] event reply = omega arith
 turns-more id (first ∷ past) event reply = let others = turns-more id past event reply in omega arith
 
@@ -60,25 +65,32 @@ range-push : (from count : ℕ) → range_with_len from (count + 1) ≡ range_wi
 range-push from zero = ap (λ n. n ∷ []) {x = from} {y = from + 0} (omega arith)
 range-push from (suc count) =
     ap (λ n. range_with_len from n) {x = suc count + 1} {y = suc (count + 1)} (omega arith)
-    ∙ ap (λ (ns : List ℕ). from ∷ ns) (range-push (from + 1) count ∙ ap (λ n. range_with_len (from + 1) count ++ n ∷ []) {x = from + 1 + count} {y = from + suc count} (omega arith))
+    ∙ ap (λ (ns : List ℕ). from ∷ ns) (range-push (from + 1) count
+    ∙ ap (λ n. range_with_len (from + 1) count ++ n ∷ []) {x = from + 1 + count} {y = from + suc count} (omega arith))
 
 module _ (counties : List CountyParts) (past : List Exchange) (event : Event) (reply : Reply) where
   -- what is a job's own, where the exchange isn't about it
-  own_kept : (id : ℕ) (job : JobParts) → program_of id event reply ≡ None → turn_count id event reply ≡ 0 → IsOwn counties past id job → IsOwn counties (past ++ exchange_of event reply ∷ []) id job
+  own_kept : (id : ℕ) (job : JobParts) → program_of id event reply ≡ None → turn_count id event reply ≡ 0 → IsOwn counties past id job
+      → IsOwn counties (past ++ exchange_of event reply ∷ []) id job
   own_kept id job no_program no_turn own = record {
     program = own.program;
-    submitted = programs-more id past event reply ∙ ap (λ program. programs_of id past ++ cons_option program []) no_program ∙ append-nil (programs_of id past) ∙ own.submitted;
+    submitted = programs-more id past event reply ∙ ap (λ program. programs_of id past ++ cons_option program []) no_program
+        ∙ append-nil (programs_of id past) ∙ own.submitted;
     accepted = own.accepted;
-    done = own.done ∙ ap (λ turns. min (length (segments_of counties)) (SEGMENTS_PER_TURN * turns)) (sym (turns-more id past event reply ∙ ap (λ n. turns_of id past + n) no_turn ∙ (omega arith)));
+    done = own.done ∙ ap (λ turns. min (length (segments_of counties)) (SEGMENTS_PER_TURN * turns))
+        (sym (turns-more id past event reply ∙ ap (λ n. turns_of id past + n) no_turn ∙ (omega arith)));
     chosen = own.chosen;
     rows = own.rows;
   }
 
   -- where it is a turn of it
-  own_turned : (id : ℕ) (old new : JobParts) → program_of id event reply ≡ None → turn_count id event reply ≡ 1 → new.code ≡ old.code → Advances old.code (segments_of counties) old.done old.rows new.done new.rows → IsOwn counties past id old → IsOwn counties (past ++ exchange_of event reply ∷ []) id new
+  own_turned : (id : ℕ) (old new : JobParts) → program_of id event reply ≡ None → turn_count id event reply ≡ 1 → new.code ≡ old.code
+      → Advances old.code (segments_of counties) old.done old.rows new.done new.rows → IsOwn counties past id old
+      → IsOwn counties (past ++ exchange_of event reply ∷ []) id new
   own_turned id old new no_program turn code advances own = record {
     program = own.program;
-    submitted = programs-more id past event reply ∙ ap (λ program. programs_of id past ++ cons_option program []) no_program ∙ append-nil (programs_of id past) ∙ own.submitted;
+    submitted = programs-more id past event reply ∙ ap (λ program. programs_of id past ++ cons_option program []) no_program
+        ∙ append-nil (programs_of id past) ∙ own.submitted;
     accepted = subst (λ code. IsSafeProgram own.program code) (sym code) own.accepted;
     done =
         let before = own.done in
@@ -86,50 +98,66 @@ module _ (counties : List CountyParts) (past : List Exchange) (event : Event) (r
         let turns = turns-more id past event reply ∙ ap (λ n. turns_of id past + n) turn in
         grind (arith, before, now, turns);
     chosen = own.chosen + advances.chosen;
-    rows = subst (λ code. IsExtract code (take new.done (segments_of counties)) new.rows (own.chosen + advances.chosen)) (sym code) (extract_turned old.code (segments_of counties) old.done new.done old.rows new.rows own.chosen own.rows advances);
+    rows = subst (λ code. IsExtract code (take new.done (segments_of counties)) new.rows (own.chosen + advances.chosen)) (sym code)
+        (extract_turned own.chosen own.rows advances);
   }
 
   -- where it is its submission
-  own_new : (id : ℕ) (program : List ℕ) (code : List Insn) → program_of id event reply ≡ Some program → turn_count id event reply ≡ 0 → programs_of id past ≡ [] → turns_of id past ≡ 0 → IsSafeProgram program code → IsOwn counties (past ++ exchange_of event reply ∷ []) id (new_job code)
+  own_new : (id : ℕ) (program : List ℕ) (code : List Insn) → program_of id event reply ≡ Some program → turn_count id event reply ≡ 0
+      → programs_of id past ≡ [] → turns_of id past ≡ 0 → IsSafeProgram program code
+      → IsOwn counties (past ++ exchange_of event reply ∷ []) id (new_job code)
   own_new id program code is_program no_turn none no_turns safe = record {
     program = program;
-    submitted = programs-more id past event reply ∙ ap (λ program. programs_of id past ++ cons_option program []) is_program ∙ ap (λ programs. programs ++ program ∷ []) none;
+    submitted = programs-more id past event reply ∙ ap (λ program. programs_of id past ++ cons_option program []) is_program
+        ∙ ap (λ programs. programs ++ program ∷ []) none;
     accepted = safe;
-    done = let turns = turns-more id past event reply ∙ ap (λ n. turns_of id past + n) no_turn ∙ ap (λ n. n + 0) no_turns in grind (arith, turns);
+    done = let turns = turns-more id past event reply ∙ ap (λ n. turns_of id past + n) no_turn ∙ ap (λ n. n + 0) no_turns in
+        grind (arith, turns);
     chosen = 0;
     rows = (refl, refl);
   }
 
   -- an exchange that gives no id and moves no job, and after which each open job was there before
   module _ (old new : Table) (so_far : IsSoFar counties past old) where
-    pub nothing_given : given_id event reply ≡ None → ((id : ℕ) → program_of id event reply ≡ None) → ((id : ℕ) → turn_count id event reply ≡ 0) → new.counties ≡ old.counties → new.last_id ≡ old.last_id → Ascend 0 new.jobs old.last_id → ((id : ℕ) (job : JobParts) → job_of new id ≡ Some job → job_of old id ≡ Some job) → IsSoFar counties (past ++ exchange_of event reply ∷ []) new
+    pub nothing_given : given_id event reply ≡ None → ((id : ℕ) → program_of id event reply ≡ None)
+        → ((id : ℕ) → turn_count id event reply ≡ 0) → new.counties ≡ old.counties → new.last_id ≡ old.last_id
+        → Ascend 0 new.jobs old.last_id → ((id : ℕ) (job : JobParts) → job_of new id ≡ Some job → job_of old id ≡ Some job)
+        → IsSoFar counties (past ++ exchange_of event reply ∷ []) new
     nothing_given no_id no_program no_turn same last ascend there = record {
       over = same ∙ so_far.over;
-      ids = ids-more past event reply ∙ ap (λ id. ids_given past ++ cons_option id []) no_id ∙ append-nil (ids_given past) ∙ so_far.ids ∙ ap (λ n. range_with_len 1 n) (sym last);
+      ids = ids-more past event reply ∙ ap (λ id. ids_given past ++ cons_option id []) no_id ∙ append-nil (ids_given past) ∙ so_far.ids
+          ∙ ap (λ n. range_with_len 1 n) (sym last);
       ascend = subst (λ high. Ascend 0 new.jobs high) (sym last) ascend;
       fresh = λ id above.
           let before = so_far.fresh id (omega (arith, last)) in (
-            programs-more id past event reply ∙ ap (λ program. programs_of id past ++ cons_option program []) (no_program id) ∙ append-nil (programs_of id past) ∙ before.0,
+            programs-more id past event reply ∙ ap (λ program. programs_of id past ++ cons_option program []) (no_program id)
+                ∙ append-nil (programs_of id past) ∙ before.0,
             turns-more id past event reply ∙ ap (λ n. turns_of id past + n) (no_turn id) ∙ ap (λ n. n + 0) before.1,
           );
       own = λ id job found. own_kept id job (no_program id) (no_turn id) (so_far.own id job (there id job found));
     }
 
-unchanged : (counties : List CountyParts) (past : List Exchange) (event : Event) (reply : Reply) (old new : Table) → IsSoFar counties past old → given_id event reply ≡ None → ((id : ℕ) → program_of id event reply ≡ None) → ((id : ℕ) → turn_count id event reply ≡ 0) → new ≡ old → IsSoFar counties (past ++ exchange_of event reply ∷ []) new
-unchanged counties past event reply old new so_far no_id no_program no_turn same =
+unchanged : {counties : List CountyParts} {past : List Exchange} (event : Event) (reply : Reply) {old new : Table}
+    → IsSoFar counties past old → given_id event reply ≡ None → ((id : ℕ) → program_of id event reply ≡ None)
+    → ((id : ℕ) → turn_count id event reply ≡ 0) → new ≡ old → IsSoFar counties (past ++ exchange_of event reply ∷ []) new
+unchanged {counties} {past} event reply {old} so_far no_id no_program no_turn same =
     subst (λ table. IsSoFar counties (past ++ exchange_of event reply ∷ []) table) (sym same)
     (nothing_given counties past event reply old old so_far no_id no_program no_turn refl refl so_far.ascend (λ id job found. found))
 
 -- one step more
-step_more : (counties : List CountyParts) (past : List Exchange) (event : Event) (reply : Reply) (old new : Table) → IsSoFar counties past old → Step old event reply new → IsSoFar counties (past ++ exchange_of event reply ∷ []) new
+step_more : (counties : List CountyParts) (past : List Exchange) (event : Event) (reply : Reply) (old new : Table)
+    → IsSoFar counties past old → Step old event reply new → IsSoFar counties (past ++ exchange_of event reply ∷ []) new
 step_more counties past (Submit program) (Submitted id) old new so_far (room, next, code, safe, is) =
     subst (λ table. IsSoFar counties (past ++ exchange_of (Submit program) (Submitted id) ∷ []) table) (sym is) (record {
       over = so_far.over;
-      ids = ids-more past (Submit program) (Submitted id) ∙ ap (λ ids. ids ++ id ∷ []) so_far.ids ∙ ap (λ id. range_with_len 1 old.last_id ++ id ∷ []) (next ∙ (omega arith)) ∙ sym (range-push 1 old.last_id) ∙ ap (λ n. range_with_len 1 n) (sym next);
+      ids = ids-more past (Submit program) (Submitted id) ∙ ap (λ ids. ids ++ id ∷ []) so_far.ids
+          ∙ ap (λ id. range_with_len 1 old.last_id ++ id ∷ []) (next ∙ (omega arith)) ∙ sym (range-push 1 old.last_id)
+          ∙ ap (λ n. range_with_len 1 n) (sym next);
       ascend = Ascend-push 0 old.jobs old.last_id id (new_job code) (omega (arith, next)) (omega (arith, next)) so_far.ascend;
       fresh = λ q above.
           let before = so_far.fresh q (omega (arith, next)) in (
-            programs-more q past (Submit program) (Submitted id) ∙ ap (λ program. programs_of q past ++ cons_option program []) (other_program q (omega arith)) ∙ append-nil (programs_of q past) ∙ before.0,
+            programs-more q past (Submit program) (Submitted id) ∙ ap (λ program. programs_of q past ++ cons_option program [])
+                (other_program q (omega arith)) ∙ append-nil (programs_of q past) ∙ before.0,
             turns-more q past (Submit program) (Submitted id) ∙ ap (λ n. n + 0) before.1,
           );
       own = λ q job found. elim (found_pushed old.jobs id (new_job code) q job found) [
@@ -147,19 +175,22 @@ step_more counties past (Submit program) (Submitted id) old new so_far (room, ne
     this_program : program_of id (Submit program) (Submitted id) ≡ Some program.now
     this_program = grind (arith, nat_tests)
 
-    kept : (q : ℕ) (job : JobParts) → job_of old q ≡ Some job → (0 < q) × (q ≤ old.last_id) → IsOwn counties (past ++ exchange_of (Submit program) (Submitted id) ∷ []) q job
-    kept q job there within = own_kept counties past (Submit program) (Submitted id) q job (other_program' q (let below = within.1 in omega (arith, next))) refl (so_far.own q job there)
+    kept : (q : ℕ) (job : JobParts) → job_of old q ≡ Some job → (0 < q) × (q ≤ old.last_id)
+        → IsOwn counties (past ++ exchange_of (Submit program) (Submitted id) ∷ []) q job
+    kept q job there within = own_kept counties past (Submit program) (Submitted id) q job
+        (other_program' q (let below = within.1 in omega (arith, next))) refl (so_far.own q job there)
 
-    first : (q : ℕ) (job : JobParts) → q ≡ id → job ≡ new_job code → IsOwn counties (past ++ exchange_of (Submit program) (Submitted id) ∷ []) q job
+    first : (q : ℕ) (job : JobParts) → q ≡ id → job ≡ new_job code
+        → IsOwn counties (past ++ exchange_of (Submit program) (Submitted id) ∷ []) q job
     first q job same is =
         let before = so_far.fresh id (omega (arith, next)) in
         rw (same, is) (own_new counties past (Submit program) (Submitted id) id program.now code this_program refl before.0 before.1 safe)
 step_more counties past (Submit program) (Refused Full) old new so_far (full, same) =
-    unchanged counties past _ _ old new so_far refl (λ id. refl) (λ id. refl) same
+    unchanged _ _ so_far refl (λ id. refl) (λ id. refl) same
 step_more counties past (Submit program) (Refused (Program fault)) old new so_far (room, is, has, same) =
-    unchanged counties past _ _ old new so_far refl (λ id. refl) (λ id. refl) same
+    unchanged _ _ so_far refl (λ id. refl) (λ id. refl) same
 step_more counties past (Submit program) (Refused Memory) old new so_far (room, same) =
-    unchanged counties past _ _ old new so_far refl (λ id. refl) (λ id. refl) same
+    unchanged _ _ so_far refl (λ id. refl) (λ id. refl) same
 step_more counties past (Turn id) (Turned done total) old new so_far (job, there, job', turned, is, done_is, total_is) =
     subst (λ table. IsSoFar counties (past ++ exchange_of (Turn id) (Turned done total) ∷ []) table) (sym is) (record {
       over = so_far.over;
@@ -169,10 +200,12 @@ step_more counties past (Turn id) (Turned done total) old new so_far (job, there
           let before = so_far.fresh q above in
           let within = found_within 0 old.jobs old.last_id id job so_far.ascend there in (
             programs-more q past (Turn id) (Turned done total) ∙ append-nil (programs_of q past) ∙ before.0,
-            turns-more q past (Turn id) (Turned done total) ∙ ap (λ n. turns_of q past + n) (other_turn q (let below = within.1 in omega arith)) ∙ ap (λ n. n + 0) before.1,
+            turns-more q past (Turn id) (Turned done total) ∙ ap (λ n. turns_of q past + n)
+                (other_turn q (let below = within.1 in omega arith)) ∙ ap (λ n. n + 0) before.1,
           );
       own = λ q found_job found. elim (found_changed old.jobs id job' q found_job found) [
-        | inl (other, there) ↦ own_kept counties past (Turn id) (Turned done total) q found_job refl (no_turn q other) (so_far.own q found_job there)
+        | inl (other, there) ↦ own_kept counties past (Turn id) (Turned done total) q found_job refl (no_turn q other)
+            (so_far.own q found_job there)
         | inr (same, is) ↦ moved q found_job same is
       ];
     })
@@ -186,22 +219,27 @@ step_more counties past (Turn id) (Turned done total) old new so_far (job, there
     this_turn : turn_count id (Turn id) (Turned done total) ≡ 1
     this_turn = grind (arith, nat_tests)
 
-    moved : (q : ℕ) (found_job : JobParts) → q ≡ id → found_job ≡ job' → IsOwn counties (past ++ exchange_of (Turn id) (Turned done total) ∷ []) q found_job
+    moved : (q : ℕ) (found_job : JobParts) → q ≡ id → found_job ≡ job'
+        → IsOwn counties (past ++ exchange_of (Turn id) (Turned done total) ∷ []) q found_job
     moved q found_job same is =
-        rw (same, is) (own_turned counties past (Turn id) (Turned done total) id job job' refl this_turn turned.code (subst (λ (counties : List CountyParts). Advances job.code (segments_of counties) job.done job.rows job'.done job'.rows) so_far.over turned.advances) (so_far.own id job there))
+        rw (same, is) (own_turned counties past (Turn id) (Turned done total) id job job' refl this_turn turned.code
+        (subst (λ (counties : List CountyParts). Advances job.code (segments_of counties) job.done job.rows job'.done job'.rows) so_far.over
+        turned.advances) (so_far.own id job there))
 step_more counties past (Turn id) (Refused NoJob) old new so_far (none, same) =
-    unchanged counties past _ _ old new so_far refl (λ id. refl) (λ id. refl) same
+    unchanged _ _ so_far refl (λ id. refl) (λ id. refl) same
 step_more counties past (Turn id) (Refused Memory) old new so_far (job, there, unfinished, same) =
-    unchanged counties past _ _ old new so_far refl (λ id. refl) (λ id. refl) same
+    unchanged _ _ so_far refl (λ id. refl) (λ id. refl) same
 step_more counties past (Fetch id) (Rows done total rows) old new so_far (job, there, done_is, total_is, rows_are, same) =
-    unchanged counties past _ _ old new so_far refl (λ id. refl) (λ id. refl) same
+    unchanged _ _ so_far refl (λ id. refl) (λ id. refl) same
 step_more counties past (Fetch id) (Refused NoJob) old new so_far (none, same) =
-    unchanged counties past _ _ old new so_far refl (λ id. refl) (λ id. refl) same
+    unchanged _ _ so_far refl (λ id. refl) (λ id. refl) same
 step_more counties past (Drop id) Dropped old new so_far (there, is) =
     subst (λ table. IsSoFar counties (past ++ exchange_of (Drop id) Dropped ∷ []) table) (sym is)
-    (nothing_given counties past (Drop id) Dropped old (without_job old id) so_far refl (λ id. refl) (λ id. refl) refl refl (Ascend-remove (nat_eq id) 0 old.jobs old.last_id so_far.ascend) (λ q job found. found_removed 0 old.jobs old.last_id id q job so_far.ascend found))
+    (nothing_given counties past (Drop id) Dropped old (without_job old id) so_far refl (λ id. refl) (λ id. refl) refl refl
+    (Ascend-remove (nat_eq id) 0 old.jobs old.last_id so_far.ascend)
+    (λ q job found. found_removed 0 old.jobs old.last_id id q job so_far.ascend found))
 step_more counties past (Drop id) (Refused NoJob) old new so_far (none, same) =
-    unchanged counties past _ _ old new so_far refl (λ id. refl) (λ id. refl) same
+    unchanged _ _ so_far refl (λ id. refl) (λ id. refl) same
 -- no other replies are given
 step_more counties past (Submit program) (Turned done total) old new so_far none = absurd none
 step_more counties past (Submit program) (Rows done total rows) old new so_far none = absurd none
@@ -226,20 +264,25 @@ step_more counties past (Drop id) (Refused (Program fault)) old new so_far none 
 step_more counties past (Drop id) (Refused Memory) old new so_far none = absurd none
 
 -- the rest of a run
-run_more : (counties : List CountyParts) (past exchanges : List Exchange) (old new : Table) → IsSoFar counties past old → IsRun old exchanges new → IsSoFar counties (past ++ exchanges) new
+run_more : (counties : List CountyParts) (past exchanges : List Exchange) (old new : Table) → IsSoFar counties past old
+    → IsRun old exchanges new → IsSoFar counties (past ++ exchanges) new
 run_more counties past [] old new so_far same =
     rw (append-nil past) (subst (λ table. IsSoFar counties past table) (sym same) so_far)
 run_more counties past (exchange ∷ exchanges) old new so_far (now, step, run) =
     subst (λ all. IsSoFar counties all new) (append_assoc past (exchange ∷ []) exchanges)
-    (run_more counties (past ++ exchange ∷ []) exchanges now new (step_more counties past exchange.event exchange.reply old now so_far step) run)
+    (run_more counties (past ++ exchange ∷ []) exchanges now new
+    (step_more counties past exchange.event exchange.reply old now so_far step) run)
 
 -- a whole run, from a table with no job
-pub whole_run : (counties : List CountyParts) (exchanges : List Exchange) (table : Table) → IsRun (empty_table counties) exchanges table → IsSoFar counties exchanges table
+pub whole_run : (counties : List CountyParts) (exchanges : List Exchange) (table : Table) → IsRun (empty_table counties) exchanges table
+    → IsSoFar counties exchanges table
 whole_run counties exchanges table run = run_more counties [] exchanges (empty_table counties) table (nothing_so_far counties) run
 
 -- jobs of the same program with as many turns are the same
-pub own_alike : (counties : List CountyParts) (exchanges others : List Exchange) (id other_id : ℕ) (job other : JobParts) → programs_of id exchanges ≡ programs_of other_id others → turns_of id exchanges ≡ turns_of other_id others → IsOwn counties exchanges id job → IsOwn counties others other_id other → job ≡ other
-own_alike counties exchanges others id other_id job other programs turns own also =
+pub own_alike : {counties : List CountyParts} {exchanges others : List Exchange} {id other_id : ℕ} {job other : JobParts}
+    → programs_of id exchanges ≡ programs_of other_id others → turns_of id exchanges ≡ turns_of other_id others
+    → IsOwn counties exchanges id job → IsOwn counties others other_id other → job ≡ other
+own_alike {counties} {job} {other} programs turns own also =
     let segments = segments_of counties in
     let program = same_first own.program also.program (sym own.submitted ∙ programs ∙ also.submitted) in
     let is_code = subst (λ program. IsCodeOf program job.code) program own.accepted.is_code in
@@ -256,7 +299,8 @@ own_alike counties exchanges others id other_id job other programs turns own als
     same_first program other is = cc
 
 -- a step behind a run
-pub run_push : (old now new : Table) (exchanges : List Exchange) (event : Event) (reply : Reply) → IsRun old exchanges now → Step now event reply new → IsRun old (exchanges ++ exchange_of event reply ∷ []) new
+pub run_push : (old now new : Table) (exchanges : List Exchange) (event : Event) (reply : Reply) → IsRun old exchanges now
+    → Step now event reply new → IsRun old (exchanges ++ exchange_of event reply ∷ []) new
 run_push old now new [] event reply same step =
     (new, subst (λ table. Step table event reply new) same step, refl)
 run_push old now new (exchange ∷ exchanges) event reply (next, first, run) step =

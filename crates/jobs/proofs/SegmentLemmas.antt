@@ -1,8 +1,10 @@
 -- Where a job stands among segments, and how its rows grow by a turn.
 use Rattle.std.specs.List.{Contains}
-use Rattle.std.proofs.Common.{◌≡◌, ℕ, zero, suc, ◌+◌, ◌-◌, ◌*◌, ◌^◌, ◌<◌, ◌≤◌, nat_lt, true, List, [], ◌∷◌, ◌++◌, length, take, drop, min, slice_index_or, refl, sym, ap, ◌∙◌, subst, append_assoc, arith}
+use Rattle.std.proofs.Common.{◌≡◌, ℕ, zero, suc, ◌+◌, ◌-◌, ◌*◌, ◌^◌, ◌<◌, ◌≤◌, nat_lt, true, List, [], ◌∷◌, ◌++◌, length, take, drop, min}
+use Rattle.std.proofs.Common.{slice_index_or, refl, sym, ap, ◌∙◌, subst, append_assoc, arith}
 use Rattle.std.proofs.lemmas.Bool.Decides.{nat_tests}
-use Rattle.std.proofs.lemmas.List.{append-nil, drop_all, drop-append-le, drop_more, get_or-take, length-append, length-drop, length-take, take_all, take_at, take_min, take_more}
+use Rattle.std.proofs.lemmas.List.{append-nil, drop_all, drop-append-le, drop_more, get_or-take, length-append, length-drop, length-take}
+use Rattle.std.proofs.lemmas.List.{take_all, take_at, take_min, take_more}
 use Rattle.std.proofs.lemmas.Grind.{flat_map-append}
 use Rattle.std.proofs.Math.Seq.{drop-append-add, take-add}
 use Rattle.bpf_insn.specs.declared.instruction.Insn.{Insn}
@@ -21,7 +23,8 @@ pub drop_item : {X : Type 0} (xs : List X) (i : ℕ) (d x : X) → i < length xs
 drop_item xs i d x inside is = drop_more xs i d inside ∙ ap (λ found. found ∷ drop (i + 1) xs) (sym is)
 
 -- the same where one was looked up
-pub drop_found : {X : Type 0} (xs : List X) (i : ℕ) (d x : X) → true ≡ nat_lt i (length xs) → x ≡ slice_index_or xs i d → drop i xs ≡ x ∷ drop (i + 1) xs
+pub drop_found : {X : Type 0} (xs : List X) (i : ℕ) (d x : X) → true ≡ nat_lt i (length xs) → x ≡ slice_index_or xs i d
+    → drop i xs ≡ x ∷ drop (i + 1) xs
 drop_found xs i d x inside is = drop_item xs i d x (grind (arith, nat_tests)) is
 
 -- at the beginning of counties are all their segments
@@ -30,28 +33,37 @@ behind_none [] = refl
 behind_none (county ∷ counties) = refl
 
 -- within the first county the others are whole
-pub behind_within : (segment : ℕ) (county : CountyParts) (counties : List CountyParts) → segment ≤ length county.segments → segments_behind segment (county ∷ counties) ≡ drop segment (segments_of (county ∷ counties))
+pub behind_within : (segment : ℕ) (county : CountyParts) (counties : List CountyParts) → segment ≤ length county.segments
+    → segments_behind segment (county ∷ counties) ≡ drop segment (segments_of (county ∷ counties))
 behind_within segment county counties within = sym (drop-append-le segment county.segments (segments_of counties) within)
 
-module _ (counties : List CountyParts) (done at segment : ℕ) (county : CountyParts) (here : drop at counties ≡ county ∷ drop (at + 1) counties) where
+module _ (counties : List CountyParts) (done at segment : ℕ) (county : CountyParts)
+    (here : drop at counties ≡ county ∷ drop (at + 1) counties) where
   -- the next segment, and what is left behind it
-  pub left_found : (found : Contents) → drop segment county.segments ≡ found ∷ drop (segment + 1) county.segments → left_at counties (record { done = done; county = at; segment = segment }) ≡ found ∷ left_at counties (record { done = done + 1; county = at; segment = segment + 1 })
+  pub left_found : (found : Contents) → drop segment county.segments ≡ found ∷ drop (segment + 1) county.segments
+      → left_at counties (record { done = done; county = at; segment = segment }) ≡ found ∷ left_at counties
+      (record { done = done + 1; county = at; segment = segment + 1 })
   left_found found is =
       ap (λ counties. segments_behind segment counties) here
       ∙ ap (λ (front : List Contents). front ++ segments_of (drop (at + 1) counties)) is
       ∙ ap (λ counties. found ∷ segments_behind (segment + 1) counties) (sym here)
 
   -- a county behind whose last segment nothing is left is passed over
-  pub left_passed : length county.segments ≤ segment → left_at counties (record { done = done; county = at; segment = segment }) ≡ left_at counties (record { done = done; county = at + 1; segment = 0 })
+  pub left_passed : length county.segments ≤ segment → left_at counties (record { done = done; county = at; segment = segment }) ≡ left_at
+      counties (record { done = done; county = at + 1; segment = 0 })
   left_passed none =
       ap (λ counties. segments_behind segment counties) here
       ∙ ap (λ (front : List Contents). front ++ segments_of (drop (at + 1) counties)) (drop_all segment county.segments none)
       ∙ sym (behind_none (drop (at + 1) counties))
 
 -- the segments of one county more, each of which has fewer than 2^32
-pub segments_more : (counties : List CountyParts) (i : ℕ) (county : CountyParts) (total : ℕ) → i < length counties → county ≡ slice_index_or counties i county → (total ≡ length (segments_of (take i counties))) × (total ≤ i * 2 ^ 32) → length county.segments < 2 ^ 32 → (total + length county.segments ≡ length (segments_of (take (i + 1) counties))) × (total + length county.segments ≤ (i + 1) * 2 ^ 32)
+pub segments_more : (counties : List CountyParts) (i : ℕ) (county : CountyParts) (total : ℕ) → i < length counties
+    → county ≡ slice_index_or counties i county → (total ≡ length (segments_of (take i counties))) × (total ≤ i * 2 ^ 32)
+    → length county.segments < 2 ^ 32 → (total + length county.segments ≡ length (segments_of (take (i + 1) counties)))
+    × (total + length county.segments ≤ (i + 1) * 2 ^ 32)
 segments_more counties i county total inside is so_far few =
-    let front : take (i + 1) counties ≡ take i counties ++ county ∷ [] = take_more counties i county inside ∙ ap (λ found. take i counties ++ found ∷ []) (sym is) in
+    let front : take (i + 1) counties ≡ take i counties ++ county ∷ [] =
+    take_more counties i county inside ∙ ap (λ found. take i counties ++ found ∷ []) (sym is) in
     let count : length (segments_of (take (i + 1) counties)) ≡ length (segments_of (take i counties)) + length county.segments =
     ap (λ counties. length (segments_of counties)) front
     ∙ ap (λ (xs : List Contents). length xs) (flat_map-append (λ (county : CountyParts). county.segments) (take i counties) (county ∷ []))
@@ -69,7 +81,8 @@ pub record IsLeftBehind (counties : List CountyParts) (done number left : ℕ) :
 pub all_behind : (counties : List CountyParts) (done : ℕ) → done ≤ length (segments_of counties) → IsLeftBehind counties done 0 done
 all_behind counties done within = record { few = within; rest = refl }
 
-module _ (counties : List CountyParts) (done number left : ℕ) (county : CountyParts) (left_here : drop number counties ≡ county ∷ drop (number + 1) counties) (behind : IsLeftBehind counties done number left) where
+module _ (counties : List CountyParts) (done number left : ℕ) (county : CountyParts)
+    (left_here : drop number counties ≡ county ∷ drop (number + 1) counties) (behind : IsLeftBehind counties done number left) where
   -- a county of which all segments are done
   pub behind_county : length county.segments ≤ left → IsLeftBehind counties done (number + 1) (left - length county.segments)
   behind_county whole =
@@ -81,12 +94,14 @@ module _ (counties : List CountyParts) (done number left : ℕ) (county : County
         rest =
             behind.rest
             ∙ ap (λ counties. drop left (segments_of counties)) left_here
-            ∙ ap (λ n. drop n (county.segments ++ others)) {x = left} {y = length county.segments + (left - length county.segments)} (omega arith)
+            ∙ ap (λ n. drop n (county.segments ++ others)) {x = left} {y = length county.segments + (left - length county.segments)}
+            (omega arith)
             ∙ drop-append-add county.segments others (left - length county.segments);
       }
 
   -- a county of which some aren't
-  pub position_here : length (segments_of counties) < 2 ^ 64 → done ≤ length (segments_of counties) → left < length county.segments → IsPositionIn counties (record { done = done; county = number; segment = left })
+  pub position_here : length (segments_of counties) < 2 ^ 64 → done ≤ length (segments_of counties) → left < length county.segments
+      → IsPositionIn counties (record { done = done; county = number; segment = left })
   position_here few within some = record {
     within = within;
     few = few;
@@ -98,7 +113,9 @@ module _ (counties : List CountyParts) (done number left : ℕ) (county : County
   }
 
 -- all counties are done
-pub position_end : (counties : List CountyParts) (done number left : ℕ) → IsLeftBehind counties done number left → number ≡ length counties → length (segments_of counties) < 2 ^ 64 → done ≤ length (segments_of counties) → IsPositionIn counties (record { done = done; county = length counties; segment = 0 })
+pub position_end : (counties : List CountyParts) (done number left : ℕ) → IsLeftBehind counties done number left → number ≡ length counties
+    → length (segments_of counties) < 2 ^ 64 → done ≤ length (segments_of counties)
+    → IsPositionIn counties (record { done = done; county = length counties; segment = 0 })
 position_end counties done number left behind last few within =
     let none : drop number counties ≡ [] = drop_all number counties (omega (arith, last)) in
     record {
@@ -112,15 +129,18 @@ position_end counties done number left behind last few within =
     }
 
 -- a position behind one segment more
-pub position_more : (counties : List CountyParts) (old new : Position) (segment : Contents) → IsPositionIn counties old → left_at counties old ≡ segment ∷ left_at counties new → new.done ≡ old.done + 1 → IsPositionIn counties new
+pub position_more : (counties : List CountyParts) (old new : Position) (segment : Contents) → IsPositionIn counties old
+    → left_at counties old ≡ segment ∷ left_at counties new → new.done ≡ old.done + 1 → IsPositionIn counties new
 position_more counties old new segment is left done =
     let all = segments_of counties in
     let rest : drop old.done all ≡ segment ∷ left_at counties new = sym is.left ∙ left in
-    let long : length all - old.done ≡ suc (length (left_at counties new)) = sym (length-drop old.done all) ∙ ap (λ (xs : List Contents). length xs) rest in
+    let long : length all - old.done ≡ suc (length (left_at counties new)) =
+    sym (length-drop old.done all) ∙ ap (λ (xs : List Contents). length xs) rest in
     record {
       within = (let within = is.within in omega arith);
       few = is.few;
-      left = sym (tail all old.done segment (left_at counties new) rest) ∙ ap (λ n. drop n all) {x = suc old.done} {y = new.done} (omega (arith, done));
+      left = sym (tail all old.done segment (left_at counties new) rest)
+          ∙ ap (λ n. drop n all) {x = suc old.done} {y = new.done} (omega (arith, done));
     }
   where
     tail : (xs : List Contents) (i : ℕ) (x : Contents) (rest : List Contents) → drop i xs ≡ x ∷ rest → drop (suc i) xs ≡ rest
@@ -144,7 +164,8 @@ next_among {X = X} front x back n within =
     at_end (first ∷ front) = at_end front
 
 -- So many segments were gone over from a position, and the rows that the code chooses of them appended.
-pub record IsTurnedSoFar (code : List Insn) (counties : List CountyParts) (from now : Position) (count : ℕ) (rows new_rows : List ℕ) : Type 0 where
+pub record IsTurnedSoFar (code : List Insn) (counties : List CountyParts) (from now : Position) (count : ℕ)
+    (rows new_rows : List ℕ) : Type 0 where
   pub seen : List Contents
   pub left : drop from.done (segments_of counties) ≡ seen ++ left_at counties now
   pub counted : length seen ≡ count
@@ -154,7 +175,8 @@ pub record IsTurnedSoFar (code : List Insn) (counties : List CountyParts) (from 
   pub is_extract : IsExtract code seen text chosen
   pub appended : new_rows ≡ rows ++ text
 
-pub none_turned : (code : List Insn) (counties : List CountyParts) (from : Position) (rows : List ℕ) → IsPositionIn counties from → IsTurnedSoFar code counties from from 0 rows rows
+pub none_turned : (code : List Insn) (counties : List CountyParts) (from : Position) (rows : List ℕ) → IsPositionIn counties from
+    → IsTurnedSoFar code counties from from 0 rows rows
 none_turned code counties from rows is = record {
   seen = [];
   left = sym is.left;
@@ -166,8 +188,11 @@ none_turned code counties from rows is = record {
   appended = sym (append-nil rows);
 }
 
-module _ (code : List Insn) (counties : List CountyParts) (from now : Position) (count : ℕ) (rows new_rows : List ℕ) (so_far : IsTurnedSoFar code counties from now count rows new_rows) where
-  pub one_turned_more : (next : Position) (segment : Contents) (next_rows : List ℕ) → left_at counties now ≡ segment ∷ left_at counties next → next.done ≡ now.done + 1 → AppendsRow code segment new_rows next_rows → IsTurnedSoFar code counties from next (count + 1) rows next_rows
+module _ (code : List Insn) (counties : List CountyParts) (from now : Position) (count : ℕ) (rows new_rows : List ℕ)
+    (so_far : IsTurnedSoFar code counties from now count rows new_rows) where
+  pub one_turned_more : (next : Position) (segment : Contents) (next_rows : List ℕ) → left_at counties now ≡ segment ∷ left_at counties next
+      → next.done ≡ now.done + 1 → AppendsRow code segment new_rows next_rows
+      → IsTurnedSoFar code counties from next (count + 1) rows next_rows
   one_turned_more next segment next_rows left done (answer, score, answers, appended) = record {
     seen = so_far.seen ++ segment ∷ [];
     left = so_far.left ∙ ap (λ left. so_far.seen ++ left) left ∙ sym (append_assoc so_far.seen (segment ∷ []) (left_at counties next));
@@ -176,7 +201,8 @@ module _ (code : List Insn) (counties : List CountyParts) (from now : Position) 
     text = so_far.text ++ row_if_chosen answer score segment;
     chosen = so_far.chosen + chosen_count answer;
     is_extract = extract_push code so_far.seen segment so_far.text so_far.chosen answer score so_far.is_extract answers;
-    appended = appended ∙ ap (λ rows. rows ++ row_if_chosen answer score segment) so_far.appended ∙ append_assoc rows so_far.text (row_if_chosen answer score segment);
+    appended = appended ∙ ap (λ rows. rows ++ row_if_chosen answer score segment) so_far.appended
+        ∙ append_assoc rows so_far.text (row_if_chosen answer score segment);
   }
 
   -- how many segments were left
@@ -188,28 +214,34 @@ module _ (code : List Insn) (counties : List CountyParts) (from now : Position) 
       ∙ ap (λ n. n + length (left_at counties now)) so_far.counted
 
   -- a whole turn
-  pub turn_whole : from.done ≤ length (segments_of counties) → count ≡ SEGMENTS_PER_TURN → Advances code (segments_of counties) from.done rows now.done new_rows
+  pub turn_whole : from.done ≤ length (segments_of counties) → count ≡ SEGMENTS_PER_TURN
+      → Advances code (segments_of counties) from.done rows now.done new_rows
   turn_whole within whole = record {
     moved = (let count = left_count in let done = so_far.done in grind (arith));
     text = so_far.text;
     chosen = so_far.chosen;
-    is_extract = subst (λ segments. IsExtract code segments so_far.text so_far.chosen) (sym (ap (λ left. take SEGMENTS_PER_TURN left) so_far.left ∙ take_at so_far.seen (left_at counties now) SEGMENTS_PER_TURN (so_far.counted ∙ whole))) so_far.is_extract;
+    is_extract = subst (λ segments. IsExtract code segments so_far.text so_far.chosen)
+        (sym (ap (λ left. take SEGMENTS_PER_TURN left) so_far.left ∙ take_at so_far.seen (left_at counties now) SEGMENTS_PER_TURN
+        (so_far.counted ∙ whole))) so_far.is_extract;
     appended = so_far.appended;
   }
 
   -- a turn of the rest
-  pub turn_of_rest : from.done ≤ length (segments_of counties) → count ≤ SEGMENTS_PER_TURN → left_at counties now ≡ [] → Advances code (segments_of counties) from.done rows now.done new_rows
+  pub turn_of_rest : from.done ≤ length (segments_of counties) → count ≤ SEGMENTS_PER_TURN → left_at counties now ≡ []
+      → Advances code (segments_of counties) from.done rows now.done new_rows
   turn_of_rest within few none = record {
     moved = (let count = left_count in let ended = ap (λ (xs : List Contents). length xs) none in let done = so_far.done in grind (arith));
     text = so_far.text;
     chosen = so_far.chosen;
     is_extract = subst (λ segments. IsExtract code segments so_far.text so_far.chosen)
-        (sym (ap (λ left. take SEGMENTS_PER_TURN left) (so_far.left ∙ ap (λ left. so_far.seen ++ left) none ∙ append-nil so_far.seen) ∙ take_all SEGMENTS_PER_TURN so_far.seen (let counted = so_far.counted in omega arith))) so_far.is_extract;
+        (sym (ap (λ left. take SEGMENTS_PER_TURN left) (so_far.left ∙ ap (λ left. so_far.seen ++ left) none ∙ append-nil so_far.seen)
+        ∙ take_all SEGMENTS_PER_TURN so_far.seen (let counted = so_far.counted in omega arith))) so_far.is_extract;
     appended = so_far.appended;
   }
 
   -- where memory is wanting for the row of the next segment
-  pub turn_wants : (segment : Contents) (others : List Contents) → left_at counties now ≡ segment ∷ others → count < SEGMENTS_PER_TURN → IsChosen code segment → WantsRow code (segments_of counties) from.done
+  pub turn_wants : (segment : Contents) (others : List Contents) → left_at counties now ≡ segment ∷ others → count < SEGMENTS_PER_TURN
+      → IsChosen code segment → WantsRow code (segments_of counties) from.done
   turn_wants segment others left few chosen = (
     segment,
     subst (λ left. Contains (take SEGMENTS_PER_TURN left) segment) (sym (so_far.left ∙ ap (λ left. so_far.seen ++ left) left))
@@ -222,12 +254,16 @@ module _ (code : List Insn) (counties : List CountyParts) (from now : Position) 
   taken_off = ap (λ rows'. take (length rows) rows') so_far.appended ∙ take_at rows so_far.text (length rows) refl
 
 -- the extract of the segments that are done, where those of a turn are added
-pub extract_turned : (code : List Insn) (segments : List Contents) (done new_done : ℕ) (rows new_rows : List ℕ) (chosen : ℕ) → IsExtract code (take done segments) rows chosen → (advances : Advances code segments done rows new_done new_rows) → IsExtract code (take new_done segments) new_rows (chosen + advances.chosen)
-extract_turned code segments done new_done rows new_rows chosen is advances =
+pub extract_turned : {code : List Insn} {segments : List Contents} {done new_done : ℕ} {rows new_rows : List ℕ} (chosen : ℕ)
+    → IsExtract code (take done segments) rows chosen → (advances : Advances code segments done rows new_done new_rows)
+    → IsExtract code (take new_done segments) new_rows (chosen + advances.chosen)
+extract_turned {code} {segments} {done} {rows} chosen is advances =
     rw advances.appended
     (subst (λ segments. IsExtract code segments (rows ++ advances.text) (chosen + advances.chosen))
-    (sym (take-add done SEGMENTS_PER_TURN segments) ∙ sym (take_min' (done + SEGMENTS_PER_TURN) segments) ∙ ap (λ n. take n segments) (sym advances.moved))
-    (extract_append code (take done segments) (take SEGMENTS_PER_TURN (drop done segments)) rows advances.text chosen advances.chosen is advances.is_extract))
+    (sym (take-add done SEGMENTS_PER_TURN segments) ∙ sym (take_min' (done + SEGMENTS_PER_TURN) segments)
+    ∙ ap (λ n. take n segments) (sym advances.moved))
+    (extract_append code (take done segments) (take SEGMENTS_PER_TURN (drop done segments)) rows advances.text chosen advances.chosen is
+    advances.is_extract))
   where
     take_min' : (n : ℕ) (xs : List Contents) → take (min (length xs) n) xs ≡ take n xs
     take_min' n xs = ap (λ n. take n xs) (grind (arith)) ∙ take_min n xs

@@ -1,5 +1,6 @@
 -- What a change of a map of jobs does to the table that it stands for.
-use Rattle.std.proofs.Common.{◌≡◌, ◌≢◌, ℕ, ◌+◌, ◌-◌, ◌^◌, ◌<◌, nat_eq, inl, inr, List, [], ◌∷◌, ◌++◌, length, Option, Some, sym, ap, ◌∙◌, subst, arith}
+use Rattle.std.proofs.Common.{◌≡◌, ◌≢◌, ℕ, ◌+◌, ◌-◌, ◌^◌, ◌<◌, nat_eq, inl, inr, List, [], ◌∷◌, ◌++◌, length, Option, Some, sym, ap, ◌∙◌}
+use Rattle.std.proofs.Common.{subst, arith}
 use Rattle.std.specs.BTreeMap.{insert_entry, is_at}
 use Rattle.std.specs.Map.{lookup, remove_entry, set_value}
 use Rattle.std.specs.Option.{option_map}
@@ -12,39 +13,49 @@ use Rattle.jobs.specs.Inside.{Ascend, IsPositionIn, IsTable, jobs_of, parts_of}
 use Rattle.jobs.specs.Table.{IsFull}
 use Rattle.jobs.specs.declared.job.Job.{Job}
 use Rattle.jobs.specs.declared.table.TheConstants.{JOB_LIMIT}
-use Rattle.jobs.proofs.MapLemmas.{Ascend-push, Ascend-remove, Ascend-set, insert_entry-last, insert_entry-seen, lookup-seen, remove_entry-seen, set_value-seen}
+use Rattle.jobs.proofs.MapLemmas.{Ascend-push, Ascend-remove, Ascend-set, insert_entry-last, insert_entry-seen, lookup-seen}
+use Rattle.jobs.proofs.MapLemmas.{remove_entry-seen, set_value-seen}
 
-module _ {A : Type 0} (counties : List CountyParts) (total : ℕ) (entries : List (ℕ × Job A)) (last_id : ℕ) (is : IsTable counties total entries last_id) where
+module _ {A : Type 0} (counties : List CountyParts) (total : ℕ) (entries : List (ℕ × Job A)) (last_id : ℕ)
+    (is : IsTable counties total entries last_id) where
   -- one job more
-  pub table_pushed : (job : Job A) → IsPositionIn counties job.position → IsTable counties total (insert_entry nat_cmp entries (last_id + 1) job) (last_id + 1)
+  pub table_pushed : (job : Job A) → IsPositionIn counties job.position
+      → IsTable counties total (insert_entry nat_cmp entries (last_id + 1) job) (last_id + 1)
   table_pushed job position = record {
     within = is.within;
     counted = is.counted;
     few = is.few;
     ascend =
-        subst (λ entries. Ascend 0 entries (last_id + 1)) (sym (insert_entry-last 0 entries last_id (last_id + 1) job is.ascend (omega arith)))
+        subst (λ entries. Ascend 0 entries (last_id + 1)) (sym
+        (insert_entry-last 0 entries last_id (last_id + 1) job is.ascend (omega arith)))
         (Ascend-push 0 entries last_id (last_id + 1) job (omega arith) (omega arith) is.ascend);
-    positions = All-values-insert_entry nat_cmp (last_id + 1) job (λ (job : Job A). IsPositionIn counties job.position) entries is.positions position;
+    positions = All-values-insert_entry nat_cmp (last_id + 1) job
+        (λ (job : Job A). IsPositionIn counties job.position) entries is.positions position;
   }
 
-  pub jobs_pushed : (job : Job A) → jobs_of (insert_entry nat_cmp entries (last_id + 1) job) ≡ jobs_of entries ++ (last_id + 1, parts_of job) ∷ []
+  pub jobs_pushed : (job : Job A) → jobs_of (insert_entry nat_cmp entries (last_id + 1) job) ≡ jobs_of
+      entries ++ (last_id + 1, parts_of job) ∷ []
   jobs_pushed job = insert_entry-seen parts_of 0 entries last_id (last_id + 1) job is.ascend (omega arith)
 
   -- one job changed
-  pub table_changed : (id : ℕ) (job : Job A) → IsPositionIn counties job.position → IsTable counties total (set_value (is_at (nat_cmp id)) entries job) last_id
+  pub table_changed : (id : ℕ) (job : Job A) → IsPositionIn counties job.position
+      → IsTable counties total (set_value (is_at (nat_cmp id)) entries job) last_id
   table_changed id job position = record {
     within = is.within;
     counted = is.counted;
     few = is.few;
     ascend = Ascend-set (is_at (nat_cmp id)) 0 entries last_id job is.ascend;
-    positions = All-values-set_value (is_at (nat_cmp id)) (λ (job : Job A). IsPositionIn counties job.position) entries job is.positions position;
+    positions = All-values-set_value (is_at (nat_cmp id)) (λ (job : Job A). IsPositionIn counties job.position) entries job is.positions
+        position;
   }
 
-  pub jobs_changed : (id : ℕ) (job : Job A) → jobs_of (set_value (is_at (nat_cmp id)) entries job) ≡ set_value (nat_eq id) (jobs_of entries) (parts_of job)
+  pub jobs_changed : (id : ℕ) (job : Job A) → jobs_of (set_value (is_at (nat_cmp id)) entries job) ≡ set_value (nat_eq id) (jobs_of entries)
+      (parts_of job)
   jobs_changed id job = set_value-seen parts_of id entries job
 
   -- one job become another that is seen alike
-  pub jobs_unchanged : (id : ℕ) (old new : Job A) → Some old ≡ lookup (is_at (nat_cmp id)) entries → parts_of new ≡ parts_of old → jobs_of (set_value (is_at (nat_cmp id)) entries new) ≡ jobs_of entries
+  pub jobs_unchanged : (id : ℕ) (old new : Job A) → Some old ≡ lookup (is_at (nat_cmp id)) entries → parts_of new ≡ parts_of old
+      → jobs_of (set_value (is_at (nat_cmp id)) entries new) ≡ jobs_of entries
   jobs_unchanged id old new found same =
       jobs_changed id new
       ∙ ap (λ job. set_value (nat_eq id) (jobs_of entries) job) same
@@ -58,17 +69,21 @@ module _ {A : Type 0} (counties : List CountyParts) (total : ℕ) (entries : Lis
     counted = is.counted;
     few = is.few;
     ascend = Ascend-remove (is_at (nat_cmp id)) 0 entries last_id is.ascend;
-    positions = All-map-remove_entry (is_at (nat_cmp id)) (λ (e : ℕ × Job A). e.1) (λ (job : Job A). IsPositionIn counties job.position) entries is.positions;
+    positions = All-map-remove_entry (is_at (nat_cmp id)) (λ (e : ℕ × Job A). e.1)
+        (λ (job : Job A). IsPositionIn counties job.position) entries is.positions;
   }
 
   pub jobs_removed : (id : ℕ) → jobs_of (remove_entry (is_at (nat_cmp id)) entries) ≡ remove_entry (nat_eq id) (jobs_of entries)
   jobs_removed id = remove_entry-seen parts_of id entries
 
   -- the job that is found
-  pub job_found : (id : ℕ) (found : Option (Job A)) → found ≡ lookup (is_at (nat_cmp id)) entries → lookup (nat_eq id) (jobs_of entries) ≡ option_map parts_of found
+  pub job_found : (id : ℕ) (found : Option (Job A)) → found ≡ lookup (is_at (nat_cmp id)) entries
+      → lookup (nat_eq id) (jobs_of entries) ≡ option_map parts_of found
   job_found id found is = lookup-seen parts_of id entries ∙ ap (λ found. option_map parts_of found) (sym is)
 
   -- another job can be opened
-  pub room : length entries < JOB_LIMIT → last_id ≢ 2 ^ 64 - 1 → IsFull (record { counties = counties; jobs = jobs_of entries; last_id = last_id }) → ⊥
-  room few more (inl many) = let count : length (jobs_of entries) ≡ length entries = length-map entries (λ (e : ℕ × Job A). (e.0, parts_of e.1)) in absurd (omega (arith, count))
+  pub room : length entries < JOB_LIMIT → last_id ≢ 2 ^ 64 - 1
+      → IsFull (record { counties = counties; jobs = jobs_of entries; last_id = last_id }) → ⊥
+  room few more (inl many) = let count : length (jobs_of entries) ≡ length entries =
+      length-map entries (λ (e : ℕ × Job A). (e.0, parts_of e.1)) in absurd (omega (arith, count))
   room few more (inr last) = more last

@@ -8,23 +8,28 @@ use Rattle.jobs.specs.declared.event.Reply.{Reply}
 use Rattle.jobs.specs.declared.event.Reply.TheVariants.{Submitted, Turned, Rows, Dropped, Refused}
 use Rattle.jobs.specs.declared.fault.JobFault.TheVariants.{Full, NoJob, Program, Memory}
 
-pub one_reply : (old new again : Table) (program : Bor (List ℕ)) (reply other : Reply) → Step old (Submit program) reply new → Step old (Submit program) other again → reply ≢ Refused Memory → other ≢ Refused Memory → reply ≡ other
-one_reply old new again program (Refused Memory) other is also known given = absurd (known refl)
-one_reply old new again program reply (Refused Memory) is also known given = absurd (given refl)
-one_reply old new again program (Submitted id) (Submitted next) is also known given = ap Submitted (is.1 ∙ sym also.1)
-one_reply old new again program (Submitted id) (Refused Full) is also known given = absurd (is.0 also.0)
-one_reply old new again program (Submitted id) (Refused (Program fault)) is also known given = absurd (also.2 (verdict.no_fault program.now is.2 fault is.3 also.1))
-one_reply old new again program (Refused Full) (Submitted id) is also known given = absurd (also.0 is.0)
-one_reply old new again program (Refused Full) (Refused Full) is also known given = refl
-one_reply old new again program (Refused Full) (Refused (Program fault)) is also known given = absurd (also.0 is.0)
-one_reply old new again program (Refused (Program fault)) (Submitted id) is also known given = absurd (is.2 (verdict.no_fault program.now also.2 fault also.3 is.1))
-one_reply old new again program (Refused (Program fault)) (Refused Full) is also known given = absurd (is.0 also.0)
-one_reply old new again program (Refused (Program a)) (Refused (Program b)) is also known given = ap (λ fault. Refused (Program fault)) (verdict.one_fault program.now a b is.1 also.1 is.2 also.2)
-one_reply old new again program (Turned done total) other is also known given = absurd is
-one_reply old new again program (Rows done total rows) other is also known given = absurd is
-one_reply old new again program Dropped other is also known given = absurd is
-one_reply old new again program (Refused NoJob) other is also known given = absurd is
-one_reply old new again program reply (Turned done total) is also known given = absurd also
-one_reply old new again program reply (Rows done total rows) is also known given = absurd also
-one_reply old new again program reply Dropped is also known given = absurd also
-one_reply old new again program reply (Refused NoJob) is also known given = absurd also
+module _ (old new again : Table) (program : Bor (List ℕ)) where
+  pub one_reply : (reply other : Reply) → Step old (Submit program) reply new → Step old (Submit program) other again
+      → reply ≢ Refused Memory → other ≢ Refused Memory → reply ≡ other
+  one_reply (Refused Memory) other is also known given = absurd (known refl)
+  one_reply reply (Refused Memory) is also known given = absurd (given refl)
+  one_reply (Submitted id) (Submitted next) is also known given = ap Submitted (is.1 ∙ sym also.1)
+  one_reply (Submitted id) (Refused Full) is also known given = absurd (is.0 also.0)
+  one_reply (Submitted id) (Refused (Program fault)) is also known given =
+      absurd (also.2 (verdict.no_fault program.now is.2 fault is.3 also.1))
+  one_reply (Refused Full) (Submitted id) is also known given = absurd (also.0 is.0)
+  one_reply (Refused Full) (Refused Full) is also known given = refl
+  one_reply (Refused Full) (Refused (Program fault)) is also known given = absurd (also.0 is.0)
+  one_reply (Refused (Program fault)) (Submitted id) is also known given =
+      absurd (is.2 (verdict.no_fault program.now also.2 fault also.3 is.1))
+  one_reply (Refused (Program fault)) (Refused Full) is also known given = absurd (is.0 also.0)
+  one_reply (Refused (Program a)) (Refused (Program b)) is also known given =
+      ap (λ fault. Refused (Program fault)) (verdict.one_fault program.now a b is.1 also.1 is.2 also.2)
+  one_reply (Turned done total) other is also known given = absurd is
+  one_reply (Rows done total rows) other is also known given = absurd is
+  one_reply Dropped other is also known given = absurd is
+  one_reply (Refused NoJob) other is also known given = absurd is
+  one_reply reply (Turned done total) is also known given = absurd also
+  one_reply reply (Rows done total rows) is also known given = absurd also
+  one_reply reply Dropped is also known given = absurd also
+  one_reply reply (Refused NoJob) is also known given = absurd also

@@ -5,8 +5,8 @@ ghost use Rattle.jobs.specs.JobFault.{of_program};
 ghost use Rattle.jobs.specs.declared.fault.JobFault.TheVariants.{Memory};
 
 use arrayvec::ArrayString;
-use bpf_insn::{memory_name, refusal_line};
 use extract::ProgramFault;
+use refusals::{Fault, Refusal};
 use std::alloc::{AllocError, AllocFailed};
 use thiserror::Error;
 
@@ -54,36 +54,25 @@ impl<T: Drop> From<AllocFailed<T>> for JobFault {
 }
 
 impl JobFault {
-    /// None for want of memory. A refused program has the same number whatever its own.
-    pub fn number(&self) -> Option<u8>
-        ensures { result ≡ job_fault.number self.now }
+    /// Returns the fault as a refusal. That of a refused program has one number, whatever the program's own.
+    pub fn refusal(&self) -> Refusal
+        ensures { result ≡ job_fault.refusal self.now }
     {
-        match *self {
-            JobFault::Full => Some(70),
-            JobFault::NoJob => Some(71),
-            JobFault::Program(_) => Some(72),
-            JobFault::Memory => None,
+        match self {
+            JobFault::Full => Refusal::refused(70, "Full"),
+            JobFault::NoJob => Refusal::refused(71, "NoJob"),
+            JobFault::Program(_) => Refusal::refused(72, "Refused"),
+            JobFault::Memory => Refusal::memory(),
         }
     }
 
-    pub fn name(&self) -> &'static str
-        ensures { result.now ≡ job_fault.name self.now }
-    {
-        match *self {
-            JobFault::Full => "Full",
-            JobFault::NoJob => "NoJob",
-            JobFault::Program(_) => "Refused",
-            JobFault::Memory => memory_name(),
-        }
-    }
-
-    /// The refusal's line of text, without an end of line: of a refused program, its own. It takes no memory.
+    /// Returns the refusal's line of text, without an end of line: of a refused program, its own. It takes no memory.
     pub fn line(&self) -> ArrayString<64>
         ensures { result.bytes ≡ job_fault.line self.now }
     {
-        match *self {
+        match self {
             JobFault::Program(fault) => fault.line(),
-            fault => refusal_line(fault.number(), fault.name()),
+            fault => fault.refusal().line(),
         }
     }
 }

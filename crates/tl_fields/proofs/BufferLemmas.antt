@@ -1,5 +1,6 @@
 -- What a look at a reader's buffer takes: the bytes before a line feed, or as many as a line may have.
-use Rattle.std.proofs.Common.{◌≡◌, ◌≢◌, ℕ, ◌+◌, ◌<◌, ◌≤◌, List, [], ◌∷◌, ◌++◌, length, get_or, take, Option, Some, None, OnSome, sym, ap, subst, ◌∙◌, arith, append_assoc, length-append, take-take, length-take-le}
+use Rattle.std.proofs.Common.{◌≡◌, ◌≢◌, ℕ, ◌+◌, ◌<◌, ◌≤◌, List, [], ◌∷◌, ◌++◌, length, get_or, take, Option, Some, None, OnSome, sym, ap}
+use Rattle.std.proofs.Common.{subst, ◌∙◌, arith, append_assoc, length-append, take-take, length-take-le}
 use Rattle.std.proofs.lemmas.Bool.{eq-eqb, eqb-true}
 use Rattle.std.proofs.lemmas.List.{get_or-take, take_more}
 use Rattle.std.proofs.lemmas.List.Elements.{All-append, All-from_get_or}
@@ -14,7 +15,8 @@ use Rattle.tl_fields.proofs.ContentLemmas.{IsSoFar, no_more}
 use Rattle.tl_fields.proofs.KnownBytesLemmas.{Consumes-append}
 
 -- no byte before this place is a line feed
-none_before : (shown : List ℕ) (place : ℕ) → place ≤ length shown → Nowhere (Passes (is_byte 10) shown) 0 place → HasNoLineFeed (take place shown)
+none_before : (shown : List ℕ) (place : ℕ) → place ≤ length shown → Nowhere (Passes (is_byte 10) shown) 0 place
+    → HasNoLineFeed (take place shown)
 none_before shown place within nowhere =
     All-from_get_or (λ b. b ≢ 10) (take place shown) 0 (λ i inside e.
     let before : i < place = (let long = length-take-le place shown within in omega arith) in
@@ -26,7 +28,8 @@ pub record IsAtLineFeed (front shown : List ℕ) (place : ℕ) : Type 0 where
   pub before : HasNoLineFeed (take place shown)
   pub taken : take (place + 1) front ≡ take place shown ++ 10 ∷ []
 
-pub at_line_feed : (front : List ℕ) (count place : ℕ) → count ≤ length front → IsFirstByte (is_byte 10) (take count front) (Some place) → IsAtLineFeed front (take count front) place
+pub at_line_feed : (front : List ℕ) (count place : ℕ) → count ≤ length front → IsFirstByte (is_byte 10) (take count front) (Some place)
+    → IsAtLineFeed front (take count front) place
 at_line_feed front count place within found =
     let long = length-take-le count front within in
     let inside : place < length (take count front) = found.0.high in
@@ -34,7 +37,8 @@ at_line_feed front count place within found =
     record {
       inside = inside;
       before = none_before (take count front) place (omega arith) found.0.before;
-      taken = sym (take-take (place + 1) count front (omega arith)) ∙ take_more (take count front) place 0 inside ∙ ap (λ b. take place (take count front) ++ b ∷ []) byte;
+      taken = sym (take-take (place + 1) count front (omega arith)) ∙ take_more (take count front) place 0 inside
+          ∙ ap (λ b. take place (take count front) ++ b ∷ []) byte;
     }
 
 -- a front of the buffer without a line feed
@@ -43,7 +47,8 @@ without_line_feed shown nowhere =
     All-from_get_or (λ b. b ≢ 10) shown 0 (λ i inside e. nowhere i (omega arith) inside (eq-eqb (get_or shown i 0) 10 e))
 
 -- a front of the buffer that was taken whole
-pub whole_taken : (old new : Option (List ℕ)) (front : List ℕ) (count : ℕ) → count ≤ length front → Consumes old new (take (length (take count front)) front) → Consumes old new (take count front)
+pub whole_taken : (old new : Option (List ℕ)) (front : List ℕ) (count : ℕ) → count ≤ length front
+    → Consumes old new (take (length (take count front)) front) → Consumes old new (take count front)
 whole_taken old new front count within taken =
     subst (λ n. Consumes old new (take n front)) (length-take-le count front within) taken
 
@@ -51,12 +56,14 @@ whole_taken old new front count within taken =
 abbrev pub IsStopped : List ℕ → Reader → Reader → Stop → Type 0
 IsStopped content old new LineFeed = IsContentRead content old new LineFeed
 IsStopped content old new EndOfInput =
-    (new.failed ≡ old.failed) × HasNoLineFeed content × (length content ≤ 230) × Consumes old.left new.left content × OnSome old.left (IsAtEnd new.left)
+    (new.failed ≡ old.failed) × HasNoLineFeed content × (length content ≤ 230) × Consumes old.left new.left content
+    × OnSome old.left (IsAtEnd new.left)
 IsStopped content old new TooLong = IsContentRead content old new TooLong
 IsStopped content old new ReadFailed = IsContentRead content old new ReadFailed
 
 -- the input has ended, where its bytes were known before
-end_known : (old now new : Option (List ℕ)) (content : List ℕ) → Consumes old now content → OnSome now (IsAtEnd new) → OnSome old (IsAtEnd new)
+end_known : (old now new : Option (List ℕ)) (content : List ℕ) → Consumes old now content → OnSome now (IsAtEnd new)
+    → OnSome old (IsAtEnd new)
 end_known None now new content taken end = tt
 end_known (Some file) None new content taken end = absurd taken
 end_known (Some file) (Some rest) new content taken end = end
@@ -66,7 +73,8 @@ grown : (content part : List ℕ) → HasNoLineFeed content → HasNoLineFeed pa
 grown content part p q = All-append (λ b. b ≢ 10) content part p q
 
 -- the content so far, and the look at the buffer at which the line stops
-stopped : (content new_content : List ℕ) (old now new : Reader) (stop : Stop) → IsSoFar content old now → IsFrontRead content new_content now new (Some stop) → IsStopped new_content old new stop
+stopped : (content new_content : List ℕ) (old now new : Reader) (stop : Stop) → IsSoFar content old now
+    → IsFrontRead content new_content now new (Some stop) → IsStopped new_content old new stop
 stopped content new_content old now new LineFeed so_far read =
     let part = read.1 in
     let all = Consumes-append old.left now.left new.left content (part ++ 10 ∷ []) so_far.taken read.3 in
@@ -98,27 +106,34 @@ stopped content new_content old now new ReadFailed so_far read = (
 abbrev pub unknown : Reader → Reader
 unknown input = record input { left = None }
 
-without_bytes : (content : List ℕ) (old new : Reader) (stop : Stop) → IsStopped content old new stop → IsContentRead content (unknown old) (unknown new) stop
+without_bytes : (content : List ℕ) (old new : Reader) (stop : Stop) → IsStopped content old new stop
+    → IsContentRead content (unknown old) (unknown new) stop
 without_bytes content old new LineFeed read = (read.0, read.1, read.2, tt)
 without_bytes content old new EndOfInput read = (read.0, read.1, read.2, tt, tt)
 without_bytes content old new TooLong read = (read.0, read.1, read.2, read.3, tt)
 without_bytes content old new ReadFailed read = (read.0, read.1, read.2, tt)
 
-with_bytes : (content file : List ℕ) (failed : ℕ) (new : Reader) (stop : Stop) → IsStopped content (record { left = Some file; failed = failed }) new stop → IsContentRead content (record { left = Some file; failed = failed }) new stop
+with_bytes : (content file : List ℕ) (failed : ℕ) (new : Reader) (stop : Stop)
+    → IsStopped content (record { left = Some file; failed = failed }) new stop
+    → IsContentRead content (record { left = Some file; failed = failed }) new stop
 with_bytes content file failed new LineFeed read = read
 with_bytes content file failed new EndOfInput read = read
 with_bytes content file failed new TooLong read = read
 with_bytes content file failed new ReadFailed read = read
 
-where_known : (content : List ℕ) (left : Option (List ℕ)) (failed : ℕ) (new : Reader) (stop : Stop) → IsStopped content (record { left = left; failed = failed }) new stop → OnSome left (IsContentRead content (record { left = left; failed = failed }) new stop)
+where_known : (content : List ℕ) (left : Option (List ℕ)) (failed : ℕ) (new : Reader) (stop : Stop)
+    → IsStopped content (record { left = left; failed = failed }) new stop
+    → OnSome left (IsContentRead content (record { left = left; failed = failed }) new stop)
 where_known content None failed new stop read = tt
 where_known content (Some file) failed new stop read = with_bytes content file failed new stop read
 
 -- the line has stopped: what is said of any reader, and of one whose bytes are known
-pub stopped_unknown : (content new_content : List ℕ) (old now new : Reader) (stop : Stop) → IsSoFar content old now → IsFrontRead content new_content now new (Some stop) → IsContentRead new_content (unknown old) (unknown new) stop
+pub stopped_unknown : (content new_content : List ℕ) (old now new : Reader) (stop : Stop) → IsSoFar content old now
+    → IsFrontRead content new_content now new (Some stop) → IsContentRead new_content (unknown old) (unknown new) stop
 stopped_unknown content new_content old now new stop so_far read =
     without_bytes new_content old new stop (stopped content new_content old now new stop so_far read)
 
-pub stopped_known : (content new_content : List ℕ) (old now new : Reader) (stop : Stop) → IsSoFar content old now → IsFrontRead content new_content now new (Some stop) → OnSome old.left (IsContentRead new_content old new stop)
+pub stopped_known : (content new_content : List ℕ) (old now new : Reader) (stop : Stop) → IsSoFar content old now
+    → IsFrontRead content new_content now new (Some stop) → OnSome old.left (IsContentRead new_content old new stop)
 stopped_known content new_content old now new stop so_far read =
     where_known new_content old.left old.failed new stop (stopped content new_content old now new stop so_far read)

@@ -43,15 +43,18 @@ Consumes-from_keeps None b kept = tt
 Consumes-from_keeps (Some us) None kept = absurd kept
 Consumes-from_keeps (Some us) (Some vs) kept = sym kept
 
--- a further piece of a text was written
-pub Appends-further : (old now new : Option (List ℕ)) (text rest : List ℕ) (count more : ℕ) → rest ≡ drop count text → Appends old now (take count text) → Appends now new (take more rest) → Appends old new (take (count + more) text)
-Appends-further old now new text rest count more is so_far next =
-    let piece : Appends now new (take more (drop count text)) = subst (λ (xs : List ℕ). Appends now new (take more xs)) is next in
-    rw take-add (Appends-append old now new (take count text) (take more (drop count text)) so_far piece)
+module _ (old now new : Option (List ℕ)) where
+  -- a further piece of a text was written
+  pub Appends-further : {rest : List ℕ} (text : List ℕ) (count more : ℕ) → rest ≡ drop count text → Appends old now (take count text)
+      → Appends now new (take more rest) → Appends old new (take (count + more) text)
+  Appends-further text count more is so_far next =
+      let piece : Appends now new (take more (drop count text)) = subst (λ (xs : List ℕ). Appends now new (take more xs)) is next in
+      rw take-add (Appends-append old now new (take count text) (take more (drop count text)) so_far piece)
 
--- a beginning of a further text was written
-pub AppendsBeginning-further : (old now new : Option (List ℕ)) (text more : List ℕ) → Appends old now text → AppendsBeginning now new more → AppendsBeginning old new (text ++ more)
-AppendsBeginning-further old now new text more so_far next = record {
-  count = length text + next.count;
-  appends = rw take-append-add (Appends-append old now new text (take next.count more) so_far next.appends);
-}
+  -- a beginning of a further text was written
+  pub AppendsBeginning-further : (text more : List ℕ) → Appends old now text → AppendsBeginning now new more
+      → AppendsBeginning old new (text ++ more)
+  AppendsBeginning-further text more so_far next = record {
+    count = length text + next.count;
+    appends = rw take-append-add (Appends-append old now new text (take next.count more) so_far next.appends);
+  }

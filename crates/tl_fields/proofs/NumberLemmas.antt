@@ -1,5 +1,6 @@
 -- What follows from the digits of a field.
-use Rattle.std.proofs.Common.{◌≡◌, ℕ, Bool, ◌&&◌, ◌==◌, nat_le, ◌+◌, ◌-◌, ◌*◌, ◌^◌, ◌<◌, ◌≤◌, true, false, List, [], ◌∷◌, length, get_or, take, drop, reverse, if◌then◌else◌, Some, None, IfSome, refl, subst, arith, rules}
+use Rattle.std.proofs.Common.{◌≡◌, ℕ, Bool, ◌&&◌, ◌==◌, nat_le, ◌+◌, ◌-◌, ◌*◌, ◌^◌, ◌<◌, ◌≤◌, true, false, List, [], ◌∷◌, length, get_or}
+use Rattle.std.proofs.Common.{take, drop, reverse, if◌then◌else◌, Some, None, IfSome, refl, subst, arith, rules}
 use Rattle.std.specs.List.{list_all}
 use Rattle.std.specs.Char.{is_ascii_digit, digit_value}
 use Rattle.std.specs.Str.Parse.{digits_value}
@@ -20,30 +21,35 @@ pub digits_value-lt : (ds : List ℕ) (k : ℕ) → list_all is_ascii_digit ds �
 digits_value-lt ds k digits short = digits_value_short digits_model ds k digits short
 
 -- the value so far, and one more digit
-pub digits_value-next : (ds : List ℕ) (i value : ℕ) → i < length ds → is_ascii_digit (get_or ds i 0) ≡ true → value ≡ digits_value 10 (take i ds) → value * 10 + (get_or ds i 0 - 48) ≡ digits_value 10 (take (i + 1) ds)
+pub digits_value-next : (ds : List ℕ) (i value : ℕ) → i < length ds → is_ascii_digit (get_or ds i 0) ≡ true
+    → value ≡ digits_value 10 (take i ds) → value * 10 + (get_or ds i 0 - 48) ≡ digits_value 10 (take (i + 1) ds)
 digits_value-next ds i value inside digit so_far =
     let worth : digit_value (get_or ds i 0) ≡ get_or ds i 0 - 48 = grind (arith, nat_tests) in
     rw (digits_value_more 10 ds i inside, worth, so_far) refl
 
 -- digits so far, and one more
-pub list_all-next : (ds : List ℕ) (i : ℕ) → i < length ds → is_ascii_digit (get_or ds i 0) ≡ true → list_all is_ascii_digit (take i ds) ≡ true → list_all is_ascii_digit (take (i + 1) ds) ≡ true
+pub list_all-next : (ds : List ℕ) (i : ℕ) → i < length ds → is_ascii_digit (get_or ds i 0) ≡ true
+    → list_all is_ascii_digit (take i ds) ≡ true → list_all is_ascii_digit (take (i + 1) ds) ≡ true
 list_all-next ds i inside digit so_far = rw (list_all_more is_ascii_digit ds i 0 inside, so_far, digit) refl
 
-decimal_in-lt-by : (most : ℕ) (ds : List ℕ) (b : Bool) → is_decimal most ds ≡ b → IfSome (if b then Some (digits_value 10 ds) else None) (λ n. n < 10 ^ most)
+decimal_in-lt-by : (most : ℕ) (ds : List ℕ) (b : Bool) → is_decimal most ds ≡ b
+    → IfSome (if b then Some (digits_value 10 ds) else None) (λ n. n < 10 ^ most)
 decimal_in-lt-by most ds true is =
     let parts = and_parts (nat_le 1 (length ds) && nat_le (length ds) most) _ is in
     digits_value-lt ds most parts.1 (leb-true _ _ (and_parts (nat_le 1 (length ds)) _ parts.0).1)
 decimal_in-lt-by most ds false is = tt
 
 -- bytes of a length that a number may have
-pub decimal_in-few : (most : ℕ) (ds : List ℕ) → 1 ≤ length ds → length ds ≤ most → decimal_in most ds ≡ (if list_all is_ascii_digit ds then Some (digits_value 10 ds) else None)
+pub decimal_in-few : (most : ℕ) (ds : List ℕ) → 1 ≤ length ds → length ds ≤ most
+    → decimal_in most ds ≡ (if list_all is_ascii_digit ds then Some (digits_value 10 ds) else None)
 decimal_in-few most ds some few = rw (le-leb 1 (length ds) some, le-leb (length ds) most few) refl
 
 -- so many digits write a number below that power of ten
 pub decimal_in-lt : (most : ℕ) (ds : List ℕ) → IfSome (decimal_in most ds) (λ n. n < 10 ^ most)
 decimal_in-lt most ds = decimal_in-lt-by most ds _ refl
 
-without_blanks_before-le_by : (b : ℕ) (bs : List ℕ) (t : Bool) → length (without_blanks_before bs) ≤ length bs → length (if t then without_blanks_before bs else b ∷ bs) ≤ length (b ∷ bs)
+without_blanks_before-le_by : (b : ℕ) (bs : List ℕ) (t : Bool) → length (without_blanks_before bs) ≤ length bs
+    → length (if t then without_blanks_before bs else b ∷ bs) ≤ length (b ∷ bs)
 without_blanks_before-le_by b bs true short = omega arith
 without_blanks_before-le_by b bs false short = omega arith
 
@@ -54,9 +60,16 @@ without_blanks_before-le (b ∷ bs) = without_blanks_before-le_by b bs (b == 32)
 trim-le : (bytes : List ℕ) → length (trim bytes) ≤ length bytes
 trim-le bytes =
     let front = without_blanks_before bytes in
-    omega (arith, without_blanks_before-le bytes, without_blanks_before-le (reverse front), length-reverse front, length-reverse (without_blanks_before (reverse front)))
+    omega (
+      arith,
+      without_blanks_before-le bytes,
+      without_blanks_before-le (reverse front),
+      length-reverse front,
+      length-reverse (without_blanks_before (reverse front)),
+    )
 
-decimal_in-short_by : (most k n : ℕ) (ds : List ℕ) (b : Bool) → length ds ≤ k → is_decimal most ds ≡ b → (if b then Some (digits_value 10 ds) else None) ≡ Some n → n < 10 ^ k
+decimal_in-short_by : (most k n : ℕ) (ds : List ℕ) (b : Bool) → length ds ≤ k → is_decimal most ds ≡ b
+    → (if b then Some (digits_value 10 ds) else None) ≡ Some n → n < 10 ^ k
 decimal_in-short_by most k n ds true short is e =
     let parts = and_parts (nat_le 1 (length ds) && nat_le (length ds) most) _ is in
     let same : digits_value 10 ds ≡ n = cc in
@@ -71,4 +84,5 @@ number_of-short field k n short e =
 -- the number of a field has no more digits than the field has places
 pub number_of_lt : (line : List ℕ) (first last n : ℕ) → number_of (field_of line first last) ≡ Some n → n < 10 ^ (last + 1 - first)
 number_of_lt line first last n e =
-    number_of-short (field_of line first last) (last + 1 - first) n (omega (arith, length-take (last + 1 - first) (drop (first - 1) line))) e
+    number_of-short (field_of line first last) (last + 1 - first) n
+    (omega (arith, length-take (last + 1 - first) (drop (first - 1) line))) e

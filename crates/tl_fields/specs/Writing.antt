@@ -1,19 +1,15 @@
 -- What writing a text whole does to a writer.
 use Rattle.std.specs.Prelude.{◌≡◌, ℕ, List, take, codes, Option, Result, Ok, Err}
 use Rattle.std.specs.Io.KnownBytes.{Appends}
+use Rattle.refusals.specs.Refusal.{RefusalParts, device}
 use Rattle.tl_fields.specs.Counted.{CountsFault}
 use Rattle.tl_fields.specs.Device.{Writer}
 use Rattle.tl_fields.specs.declared.writing.WriteFault.{WriteFault}
 use Rattle.tl_fields.specs.declared.writing.WriteFault.TheVariants.{Write, WriteZero}
 
--- the number and the name of a writer's fault in a refusal
-abbrev pub number : WriteFault → ℕ
-number Write = 60
-number WriteZero = 61
-
-abbrev pub name : WriteFault → List ℕ
-name Write = codes "Write"
-name WriteZero = codes "WriteZero"
+abbrev pub refusal : WriteFault → RefusalParts
+refusal Write = device 60 (codes "Write")
+refusal WriteZero = device 61 (codes "WriteZero")
 
 -- known bytes grow by a beginning of the text
 pub record AppendsBeginning (old new : Option (List ℕ)) (text : List ℕ) : Type 0 where

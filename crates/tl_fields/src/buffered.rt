@@ -47,6 +47,13 @@ impl<B: BufRead> Buffered<B> {
         &self.reader
     }
 
+    /// How many reads failed, modulo 2^64.
+    pub fn failed_reads(&self) -> u64
+        ensures { result ≡ self.now.failed_reads }
+    {
+        self.failed_reads
+    }
+
     // Takes what the buffer shows of a line, and tells why the line stops there, or that it goes on.
     #[inline]
     fn read_front(&mut self, content: &mut ArrayVec<u8, LONGEST_CONTENT>) -> Option<Stop>

@@ -1,9 +1,9 @@
 //! A text, written whole or up to the first fault.
-ghost use Rattle.std.specs.Prelude.{◌≡◌};
 ghost use Rattle.tl_fields.specs.Device.{writer};
-ghost use Rattle.tl_fields.specs.Writing.{WritesText, number, name};
+ghost use Rattle.tl_fields.specs.Writing.{WritesText};
 
 use crate::counted::CountedWrite;
+use refusals::{Fault, Refusal};
 use thiserror::Error;
 
 /// Why a text wasn't written whole.
@@ -15,24 +15,15 @@ pub enum WriteFault {
     WriteZero,
 }
 
-impl WriteFault {
-    /// The number that the fault has in a refusal.
-    pub fn number(self) -> u8
-        ensures { result ≡ number self }
-    {
-        match self {
-            WriteFault::Write => 60,
-            WriteFault::WriteZero => 61,
-        }
-    }
+impl Fault for WriteFault {
+    ghost use Rattle.tl_fields.specs.Writing.{refusal};
 
-    /// The name that the fault has in a refusal.
-    pub fn name(self) -> &'static str
-        ensures { result.now ≡ name self }
-    {
+    ghost refusal_of = { refusal };
+
+    fn refusal(&self) -> Refusal {
         match self {
-            WriteFault::Write => "Write",
-            WriteFault::WriteZero => "WriteZero",
+            WriteFault::Write => Refusal::device(60, "Write"),
+            WriteFault::WriteZero => Refusal::device(61, "WriteZero"),
         }
     }
 }

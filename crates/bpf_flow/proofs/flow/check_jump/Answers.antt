@@ -16,8 +16,10 @@ returns-then-is_none-clause-err g c =
     let leads = c.target_of-target.ensures in
     let at : target_of c.args.place c.args.distance ≡ pos c.target_of-target.result = omega (arith, ints) in
     let later : c.args.place < c.target_of-target.result = omega (arith, ints) in
-    let within : c.target_of-target.result < word_count c.args.code.now = omega (arith, c.words-words.ensures.value, c.if-target-words.false) in
-    let none : instruction_at c.args.code.now c.target_of-target.result ≡ None = sym c.at.ensures.value ∙ is_nothing c.at.result c.if-is_none.ensures in
+    let within : c.target_of-target.result < word_count c.args.code.now =
+    omega (arith, c.words-words.ensures.value, c.if-target-words.false) in
+    let none : instruction_at c.args.code.now c.target_of-target.result ≡ None =
+    sym c.at.ensures.value ∙ is_nothing c.at.result c.if-is_none.ensures in
     record {
       before = c.requires.before;
       distance = c.args.distance;

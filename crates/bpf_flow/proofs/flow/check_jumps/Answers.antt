@@ -11,28 +11,29 @@ pub check_jump-requires-clause-jump : goal.check_jump-requires-clause-jump
 check_jump-requires-clause-jump g c =
     let fits : FitsSigned w32 c.in-Some.distance = search rules in
     jumps_by c.args.code.now c.loop-insn.place c.insn-item.result c.in-Some.distance fits
-    (stands_at c.instructions-instructions.result.now c.args.code.now c.loop-insn.insn-index c.loop-insn.place c.insn-item.result
+    (stands_at c.loop-insn.insn-index c.loop-insn.place
     c.instructions-instructions.ensures.value c.loop-insn-test.true c.insn-item.is c.loop-insn.invariant.place) c.in-Some.ensures
 
 pub overflow_add-place : goal.overflow_add-place
 overflow_add-place g c =
-    let stands = stands_at c.instructions-instructions.result.now c.args.code.now c.loop-insn.insn-index c.loop-insn.place c.insn-item.result
+    let stands = stands_at c.loop-insn.insn-index c.loop-insn.place
     c.instructions-instructions.ensures.value c.loop-insn-test.true c.insn-item.is c.loop-insn.invariant.place in
     let ends = ends_within c.args.code.now c.loop-insn.place c.insn-item.result stands in
     let sized = c.instructions-instructions.ensures.sized in omega (arith, c.words-place.ensures)
 
 pub loop-insn-preserved : goal.loop-insn-preserved
 loop-insn-preserved g c =
-    let stands = stands_at c.instructions-instructions.result.now c.args.code.now c.loop-insn.insn-index c.loop-insn.place c.insn-item.result
+    let stands = stands_at c.loop-insn.insn-index c.loop-insn.place
     c.instructions-instructions.ensures.value c.loop-insn-test.true c.insn-item.is c.loop-insn.invariant.place in
     record {
-      place = next_place c.instructions-instructions.result.now c.args.code.now c.loop-insn.insn-index c.loop-insn.place c.words-place.result c.insn-item.result
+      place = next_place c.loop-insn.insn-index c.loop-insn.place c.words-place.result
           c.instructions-instructions.ensures.value c.loop-insn-test.true c.insn-item.is c.loop-insn.invariant.place c.words-place.ensures;
-      jumps = lead_more c.args.code.now c.loop-insn.place c.words-place.result c.insn-item.result stands c.words-place.ensures c.loop-insn.invariant.jumps
+      jumps = lead_more c.args.code.now c.loop-insn.place c.words-place.result c.insn-item.result stands c.words-place.ensures
+          c.loop-insn.invariant.jumps
           (elim c.match-jump_distance.branch [
             | in-Some+in_ok-check_jump w ↦
                 let fits : FitsSigned w32 w.in-Some.distance = search rules in
-                leads_by c.args.code.now c.loop-insn.place c.insn-item.result w.in-Some.distance fits w.in-Some.ensures w.in_ok-check_jump.ensures.ok
+                leads_by c.insn-item.result fits w.in-Some.ensures w.in_ok-check_jump.ensures.ok
             | in_default w ↦ λ distance jumps. absurd (none-some distance (w.in_default.ensures ∙ jumps))
           ]);
     }
@@ -41,5 +42,6 @@ pub returns-clause-ok : goal.returns-clause-ok
 returns-clause-ok g c =
     let same = c.instructions-instructions.ensures.value in
     let all : word_count c.args.code.now ≡ c.loop-insn.place =
-    ap word_count (sym (take_all c.loop-insn.insn-index c.args.code.now (let long = ap length same in omega (arith, c.loop-insn-test.false)))) ∙ sym c.loop-insn.invariant.place in
+    ap word_count (sym (take_all c.loop-insn.insn-index c.args.code.now
+    (let long = ap length same in omega (arith, c.loop-insn-test.false)))) ∙ sym c.loop-insn.invariant.place in
     lead_all c.args.code.now c.loop-insn.place (omega arith) c.loop-insn.invariant.jumps

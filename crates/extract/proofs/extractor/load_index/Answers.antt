@@ -15,4 +15,11 @@ returns-then-reads_record_alone-clause-ok g c =
 pub returns-clause-ok : goal.returns-clause-ok
 returns-clause-ok g c =
     let loads = c.in_ok-index.ensures.ok in
-    record { own = loads.lines; index_of = loads.index_of; joined = loads.lines; reads = loads.reads; alike = alike_itself c.args.verified.now.code loads.lines }
+    record {
+      own = loads.lines;
+      index_of = loads.index_of;
+      joined = loads.lines;
+      reads = loads.reads;
+      alike =
+          alike_itself c.args.verified.now.code loads.lines;
+    }

@@ -6,7 +6,9 @@ use Rattle.extract.proofs.extractor.write_rows.Given as goal
 
 abbrev pub invariant-loop-segment : goal.invariant-loop-segment
 invariant-loop-segment g l =
-    IsExtractedSoFar l.index l.verified.code l.rows (line_of l.number l.segment) (reader g.R.Read.remaining g.R.CountedRead.failed_reads l.initial.rt1) (reader g.R.Read.remaining g.R.CountedRead.failed_reads l.rt1) (writer g.W.Write.contents g.W.CountedWrite.counts l.initial.out) (writer g.W.Write.contents g.W.CountedWrite.counts l.out)
+    IsExtractedSoFar l.index l.verified.code l.rows (line_of l.number l.segment)
+    (reader g.R.Read.remaining g.R.CountedRead.failed_reads l.initial.rt1) (reader g.R.Read.remaining g.R.CountedRead.failed_reads l.rt1)
+    (writer g.W.Write.contents g.W.CountedWrite.counts l.initial.out) (writer g.W.Write.contents g.W.CountedWrite.counts l.out)
 
 abbrev pub decreases-loop-segment : goal.decreases-loop-segment
 decreases-loop-segment g l = 2 ^ 32 - l.number

@@ -22,8 +22,11 @@ returns-in-Err-clause-wants g c =
     turn_wants _ _ _ _ _ _ _ c.loop-turned.invariant.1 _ _ c.in-Some.ensures.next.0 c.loop-turned-test.true c.in-Err.ensures.chosen
 
 pub loop-turned-preserved : goal.loop-turned-preserved
-loop-turned-preserved g c =
-    (c.next.ensures.position, one_turned_more _ _ _ _ _ _ _ c.loop-turned.invariant.1 _ c.in-Some.segment.now _ c.in-Some.ensures.next.0 c.in-Some.ensures.next.1 c.in_default-push_row_if_chosen.ensures.ok)
+loop-turned-preserved g c = (
+  c.next.ensures.position,
+  one_turned_more _ _ _ _ _ _ _ c.loop-turned.invariant.1 _ c.in-Some.segment.now _ c.in-Some.ensures.next.0
+      c.in-Some.ensures.next.1 c.in_default-push_row_if_chosen.ensures.ok,
+)
 
 pub returns-clause-position : goal.returns-clause-position
 returns-clause-position g c = c.loop-turned.invariant.0

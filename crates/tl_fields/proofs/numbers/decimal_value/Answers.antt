@@ -23,5 +23,6 @@ loop-byte-preserved c =
     let digits = c.args.digits.now in
     record {
       digits = list_all-next digits c.loop-byte.byte-index c.loop-byte-test.true (search rules) c.loop-byte.invariant.digits;
-      value = rw c.from.ensures (digits_value-next digits c.loop-byte.byte-index _ c.loop-byte-test.true (search rules) c.loop-byte.invariant.value);
+      value = rw c.from.ensures (digits_value-next digits c.loop-byte.byte-index _ c.loop-byte-test.true
+          (search rules) c.loop-byte.invariant.value);
     }

@@ -8,6 +8,7 @@ use Rattle.bpf_flow.proofs.flow.Flow.next.Goals as goal
 pub returns-clause-begins : goal.returns-clause-begins
 returns-clause-begins g c =
     let code = ap (λ flow. flow.code) c.self.view_is in
-    subst (λ (code : List Insn). instruction_at code c.args.place ≢ Some Exit → IsSome (instruction_at code (c.args.place + c.words.result))) code
+    subst (λ (code : List Insn). instruction_at code c.args.place ≢ Some Exit
+    → IsSome (instruction_at code (c.args.place + c.words.result))) code
     (λ other. subst (λ (n : ℕ). IsSome (instruction_at c.self.inside.code (c.args.place + n))) (sym c.words.ensures)
     (goes_on c.self.inside.code c.args.place c.in-Some.insn c.self.invariant.last (sym c.in-Some.ensures.value) other))

@@ -24,7 +24,9 @@ loop-id-preserved g c =
 pub returns : goal.returns
 returns g c =
     let all = c.into_iter-id-iterator.ensures.into_iter_gives ∙ c.iter-id-items.ensures.rest in
-    let ascend = subst (λ table. Ascend 0 table.jobs table.last_id) c.self.view_is (Ascend-seen parts_of 0 c.self.inside.jobs.entries c.self.inside.last_id c.self.invariant.ascend) in
+    let ascend = subst (λ table. Ascend 0 table.jobs table.last_id) c.self.view_is
+    (Ascend-seen parts_of 0 c.self.inside.jobs.entries c.self.inside.last_id c.self.invariant.ascend) in
     next_turn_is c.args.self.now _ c.loop-id.least ascend
-    (subst (λ jobs. FirstOf (total_of c.args.self.now) jobs c.loop-id.next c.loop-id.least) (ap jobs_of all ∙ ap (λ table. table.jobs) c.self.view_is)
+    (subst (λ jobs. FirstOf (total_of c.args.self.now) jobs c.loop-id.next c.loop-id.least)
+    (ap jobs_of all ∙ ap (λ table. table.jobs) c.self.view_is)
     (all_seen _ _ _ _ _ c.loop-id.invariant c.in-None.ensures.steps.0))

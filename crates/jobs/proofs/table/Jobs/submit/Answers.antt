@@ -12,7 +12,8 @@ returns-in_err-insert-clause-err g c =
     let returned = err_from_is_err_and c.from_residual-in_err-insert.result c.from_residual-in_err-insert.ensures.1 in
     rw (returned.1, returned.2) (
       subst (λ table. IsFull table → ⊥) c.self.view_is (room _ _ _ _ c.self.invariant few c.if-self.false),
-      ap (λ entries. record { counties = inside.counties.items; jobs = jobs_of entries; last_id = inside.last_id }) c.in_err-insert.ensures.err ∙ c.self.view_is,
+      ap (λ entries. record { counties = inside.counties.items; jobs = jobs_of entries; last_id = inside.last_id })
+          c.in_err-insert.ensures.err ∙ c.self.view_is,
     )
 
 pub invariant_of-self-2 : goal.invariant_of-self-2

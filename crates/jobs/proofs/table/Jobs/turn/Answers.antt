@@ -10,7 +10,8 @@ use Rattle.jobs.proofs.table.Jobs.turn.Goals as goal
 pub returns-in_default-clause-err : goal.returns-in_default-clause-err
 returns-in_default-clause-err g c =
     let inside = c.self.inside in (
-      subst (λ table. job_of table c.args.id ≡ None) c.self.view_is (job_found _ _ _ _ c.self.invariant c.args.id None c.in_default.ensures.value),
+      subst (λ table. job_of table c.args.id ≡ None) c.self.view_is
+          (job_found _ _ _ _ c.self.invariant c.args.id None c.in_default.ensures.value),
       ap (λ entries. record { counties = inside.counties.items; jobs = jobs_of entries; last_id = inside.last_id })
           (ap (λ (map : BTreeMap _ _). map.entries) c.get_mut.follows.holds-at-none)
           ∙ c.self.view_is,
@@ -29,7 +30,8 @@ returns-in_err-go_on-clause-err g c =
     let wants = rw c.as_slice.ensures.value at c.in_err-go_on.ensures.wants in
     rw (returned.1, returned.2) (
       parts_of old,
-      subst (λ table. job_of table c.args.id ≡ Some (parts_of old)) c.self.view_is (job_found _ _ _ _ c.self.invariant c.args.id (Some old) c.in-Some.ensures.value),
+      subst (λ table. job_of table c.args.id ≡ Some (parts_of old)) c.self.view_is
+          (job_found _ _ _ _ c.self.invariant c.args.id (Some old) c.in-Some.ensures.value),
       subst (λ table. WantsRow old.verified.code (segments_of table.counties) old.position.done) c.self.view_is wants,
       ap (λ jobs. record { counties = inside.counties.items; jobs = jobs; last_id = inside.last_id })
           (ap jobs_of (c.get_mut.follows.holds c.go_on.new.self).0
@@ -49,7 +51,8 @@ returns-clause-ok g c =
     let new = c.go_on.new.self in
     let turned = rw c.as_slice.ensures.value at c.in_ok-go_on.ensures.ok in (
       parts_of old,
-      subst (λ table. job_of table c.args.id ≡ Some (parts_of old)) c.self.view_is (job_found _ _ _ _ c.self.invariant c.args.id (Some old) c.in-Some.ensures.value),
+      subst (λ table. job_of table c.args.id ≡ Some (parts_of old)) c.self.view_is
+          (job_found _ _ _ _ c.self.invariant c.args.id (Some old) c.in-Some.ensures.value),
       parts_of new,
       subst (λ table. IsTurned table.counties (parts_of old) (parts_of new)) c.self.view_is turned,
       ap (λ jobs. record { counties = inside.counties.items; jobs = jobs; last_id = inside.last_id })

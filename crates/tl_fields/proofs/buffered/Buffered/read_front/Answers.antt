@@ -11,25 +11,39 @@ returns-then-count-room-clause-front g c =
     let front = c.in-Ok.front.now in
     let count = c.min.result in
     let rested = c.fill_buf.follows.lender-at-none in
-    let filled = subst (FillKeeps _ (g.B.Read.remaining rested) (g.B.BufRead.consumable_len rested)) c.in-Ok.is c.fill_buf.follows.holds-at-none in
+    let filled = subst (FillKeeps _ (g.B.Read.remaining rested) (g.B.BufRead.consumable_len rested)) c.in-Ok.is
+    c.fill_buf.follows.holds-at-none in
     let within : count ≤ length front = omega (arith, c.min.ensures) in
     let long = length-take-le count front within in
-    let taken = Consumes_shown _ _ _ _ front (length (take count front)) (omega arith) c.in-Ok.ensures.front c.in-Ok.ensures.end filled.0 filled.1 c.consume.ensures.bytes in
-    (refl, take count front, without_line_feed (take count front) c.in_default.ensures, omega (arith, c.min.ensures), whole_taken _ _ front count within taken.0)
+    let taken = Consumes_shown _ _ _ _ front (length (take count front))
+    (omega arith) c.in-Ok.ensures.front c.in-Ok.ensures.end filled.0 filled.1 c.consume.ensures.bytes in (
+      refl,
+      take count front,
+      without_line_feed (take count front) c.in_default.ensures,
+      omega (arith, c.min.ensures),
+      whole_taken _ _ front count within taken.0,
+    )
 
 pub returns-in_default-clause-front : goal.returns-in_default-clause-front
 returns-in_default-clause-front g c =
     let front = c.in-Ok.front.now in
     let count = c.min.result in
     let rested = c.fill_buf.follows.lender-at-none in
-    let filled = subst (FillKeeps _ (g.B.Read.remaining rested) (g.B.BufRead.consumable_len rested)) c.in-Ok.is c.fill_buf.follows.holds-at-none in
+    let filled = subst (FillKeeps _ (g.B.Read.remaining rested) (g.B.BufRead.consumable_len rested)) c.in-Ok.is
+    c.fill_buf.follows.holds-at-none in
     let within : count ≤ length front = omega (arith, c.min.ensures) in
     let long = length-take-le count front within in
-    let taken = Consumes_shown _ _ _ _ front (length (take count front)) (omega arith) c.in-Ok.ensures.front c.in-Ok.ensures.end filled.0 filled.1 c.consume-in_default.ensures.bytes in
+    let taken = Consumes_shown _ _ _ _ front (length (take count front))
+    (omega arith) c.in-Ok.ensures.front c.in-Ok.ensures.end filled.0 filled.1 c.consume-in_default.ensures.bytes in
     let items = rw c.unwrap.ensures at c.try_extend_from_slice.ensures.ok in
     let len = rw c.unwrap.ensures at c.try_extend_from_slice.ensures.len in
-    let some : 0 < length (take count front) = grind (arith, nat_tests) in
-    (refl, take count front, (items, without_line_feed (take count front) c.in_default.ensures, omega (arith, len)), some, whole_taken _ _ front count within taken.0)
+    let some : 0 < length (take count front) = grind (arith, nat_tests) in (
+      refl,
+      take count front,
+      (items, without_line_feed (take count front) c.in_default.ensures, omega (arith, len)),
+      some,
+      whole_taken _ _ front count within taken.0,
+    )
 
 pub returns-clause-front : goal.returns-clause-front
 returns-clause-front g c =
@@ -37,11 +51,13 @@ returns-clause-front g c =
     let count = c.min.result in
     let place = c.in-Some.length in
     let rested = c.fill_buf.follows.lender-at-none in
-    let filled = subst (FillKeeps _ (g.B.Read.remaining rested) (g.B.BufRead.consumable_len rested)) c.in-Ok.is c.fill_buf.follows.holds-at-none in
+    let filled = subst (FillKeeps _ (g.B.Read.remaining rested) (g.B.BufRead.consumable_len rested)) c.in-Ok.is
+    c.fill_buf.follows.holds-at-none in
     let within : count ≤ length front = omega (arith, c.min.ensures) in
     let long = length-take-le count front within in
     let found = at_line_feed front count place within c.in-Some.ensures in
-    let taken = Consumes_shown _ _ _ _ front (place + 1) (omega arith) c.in-Ok.ensures.front c.in-Ok.ensures.end filled.0 filled.1 c.consume-2.ensures.bytes in
+    let taken = Consumes_shown _ _ _ _ front (place + 1) (omega arith) c.in-Ok.ensures.front c.in-Ok.ensures.end filled.0 filled.1
+    c.consume-2.ensures.bytes in
     let items = rw c.unwrap-2.ensures at c.try_extend_from_slice-2.ensures.ok in
     let len = rw c.unwrap-2.ensures at c.try_extend_from_slice-2.ensures.len in
     let part = length-take-le place (take count front) (omega arith) in

@@ -11,5 +11,5 @@ returns-then-is_full-clause-content g c =
     let read = rw c.in-Ok-Some.field-0-is at c.in-Ok-Some.ensures.read in
     let other : byte ≢ 10 = omega arith in
     let full : length content ≡ 230 = grind (arith, nat_tests) in
-    let more = one_more content byte _ _ _ so_far.no_line_feed so_far.taken other read.1 in
+    let more = one_more content _ _ _ so_far.no_line_feed so_far.taken other read.1 in
     (read.0 ∙ so_far.same, content ++ byte ∷ [], more.0, omega (arith, length-append content (byte ∷ [])), more.1)

@@ -1,0 +1,23 @@
+//! What every fault has.
+ghost use Rattle.std.specs.Prelude.{◌≡◌};
+ghost use Rattle.refusals.specs.Refusal.{RefusalParts};
+ghost use Rattle.refusals.specs.Refusal as refusal;
+
+use crate::refusal::Refusal;
+use arrayvec::ArrayString;
+
+/// A fault, whose refusal is one row for each of its variants.
+pub trait Fault {
+    ghost refusal_of: { Self → RefusalParts };
+
+    /// Returns the fault as a refusal.
+    fn refusal(&self) -> Refusal
+        ensures { result ≡ refusal_of self.now };
+
+    /// Returns the refusal's line of text, as `refused 13 place 2 UnknownOpcode`, without an end of line. It takes no memory.
+    fn line(&self) -> ArrayString<64>
+        ensures { result.bytes ≡ refusal.line (refusal_of self.now) }
+    {
+        self.refusal().line()
+    }
+}

@@ -1,0 +1,212 @@
+//! Refusals, and the one place where their lines of text are put together. Nothing here allocates.
+ghost use Rattle.std.specs.Prelude.{◌≡◌, ◌++◌, ◌+◌, ◌≤◌, codes, decimal, length};
+ghost use Rattle.refusals.specs.Refusal as refusal;
+ghost use Rattle.refusals.specs.Refusal.{detail_text, number_text};
+
+use arrayvec::ArrayString;
+use itoa::Buffer;
+use std::marker::Model;
+
+/// What a refusal comes from.
+#[derive(Clone, Copy)]
+pub enum Class {
+    /// The input is at fault.
+    Refused,
+    /// A read or a write failed.
+    Device,
+    /// An allocation failed.
+    Memory,
+}
+
+/// Where the fault is.
+#[derive(Clone, Copy)]
+pub enum Position {
+    /// The input as a whole.
+    Whole,
+    /// A word of a program, by its index, counted from 0.
+    Place(usize),
+    /// A line of a text, counted from 1.
+    Line(usize),
+    /// A line of the county's file of a record type (TIGER/Line 2006), counted from 1.
+    FileLine { record_type: u8, line: u64 },
+}
+
+/// A refusal. Contracts see it as a record of its parts.
+#[derive(Drop)]
+pub struct Refusal {
+    class: Class,
+    number: Option<u8>,
+    name: &'static str,
+    detail: Option<u8>,
+    position: Position,
+}
+
+impl Model for Refusal {
+    ghost use Rattle.std.specs.Prelude.{◌≤◌, length};
+    ghost use Rattle.refusals.specs.Refusal.{RefusalParts};
+
+    ghost Value = { RefusalParts };
+
+    ghost view = { λ r. record { class = r.class; number = r.number; name = r.name.now; detail = r.detail; position = r.position } };
+
+    ghost invariant = { λ r. length r.name.now ≤ 18 };
+}
+
+impl Refusal {
+    /// Refuses the input.
+    pub fn refused(number: u8, name: &'static str) -> Refusal
+        requires { length name.now ≤ 18 }
+        ensures { result ≡ refusal.refused number name.now }
+    {
+        Refusal {
+            class: Class::Refused,
+            number: Some(number),
+            name,
+            detail: None,
+            position: Position::Whole,
+        }
+    }
+
+    /// Refuses the input, with the number of a register, of an argument or of another refusal, which follows the name in parentheses.
+    pub fn detailed(number: u8, name: &'static str, detail: Option<u8>) -> Refusal
+        requires { length name.now ≤ 18 }
+        ensures { result ≡ refusal.detailed number name.now detail }
+    {
+        Refusal {
+            detail,
+            ..Refusal::refused(number, name)
+        }
+    }
+
+    /// Reports a read or a write that failed.
+    pub fn device(number: u8, name: &'static str) -> Refusal
+        requires { length name.now ≤ 18 }
+        ensures { result ≡ refusal.device number name.now }
+    {
+        Refusal {
+            class: Class::Device,
+            ..Refusal::refused(number, name)
+        }
+    }
+
+    /// Reports an allocation that failed, which has no number.
+    pub fn memory() -> Refusal
+        ensures { result ≡ refusal.memory }
+    {
+        Refusal {
+            class: Class::Memory,
+            number: None,
+            name: "memory",
+            detail: None,
+            position: Position::Whole,
+        }
+    }
+
+    /// Puts the refusal at a word of a program, counted from 0.
+    pub fn at_place(self, place: usize) -> Refusal
+        ensures { result ≡ refusal.at_place place self }
+    {
+        Refusal {
+            position: Position::Place(place),
+            ..self
+        }
+    }
+
+    /// Puts the refusal at a line of a text, counted from 1.
+    pub fn at_line(self, line: usize) -> Refusal
+        ensures { result ≡ refusal.at_line line self }
+    {
+        Refusal {
+            position: Position::Line(line),
+            ..self
+        }
+    }
+
+    /// Puts the refusal at a line of a county's file, counted from 1.
+    pub fn at_file_line(self, record_type: u8, line: u64) -> Refusal
+        ensures { result ≡ refusal.at_file_line record_type line self }
+    {
+        Refusal {
+            position: Position::FileLine { record_type, line },
+            ..self
+        }
+    }
+
+    pub fn class(&self) -> Class
+        ensures { result ≡ self.now.class }
+    {
+        self.class
+    }
+
+    /// Returns the number, or `None` if an allocation failed.
+    pub fn number(&self) -> Option<u8>
+        ensures { result ≡ self.now.number }
+    {
+        self.number
+    }
+
+    /// Returns the line of text, as `refused 40 place 0 ReadsNothing(0)`, without an end of line.
+    pub fn line(&self) -> ArrayString<64>
+        ensures { result.bytes ≡ refusal.line self.now }
+    {
+        let mut line = ArrayString::new();
+        line.push_str("refused ");
+        line.push_str(number_text(self.number).as_str());
+        match self.position {
+            Position::Whole => self.push_name(&mut line),
+            Position::Place(place) => {
+                push_counted(&mut line, "place", place as u64);
+                self.push_name(&mut line);
+            }
+            Position::Line(at) => {
+                push_counted(&mut line, "line", at as u64);
+                self.push_name(&mut line);
+            }
+            Position::FileLine {
+                record_type,
+                line: at,
+            } => {
+                line.push_str("rt");
+                line.push_str(Buffer::new().format(record_type));
+                push_counted(&mut line, " line", at);
+                line.push_str(self.name);
+            }
+        }
+        line
+    }
+
+    fn push_name(&self, line: &mut ArrayString<64>)
+        requires { length line.old.bytes ≤ 41 }
+        ensures { line.new.bytes ≡ line.old.bytes ++ (self.now.name ++ detail_text self.now.detail) }
+    {
+        line.push_str(self.name);
+        if let Some(detail) = self.detail {
+            line.push_str("(");
+            line.push_str(Buffer::new().format(detail));
+            line.push_str(")");
+        }
+    }
+}
+
+fn number_text(number: Option<u8>) -> ArrayString<4>
+    ensures { result.bytes ≡ number_text number }
+{
+    let mut text = ArrayString::new();
+    if let Some(number) = number {
+        text.push_str(Buffer::new().format(number));
+        text.push_str(" ");
+    }
+    text
+}
+
+/// Pushes a unit and the number of the one that is meant.
+fn push_counted(line: &mut ArrayString<64>, unit: &str, at: u64)
+    requires { length line.old.bytes + length unit.now ≤ 42 }
+    ensures value { line.new.bytes ≡ line.old.bytes ++ (unit.now ++ codes " " ++ decimal at ++ codes " ") }
+    ensures short { length line.new.bytes ≤ length line.old.bytes + length unit.now + 22 }
+{
+    line.push_str(unit);
+    line.push_str(" ");
+    line.push_str(Buffer::new().format(at));
+    line.push_str(" ");
+}
