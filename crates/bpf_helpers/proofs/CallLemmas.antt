@@ -1,5 +1,7 @@
 -- What calls of the helper functions answer, write and set.
-use Rattle.std.proofs.Common.{◌≡◌, ◌≢◌, ℕ, pos, option_map, ◌==◌, if◌then◌else◌, Bool, true, false, cond, ◌^◌, ◌<◌, ◌≤◌, zero, suc, List, [], ◌∷◌, All, length, get_or, take, drop, replicate, slice_index, slice_get, Option, Some, None, IfSome, is_some, refl, ap, sym, ◌∙◌, subst, arith}
+use Rattle.std.proofs.Common.{◌≡◌, ◌≢◌, ℕ, pos, option_map, ◌==◌, if◌then◌else◌, Bool, true, false, cond, ◌^◌, ◌<◌, ◌≤◌, zero, suc, List}
+use Rattle.std.proofs.Common.{[], ◌∷◌, All, length, get_or, take, drop, replicate, slice_index, slice_get, Option, Some, None, IfSome}
+use Rattle.std.proofs.Common.{is_some, refl, ap, sym, ◌∙◌, subst, arith}
 use Rattle.std.specs.List.{find}
 use Rattle.std.proofs.lemmas.Bool.{eqb-true}
 use Rattle.std.proofs.lemmas.Grind.{common_steps}
@@ -30,7 +32,8 @@ use Rattle.bpf_helpers.specs.declared.signature.Shape.{Shape}
 use Rattle.bpf_helpers.specs.declared.signature.Shape.TheVariants as shape
 
 -- what is found is the first element or passes the test further on
-found-by : {X : Type 0} (p : X → Bool) (y : X) (ys : List X) (x : X) (b : Bool) → p y ≡ b → (find p ys ≡ Some x → p x ≡ true) → cond b (Some y) (find p ys) ≡ Some x → p x ≡ true
+found-by : {X : Type 0} (p : X → Bool) (y : X) (ys : List X) (x : X) (b : Bool) → p y ≡ b → (find p ys ≡ Some x → p x ≡ true)
+    → cond b (Some y) (find p ys) ≡ Some x → p x ≡ true
 found-by p y ys x true is later found = cc
 found-by p y ys x false is later found = later found
 
@@ -52,12 +55,14 @@ pub frame-pointer : (helper : Helper) → frame_use (signature helper).shape ≢
 frame-pointer Field uses = absurd (uses refl)
 frame-pointer otherwise uses = grind arith
 
-pub frame-length : (helper : Helper) → frame_use (signature helper).shape ≢ Nothing → get_or (signature helper).arguments 2 Unused ≡ Number (between 1 30)
+pub frame-length : (helper : Helper) → frame_use (signature helper).shape ≢ Nothing
+    → get_or (signature helper).arguments 2 Unused ≡ Number (between 1 30)
 frame-length Field uses = absurd (uses refl)
 frame-length otherwise uses = grind arith
 
 -- there are three arguments
-pub three-wanted : (helper : Helper) → get_or (signature helper).arguments 0 Unused ∷ get_or (signature helper).arguments 1 Unused ∷ get_or (signature helper).arguments 2 Unused ∷ [] ≡ (signature helper).arguments
+pub three-wanted : (helper : Helper) → get_or (signature helper).arguments 0 Unused ∷ get_or (signature helper).arguments 1 Unused ∷ get_or
+    (signature helper).arguments 2 Unused ∷ [] ≡ (signature helper).arguments
 three-wanted Field = refl
 three-wanted otherwise = refl
 
@@ -103,7 +108,9 @@ negative-fits None = record { above = omega arith; below = omega arith }
 negative-fits (Some zero) = record { above = omega arith; below = omega arith }
 negative-fits (Some (suc n)) = record { above = omega arith; below = omega arith }
 
-signed-fits : (text : List ℕ) (minus plus : Bool) → Admits any (coordinate_word (if minus then option_map negative (decimal_in 9 (drop 1 text)) else (if plus then option_map pos (decimal_in 9 (drop 1 text)) else option_map pos (decimal_in 9 text))))
+signed-fits : (text : List ℕ) (minus plus : Bool) → Admits any
+    (coordinate_word (if minus then option_map negative (decimal_in 9 (drop 1 text)) else
+    (if plus then option_map pos (decimal_in 9 (drop 1 text)) else option_map pos (decimal_in 9 text))))
 signed-fits text true plus = negative-fits (decimal_in 9 (drop 1 text))
 signed-fits text false true = positive-fits (decimal_in 9 (drop 1 text)) (decimal_in-lt 9 (drop 1 text))
 signed-fits text false false = positive-fits (decimal_in 9 text) (decimal_in-lt 9 text)
@@ -114,7 +121,8 @@ coordinate-fits field = signed-fits (trim field) (slice_index (trim field) 0 == 
 
 -- the names of a segment are 30 bytes each
 names-bytes : (segment : Contents) → IsSegment segment → All (AreBytes 30) (names_of segment)
-names-bytes segment is = All-cons (AreBytes 30) (field_of segment.bytes 20 49) segment.names (AreBytes-field_of segment.bytes 228 20 49 is.bytes (omega arith) (omega arith) (omega arith)) is.names
+names-bytes segment is = All-cons (AreBytes 30) (field_of segment.bytes 20 49) segment.names
+    (AreBytes-field_of segment.bytes 228 20 49 is.bytes (omega arith) (omega arith) (omega arith)) is.names
 
 IfSome-slice_get : {X : Type 0} (P : X → Type 0) (xs : List X) (index : ℕ) → All P xs → IfSome (slice_get xs index) P
 IfSome-slice_get P [] index all = tt
@@ -137,7 +145,8 @@ AreBytes-none = record { length = refl; bytes = λ i. omega arith }
 
 AreBytes-first : (count : ℕ) (name : Option (List ℕ)) → IfSome name (AreBytes 30) → count ≤ 30 → AreBytes count (first_bytes count name)
 AreBytes-first count None are few = record { length = length-replicate count 32; bytes = replicate-bytes count }
-AreBytes-first count (Some name) are few = let long = are.length in record { length = grind (arith, common_steps); bytes = take-bytes count name are.bytes }
+AreBytes-first count (Some name) are few = let long = are.length in
+    record { length = grind (arith, common_steps); bytes = take-bytes count name are.bytes }
 
 -- What a helper function does keeps within bounds: its answer, what it copies, and the score that it sets.
 
@@ -145,66 +154,89 @@ abbrev IsBounded : Meaning → Interval → List ℕ → Type 0
 IsBounded (TellsRecord told) answer arguments = (segment : Contents) → IsSegment segment → Admits answer (told segment.bytes arguments)
 IsBounded (TellsSegment told) answer arguments = (segment : Contents) → IsSegment segment → Admits answer (told segment arguments)
 IsBounded (ComparesFrame equal) answer arguments = answer ≡ between 0 1
-IsBounded (CopiesIntoFrame copied) answer arguments = (answer ≡ between 0 1) × (third arguments ≤ 30) × ((segment : Contents) → IsSegment segment → IfSome (copied segment arguments) (AreBytes 30))
+IsBounded (CopiesIntoFrame copied) answer arguments = (answer ≡ between 0 1) × (third arguments ≤ 30)
+    × ((segment : Contents) → IsSegment segment → IfSome (copied segment arguments) (AreBytes 30))
 IsBounded (SetsScore set) answer arguments = (answer ≡ single 0) × (set arguments < 2 ^ 64)
 
-is-bounded : (helper : Helper) (arguments : List ℕ) → MeetsSignature helper arguments → IsBounded (meaning helper) (signature helper).answer arguments
+is-bounded : (helper : Helper) (arguments : List ℕ) → MeetsSignature helper arguments
+    → IsBounded (meaning helper) (signature helper).answer arguments
 is-bounded Field arguments meets = λ segment is. number-digits (bytes_at segment.bytes (slice_get FIELDS (first arguments)))
 is-bounded Has arguments meets = λ segment is. truth-bit (is_some (field_number segment.bytes (first arguments)))
 is-bounded Names arguments meets = λ segment is. record { above = omega arith; below = is.few_names }
 is-bounded Ranges arguments meets = λ segment is. let few = is.few_ranges in record { above = omega arith; below = omega arith }
 is-bounded InRange arguments meets = λ segment is. sides-bits (second arguments) (slice_get (ranges_of segment) (first arguments))
-is-bounded NameCopy arguments meets = record { 0 = refl; 1 = (meets.each 2).below; 2 = λ segment is. IfSome-slice_get (AreBytes 30) (names_of segment) (first arguments) (names-bytes segment is) }
+is-bounded NameCopy arguments meets = record {
+  0 = refl;
+  1 = (meets.each 2).below;
+  2 =
+      λ segment is. IfSome-slice_get (AreBytes 30) (names_of segment) (first arguments) (names-bytes segment is);
+}
 is-bounded NameIs arguments meets = refl
 is-bounded Emit arguments meets = record { 0 = refl; 1 = omega (arith, (meets.each 0).below) }
 is-bounded Coord arguments meets = λ segment is. coordinate-fits (bytes_at segment.bytes (slice_get COORDINATES (first arguments)))
 
 -- what a call answers is a number of the interval that the table has
 
-does-admits : (m : Meaning) (answer : Interval) (segment : Contents) (arguments bytes : List ℕ) (score : ℕ) → IsSegment segment → IsBounded m answer arguments → Admits answer (does m segment arguments bytes score).answer
+does-admits : (m : Meaning) (answer : Interval) (segment : Contents) (arguments bytes : List ℕ) (score : ℕ) → IsSegment segment
+    → IsBounded m answer arguments → Admits answer (does m segment arguments bytes score).answer
 does-admits (TellsRecord told) answer segment arguments bytes score is bounded = bounded segment is
 does-admits (TellsSegment told) answer segment arguments bytes score is bounded = bounded segment is
 does-admits (ComparesFrame equal) answer segment arguments bytes score is bounded = rw bounded (truth-bit (equal segment arguments bytes))
-does-admits (CopiesIntoFrame copied) answer segment arguments bytes score is bounded = rw bounded.0 (truth-bit (is_some (copied segment arguments)))
-does-admits (SetsScore set) answer segment arguments bytes score is bounded = rw bounded.0 (record { above = omega arith; below = omega arith })
+does-admits (CopiesIntoFrame copied) answer segment arguments bytes score is bounded =
+    rw bounded.0 (truth-bit (is_some (copied segment arguments)))
+does-admits (SetsScore set) answer segment arguments bytes score is bounded =
+    rw bounded.0 (record { above = omega arith; below = omega arith })
 
-pub answer-admits : (helper : Helper) (segment : Contents) (arguments bytes : List ℕ) (score : ℕ) → IsSegment segment → MeetsSignature helper arguments → Admits (signature helper).answer (call helper segment arguments bytes score).answer
+pub answer-admits : (helper : Helper) (segment : Contents) (arguments bytes : List ℕ) (score : ℕ) → IsSegment segment
+    → MeetsSignature helper arguments → Admits (signature helper).answer (call helper segment arguments bytes score).answer
 answer-admits helper segment arguments bytes score is meets =
     does-admits (meaning helper) (signature helper).answer segment arguments bytes score is (is-bounded helper arguments meets)
 
 -- and a word
-pub answer-fits : (helper : Helper) (segment : Contents) (arguments bytes : List ℕ) (score : ℕ) → IsSegment segment → MeetsSignature helper arguments → (call helper segment arguments bytes score).answer < 2 ^ 64
+pub answer-fits : (helper : Helper) (segment : Contents) (arguments bytes : List ℕ) (score : ℕ) → IsSegment segment
+    → MeetsSignature helper arguments → (call helper segment arguments bytes score).answer < 2 ^ 64
 answer-fits helper segment arguments bytes score is meets =
     let admits = answer-admits helper segment arguments bytes score is meets in
     omega (arith, admits.below, below-any helper)
 
 -- what a call writes are bytes, as many as its third argument says where it writes at all
 
-does-bytes : (m : Meaning) (answer : Interval) (segment : Contents) (arguments bytes : List ℕ) (score : ℕ) → IsSegment segment → IsBounded m answer arguments → AreBytes (written_length (frame_use (shape_of m)) arguments) (does m segment arguments bytes score).written
-does-bytes (CopiesIntoFrame copied) answer segment arguments bytes score is bounded = AreBytes-first (third arguments) (copied segment arguments) (bounded.2 segment is) bounded.1
+does-bytes : (m : Meaning) (answer : Interval) (segment : Contents) (arguments bytes : List ℕ) (score : ℕ) → IsSegment segment
+    → IsBounded m answer arguments → AreBytes (written_length (frame_use (shape_of m)) arguments)
+    (does m segment arguments bytes score).written
+does-bytes (CopiesIntoFrame copied) answer segment arguments bytes score is bounded =
+    AreBytes-first (third arguments) (copied segment arguments) (bounded.2 segment is) bounded.1
 does-bytes otherwise answer segment arguments bytes score is bounded = AreBytes-none
 
-pub written-bytes : (helper : Helper) (segment : Contents) (arguments bytes : List ℕ) (score : ℕ) → IsSegment segment → MeetsSignature helper arguments → AreBytes (written_length (frame_use (signature helper).shape) arguments) (call helper segment arguments bytes score).written
+pub written-bytes : (helper : Helper) (segment : Contents) (arguments bytes : List ℕ) (score : ℕ) → IsSegment segment
+    → MeetsSignature helper arguments → AreBytes (written_length (frame_use (signature helper).shape) arguments)
+    (call helper segment arguments bytes score).written
 written-bytes helper segment arguments bytes score is meets =
-    subst (λ (s : Shape). AreBytes (written_length (frame_use s) arguments) (call helper segment arguments bytes score).written) (shape-is helper)
+    subst (λ (s : Shape). AreBytes (written_length (frame_use s) arguments) (call helper segment arguments bytes score).written)
+    (shape-is helper)
     (does-bytes (meaning helper) (signature helper).answer segment arguments bytes score is (is-bounded helper arguments meets))
 
-pub written-length : (helper : Helper) (segment : Contents) (arguments bytes : List ℕ) (score : ℕ) → IsSegment segment → MeetsSignature helper arguments → length (call helper segment arguments bytes score).written ≡ written_length (frame_use (signature helper).shape) arguments
+pub written-length : (helper : Helper) (segment : Contents) (arguments bytes : List ℕ) (score : ℕ) → IsSegment segment
+    → MeetsSignature helper arguments → length (call helper segment arguments bytes score).written ≡ written_length
+    (frame_use (signature helper).shape) arguments
 written-length helper segment arguments bytes score is meets = (written-bytes helper segment arguments bytes score is meets).length
 
 -- and else nothing
 
-does-write-nothing : (m : Meaning) (segment : Contents) (arguments bytes : List ℕ) (score : ℕ) → frame_use (shape_of m) ≢ Writes → (does m segment arguments bytes score).written ≡ []
+does-write-nothing : (m : Meaning) (segment : Contents) (arguments bytes : List ℕ) (score : ℕ) → frame_use (shape_of m) ≢ Writes
+    → (does m segment arguments bytes score).written ≡ []
 does-write-nothing (CopiesIntoFrame copied) segment arguments bytes score not = absurd (not refl)
 does-write-nothing otherwise segment arguments bytes score not = refl
 
-pub written-nothing : (helper : Helper) (segment : Contents) (arguments bytes : List ℕ) (score : ℕ) → frame_use (signature helper).shape ≢ Writes → (call helper segment arguments bytes score).written ≡ []
+pub written-nothing : (helper : Helper) (segment : Contents) (arguments bytes : List ℕ) (score : ℕ)
+    → frame_use (signature helper).shape ≢ Writes → (call helper segment arguments bytes score).written ≡ []
 written-nothing helper segment arguments bytes score not =
     does-write-nothing (meaning helper) segment arguments bytes score (λ writes. not (ap frame_use (sym (shape-is helper)) ∙ writes))
 
 -- the score stays, but for the one call that sets it
 
-does-keep-score : (m : Meaning) (segment : Contents) (arguments bytes : List ℕ) (score : ℕ) → shape_of m ≢ shape.SetsScore → (does m segment arguments bytes score).score ≡ score
+does-keep-score : (m : Meaning) (segment : Contents) (arguments bytes : List ℕ) (score : ℕ) → shape_of m ≢ shape.SetsScore
+    → (does m segment arguments bytes score).score ≡ score
 does-keep-score (SetsScore set) segment arguments bytes score not = absurd (not refl)
 does-keep-score otherwise segment arguments bytes score not = refl
 
@@ -212,14 +244,19 @@ sets-score : (helper : Helper) → shape_of (meaning helper) ≡ shape.SetsScore
 sets-score Emit is = refl
 sets-score otherwise is = cc
 
-pub score-stays : (helper : Helper) (segment : Contents) (arguments bytes : List ℕ) (score : ℕ) → helper ≢ Emit → (call helper segment arguments bytes score).score ≡ score
-score-stays helper segment arguments bytes score not = does-keep-score (meaning helper) segment arguments bytes score (λ is. not (sets-score helper is))
+pub score-stays : (helper : Helper) (segment : Contents) (arguments bytes : List ℕ) (score : ℕ) → helper ≢ Emit
+    → (call helper segment arguments bytes score).score ≡ score
+score-stays helper segment arguments bytes score not = does-keep-score (meaning helper) segment arguments bytes score
+    (λ is. not (sets-score helper is))
 
 -- and is a word
 
-does-fit : (m : Meaning) (answer : Interval) (segment : Contents) (arguments bytes : List ℕ) (score : ℕ) → IsBounded m answer arguments → score < 2 ^ 64 → (does m segment arguments bytes score).score < 2 ^ 64
+does-fit : (m : Meaning) (answer : Interval) (segment : Contents) (arguments bytes : List ℕ) (score : ℕ) → IsBounded m answer arguments
+    → score < 2 ^ 64 → (does m segment arguments bytes score).score < 2 ^ 64
 does-fit (SetsScore set) answer segment arguments bytes score bounded fits = bounded.1
 does-fit otherwise answer segment arguments bytes score bounded fits = fits
 
-pub score-fits : (helper : Helper) (segment : Contents) (arguments bytes : List ℕ) (score : ℕ) → MeetsSignature helper arguments → score < 2 ^ 64 → (call helper segment arguments bytes score).score < 2 ^ 64
-score-fits helper segment arguments bytes score meets = does-fit (meaning helper) (signature helper).answer segment arguments bytes score (is-bounded helper arguments meets)
+pub score-fits : (helper : Helper) (segment : Contents) (arguments bytes : List ℕ) (score : ℕ) → MeetsSignature helper arguments
+    → score < 2 ^ 64 → (call helper segment arguments bytes score).score < 2 ^ 64
+score-fits helper segment arguments bytes score meets = does-fit (meaning helper) (signature helper).answer segment arguments bytes score
+    (is-bounded helper arguments meets)

@@ -9,11 +9,15 @@ use Rattle.bpf_helpers.specs.Shape as shape
 use Rattle.bpf_helpers.specs.declared.helper.Helper.{Helper}
 use Rattle.bpf_helpers.proofs.CallLemmas.{shape-is}
 
-does_alike : (m : Meaning) (segment other : Contents) (arguments bytes : List ℕ) (score : ℕ) → IsTrue (shape.reads_record_alone (shape_of m)) → segment.bytes ≡ other.bytes → does m segment arguments bytes score ≡ does m other arguments bytes score
-does_alike (TellsRecord told) segment other arguments bytes score alone same = ap (λ (line : List ℕ). answers score (told line arguments)) same
+does_alike : (m : Meaning) (segment other : Contents) (arguments bytes : List ℕ) (score : ℕ)
+    → IsTrue (shape.reads_record_alone (shape_of m)) → segment.bytes ≡ other.bytes
+    → does m segment arguments bytes score ≡ does m other arguments bytes score
+does_alike (TellsRecord told) segment other arguments bytes score alone same =
+    ap (λ (line : List ℕ). answers score (told line arguments)) same
 does_alike (SetsScore set) segment other arguments bytes score alone same = refl
 does_alike otherwise segment other arguments bytes score alone same = absurd (false≢true alone)
 
-pub calls_alike : (helper : Helper) (segment other : Contents) (arguments bytes : List ℕ) (score : ℕ) → IsTrue (reads_record_alone helper) → segment.bytes ≡ other.bytes → call helper segment arguments bytes score ≡ call helper other arguments bytes score
+pub calls_alike : (helper : Helper) (segment other : Contents) (arguments bytes : List ℕ) (score : ℕ) → IsTrue (reads_record_alone helper)
+    → segment.bytes ≡ other.bytes → call helper segment arguments bytes score ≡ call helper other arguments bytes score
 calls_alike helper segment other arguments bytes score alone =
     does_alike (meaning helper) segment other arguments bytes score (ap shape.reads_record_alone (shape-is helper) ∙ alone)

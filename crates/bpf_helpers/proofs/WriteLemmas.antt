@@ -1,5 +1,6 @@
 -- Bytes of memory over which others are written.
-use Rattle.std.proofs.Common.{◌≡◌, ℕ, ◌+◌, ◌-◌, ◌<◌, ◌≤◌, List, [], ◌++◌, length, get_or, take, drop, Option, take_all, ap, sym, ◌∙◌, refl, arith}
+use Rattle.std.proofs.Common.{◌≡◌, ℕ, ◌+◌, ◌-◌, ◌<◌, ◌≤◌, List, [], ◌++◌, length, get_or, take, drop, Option, take_all, ap, sym, ◌∙◌, refl}
+use Rattle.std.proofs.Common.{arith}
 use Rattle.std.proofs.lemmas.Grind.{common_steps}
 use Rattle.std.proofs.lemmas.Slice.{put_mid-paste}
 use borrow.Rule.Slice.PartMut.{put_mid, mid_of}
@@ -14,28 +15,36 @@ pub none_written : (memory bytes : List ℕ) (at : ℕ) → bytes ≡ [] → wri
 none_written memory bytes at none = rw none (write-nothing memory at)
 
 -- memory keeps its length
-pub length-write : {A : Type 0} (memory bytes : List A) (at : ℕ) → at + length bytes ≤ length memory → length (write memory at bytes) ≡ length memory
+pub length-write : {A : Type 0} (memory bytes : List A) (at : ℕ) → at + length bytes ≤ length memory
+    → length (write memory at bytes) ≡ length memory
 length-write memory bytes at within = grind (arith, common_steps)
 
 -- the bytes that are written
-pub get_or-write : {A : Type 0} (memory bytes : List A) (at index : ℕ) (d : A) → at + length bytes ≤ length memory → index < length bytes → get_or (write memory at bytes) (at + index) d ≡ get_or bytes index d
+pub get_or-write : {A : Type 0} (memory bytes : List A) (at index : ℕ) (d : A) → at + length bytes ≤ length memory → index < length bytes
+    → get_or (write memory at bytes) (at + index) d ≡ get_or bytes index d
 get_or-write memory bytes at index d within inside = grind (arith, common_steps)
 
 -- those before them
-pub get_or-write_before : {A : Type 0} (memory bytes : List A) (at index : ℕ) (d : A) → at + length bytes ≤ length memory → index < at → get_or (write memory at bytes) index d ≡ get_or memory index d
+pub get_or-write_before : {A : Type 0} (memory bytes : List A) (at index : ℕ) (d : A) → at + length bytes ≤ length memory → index < at
+    → get_or (write memory at bytes) index d ≡ get_or memory index d
 get_or-write_before memory bytes at index d within before = grind (arith, common_steps)
 
 -- and those behind them
-pub get_or-write_behind : {A : Type 0} (memory bytes : List A) (at index : ℕ) (d : A) → at + length bytes ≤ length memory → at + length bytes ≤ index → get_or (write memory at bytes) index d ≡ get_or memory index d
+pub get_or-write_behind : {A : Type 0} (memory bytes : List A) (at index : ℕ) (d : A) → at + length bytes ≤ length memory
+    → at + length bytes ≤ index → get_or (write memory at bytes) index d ≡ get_or memory index d
 get_or-write_behind memory bytes at index d within behind = grind (arith, common_steps)
 
 -- a part of memory that was written in place
-put_mid-write : {A : Type 0} (memory bytes : List A) (at count : ℕ) → count ≡ length bytes → put_mid at count memory bytes ≡ write memory at bytes
-put_mid-write {A} memory bytes at count same = put_mid-paste at count memory bytes bytes count refl refl same ∙ ap (λ (part : List A). take at memory ++ part ++ drop (at + count) memory) (take_all count bytes (omega arith)) ∙ rw same refl
+put_mid-write : {A : Type 0} (memory bytes : List A) (at count : ℕ) → count ≡ length bytes
+    → put_mid at count memory bytes ≡ write memory at bytes
+put_mid-write {A} memory bytes at count same = put_mid-paste at count memory bytes bytes count refl refl same
+    ∙ ap (λ (part : List A). take at memory ++ part ++ drop (at + count) memory) (take_all count bytes (omega arith)) ∙ rw same refl
 
 -- a name's first bytes, copied into a part of memory
-pub put_mid-first_bytes : (memory bytes : List ℕ) (name : Option (List ℕ)) (at count k : ℕ) → at + count ≤ length memory → k ≡ at + count - at → length bytes ≡ length (mid_of at k memory) → bytes ≡ first_bytes (length (mid_of at k memory)) name → put_mid at k memory bytes ≡ write memory at (first_bytes count name)
-put_mid-first_bytes memory bytes name at count k within same kept is =
+pub put_mid-first_bytes : {bytes : List ℕ} (memory : List ℕ) (name : Option (List ℕ)) {k : ℕ} (at count : ℕ) → at + count ≤ length memory
+    → k ≡ at + count - at → length bytes ≡ length (mid_of at k memory) → bytes ≡ first_bytes (length (mid_of at k memory)) name
+    → put_mid at k memory bytes ≡ write memory at (first_bytes count name)
+put_mid-first_bytes {bytes} memory name {k} at count within same kept is =
     let all : k ≡ count = omega arith in
     let long : length (mid_of at k memory) ≡ count = rw all (grind (arith, common_steps)) in
     put_mid-write memory bytes at k (all ∙ sym long ∙ sym kept) ∙ ap (write memory at) (is ∙ ap (λ (n : ℕ). first_bytes n name) long)

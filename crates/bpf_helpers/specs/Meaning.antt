@@ -16,10 +16,6 @@ abbrev pub truth : Bool → ℕ
 truth true = 1
 truth false = 0
 
--- from one place of a record to another, counted from 1, both included
-abbrev pub places : ℕ → ℕ → Places
-places first last = record { 0 = first; 1 = last }
-
 -- the bytes of a record at some places; where there are none, no bytes
 abbrev pub bytes_at : List ℕ → Option Places → List ℕ
 bytes_at line None = []

@@ -5,33 +5,38 @@ ghost use Rattle.tl_records.specs.Layout.{IsWithin};
 ghost use Rattle.tl_segments.specs.declared.segment.TheConstants.{RECORD_LENGTH};
 
 use std::alloc::Allocator;
-use tl_fields::{field, number};
-use tl_records::{Places, Rt1};
+use tl_fields::number;
+use tl_records::{Places, Type1};
 use tl_segments::Segment;
 
 /// The fields that have an id, in the order of their ids (TIGER/Line 2006, record type 1).
 pub(crate) const FIELDS: [Places; 17] = [
-    Rt1::TLID,
-    Rt1::FRADDL,
-    Rt1::TOADDL,
-    Rt1::FRADDR,
-    Rt1::TOADDR,
-    Rt1::ZIPL,
-    Rt1::ZIPR,
-    Rt1::STATEL,
-    Rt1::STATER,
-    Rt1::COUNTYL,
-    Rt1::COUNTYR,
-    Rt1::PLACEL,
-    Rt1::PLACER,
-    Rt1::TRACTL,
-    Rt1::TRACTR,
-    Rt1::BLOCKL,
-    Rt1::BLOCKR,
+    Type1::TLID,
+    Type1::FRADDL,
+    Type1::TOADDL,
+    Type1::FRADDR,
+    Type1::TOADDR,
+    Type1::ZIPL,
+    Type1::ZIPR,
+    Type1::STATEL,
+    Type1::STATER,
+    Type1::COUNTYL,
+    Type1::COUNTYR,
+    Type1::PLACEL,
+    Type1::PLACER,
+    Type1::TRACTL,
+    Type1::TRACTR,
+    Type1::BLOCKL,
+    Type1::BLOCKR,
 ];
 
 /// The coordinates of the segment's ends: the longitude and the latitude of where it begins, and of where it ends.
-pub(crate) const COORDINATES: [Places; 4] = [Rt1::FRLONG, Rt1::FRLAT, Rt1::TOLONG, Rt1::TOLAT];
+pub(crate) const COORDINATES: [Places; 4] = [
+    Type1::FRLONG,
+    Type1::FRLAT,
+    Type1::TOLONG,
+    Type1::TOLAT,
+];
 
 /// The number of the field with an id, if it has one.
 #[inline]
@@ -61,7 +66,7 @@ fn bytes_at<A: Allocator>(segment: &Segment<A>, places: Option<Places>) -> &[u8]
     ensures { result.now ≡ bytes_at segment.now.bytes places }
 {
     match places {
-        Some(places) => field(segment.bytes(), places.0, places.1),
+        Some(places) => places.of(segment.bytes()),
         None => &[],
     }
 }

@@ -2,7 +2,6 @@
 ghost use Rattle.std.specs.Prelude.{◌≡◌, ◌≢◌, ℕ, ◌+◌, ◌-◌, ◌^◌, ◌<◌, ◌≤◌, List, [], length, get_or, slice_get, slice_index, codes, IsTrue, Some, None};
 ghost use Rattle.bpf_helpers.specs.Call.{MeetsSignature, call, first, meaning, shape_of, write, written_length};
 ghost use Rattle.bpf_helpers.specs.Helper.{by_number, reads_record_alone, signature};
-ghost use Rattle.bpf_helpers.specs.Meaning.{places};
 ghost use Rattle.bpf_helpers.specs.Shape.{frame_use};
 ghost use Rattle.bpf_helpers.specs.declared.helper.Helper.{Helper};
 ghost use Rattle.bpf_helpers.specs.declared.helper.Helper.TheVariants.{Field, Has, Names, Ranges, InRange, NameCopy, NameIs, Emit, Coord};
@@ -10,6 +9,7 @@ ghost use Rattle.bpf_helpers.specs.declared.signature.Argument.TheVariants.{Unus
 ghost use Rattle.bpf_helpers.specs.declared.signature.FrameUse.TheVariants.{Nothing, Writes};
 ghost use Rattle.bpf_kinds.specs.Interval.{Admits, between};
 ghost use Rattle.tl_fields.specs.Number.{number_of};
+ghost use Rattle.tl_records.specs.Layout.{places};
 ghost use Rattle.tl_segments.specs.Segment.{Contents, IsSegment};
 
 use crate::fields::{COORDINATES, FIELDS};

@@ -1,5 +1,6 @@
 -- Hits of the elements of a list, up to one more.
-use Rattle.std.proofs.Common.{◌≡◌, ℕ, ◌+◌, ◌<◌, Bool, true, false, cond, List, [], ◌∷◌, ◌++◌, length, filter, get_or, take, slice_get, Some, None, refl, ap, sym, ◌∙◌}
+use Rattle.std.proofs.Common.{◌≡◌, ℕ, ◌+◌, ◌<◌, Bool, true, false, cond, List, [], ◌∷◌, ◌++◌, length, filter, get_or, take, slice_get, Some}
+use Rattle.std.proofs.Common.{None, refl, ap, sym, ◌∙◌}
 use Rattle.std.specs.List.{flat_map, list_any}
 use Rattle.std.proofs.lemmas.Grind.{take_at_read}
 use Rattle.std.proofs.lemmas.List.{append-nil, flat_map_more, get_or-map, length-map}
@@ -10,14 +11,18 @@ use Rattle.tl_segments.specs.County.{AreTlids, tlid_of}
 use Rattle.tl_segments.specs.Segment.{Contents}
 
 -- what the elements up to one more give, where it was added behind what those before give
-pub flat_map-next : {X Y : Type 0} (f : X → List Y) (start now : List Y) (xs : List X) (i : ℕ) (d : X) → i < length xs → now ≡ start ++ flat_map f (take i xs) → now ++ f (get_or xs i d) ≡ start ++ flat_map f (take (i + 1) xs)
+pub flat_map-next : {X Y : Type 0} (f : X → List Y) (start now : List Y) (xs : List X) (i : ℕ) (d : X) → i < length xs
+    → now ≡ start ++ flat_map f (take i xs) → now ++ f (get_or xs i d) ≡ start ++ flat_map f (take (i + 1) xs)
 flat_map-next f start now xs i d inside so_far =
-    ap (λ now. now ++ f (get_or xs i d)) so_far ∙ flat_map_more f start (take i xs) (get_or xs i d) ∙ ap (λ xs. start ++ flat_map f xs) (sym (take_at_read xs i d inside).1)
+    ap (λ now. now ++ f (get_or xs i d)) so_far ∙ flat_map_more f start (take i xs) (get_or xs i d)
+    ∙ ap (λ xs. start ++ flat_map f xs) (sym (take_at_read xs i d inside).1)
 
 -- the same by what is read at a number
-pub flat_map-at : {X Y : Type 0} (f : X → List Y) (start now : List Y) (xs : List X) (n : ℕ) (x : X) → Some x ≡ slice_get xs n → now ≡ start ++ flat_map f (take n xs) → now ++ f x ≡ start ++ flat_map f (take (n + 1) xs)
+pub flat_map-at : {X Y : Type 0} (f : X → List Y) (start now : List Y) (xs : List X) (n : ℕ) (x : X) → Some x ≡ slice_get xs n
+    → now ≡ start ++ flat_map f (take n xs) → now ++ f x ≡ start ++ flat_map f (take (n + 1) xs)
 flat_map-at f start now xs n x is so_far =
-    ap (λ x. now ++ f x) (sym (get_or_from_slice_get xs n x x (sym is))) ∙ flat_map-next f start now xs n x (slice_get_within xs n x (sym is)) so_far
+    ap (λ x. now ++ f x) (sym (get_or_from_slice_get xs n x x (sym is)))
+    ∙ flat_map-next f start now xs n x (slice_get_within xs n x (sym is)) so_far
 
 -- something is read at a number below the length
 pub read-within : {X : Type 0} (xs : List X) (n : ℕ) (d : X) → n < length xs → ¬ (None ≡ slice_get xs n)
@@ -30,37 +35,45 @@ list_any-at p xs n x is passes =
     list_any_at p xs n x (slice_get_within xs n x (sym is)) (ap p (get_or_from_slice_get xs n x x (sym is)) ∙ sym passes)
 
 -- and one that doesn't, behind others that don't
-pub list_any-next : {X : Type 0} (p : X → Bool) (xs : List X) (n : ℕ) (x : X) → Some x ≡ slice_get xs n → false ≡ p x → list_any p (take n xs) ≡ false → list_any p (take (n + 1) xs) ≡ false
+pub list_any-next : {X : Type 0} (p : X → Bool) (xs : List X) (n : ℕ) (x : X) → Some x ≡ slice_get xs n → false ≡ p x
+    → list_any p (take n xs) ≡ false → list_any p (take (n + 1) xs) ≡ false
 list_any-next p xs n x is fails so_far =
     let at_n : p (get_or xs n x) ≡ false = ap p (get_or_from_slice_get xs n x x (sym is)) ∙ sym fails in
     list_any_more p xs n x (slice_get_within xs n x (sym is)) ∙ rw (so_far, at_n) refl
 
 -- the elements that pass the test, with one more that passes it or doesn't
-filter-next : {X : Type 0} (test : X → Bool) (xs : List X) (i : ℕ) (x : X) → i < length xs → x ≡ get_or xs i x → filter test (take (i + 1) xs) ≡ filter test (take i xs) ++ cond (test x) (x ∷ []) []
+filter-next : {X : Type 0} (test : X → Bool) (xs : List X) (i : ℕ) (x : X) → i < length xs → x ≡ get_or xs i x
+    → filter test (take (i + 1) xs) ≡ filter test (take i xs) ++ cond (test x) (x ∷ []) []
 filter-next test xs i x inside is =
     ap (filter test) (take_at_read xs i x inside).1
     ∙ filter-append test (take i xs) (get_or xs i x ∷ [])
     ∙ ap (λ x. filter test (take i xs) ++ cond (test x) (x ∷ []) []) (sym is)
 
--- what the elements that pass the test give, with one more that passes it
-pub flat_map-passes : {X Y : Type 0} (test : X → Bool) (f : X → List Y) (start now : List Y) (xs : List X) (i : ℕ) (x : X) → i < length xs → x ≡ get_or xs i x → test x ≡ true → now ≡ start ++ flat_map f (filter test (take i xs)) → now ++ f x ≡ start ++ flat_map f (filter test (take (i + 1) xs))
-flat_map-passes test f start now xs i x inside is passes so_far =
-    ap (λ now. now ++ f x) so_far
-    ∙ flat_map_more f start (filter test (take i xs)) x
-    ∙ ap (λ b. start ++ flat_map f (filter test (take i xs) ++ cond b (x ∷ []) [])) (sym passes)
-    ∙ ap (λ xs. start ++ flat_map f xs) (sym (filter-next test xs i x inside is))
+-- one more of the elements, and what those before it give that pass the test
+module _ {X Y : Type 0} (test : X → Bool) (f : X → List Y) (start : List Y) (xs : List X) (i : ℕ) (inside : i < length xs) where
+  -- with one that passes it
+  pub flat_map-passes : {now : List Y} {x : X} → x ≡ get_or xs i x → test x ≡ true → now ≡ start ++ flat_map f (filter test (take i xs))
+      → now ++ f x ≡ start ++ flat_map f (filter test (take (i + 1) xs))
+  flat_map-passes {x} is passes so_far =
+      ap (λ now. now ++ f x) so_far
+      ∙ flat_map_more f start (filter test (take i xs)) x
+      ∙ ap (λ b. start ++ flat_map f (filter test (take i xs) ++ cond b (x ∷ []) [])) (sym passes)
+      ∙ ap (λ xs. start ++ flat_map f xs) (sym (filter-next test xs i x inside is))
 
--- and with one that doesn't
-pub flat_map-fails : {X Y : Type 0} (test : X → Bool) (f : X → List Y) (start now : List Y) (xs : List X) (i : ℕ) (x : X) → i < length xs → x ≡ get_or xs i x → test x ≡ false → now ≡ start ++ flat_map f (filter test (take i xs)) → now ≡ start ++ flat_map f (filter test (take (i + 1) xs))
-flat_map-fails test f start now xs i x inside is fails so_far =
-    so_far
-    ∙ ap (λ xs. start ++ flat_map f xs) (sym (append-nil (filter test (take i xs))))
-    ∙ ap (λ b. start ++ flat_map f (filter test (take i xs) ++ cond b (x ∷ []) [])) (sym fails)
-    ∙ ap (λ xs. start ++ flat_map f xs) (sym (filter-next test xs i x inside is))
+  -- and with one that doesn't
+  pub flat_map-fails : {now : List Y} {x : X} → x ≡ get_or xs i x → test x ≡ false → now ≡ start ++ flat_map f (filter test (take i xs))
+      → now ≡ start ++ flat_map f (filter test (take (i + 1) xs))
+  flat_map-fails {x} is fails so_far =
+      so_far
+      ∙ ap (λ xs. start ++ flat_map f xs) (sym (append-nil (filter test (take i xs))))
+      ∙ ap (λ b. start ++ flat_map f (filter test (take i xs) ++ cond b (x ∷ []) [])) (sym fails)
+      ∙ ap (λ xs. start ++ flat_map f xs) (sym (filter-next test xs i x inside is))
 
 -- the number of the TLID at an index
-pub tlid_at : (tlids : List ℕ) (segments : List Contents) (i tlid : ℕ) (segment : Contents) → AreTlids tlids segments → i < length segments → i < length tlids → segment ≡ get_or segments i segment → tlid ≡ get_or tlids i tlid → tlid_of segment ≡ Some tlid
-tlid_at tlids segments i tlid segment same inside within is numbered =
+pub tlid_at : (tlids : List ℕ) (segments : List Contents) {tlid : ℕ} (i : ℕ) {segment : Contents} → AreTlids tlids segments
+    → i < length segments → i < length tlids → segment ≡ get_or segments i segment → tlid ≡ get_or tlids i tlid
+    → tlid_of segment ≡ Some tlid
+tlid_at tlids segments {tlid} i {segment} same inside within is numbered =
     ap tlid_of is
     ∙ sym (get_or-map tlid_of segments i segment None inside)
     ∙ ap (λ found. get_or found i None) (sym same)

@@ -1,5 +1,6 @@
 -- How great a share of a way is.
-use Rattle.std.proofs.Common.{◌≡◌, ◌≢◌, ℕ, ◌*◌, ◌/◌, ◌^◌, ◌<◌, ◌≤◌, zero, suc, ℤ, pos, negsuc, neg_ℤ, ◌+ℤ◌, ◌-ℤ◌, ◌*ℤ◌, nat_abs, int_div, to_z, of_z, FitsSigned, refl, arith}
+use Rattle.std.proofs.Common.{◌≡◌, ◌≢◌, ℕ, ◌*◌, ◌/◌, ◌^◌, ◌<◌, ◌≤◌, zero, suc, ℤ, pos, negsuc, neg_ℤ, ◌+ℤ◌, ◌-ℤ◌, ◌*ℤ◌, nat_abs, int_div}
+use Rattle.std.proofs.Common.{to_z, of_z, FitsSigned, refl, arith}
 use Rattle.std.specs.Int.{w128}
 use Rattle.std.proofs.Math.Nat.{div-le_of_le-mul, mul-le-mul_right, mul_comm}
 use Rattle.std.proofs.lemmas.Bool.Decides.{nat_tests}
@@ -23,23 +24,37 @@ product-le m k n le = rw (mul_comm m k) (mul-le-mul_right m le)
 -- a share of a way is no longer than the way
 pub abs-share : (way gone whole : ℤ) → nat_abs gone ≤ nat_abs whole → nat_abs (int_div (way *ℤ gone) whole) ≤ nat_abs way
 abs-share way gone whole part =
-    rw (abs-div (way *ℤ gone) whole, unsigned_abs-mul way gone) (div-le_of_le-mul (nat_abs whole) (product-le (nat_abs way) (nat_abs gone) (nat_abs whole) part))
+    rw (abs-div (way *ℤ gone) whole, unsigned_abs-mul way gone)
+    (div-le_of_le-mul (nat_abs whole) (product-le (nat_abs way) (nat_abs gone) (nat_abs whole) part))
 
 -- the product has 128 bits at most
-pub product-fits : (way gone whole : ℤ) → nat_abs way < 2 * 10 ^ 9 → nat_abs gone ≤ nat_abs whole → nat_abs whole < 10 ^ 11 → FitsSigned w128 (way *ℤ gone)
-product-fits way gone whole short part small = fits_signed_mul w128 way gone (2 * 10 ^ 9) (10 ^ 11) (omega arith) (omega arith) (omega arith)
+pub product-fits : (way gone whole : ℤ) → nat_abs way < 2 * 10 ^ 9 → nat_abs gone ≤ nat_abs whole → nat_abs whole < 10 ^ 11
+    → FitsSigned w128 (way *ℤ gone)
+product-fits way gone whole short part small = fits_signed_mul w128 way gone (2 * 10 ^ 9) (10 ^ 11) (omega arith) (omega arith)
+    (omega arith)
 
 -- and so has the quotient
-pub share-fits : (way gone whole : ℤ) → nat_abs way < 2 * 10 ^ 9 → nat_abs gone ≤ nat_abs whole → FitsSigned w128 (int_div (way *ℤ gone) whole)
-share-fits way gone whole short part = fits_signed_from_abs w128 (int_div (way *ℤ gone) whole) (omega (arith, abs-share way gone whole part))
+pub share-fits : (way gone whole : ℤ) → nat_abs way < 2 * 10 ^ 9 → nat_abs gone ≤ nat_abs whole
+    → FitsSigned w128 (int_div (way *ℤ gone) whole)
+share-fits way gone whole short part = fits_signed_from_abs w128 (int_div (way *ℤ gone) whole)
+    (omega (arith, abs-share way gone whole part))
 
 -- the quotient as the code computes it
-pub share_is : (way gone whole : ℤ) → FitsSigned w128 way → FitsSigned w128 gone → FitsSigned w128 whole → nat_abs way < 2 * 10 ^ 9 → nat_abs gone ≤ nat_abs whole → nat_abs whole < 10 ^ 11 → to_z w128 (of_z w128 (int_div (to_z w128 (of_z w128 (to_z w128 (of_z w128 way) *ℤ to_z w128 (of_z w128 gone)))) (to_z w128 (of_z w128 whole)))) ≡ int_div (way *ℤ gone) whole
-share_is way gone whole fits fits' fits'' short part small =
-    rw (to_z-of_z w128 way fits, to_z-of_z w128 gone fits', to_z-of_z w128 whole fits'', to_z-of_z w128 (way *ℤ gone) (product-fits way gone whole short part small), to_z-of_z w128 (int_div (way *ℤ gone) whole) (share-fits way gone whole short part)) refl
+pub share_is : (way gone whole : ℤ) → nat_abs way < 2 * 10 ^ 9 → nat_abs gone ≤ nat_abs whole → nat_abs whole < 10 ^ 11
+    → to_z w128 (of_z w128
+    (int_div (to_z w128 (of_z w128 (to_z w128 (of_z w128 way) *ℤ to_z w128 (of_z w128 gone)))) (to_z w128 (of_z w128 whole))))
+    ≡ int_div (way *ℤ gone) whole
+share_is way gone whole short part small =
+    let fits : FitsSigned w128 way = fits_signed_from_abs w128 way (omega arith) in
+    let fits' : FitsSigned w128 gone = fits_signed_from_abs w128 gone (omega arith) in
+    let fits'' : FitsSigned w128 whole = fits_signed_from_abs w128 whole (omega arith) in
+    let product = to_z-of_z w128 (way *ℤ gone) (product-fits way gone whole short part small) in
+    let share = to_z-of_z w128 (int_div (way *ℤ gone) whole) (share-fits way gone whole short part) in
+    rw (to_z-of_z w128 way fits, to_z-of_z w128 gone fits', to_z-of_z w128 whole fits'', product, share) refl
 
 -- the difference as the code computes it
-pub difference_is : (a b x y : ℤ) → x ≡ a → y ≡ b → nat_abs a < 10 ^ 11 → nat_abs b < 10 ^ 11 → to_z w128 (of_z w128 (to_z w128 (of_z w128 x) -ℤ to_z w128 (of_z w128 y))) ≡ a -ℤ b
+pub difference_is : (a b x y : ℤ) → x ≡ a → y ≡ b → nat_abs a < 10 ^ 11 → nat_abs b < 10 ^ 11
+    → to_z w128 (of_z w128 (to_z w128 (of_z w128 x) -ℤ to_z w128 (of_z w128 y))) ≡ a -ℤ b
 difference_is a b x y is is' small small' =
     let fits : FitsSigned w128 a = fits_signed_from_abs w128 a (omega arith) in
     let fits' : FitsSigned w128 b = fits_signed_from_abs w128 b (omega arith) in
@@ -47,5 +62,7 @@ difference_is a b x y is is' small small' =
     rw (is, is', to_z-of_z w128 a fits, to_z-of_z w128 b fits', to_z-of_z w128 (a -ℤ b) difference) refl
 
 -- a coordinate between two others, where the addresses aren't equal
-pub coordinate_along-apart : (from to : ℤ) (position : Position) → position.from ≢ position.to → coordinate_along from to position ≡ from +ℤ int_div ((to -ℤ from) *ℤ (pos position.number -ℤ pos position.from)) (pos position.to -ℤ pos position.from)
+pub coordinate_along-apart : (from to : ℤ) (position : Position) → position.from ≢ position.to
+    → coordinate_along from to position ≡ from +ℤ int_div ((to -ℤ from) *ℤ (pos position.number -ℤ pos position.from))
+    (pos position.to -ℤ pos position.from)
 coordinate_along-apart from to position apart = grind (arith, nat_tests)

@@ -4,7 +4,7 @@ use Rattle.std.specs.List.{filter_map, flat_map, list_any}
 use Rattle.std.specs.Option.{option_eq}
 use Rattle.tl_fields.specs.Number.{number_of}
 use Rattle.tl_records.specs.Layout.{field_at}
-use Rattle.tl_records.specs.declared.type1.TheConstants.Rt1.{TLID}
+use Rattle.tl_records.specs.declared.layout.TheConstants.Type1.{TLID}
 use Rattle.tl_segments.specs.County.{CountyParts}
 use Rattle.tl_segments.specs.Name.{name_equals}
 use Rattle.tl_segments.specs.Range.{lies_on}

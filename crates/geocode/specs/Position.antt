@@ -5,7 +5,7 @@ use Rattle.tl_fields.specs.Coordinate.{coordinate_of}
 use Rattle.tl_fields.specs.Number.{number_of}
 use Rattle.tl_records.specs.Layout.{field_at}
 use Rattle.tl_records.specs.declared.layout.Places.{Places}
-use Rattle.tl_records.specs.declared.type1.TheConstants.Rt1.{FRLONG, FRLAT, TOLONG, TOLAT}
+use Rattle.tl_records.specs.declared.layout.TheConstants.Type1.{FRLONG, FRLAT, TOLONG, TOLAT}
 use Rattle.tl_segments.specs.Range.{is_between}
 use Rattle.geocode.specs.Sides.{SideParts}
 use Rattle.geocode.specs.declared.hit.Place.{Place}

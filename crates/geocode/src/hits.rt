@@ -4,7 +4,7 @@ ghost use Rattle.geocode.specs.Hits.{find, has_name, has_zip, hit_on, hits_in_co
 ghost use Rattle.geocode.specs.Sides.{parts_of};
 ghost use Rattle.tl_fields.specs.Number.{number_of};
 ghost use Rattle.tl_records.specs.Layout.{field_at};
-ghost use Rattle.tl_records.specs.declared.type1.TheConstants.Rt1.{TLID};
+ghost use Rattle.tl_records.specs.declared.layout.TheConstants.Type1.{TLID};
 ghost use Rattle.tl_segments.specs.County.{tlid_of};
 ghost use Rattle.tl_segments.specs.Range.{fields_of};
 

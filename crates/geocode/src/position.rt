@@ -7,8 +7,8 @@ ghost use Rattle.tl_segments.specs.Range.{lies_on};
 
 use crate::hit::Place;
 use crate::sides::SideFields;
-use tl_fields::{coordinate, field, number as number_of};
-use tl_records::{Places, Rt1};
+use tl_fields::{coordinate, number as number_of};
+use tl_records::{Places, Type1};
 use tl_segments::RECORD_LENGTH;
 
 /// A house number, and the numbers of the FR and the TO address of the side that it lies on.
@@ -25,8 +25,8 @@ pub(crate) fn place_on(number: u64, bytes: &[u8], side: SideFields<'_>) -> Optio
     requires side { IsTrue (lies_on number side.from.now side.to.now) }
     ensures { result ≡ place_on number bytes.now (parts_of side.entry) }
 {
-    let from = place_at(Rt1::FRLONG, Rt1::FRLAT, bytes)?;
-    let to = place_at(Rt1::TOLONG, Rt1::TOLAT, bytes)?;
+    let from = place_at(Type1::FRLONG, Type1::FRLAT, bytes)?;
+    let to = place_at(Type1::TOLONG, Type1::TOLAT, bytes)?;
     let position = position_on(number, side)?;
     Some(Place {
         longitude: coordinate_along(from.longitude, to.longitude, position),
@@ -42,8 +42,8 @@ fn place_at(longitude: Places, latitude: Places, bytes: &[u8]) -> Option<Place>
     ensures near { IfSome result IsNear }
 {
     Some(Place {
-        longitude: coordinate(field(bytes, longitude.0, longitude.1))?,
-        latitude: coordinate(field(bytes, latitude.0, latitude.1))?,
+        longitude: coordinate(longitude.of(bytes))?,
+        latitude: coordinate(latitude.of(bytes))?,
     })
 }
 

@@ -1,5 +1,6 @@
 -- The lines of a file are one list: a file that isn't empty has one first line.
-use Rattle.std.proofs.Common.{zero, suc, ◌≡◌, ◌≢◌, ℕ, ◌<◌, ◌≤◌, inl, inr, List, [], ◌∷◌, ◌++◌, length, Some, refl, sym, ap, ◌∙◌, subst, append_assoc, length-append, arith}
+use Rattle.std.proofs.Common.{zero, suc, ◌≡◌, ◌≢◌, ℕ, ◌<◌, ◌≤◌, inl, inr, List, [], ◌∷◌, ◌++◌, length, Some, refl, sym, ap, ◌∙◌, subst}
+use Rattle.std.proofs.Common.{append_assoc, length-append, arith}
 use Rattle.std.proofs.lemmas.List.{append_cancel_right}
 use Rattle.std.proofs.lemmas.Bool.{cases_eq}
 use Rattle.std.proofs.lemmas.List.Elements.{All-nil, All-cons, All-head, All-tail, All-push, All-pop}
@@ -7,7 +8,8 @@ use Rattle.tl_fields.specs.Content.{HasNoLineFeed}
 use Rattle.tl_records.specs.Lines.{EndsInReturn, IsEnded, by_lf, by_cr_lf, missing, IsFirstLine, AreLines, IsWithoutReturn}
 
 -- what stands before the first line feed, and what follows it, is one
-pub one_cut : (front other rest after : List ℕ) → HasNoLineFeed front → HasNoLineFeed other → front ++ 10 ∷ rest ≡ other ++ 10 ∷ after → (front ≡ other) × (rest ≡ after)
+pub one_cut : (front other rest after : List ℕ) → HasNoLineFeed front → HasNoLineFeed other → front ++ 10 ∷ rest ≡ other ++ 10 ∷ after
+    → (front ≡ other) × (rest ≡ after)
 one_cut [] [] rest after p q e = (refl, cc)
 one_cut [] (c ∷ other) rest after p q e = absurd (All-head (λ b. b ≢ 10) c other q (cc))
 one_cut (b ∷ front) [] rest after p q e = absurd (All-head (λ b. b ≢ 10) b front p (cc))
@@ -32,28 +34,31 @@ with_return : (line : List ℕ) → HasNoLineFeed line → HasNoLineFeed (line +
 with_return line p = All-push (λ b. b ≢ 10) line 13 p (λ e. cc)
 
 -- a file has one first line
-pub one_first_line_by : (file line other rest after : List ℕ) → HasNoLineFeed line → HasNoLineFeed other → IsEnded file line rest → IsEnded file other after → (line ≡ other) × (rest ≡ after)
-one_first_line_by file line other rest after p q (by_lf e n) (by_lf f m) = one_cut line other rest after p q (sym e ∙ f)
-one_first_line_by file line other rest after p q (by_lf e n) (by_cr_lf f) =
+pub one_first_line_by : {file line other rest after : List ℕ} → HasNoLineFeed line → HasNoLineFeed other → IsEnded file line rest
+    → IsEnded file other after → (line ≡ other) × (rest ≡ after)
+one_first_line_by {line} {other} {rest} {after} p q (by_lf e n) (by_lf f m) = one_cut line other rest after p q (sym e ∙ f)
+one_first_line_by {line} {other} {rest} {after} p q (by_lf e n) (by_cr_lf f) =
     let cut = one_cut line (other ++ 13 ∷ []) rest after p (with_return other q) (sym e ∙ f ∙ cr_lf other after) in
     absurd (n (other, cut.0))
-one_first_line_by file line other rest after p q (by_lf e n) (missing f g h) = absurd (no_cut line rest other q (sym f ∙ e))
-one_first_line_by file line other rest after p q (by_cr_lf e) (by_lf f m) =
+one_first_line_by {line} {other} {rest} p q (by_lf e n) (missing f g h) = absurd (no_cut line rest other q (sym f ∙ e))
+one_first_line_by {line} {other} {rest} {after} p q (by_cr_lf e) (by_lf f m) =
     let cut = one_cut other (line ++ 13 ∷ []) after rest q (with_return line p) (sym f ∙ e ∙ cr_lf line rest) in
     absurd (m (line, cut.0))
-one_first_line_by file line other rest after p q (by_cr_lf e) (by_cr_lf f) =
-    let cut = one_cut (line ++ 13 ∷ []) (other ++ 13 ∷ []) rest after (with_return line p) (with_return other q) (sym (cr_lf line rest) ∙ sym e ∙ f ∙ cr_lf other after) in
+one_first_line_by {line} {other} {rest} {after} p q (by_cr_lf e) (by_cr_lf f) =
+    let cut = one_cut (line ++ 13 ∷ []) (other ++ 13 ∷ []) rest after (with_return line p) (with_return other q)
+    (sym (cr_lf line rest) ∙ sym e ∙ f ∙ cr_lf other after) in
     (append_cancel_right line other (13 ∷ []) cut.0, cut.1)
-one_first_line_by file line other rest after p q (by_cr_lf e) (missing f g h) =
+one_first_line_by {line} {other} {rest} p q (by_cr_lf e) (missing f g h) =
     absurd (no_cut (line ++ 13 ∷ []) rest other q (sym f ∙ e ∙ cr_lf line rest))
-one_first_line_by file line other rest after p q (missing e g h) (by_lf f m) = absurd (no_cut other after line p (sym e ∙ f))
-one_first_line_by file line other rest after p q (missing e g h) (by_cr_lf f) =
+one_first_line_by {line} {other} {after} p q (missing e g h) (by_lf f m) = absurd (no_cut other after line p (sym e ∙ f))
+one_first_line_by {line} {other} {after} p q (missing e g h) (by_cr_lf f) =
     absurd (no_cut (other ++ 13 ∷ []) after line p (sym e ∙ f ∙ cr_lf other after))
-one_first_line_by file line other rest after p q (missing e g h) (missing f i j) = (sym e ∙ f, g ∙ sym i)
+one_first_line_by p q (missing e g h) (missing f i j) = (sym e ∙ f, g ∙ sym i)
 
-pub one_first_line : (file line other rest after : List ℕ) → IsFirstLine file line rest → IsFirstLine file other after → (line ≡ other) × (rest ≡ after)
+pub one_first_line : (file line other rest after : List ℕ) → IsFirstLine file line rest → IsFirstLine file other after → (line ≡ other)
+    × (rest ≡ after)
 one_first_line file line other rest after a b =
-    one_first_line_by file line other rest after a.no_line_feed b.no_line_feed a.ended b.ended
+    one_first_line_by a.no_line_feed b.no_line_feed a.ended b.ended
 
 append_not_empty : (front rest : List ℕ) (b : ℕ) → [] ≡ front ++ b ∷ rest → ⊥
 append_not_empty [] rest b e = cc
@@ -114,7 +119,8 @@ without_return (b ∷ c ∷ content) =
     (b ∷ rest.0, return_later b (c ∷ content) rest.0 (λ e. cc) rest.1)
 
 -- a line that an LF follows, without the CR before the LF
-pub ended_by_lf : (file content line rest : List ℕ) → HasNoLineFeed content → file ≡ content ++ 10 ∷ rest → IsWithoutReturn content line → IsFirstLine file line rest
+pub ended_by_lf : (file content line rest : List ℕ) → HasNoLineFeed content → file ≡ content ++ 10 ∷ rest → IsWithoutReturn content line
+    → IsFirstLine file line rest
 ended_by_lf file content line rest p e (inl f) = record {
   no_line_feed = (All-pop (λ b. b ≢ 10) content line (Some 13) f p).0;
   ended = by_cr_lf (e ∙ ap (λ s. s ++ 10 ∷ rest) f ∙ sym (cr_lf line rest));

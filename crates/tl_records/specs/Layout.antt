@@ -1,7 +1,13 @@
 -- Fields by the places of a record layout (TIGER/Line 2006, record layouts, columns Beg and End).
 use Rattle.std.specs.Prelude.{ℕ, ◌≤◌, List}
 use Rattle.tl_fields.specs.Field.{field_of}
+use Rattle.tl_records.specs.declared.fault.LineFlaw.TheVariants.{BadTlid, BadFeature}
+use Rattle.tl_records.specs.declared.layout.Layout.{Layout}
 use Rattle.tl_records.specs.declared.layout.Places.{Places}
+
+-- from one place of a line to another, counted from 1, both included
+abbrev pub places : ℕ → ℕ → Places
+places first last = record { 0 = first; 1 = last }
 
 -- the field at these places of a line
 abbrev pub field_at : Places → List ℕ → List ℕ
@@ -10,3 +16,17 @@ field_at places line = field_of line places.0 places.1
 -- these are places of a line of so many bytes: counted from 1, the last one not before the first
 abbrev pub IsWithin : Places → ℕ → Type 0
 IsWithin places count = (1 ≤ places.0) × (places.0 ≤ places.1) × (places.1 ≤ count)
+
+-- What the lines of each record type are like: how many bytes they have, the first of them (its type's digit), which field has a number, and
+-- the flaw of a line in which it has none.
+abbrev pub type1 : Layout
+type1 = record { length = 228; tag = 49; number = places 6 15; without_number = BadTlid }
+
+abbrev pub type4 : Layout
+type4 = record { length = 58; tag = 52; number = places 6 15; without_number = BadTlid }
+
+abbrev pub type5 : Layout
+type5 = record { length = 56; tag = 53; number = places 11 18; without_number = BadFeature }
+
+abbrev pub type6 : Layout
+type6 = record { length = 76; tag = 54; number = places 6 15; without_number = BadTlid }

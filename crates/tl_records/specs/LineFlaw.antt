@@ -1,20 +1,13 @@
--- The number and the name of a line's flaw.
-use Rattle.std.specs.Prelude.{ℕ, List, codes}
+-- The refusal of a line's flaw, without its file and its line.
+use Rattle.std.specs.Prelude.{codes}
+use Rattle.refusals.specs.Refusal.{RefusalParts, device, refused}
 use Rattle.tl_records.specs.declared.fault.LineFlaw.{LineFlaw}
 use Rattle.tl_records.specs.declared.fault.LineFlaw.TheVariants.{WrongLength, WrongType, BadTlid, BadFeature, Read, TooManyLines}
 
-abbrev pub number : LineFlaw → ℕ
-number WrongLength = 1
-number WrongType = 2
-number BadTlid = 3
-number BadFeature = 4
-number Read = 5
-number TooManyLines = 8
-
-abbrev pub name : LineFlaw → List ℕ
-name WrongLength = codes "WrongLength"
-name WrongType = codes "WrongType"
-name BadTlid = codes "BadTlid"
-name BadFeature = codes "BadFeature"
-name Read = codes "Read"
-name TooManyLines = codes "TooManyLines"
+abbrev pub refusal : LineFlaw → RefusalParts
+refusal WrongLength = refused 1 (codes "WrongLength")
+refusal WrongType = refused 2 (codes "WrongType")
+refusal BadTlid = refused 3 (codes "BadTlid")
+refusal BadFeature = refused 4 (codes "BadFeature")
+refusal Read = device 5 (codes "Read")
+refusal TooManyLines = refused 8 (codes "TooManyLines")

@@ -1,7 +1,8 @@
 //! Why a line can't be read or isn't a record.
-ghost use Rattle.std.specs.Prelude.{◌≡◌, ◌≤◌, length};
+ghost use Rattle.std.specs.Prelude.{◌≡◌};
 ghost use Rattle.tl_records.specs.LineFlaw as line_flaw;
 
+use refusals::Refusal;
 use thiserror::Error;
 
 /// What is wrong with a line.
@@ -22,32 +23,17 @@ pub enum LineFlaw {
 }
 
 impl LineFlaw {
-    /// The number that the flaw has in a refusal.
-    pub fn number(self) -> u8
-        ensures { result ≡ line_flaw.number self }
+    /// Returns the flaw as a refusal, without its file and its line.
+    pub fn refusal(self) -> Refusal
+        ensures { result ≡ line_flaw.refusal self }
     {
         match self {
-            LineFlaw::WrongLength => 1,
-            LineFlaw::WrongType => 2,
-            LineFlaw::BadTlid => 3,
-            LineFlaw::BadFeature => 4,
-            LineFlaw::Read => 5,
-            LineFlaw::TooManyLines => 8,
-        }
-    }
-
-    /// The name that the flaw has in a refusal.
-    pub fn name(self) -> &'static str
-        ensures value { result.now ≡ line_flaw.name self }
-        ensures short { length result.now ≤ 12 }
-    {
-        match self {
-            LineFlaw::WrongLength => "WrongLength",
-            LineFlaw::WrongType => "WrongType",
-            LineFlaw::BadTlid => "BadTlid",
-            LineFlaw::BadFeature => "BadFeature",
-            LineFlaw::Read => "Read",
-            LineFlaw::TooManyLines => "TooManyLines",
+            LineFlaw::WrongLength => Refusal::refused(1, "WrongLength"),
+            LineFlaw::WrongType => Refusal::refused(2, "WrongType"),
+            LineFlaw::BadTlid => Refusal::refused(3, "BadTlid"),
+            LineFlaw::BadFeature => Refusal::refused(4, "BadFeature"),
+            LineFlaw::Read => Refusal::device(5, "Read"),
+            LineFlaw::TooManyLines => Refusal::refused(8, "TooManyLines"),
         }
     }
 }
@@ -60,21 +46,4 @@ pub struct LineFault {
     pub line: u64,
     /// What is wrong with it, or with reading it.
     pub flaw: LineFlaw,
-}
-
-impl LineFault {
-    /// The number that the fault has in a refusal.
-    pub fn number(self) -> u8
-        ensures { result ≡ line_flaw.number self.flaw }
-    {
-        self.flaw.number()
-    }
-
-    /// The name that the fault has in a refusal.
-    pub fn name(self) -> &'static str
-        ensures value { result.now ≡ line_flaw.name self.flaw }
-        ensures short { length result.now ≤ 12 }
-    {
-        self.flaw.name()
-    }
 }

@@ -1,15 +1,27 @@
 //! The table of record types (TIGER/Line 2006, record layouts): what their lines are like, and their fields by place.
+ghost use Rattle.std.proofs.Common.{lit≤};
+ghost use Rattle.std.specs.Prelude.{◌≡◌, ◌+◌, ◌-◌, length};
+ghost use Rattle.tl_records.specs.Layout.{IsWithin, field_at, type1, type4, type5, type6};
 
 use crate::fault::LineFlaw;
-use crate::type1::Rt1;
-use crate::type4::Rt4;
-use crate::type5::Rt5;
-use crate::type6::Rt6;
+use tl_fields::field;
 
 /// The places of a field in its line, the first and the last, as in the columns Beg and End of the record layouts: counted from 1, both
 /// included.
 #[derive(Clone, Copy, PartialEq, Eq)]
 pub struct Places(pub usize, pub usize);
+
+impl Places {
+    /// The field at these places of a line.
+    #[inline]
+    pub fn of(self, line: &[u8]) -> &[u8]
+        requires { IsWithin self (length line.now) }
+        ensures value { result.now ≡ field_at self line.now }
+        ensures len { length result.now ≡ self.1 + 1 - self.0 }
+    {
+        field(line, self.0, self.1)
+    }
+}
 
 /// What the lines of a record type are like.
 #[derive(Clone, Copy, PartialEq, Eq)]
@@ -24,220 +36,206 @@ pub struct Layout {
     pub without_number: LineFlaw,
 }
 
+/// A record type.
+pub trait RecordType {
+    ghost use Rattle.tl_records.specs.declared.layout.Layout.{Layout};
+
+    ghost LAYOUT: { Layout };
+
+    ghost number_is_within: { IsWithin LAYOUT.number LAYOUT.length };
+
+    /// What its lines are like.
+    const LAYOUT: Layout;
+}
+
 /// Record type 1: a street segment's own record.
-impl Rt1<'_> {
-    /// What the lines of record type 1 are like.
-    pub const LAYOUT: Layout = Layout {
+pub struct Type1;
+
+impl RecordType for Type1 {
+    ghost LAYOUT = { type1 };
+
+    ghost number_is_within = { (lit≤ tt, lit≤ tt, lit≤ tt) };
+
+    const LAYOUT: Layout = Layout {
         length: 228,
         tag: b'1',
-        number: Rt1::TLID,
+        number: Type1::TLID,
         without_number: LineFlaw::BadTlid,
     };
+}
 
+impl Type1 {
     /// The record type, always `1`.
     pub const RT: Places = Places(1, 1);
-
     /// The version number.
     pub const VERSION: Places = Places(2, 5);
-
     /// The TIGER/Line ID, the permanent number of the segment.
     pub const TLID: Places = Places(6, 15);
-
     /// The single-side source code.
     pub const SIDE1: Places = Places(16, 16);
-
     /// The linear segment source code.
     pub const SOURCE: Places = Places(17, 17);
-
     /// The direction before the feature's name.
     pub const FEDIRP: Places = Places(18, 19);
-
     /// The feature's name.
     pub const FENAME: Places = Places(20, 49);
-
     /// The feature's type.
     pub const FETYPE: Places = Places(50, 53);
-
     /// The direction behind the feature's name.
     pub const FEDIRS: Places = Places(54, 55);
-
     /// The census feature class code.
     pub const CFCC: Places = Places(56, 58);
-
     /// The start address on the left.
     pub const FRADDL: Places = Places(59, 69);
-
     /// The end address on the left.
     pub const TOADDL: Places = Places(70, 80);
-
     /// The start address on the right.
     pub const FRADDR: Places = Places(81, 91);
-
     /// The end address on the right.
     pub const TOADDR: Places = Places(92, 102);
-
     /// The ZIP Code on the left.
     pub const ZIPL: Places = Places(107, 111);
-
     /// The ZIP Code on the right.
     pub const ZIPR: Places = Places(112, 116);
-
     /// The FIPS state code on the left.
     pub const STATEL: Places = Places(131, 132);
-
     /// The FIPS state code on the right.
     pub const STATER: Places = Places(133, 134);
-
     /// The FIPS county code on the left.
     pub const COUNTYL: Places = Places(135, 137);
-
     /// The FIPS county code on the right.
     pub const COUNTYR: Places = Places(138, 140);
-
     /// The FIPS 55 code of the county subdivision on the left.
     pub const COUSUBL: Places = Places(141, 145);
-
     /// The FIPS 55 code of the county subdivision on the right.
     pub const COUSUBR: Places = Places(146, 150);
-
     /// The FIPS 55 code of the place on the left.
     pub const PLACEL: Places = Places(161, 165);
-
     /// The FIPS 55 code of the place on the right.
     pub const PLACER: Places = Places(166, 170);
-
     /// The census tract code on the left.
     pub const TRACTL: Places = Places(171, 176);
-
     /// The census tract code on the right.
     pub const TRACTR: Places = Places(177, 182);
-
     /// The census block number on the left.
     pub const BLOCKL: Places = Places(183, 186);
-
     /// The census block number on the right.
     pub const BLOCKR: Places = Places(187, 190);
-
     /// The longitude of the start.
     pub const FRLONG: Places = Places(191, 200);
-
     /// The latitude of the start.
     pub const FRLAT: Places = Places(201, 209);
-
     /// The longitude of the end.
     pub const TOLONG: Places = Places(210, 219);
-
     /// The latitude of the end.
     pub const TOLAT: Places = Places(220, 228);
 }
 
 /// Record type 4: the numbers of a segment's alternate names.
-impl Rt4<'_> {
-    /// What the lines of record type 4 are like.
-    pub const LAYOUT: Layout = Layout {
+pub struct Type4;
+
+impl RecordType for Type4 {
+    ghost LAYOUT = { type4 };
+
+    ghost number_is_within = { (lit≤ tt, lit≤ tt, lit≤ tt) };
+
+    const LAYOUT: Layout = Layout {
         length: 58,
         tag: b'4',
-        number: Rt4::TLID,
+        number: Type4::TLID,
         without_number: LineFlaw::BadTlid,
     };
+}
 
+impl Type4 {
     /// The record type, always `4`.
     pub const RT: Places = Places(1, 1);
-
     /// The version number.
     pub const VERSION: Places = Places(2, 5);
-
     /// The TIGER/Line ID of the segment.
     pub const TLID: Places = Places(6, 15);
-
     /// The number of the record among those of the segment.
     pub const RTSQ: Places = Places(16, 18);
-
     /// The number of the first alternate name.
     pub const FEAT1: Places = Places(19, 26);
-
     /// The number of the second alternate name.
     pub const FEAT2: Places = Places(27, 34);
-
     /// The number of the third alternate name.
     pub const FEAT3: Places = Places(35, 42);
-
     /// The number of the fourth alternate name.
     pub const FEAT4: Places = Places(43, 50);
-
     /// The number of the fifth alternate name.
     pub const FEAT5: Places = Places(51, 58);
 }
 
 /// Record type 5: a feature's name, by its number.
-impl Rt5<'_> {
-    /// What the lines of record type 5 are like.
-    pub const LAYOUT: Layout = Layout {
+pub struct Type5;
+
+impl RecordType for Type5 {
+    ghost LAYOUT = { type5 };
+
+    ghost number_is_within = { (lit≤ tt, lit≤ tt, lit≤ tt) };
+
+    const LAYOUT: Layout = Layout {
         length: 56,
         tag: b'5',
-        number: Rt5::FEAT,
+        number: Type5::FEAT,
         without_number: LineFlaw::BadFeature,
     };
+}
 
+impl Type5 {
     /// The record type, always `5`.
     pub const RT: Places = Places(1, 1);
-
     /// The version number.
     pub const VERSION: Places = Places(2, 5);
-
     /// The number of the feature's name.
     pub const FEAT: Places = Places(11, 18);
-
     /// The direction before the feature's name.
     pub const FEDIRP: Places = Places(19, 20);
-
     /// The feature's name.
     pub const FENAME: Places = Places(21, 50);
-
     /// The feature's type.
     pub const FETYPE: Places = Places(51, 54);
-
     /// The direction behind the feature's name.
     pub const FEDIRS: Places = Places(55, 56);
 }
 
 /// Record type 6: a further address range of a segment.
-impl Rt6<'_> {
-    /// What the lines of record type 6 are like.
-    pub const LAYOUT: Layout = Layout {
+pub struct Type6;
+
+impl RecordType for Type6 {
+    ghost LAYOUT = { type6 };
+
+    ghost number_is_within = { (lit≤ tt, lit≤ tt, lit≤ tt) };
+
+    const LAYOUT: Layout = Layout {
         length: 76,
         tag: b'6',
-        number: Rt6::TLID,
+        number: Type6::TLID,
         without_number: LineFlaw::BadTlid,
     };
+}
 
+impl Type6 {
     /// The record type, always `6`.
     pub const RT: Places = Places(1, 1);
-
     /// The version number.
     pub const VERSION: Places = Places(2, 5);
-
     /// The TIGER/Line ID of the segment.
     pub const TLID: Places = Places(6, 15);
-
     /// The number of the record among those of the segment.
     pub const RTSQ: Places = Places(16, 18);
-
     /// The start address on the left.
     pub const FRADDL: Places = Places(19, 29);
-
     /// The end address on the left.
     pub const TOADDL: Places = Places(30, 40);
-
     /// The start address on the right.
     pub const FRADDR: Places = Places(41, 51);
-
     /// The end address on the right.
     pub const TOADDR: Places = Places(52, 62);
-
     /// The ZIP Code on the left.
     pub const ZIPL: Places = Places(67, 71);
-
     /// The ZIP Code on the right.
     pub const ZIPR: Places = Places(72, 76);
 }

@@ -1,5 +1,6 @@
 -- What an index has of a TLID is what its lines have.
-use Rattle.std.proofs.Common.{◌≡◌, ◌≤◌, ℕ, inl, inr, length, List, [], ◌∷◌, ◌++◌, map, Option, Some, None, is_some, IsSome, Ok, Err, refl, sym, ap, subst, ◌∙◌, arith}
+use Rattle.std.proofs.Common.{◌≡◌, ◌≤◌, ℕ, inl, inr, length, List, [], ◌∷◌, ◌++◌, map, Option, Some, None, is_some, IsSome, Ok, Err, refl}
+use Rattle.std.proofs.Common.{sym, ap, subst, ◌∙◌, arith}
 use Rattle.std.specs.List.{filter_map, flat_map, cons_option}
 use Rattle.std.specs.Option.{option_and_then, option_map_or}
 use Rattle.std.proofs.lemmas.List.{map-append}
@@ -9,10 +10,11 @@ use Rattle.tl_fields.specs.Number.{number_of}
 use Rattle.tl_records.specs.Layout.{field_at}
 use Rattle.tl_records.specs.Lines.{LineParts}
 use Rattle.tl_records.specs.declared.layout.Places.{Places}
-use Rattle.tl_records.specs.declared.type4.TheConstants.Rt4.{FEAT1, FEAT2, FEAT3, FEAT4, FEAT5}
+use Rattle.tl_records.specs.declared.layout.TheConstants.Type4.{FEAT1, FEAT2, FEAT3, FEAT4, FEAT5}
 use Rattle.tl_segments.specs.County.{AreTlids, HasTlids, tlid_of}
 use Rattle.tl_segments.specs.Indexing.{IsIndexOf, IsRecordRead, IsSegmentRead, ReadsGoodLine, names_in}
-use Rattle.tl_segments.specs.Joining.{JoinedLines, number_in, lines_with, features_of, feature_name, alternate_names, further_ranges, segment_of}
+use Rattle.tl_segments.specs.Joining.{JoinedLines, number_in, lines_with, features_of, feature_name, alternate_names, further_ranges}
+use Rattle.tl_segments.specs.Joining.{segment_of}
 use Rattle.tl_segments.specs.Segment.{Contents, HasJoined, line_of}
 use Rattle.tl_segments.specs.Tables.{feature_numbers, list_at, name_at, names_among}
 use Rattle.tl_segments.specs.declared.fault.CountyFile.TheVariants.{Rt1, Rt4}
@@ -21,48 +23,68 @@ use Rattle.tl_segments.specs.declared.feature_names.FeatureNames.{FeatureNames}
 use Rattle.tl_segments.specs.declared.index.Index.{Index}
 
 module _ {P Y : Type 0} (name other : ℕ → Option Y) (same : (feat : ℕ) → name feat ≡ other feat) (number : P → Option ℕ) where
-  named_by : (found : Option ℕ) (names : List Y) (feats : List ℕ) → names ≡ filter_map other feats → cons_option (option_and_then name found) names ≡ filter_map other (cons_option found feats)
+  named_by : (found : Option ℕ) (names : List Y) (feats : List ℕ) → names ≡ filter_map other feats
+      → cons_option (option_and_then name found) names ≡ filter_map other (cons_option found feats)
   named_by None names feats e = e
   named_by (Some feat) names feats e = ap (λ found. cons_option found names) (same feat) ∙ ap (λ names. cons_option (other feat) names) e
 
   -- to look for the names of numbers, where there are any, is to look for those of the numbers that there are
   named : (fields : List P) → filter_map (option_and_then name) (map number fields) ≡ filter_map other (filter_map number fields)
   named [] = refl
-  named (field ∷ fields) = named_by (number field) (filter_map (option_and_then name) (map number fields)) (filter_map number fields) (named fields)
+  named (field ∷ fields) = named_by (number field) (filter_map (option_and_then name) (map number fields)) (filter_map number fields)
+      (named fields)
 
-names_of_lines : {A : Type 0} (table : FeatureNames A) (rt5 lines : List (List ℕ)) → ((feat : ℕ) → name_at table feat ≡ feature_name rt5 feat) → flat_map (names_among table) (map feature_numbers lines) ≡ filter_map (feature_name rt5) (flat_map features_of lines)
+names_of_lines : {A : Type 0} (table : FeatureNames A) (rt5 lines : List (List ℕ))
+    → ((feat : ℕ) → name_at table feat ≡ feature_name rt5 feat) → flat_map (names_among table) (map feature_numbers lines) ≡ filter_map
+    (feature_name rt5) (flat_map features_of lines)
 names_of_lines table rt5 [] same = refl
 names_of_lines table rt5 (line ∷ lines) same =
-    ap (λ names. names ++ flat_map (names_among table) (map feature_numbers lines)) (named (name_at table) (feature_name rt5) same (λ (feat : Places). number_of (field_at feat line)) (FEAT1 ∷ FEAT2 ∷ FEAT3 ∷ FEAT4 ∷ FEAT5 ∷ []))
+    ap (λ names. names ++ flat_map (names_among table) (map feature_numbers lines))
+    (named (name_at table) (feature_name rt5) same (λ (feat : Places). number_of (field_at feat line))
+    (FEAT1 ∷ FEAT2 ∷ FEAT3 ∷ FEAT4 ∷ FEAT5 ∷ []))
     ∙ ap (λ names. filter_map (feature_name rt5) (features_of line) ++ names) (names_of_lines table rt5 lines same)
     ∙ sym (filter_map-append (feature_name rt5) (features_of line) (flat_map features_of lines))
 
-names_of_tlid : {A : Type 0} (index : Index A) (lines : JoinedLines) (tlid : ℕ) → IsIndexOf index lines → names_in index tlid ≡ alternate_names lines tlid
+names_of_tlid : {A : Type 0} (index : Index A) (lines : JoinedLines) (tlid : ℕ) → IsIndexOf index lines
+    → names_in index tlid ≡ alternate_names lines tlid
 names_of_tlid index lines tlid of_lines =
-    ap (λ list. flat_map (names_among index.names) list) (of_lines.features tlid) ∙ names_of_lines index.names lines.rt5 (lines_with Rt4 tlid lines.rt4) of_lines.names
+    ap (λ list. flat_map (names_among index.names) list) (of_lines.features tlid)
+    ∙ names_of_lines index.names lines.rt5 (lines_with Rt4 tlid lines.rt4) of_lines.names
 
 -- a segment with what the index has of its TLID
-pub segment_from_index : {A : Type 0} (index : Index A) (lines : JoinedLines) (line : List ℕ) (tlid : ℕ) (segment : Contents) → IsIndexOf index lines → number_in Rt1 line ≡ Some tlid → segment ≡ record { bytes = line; names = names_in index tlid; ranges = list_at index.ranges tlid } → segment ≡ segment_of lines line
+pub segment_from_index : {A : Type 0} (index : Index A) (lines : JoinedLines) (line : List ℕ) (tlid : ℕ) (segment : Contents)
+    → IsIndexOf index lines → number_in Rt1 line ≡ Some tlid → segment ≡ record
+    { bytes = line; names = names_in index tlid; ranges = list_at index.ranges tlid } → segment ≡ segment_of lines line
 segment_from_index index lines line tlid segment of_lines is made =
     made
     ∙ ap (λ names. record { bytes = line; names = names; ranges = list_at index.ranges tlid }) (names_of_tlid index lines tlid of_lines)
     ∙ ap (λ ranges. record { bytes = line; names = alternate_names lines tlid; ranges = ranges }) (of_lines.ranges tlid)
-    ∙ ap (λ found. record { bytes = line; names = option_map_or (alternate_names lines) found []; ranges = option_map_or (further_ranges lines) found [] }) (sym is)
+    ∙ ap (λ found. record {
+      bytes = line;
+      names = option_map_or (alternate_names lines) found [];
+      ranges =
+          option_map_or (further_ranges lines) found [];
+    }) (sym is)
 
 -- something is joined to a segment where the index has a name or a range of its TLID
 
-module _ {A : Type 0} (index : Index A) (lines : JoinedLines) (line : List ℕ) (tlid : ℕ) (of_lines : IsIndexOf index lines) (is : number_in Rt1 line ≡ Some tlid) where
-  from_index : ◌≡◌ {A = Contents} record { bytes = line; names = names_in index tlid; ranges = list_at index.ranges tlid } (segment_of lines line)
+module _ {A : Type 0} (index : Index A) (lines : JoinedLines) (line : List ℕ) (tlid : ℕ) (of_lines : IsIndexOf index lines)
+    (is : number_in Rt1 line ≡ Some tlid) where
+  from_index : ◌≡◌ {A = Contents} record { bytes = line; names = names_in index tlid; ranges = list_at index.ranges tlid }
+      (segment_of lines line)
   from_index = segment_from_index index lines line tlid _ of_lines is refl
 
   pub names_joined : 1 ≤ length (names_in index tlid) → HasJoined (segment_of lines line)
-  names_joined some = inl (λ none. let same = ap (λ (segment : Contents). length segment.names) from_index in let no = ap length none in omega (arith, some, same, no))
+  names_joined some = inl (λ none. let same = ap (λ (segment : Contents). length segment.names) from_index in let no = ap length none in
+      omega (arith, some, same, no))
 
   pub ranges_joined : 1 ≤ length (list_at index.ranges tlid) → HasJoined (segment_of lines line)
-  ranges_joined some = inr (λ none. let same = ap (λ (segment : Contents). length segment.ranges) from_index in let no = ap length none in omega (arith, some, same, no))
+  ranges_joined some = inr (λ none. let same = ap (λ (segment : Contents). length segment.ranges) from_index in let no = ap length none in
+      omega (arith, some, same, no))
 
 -- what is so of the line that was read into a segment, where the segment still has its bytes
-module _ {A : Type 0} (index : Index A) (line : LineParts) (number tlid : ℕ) (read : Contents) (old new : Reader) (is : IsRecordRead line number read old new (Ok (Some tlid))) (segment : Contents) (same : segment.bytes ≡ read.bytes) where
+module _ {A : Type 0} (index : Index A) (line : LineParts) (number tlid : ℕ) (read : Contents) (old new : Reader)
+    (is : IsRecordRead line number read old new (Ok (Some tlid))) (segment : Contents) (same : segment.bytes ≡ read.bytes) where
   good_line : ReadsGoodLine line (line_of number segment) old new
   good_line = subst (λ bytes. ReadsGoodLine line (record { number = number; bytes = bytes }) old new) (sym same) is.0.0
 
@@ -70,7 +92,8 @@ module _ {A : Type 0} (index : Index A) (line : LineParts) (number tlid : ℕ) (
   numbered = ap (number_in Rt1) same ∙ is.0.1
 
   -- it has what the index has of its TLID
-  pub segment_read : segment ≡ record { bytes = segment.bytes; names = names_in index tlid; ranges = list_at index.ranges tlid } → IsSegmentRead index line number segment old new (Ok (Some tt))
+  pub segment_read : segment ≡ record { bytes = segment.bytes; names = names_in index tlid; ranges = list_at index.ranges tlid }
+      → IsSegmentRead index line number segment old new (Ok (Some tt))
   segment_read made =
       (good_line, λ lines of_lines. segment_from_index index lines segment.bytes tlid segment of_lines numbered made)
 
@@ -86,10 +109,12 @@ pub has_tlids : (tlids : List ℕ) (segments : List Contents) → AreTlids tlids
 has_tlids tlids [] same = All-nil (λ (segment : Contents). IsSome (tlid_of segment))
 has_tlids [] (segment ∷ segments) same = absurd (omega (arith, ap length same))
 has_tlids (tlid ∷ tlids) (segment ∷ segments) same =
-    All-cons (λ (segment : Contents). IsSome (tlid_of segment)) segment segments (let is : tlid_of segment ≡ Some tlid = cc in ap is_some is) (has_tlids tlids segments (cc))
+    All-cons (λ (segment : Contents). IsSome (tlid_of segment)) segment segments
+    (let is : tlid_of segment ≡ Some tlid = cc in ap is_some is) (has_tlids tlids segments (cc))
 
 -- one segment more
-pub tlids_push : (tlids : List ℕ) (segments : List Contents) (tlid : ℕ) (segment : Contents) → AreTlids tlids segments → tlid_of segment ≡ Some tlid → AreTlids (tlids ++ tlid ∷ []) (segments ++ segment ∷ [])
+pub tlids_push : (tlids : List ℕ) (segments : List Contents) (tlid : ℕ) (segment : Contents) → AreTlids tlids segments
+    → tlid_of segment ≡ Some tlid → AreTlids (tlids ++ tlid ∷ []) (segments ++ segment ∷ [])
 tlids_push tlids segments tlid segment same is =
     map-append Some tlids (tlid ∷ [])
     ∙ ap (λ numbers. numbers ++ Some tlid ∷ []) same

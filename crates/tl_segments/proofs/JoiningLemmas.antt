@@ -1,5 +1,8 @@
 -- Lines joined by their numbers: what one line more adds.
-use Rattle.std.proofs.Common.{◌≡◌, ℕ, ◌+◌, ◌<◌, ◌≤◌, nat_eq, Bool, true, false, cond, if◌then◌else◌, List, [], ◌∷◌, ◌++◌, length, map, Option, Some, None, unwrap_or, option_map, refl, sym, ap, ◌∙◌, length-append, arith}
+use Rattle.std.proofs.Common.{◌≡◌, ℕ, ◌+◌, ◌<◌, ◌≤◌, nat_eq, Bool, true, false, cond, if◌then◌else◌, List, [], ◌∷◌, ◌++◌, length, map}
+use Rattle.std.proofs.Common.{Option, Some, None, unwrap_or, option_map, Result, Ok, Err, IfOk, MatchBool, refl, sym, ap, ◌∙◌}
+use Rattle.std.proofs.Common.{length-append, arith}
+use Rattle.std.specs.declared.alloc.AllocError.{AllocError}
 use Rattle.std.specs.List.{find}
 use Rattle.std.specs.Option.{option_or, option_eq}
 use Rattle.std.proofs.lemmas.Bool.{eq-eqb}
@@ -8,40 +11,50 @@ use Rattle.std.proofs.lemmas.List.{map-append, append-nil, length-map}
 use Rattle.std.proofs.lemmas.List.Elements.{filter-append}
 use Rattle.std.proofs.lemmas.List.Folds.{find-append}
 use Rattle.tl_records.specs.Layout.{field_at}
-use Rattle.tl_records.specs.declared.type5.TheConstants.Rt5.{FENAME}
+use Rattle.tl_records.specs.declared.layout.TheConstants.Type5.{FENAME}
 use Rattle.tl_segments.specs.Joining.{JoinedLines, number_in, has_number, lines_with, feature_name, segment_of, segments_of, FewHaveEach}
-use Rattle.tl_segments.specs.Tables.{AddsAt, AddsNameAt, CountsAt, KeepsCounts, KeepsNames, list_at, name_at}
-use Rattle.tl_segments.specs.declared.counts.Counts.{Counts}
+use Rattle.tl_segments.specs.Joining.{IsWithinLimits}
+use Rattle.tl_segments.specs.Tables.{AddsAt, AddsNameAt, CountsAt, KeepsCounts, KeepsNames, count_at, list_at, name_at}
+use Rattle.tl_segments.specs.Taking.{IsAdded}
+use Rattle.tl_segments.specs.declared.checked.Counts.{Counts}
 use Rattle.tl_segments.specs.declared.fault.CountyFile.{CountyFile}
-use Rattle.tl_segments.specs.declared.fault.CountyFile.TheVariants.{Rt5}
+use Rattle.tl_segments.specs.declared.fault.CountyFile.TheVariants.{Rt1, Rt4, Rt5, Rt6}
 use Rattle.tl_segments.specs.declared.feature_names.FeatureNames.{FeatureNames}
 use Rattle.tl_segments.specs.declared.grouped.Grouped.{Grouped}
 use Rattle.tl_segments.specs.declared.segment.TheConstants.{LINE_LIMIT}
 
 -- whether a line has a number, by the number that it has
-has_number_by : (file : CountyFile) (line : List ℕ) (number q : ℕ) → number_in file line ≡ Some number → has_number file q line ≡ nat_eq number q
+has_number_by : (file : CountyFile) (line : List ℕ) (number q : ℕ) → number_in file line ≡ Some number
+    → has_number file q line ≡ nat_eq number q
 has_number_by file line number q is = ap (λ found. option_eq nat_eq found (Some q)) is
 
 -- the lines with a number, where one line more has this number
-pub lines_with-push : (file : CountyFile) (lines : List (List ℕ)) (line : List ℕ) (number q : ℕ) → number_in file line ≡ Some number → lines_with file q (lines ++ line ∷ []) ≡ lines_with file q lines ++ cond (nat_eq number q) (line ∷ []) []
+pub lines_with-push : (file : CountyFile) (lines : List (List ℕ)) (line : List ℕ) (number q : ℕ) → number_in file line ≡ Some number
+    → lines_with file q (lines ++ line ∷ []) ≡ lines_with file q lines ++ cond (nat_eq number q) (line ∷ []) []
 lines_with-push file lines line number q is =
-    filter-append (has_number file q) lines (line ∷ []) ∙ ap (λ b. lines_with file q lines ++ cond b (line ∷ []) []) (has_number_by file line number q is)
+    filter-append (has_number file q) lines (line ∷ []) ∙ ap (λ b. lines_with file q lines ++ cond b (line ∷ []) [])
+    (has_number_by file line number q is)
 
-keeps_by : {V : Type 0} (f : List ℕ → V) (found : List (List ℕ)) (line : List ℕ) (list : List V) (has : Bool) → list ≡ map f found → (if has then list ++ f line ∷ [] else list) ≡ map f (found ++ cond has (line ∷ []) [])
+keeps_by : {V : Type 0} (f : List ℕ → V) (found : List (List ℕ)) (line : List ℕ) (list : List V) (has : Bool) → list ≡ map f found
+    → (if has then list ++ f line ∷ [] else list) ≡ map f (found ++ cond has (line ∷ []) [])
 keeps_by f found line list true e = ap (λ s. s ++ f line ∷ []) e ∙ sym (map-append f found (line ∷ []))
 keeps_by f found line list false e = e ∙ ap (λ s. map f s) (sym (append-nil found))
 
 -- a table of lists that keeps lines keeps one line more
-pub keeps-push : {V A : Type 0} (file : CountyFile) (f : List ℕ → V) (old new : Grouped V A) (lines : List (List ℕ)) (line : List ℕ) (number : ℕ) → number_in file line ≡ Some number → ((q : ℕ) → list_at old q ≡ map f (lines_with file q lines)) → AddsAt old new number (f line) → (q : ℕ) → list_at new q ≡ map f (lines_with file q (lines ++ line ∷ []))
-keeps-push file f old new lines line number is keeps adds q =
-    adds.lists q ∙ keeps_by f (lines_with file q lines) line (list_at old q) (nat_eq number q) (keeps q) ∙ ap (λ s. map f s) (sym (lines_with-push file lines line number q is))
+pub keeps-push : {V A : Type 0} (file : CountyFile) (f : List ℕ → V) {old new : Grouped V A} (lines : List (List ℕ)) (line : List ℕ)
+    {number : ℕ} → number_in file line ≡ Some number → ((q : ℕ) → list_at old q ≡ map f (lines_with file q lines))
+    → AddsAt old new number (f line) → (q : ℕ) → list_at new q ≡ map f (lines_with file q (lines ++ line ∷ []))
+keeps-push file f {old} lines line {number} is keeps adds q =
+    adds.lists q ∙ keeps_by f (lines_with file q lines) line (list_at old q) (nat_eq number q) (keeps q)
+    ∙ ap (λ s. map f s) (sym (lines_with-push file lines line number q is))
 
 length_by : (found : List (List ℕ)) (line : List ℕ) (has : Bool) → length (found ++ cond has (line ∷ []) []) ≡ length found + cond has 1 0
 length_by found line true = length-append found (line ∷ [])
 length_by found line false = length-append found []
 
 -- how many lines have a number, with one line more
-length_with-push : (file : CountyFile) (lines : List (List ℕ)) (line : List ℕ) (number q : ℕ) → number_in file line ≡ Some number → length (lines_with file q (lines ++ line ∷ [])) ≡ length (lines_with file q lines) + cond (nat_eq number q) 1 0
+length_with-push : (file : CountyFile) (lines : List (List ℕ)) (line : List ℕ) (number q : ℕ) → number_in file line ≡ Some number
+    → length (lines_with file q (lines ++ line ∷ [])) ≡ length (lines_with file q lines) + cond (nat_eq number q) 1 0
 length_with-push file lines line number q is =
     ap length (lines_with-push file lines line number q is) ∙ length_by (lines_with file q lines) line (nat_eq number q)
 
@@ -49,39 +62,88 @@ few_by : (count : ℕ → ℕ) (number q limit : ℕ) → count q ≤ limit → 
 few_by count number q limit few room = grind (arith, nat_tests)
 
 -- lines within the limit stay within it, where the number of one line more had room
-pub few-push : (file : CountyFile) (lines : List (List ℕ)) (line : List ℕ) (number : ℕ) → number_in file line ≡ Some number → FewHaveEach file lines → length (lines_with file number lines) < LINE_LIMIT → FewHaveEach file (lines ++ line ∷ [])
+pub few-push : (file : CountyFile) (lines : List (List ℕ)) (line : List ℕ) (number : ℕ) → number_in file line ≡ Some number
+    → FewHaveEach file lines → length (lines_with file number lines) < LINE_LIMIT → FewHaveEach file (lines ++ line ∷ [])
 few-push file lines line number is few room q =
     rw (length_with-push file lines line number q is) (few_by (λ n. length (lines_with file n lines)) number q LINE_LIMIT (few q) room)
 
 -- and are beyond it where it had none
-pub not_few-push : (file : CountyFile) (lines : List (List ℕ)) (line : List ℕ) (number : ℕ) → number_in file line ≡ Some number → LINE_LIMIT ≤ length (lines_with file number lines) → ¬ FewHaveEach file (lines ++ line ∷ [])
+pub not_few-push : (file : CountyFile) (lines : List (List ℕ)) (line : List ℕ) (number : ℕ) → number_in file line ≡ Some number
+    → LINE_LIMIT ≤ length (lines_with file number lines) → ¬ FewHaveEach file (lines ++ line ∷ [])
 not_few-push file lines line number is full few =
-    let more : length (lines_with file number (lines ++ line ∷ [])) ≡ length (lines_with file number lines) + 1 = length_with-push file lines line number number is ∙ ap (λ b. length (lines_with file number lines) + cond b 1 0) (eq-eqb number number refl) in
+    let more : length (lines_with file number (lines ++ line ∷ [])) ≡ length (lines_with file number lines) + 1 =
+    length_with-push file lines line number number is ∙ ap (λ b. length (lines_with file number lines) + cond b 1 0)
+    (eq-eqb number number refl) in
     let most = few number in
     omega arith
 
-name_by : (field : List ℕ → List ℕ) (before : Option (List ℕ)) (line : List ℕ) (has : Bool) → option_map field (option_or before (cond has (Some line) None)) ≡ (if has then Some (unwrap_or (option_map field before) (field line)) else option_map field before)
+name_by : (field : List ℕ → List ℕ) (before : Option (List ℕ)) (line : List ℕ) (has : Bool)
+    → option_map field (option_or before (cond has (Some line) None)) ≡ (if has then Some
+    (unwrap_or (option_map field before) (field line)) else option_map field before)
 name_by field None line true = refl
 name_by field None line false = refl
 name_by field (Some before) line true = refl
 name_by field (Some before) line false = refl
 
 -- a table of names that keeps lines of type 5 keeps one line more
-pub names-push : {A : Type 0} (old new : FeatureNames A) (lines : List (List ℕ)) (line : List ℕ) (feat : ℕ) → number_in Rt5 line ≡ Some feat → KeepsNames old lines → AddsNameAt old new feat (field_at FENAME line) → KeepsNames new (lines ++ line ∷ [])
+pub names-push : {A : Type 0} (old new : FeatureNames A) (lines : List (List ℕ)) (line : List ℕ) (feat : ℕ) → number_in Rt5 line ≡ Some feat
+    → KeepsNames old lines → AddsNameAt old new feat (field_at FENAME line) → KeepsNames new (lines ++ line ∷ [])
 names-push old new lines line feat is keeps adds q =
-    let added : name_at new q ≡ (if nat_eq feat q then Some (unwrap_or (feature_name lines q) (field_at FENAME line)) else feature_name lines q) = adds q ∙ ap (λ name. if nat_eq feat q then Some (unwrap_or name (field_at FENAME line)) else name) (keeps q) in
-    let found : find (has_number Rt5 q) (lines ++ line ∷ []) ≡ option_or (find (has_number Rt5 q) lines) (cond (nat_eq feat q) (Some line) None) = find-append (has_number Rt5 q) lines (line ∷ []) ∙ ap (λ b. option_or (find (has_number Rt5 q) lines) (cond b (Some line) None)) (has_number_by Rt5 line feat q is) in
-    added ∙ sym (name_by (field_at FENAME) (find (has_number Rt5 q) lines) line (nat_eq feat q)) ∙ ap (λ line. option_map (field_at FENAME) line) (sym found)
-
--- a list that is full is that of as many lines
-pub keeps-full : {V A : Type 0} (file : CountyFile) (f : List ℕ → V) (table : Grouped V A) (lines : List (List ℕ)) (number : ℕ) → list_at table number ≡ map f (lines_with file number lines) → LINE_LIMIT ≤ length (list_at table number) → LINE_LIMIT ≤ length (lines_with file number lines)
-keeps-full file f table lines number keeps full = omega (arith, ap length keeps, length-map (lines_with file number lines) f)
+    let added : name_at new q ≡ (if nat_eq feat q then Some (unwrap_or (feature_name lines q) (field_at FENAME line)) else feature_name
+    lines q) = adds q ∙ ap (λ name. if nat_eq feat q then Some (unwrap_or name (field_at FENAME line)) else name) (keeps q) in
+    let found : find (has_number Rt5 q) (lines ++ line ∷ []) ≡ option_or (find (has_number Rt5 q) lines)
+    (cond (nat_eq feat q) (Some line) None) = find-append (has_number Rt5 q) lines (line ∷ [])
+    ∙ ap (λ b. option_or (find (has_number Rt5 q) lines) (cond b (Some line) None)) (has_number_by Rt5 line feat q is) in
+    added ∙ sym (name_by (field_at FENAME) (find (has_number Rt5 q) lines) line (nat_eq feat q))
+    ∙ ap (λ line. option_map (field_at FENAME) line) (sym found)
 
 -- the segment of one line more
-pub segments_push : (joined : JoinedLines) (lines : List (List ℕ)) (line : List ℕ) → segments_of joined (lines ++ line ∷ []) ≡ segments_of joined lines ++ segment_of joined line ∷ []
+pub segments_push : (joined : JoinedLines) (lines : List (List ℕ)) (line : List ℕ)
+    → segments_of joined (lines ++ line ∷ []) ≡ segments_of joined lines ++ segment_of joined line ∷ []
 segments_push joined lines line = map-append (segment_of joined) lines (line ∷ [])
 
 -- counts of lines that count one line more
-pub counts-push : {A : Type 0} (file : CountyFile) (old new : Counts A) (lines : List (List ℕ)) (line : List ℕ) (number : ℕ) → number_in file line ≡ Some number → KeepsCounts file old lines → CountsAt old new number → KeepsCounts file new (lines ++ line ∷ [])
-counts-push file old new lines line number is keeps adds q =
+pub counts-push : {T A : Type 0} (file : CountyFile) {old new : Counts T A} (lines : List (List ℕ)) (line : List ℕ) {number : ℕ}
+    → number_in file line ≡ Some number → KeepsCounts file old lines → CountsAt old new number → KeepsCounts file new (lines ++ line ∷ [])
+counts-push file lines line {number} is keeps adds q =
     adds.counts q ∙ ap (λ n. n + cond (nat_eq number q) 1 0) (keeps q) ∙ sym (length_with-push file lines line number q is)
+
+-- a line with this number comes behind lines within the limits, in a file that has a limit
+pub record Follows (file : CountyFile) (lines : List (List ℕ)) (line : List ℕ) (number : ℕ) : Type 0 where
+  pub numbered : number_in file line ≡ Some number
+  pub within : IsWithinLimits file lines
+  pub limited : (lines : List (List ℕ)) → IsWithinLimits file lines → FewHaveEach file lines
+
+with_room : (file : CountyFile) (lines : List (List ℕ)) (line : List ℕ) (number : ℕ) → Follows file lines line number
+    → length (lines_with file number lines) < LINE_LIMIT → IsWithinLimits file (lines ++ line ∷ [])
+with_room Rt1 lines line number follows room = tt
+with_room Rt4 lines line number follows room = few-push Rt4 lines line number follows.numbered follows.within room
+with_room Rt5 lines line number follows room = tt
+with_room Rt6 lines line number follows room = few-push Rt6 lines line number follows.numbered follows.within room
+
+module _ (file : CountyFile) (lines : List (List ℕ)) (line : List ℕ) (number : ℕ) (follows : Follows file lines line number) where
+  -- it is added where its number has room, and else the lines are beyond the limits with it
+  added_by : {Adds : Type 0} (keeps : List (List ℕ) → Type 0) (count : ℕ) → count ≡ length (lines_with file number lines)
+      → (Adds → (count < LINE_LIMIT) × keeps (lines ++ line ∷ [])) → (result : Result Bool AllocError)
+      → IfOk result (λ added. MatchBool added Adds (LINE_LIMIT ≤ count)) → IfOk result (IsAdded file lines line keeps)
+  added_by keeps count is more (Ok true) adds =
+      let room = (more adds).0 in (with_room file lines line number follows (omega (arith, is, room)), (more adds).1)
+  added_by keeps count is more (Ok false) full =
+      λ within. not_few-push file lines line number follows.numbered (omega (arith, is, full)) (follows.limited (lines ++ line ∷ []) within)
+  added_by keeps count is more (Err error) full = tt
+
+  pub list_added : {V A : Type 0} (f : List ℕ → V) (old new : Grouped V A) → ((q : ℕ) → list_at old q ≡ map f (lines_with file q lines))
+      → (result : Result Bool AllocError)
+      → IfOk result (λ added. MatchBool added (AddsAt old new number (f line)) (LINE_LIMIT ≤ length (list_at old number)))
+      → IfOk result (IsAdded file lines line (λ lines. (q : ℕ) → list_at new q ≡ map f (lines_with file q lines)))
+  list_added f old new keeps =
+      added_by (λ lines. (q : ℕ) → list_at new q ≡ map f (lines_with file q lines)) (length (list_at old number))
+      (ap length (keeps number) ∙ length-map (lines_with file number lines) f)
+      (λ adds. (adds.room, keeps-push file f lines line follows.numbered keeps adds))
+
+  pub count_added : {T A : Type 0} (old new : Counts T A) → KeepsCounts file old lines → (result : Result Bool AllocError)
+      → IfOk result (λ counted. MatchBool counted (CountsAt old new number) (LINE_LIMIT ≤ count_at old number))
+      → IfOk result (IsAdded file lines line (KeepsCounts file new))
+  count_added old new keeps =
+      added_by (KeepsCounts file new) (count_at old number) (keeps number)
+      (λ adds. (adds.room, counts-push file lines line follows.numbered keeps adds))

@@ -1,12 +1,15 @@
 -- Reading a county's file line by line, where the reader's bytes are known and where they aren't.
-use Rattle.std.proofs.Common.{◌≡◌, ◌≢◌, ℕ, ◌+◌, ◌<◌, ◌≤◌, ◌^◌, Bool, true, false, ◌==◌, if◌then◌else◌, inl, inr, List, [], ◌∷◌, ◌++◌, length, slice_index, Option, Some, None, is_some, IfSome, Ok, Err, refl, sym, ap, ◌∙◌, subst, length-append, arith}
+use Rattle.std.proofs.Common.{◌≡◌, ◌≢◌, ℕ, ◌+◌, ◌<◌, ◌≤◌, ◌^◌, Bool, true, false, ◌==◌, if◌then◌else◌, inl, inr, List, [], ◌∷◌, ◌++◌}
+use Rattle.std.proofs.Common.{length, slice_index, Option, Some, None, is_some, IfSome, Ok, Err, refl, sym, ap, ◌∙◌, subst, length-append}
+use Rattle.std.proofs.Common.{arith}
 use Rattle.std.proofs.lemmas.Bool.Decides.{nat_tests}
 use Rattle.std.proofs.lemmas.List.Elements.{All-nil, All-head, All-tail, All-push}
 use Rattle.tl_fields.specs.Content.{HasNoLineFeed}
 use Rattle.tl_fields.specs.Device.{Reader}
 use Rattle.tl_fields.specs.Number.{number_of}
 use Rattle.tl_records.specs.Layout.{field_at}
-use Rattle.tl_records.specs.Lines.{LineParts, IsEnded, by_lf, by_cr_lf, missing, IsFirstLine, AreFirstLines, AreLines, WhereKnown, IsNextLine, BeginsTooLong, FailsWithin, most_bytes, HasOneMore, IsLineRead, IsUnreadLine}
+use Rattle.tl_records.specs.Lines.{LineParts, IsEnded, by_lf, by_cr_lf, missing, IsFirstLine, AreFirstLines, AreLines, WhereKnown}
+use Rattle.tl_records.specs.Lines.{IsNextLine, BeginsTooLong, FailsWithin, most_bytes, HasOneMore, IsLineRead, IsUnreadLine}
 use Rattle.tl_records.specs.Records.{IsGoodLine, IsLineFault, line_flaw}
 use Rattle.tl_records.specs.declared.fault.LineFault.{LineFault}
 use Rattle.tl_records.specs.declared.fault.LineFlaw.{LineFlaw}
@@ -16,29 +19,36 @@ use Rattle.tl_records.proofs.LineLemmas.{cr_lf, has_first_line}
 use Rattle.tl_segments.specs.CountyFile.{layout}
 use Rattle.tl_segments.specs.Indexing.{ReadsGoodLine, IsNextFault}
 use Rattle.tl_segments.specs.Joining.{IsWithinLimits}
-use Rattle.tl_segments.specs.Loading.{ReadsFile, ReadsLines, HasMoreAfter, HasFlawAfter, FailsAfter, MayHave, ComesAfter, IsFirstFault, IsOneTooMany, IsFileFault}
+use Rattle.tl_segments.specs.Loading.{ReadsFile, ReadsLines, HasMoreAfter, HasFlawAfter, FailsAfter, MayHave, ComesAfter, IsFirstFault}
+use Rattle.tl_segments.specs.Loading.{IsOneTooMany, IsFileFault}
 use Rattle.tl_segments.specs.Taking.{IsBeyond, IsNextOf, IsTaken}
 use Rattle.tl_segments.specs.declared.fault.CountyFile.{CountyFile}
 use Rattle.tl_segments.specs.declared.fault.CountyFile.TheVariants.{Rt1, Rt4, Rt5, Rt6}
 use Rattle.tl_segments.specs.declared.fault.LoadFault.{LoadFault}
 use Rattle.tl_segments.specs.declared.fault.LoadFault.TheVariants.{Line, TooManyNames, TooManyRanges, Memory}
 
--- what two calls say of known bytes, one after the other, says this of those before both
-pub known_then : (bytes now left : Option (List ℕ)) (P Q : List ℕ → List ℕ → Type 0) (R : List ℕ → Type 0) → ((file mid rest : List ℕ) → P file mid → Q mid rest → R file) → WhereKnown bytes now P → WhereKnown now left Q → IfSome bytes R
-known_then None now left P Q R f p q = tt
-known_then (Some file) None left P Q R f p q = absurd p
-known_then (Some file) (Some mid) None P Q R f p q = absurd q
-known_then (Some file) (Some mid) (Some rest) P Q R f p q = f file mid rest p q
+-- what two calls say of known bytes, one after the other
+module _ (P Q : List ℕ → List ℕ → Type 0) where
+  -- says this of those before both
+  known_then : (bytes now left : Option (List ℕ)) (R : List ℕ → Type 0)
+      → ((file mid rest : List ℕ) → P file mid → Q mid rest → R file) → WhereKnown bytes now P → WhereKnown now left Q → IfSome bytes R
+  known_then None now left R f p q = tt
+  known_then (Some file) None left R f p q = absurd p
+  known_then (Some file) (Some mid) None R f p q = absurd q
+  known_then (Some file) (Some mid) (Some rest) R f p q = f file mid rest p q
 
--- what two calls say of known bytes, one after the other, says this of both together
-pub known_both : (bytes now left : Option (List ℕ)) (P Q R : List ℕ → List ℕ → Type 0) → ((file mid rest : List ℕ) → P file mid → Q mid rest → R file rest) → WhereKnown bytes now P → WhereKnown now left Q → WhereKnown bytes left R
-known_both None now left P Q R f p q = tt
-known_both (Some file) None left P Q R f p q = absurd p
-known_both (Some file) (Some mid) None P Q R f p q = absurd q
-known_both (Some file) (Some mid) (Some rest) P Q R f p q = f file mid rest p q
+  -- says this of both together
+  known_both : (bytes now left : Option (List ℕ)) (R : List ℕ → List ℕ → Type 0)
+      → ((file mid rest : List ℕ) → P file mid → Q mid rest → R file rest) → WhereKnown bytes now P → WhereKnown now left Q
+      → WhereKnown bytes left R
+  known_both None now left R f p q = tt
+  known_both (Some file) None left R f p q = absurd p
+  known_both (Some file) (Some mid) None R f p q = absurd q
+  known_both (Some file) (Some mid) (Some rest) R f p q = f file mid rest p q
 
 -- one first line more
-pub AreFirstLines-push : (lines : List (List ℕ)) (file mid line rest : List ℕ) → AreFirstLines file lines mid → IsFirstLine mid line rest → AreFirstLines file (lines ++ line ∷ []) rest
+pub AreFirstLines-push : (lines : List (List ℕ)) (file mid line rest : List ℕ) → AreFirstLines file lines mid → IsFirstLine mid line rest
+    → AreFirstLines file (lines ++ line ∷ []) rest
 AreFirstLines-push [] file mid line rest a first = (rest, subst (λ file. IsFirstLine file line rest) (sym a) first, refl)
 AreFirstLines-push (l ∷ lines) file mid line rest a first =
     (a.0, a.1, AreFirstLines-push lines a.0 mid line rest a.2 first)
@@ -50,13 +60,14 @@ no_feed-short (b ∷ taken) rest [] after p e = absurd (All-head (λ b. b ≢ 10
 no_feed-short (b ∷ taken) rest (c ∷ front) after p e =
     let shorter = no_feed-short taken rest front after (All-tail (λ b. b ≢ 10) b taken p) (cc) in omega arith
 
-long_line : (file line rest taken after : List ℕ) → HasNoLineFeed taken → file ≡ taken ++ after → length taken ≡ 231 → IsEnded file line rest → 230 ≤ length line
-long_line file line rest taken after p e long (by_lf f n) =
+long_line : {file line rest : List ℕ} (taken after : List ℕ) → HasNoLineFeed taken → file ≡ taken ++ after → length taken ≡ 231
+    → IsEnded file line rest → 230 ≤ length line
+long_line {line} {rest} taken after p e long (by_lf f n) =
     let fits = no_feed-short taken after line rest p (sym e ∙ f) in omega arith
-long_line file line rest taken after p e long (by_cr_lf f) =
+long_line {line} {rest} taken after p e long (by_cr_lf f) =
     let cut = no_feed-short taken after (line ++ 13 ∷ []) rest p (sym e ∙ f ∙ cr_lf line rest) in
     omega (arith, length-append line (13 ∷ []))
-long_line file line rest taken after p e long (missing f g n) =
+long_line taken after p e long (missing f g n) =
     omega (arith, length-append taken after, ap length (sym f ∙ e))
 
 -- each record type's lines are shorter than the longest content
@@ -72,7 +83,9 @@ wrong_length_of row line short long = grind (arith, nat_tests)
 pub wrong_length : (file : CountyFile) (line : List ℕ) → 230 ≤ length line → line_flaw (layout file) line ≡ Some WrongLength
 wrong_length file line long = wrong_length_of (layout file) line (layout_short file) long
 
-may_have_by : (file : CountyFile) (flaw : LineFlaw) (long typed numbered : Bool) → (if long then (if typed then (if numbered then None else Some (layout file).without_number) else Some WrongType) else Some WrongLength) ≡ Some flaw → MayHave file flaw
+may_have_by : (file : CountyFile) (flaw : LineFlaw) (long typed numbered : Bool)
+    → (if long then (if typed then (if numbered then None else Some (layout file).without_number) else Some WrongType) else Some
+    WrongLength) ≡ Some flaw → MayHave file flaw
 may_have_by file flaw true true true e = cc
 may_have_by file flaw true true false e = inr (inr (cc))
 may_have_by file flaw true false numbered e = inr (inl (cc))
@@ -81,7 +94,8 @@ may_have_by file flaw false typed numbered e = inl (cc)
 -- the flaw of a line is one of its file's
 may_have : (file : CountyFile) (line : List ℕ) (flaw : LineFlaw) → line_flaw (layout file) line ≡ Some flaw → MayHave file flaw
 may_have file line flaw e =
-    may_have_by file flaw (length line == (layout file).length) (slice_index line 0 == (layout file).tag) (is_some (number_of (field_at (layout file).number line))) e
+    may_have_by file flaw (length line == (layout file).length) (slice_index line 0 == (layout file).tag)
+    (is_some (number_of (field_at (layout file).number line))) e
 
 -- none of them is a read that failed, or a line that is too many
 not_read : (file : CountyFile) → MayHave file Read → ⊥
@@ -104,7 +118,8 @@ not_empty : (file taken rest : List ℕ) → file ≡ taken ++ rest → length t
 not_empty file taken rest e long none = omega (arith, length-append taken rest, ap length (sym none ∙ e))
 
 -- a file that begins with 231 bytes without a line feed has a first line that is too long for its type
-pub too_long_after : (file : CountyFile) (bytes mid rest : List ℕ) (lines : List (List ℕ)) → AreFirstLines bytes lines mid → BeginsTooLong mid rest → HasFlawAfter file WrongLength lines bytes rest
+pub too_long_after : (file : CountyFile) (bytes mid rest : List ℕ) (lines : List (List ℕ)) → AreFirstLines bytes lines mid
+    → BeginsTooLong mid rest → HasFlawAfter file WrongLength lines bytes rest
 too_long_after file bytes mid rest lines before (taken, e, p, long) =
     let first = has_first_line mid (not_empty mid taken rest e long) in
     record {
@@ -113,7 +128,7 @@ too_long_after file bytes mid rest lines before (taken, e, p, long) =
       rest = first.rest;
       before = before;
       first = first.first;
-      flawed = wrong_length file first.line (long_line mid first.line first.rest taken rest p e long first.first.ended);
+      flawed = wrong_length file first.line (long_line taken rest p e long first.first.ended);
       stands = inr (taken, e, p, long);
     }
 
@@ -151,13 +166,28 @@ none_read file line input zeroth = record {
   small = omega arith;
 }
 
-module _ (file : CountyFile) (lines : List (List ℕ)) (line new_line : LineParts) (old now new : Reader) (read : IsReadSoFar file lines line old now) where
+module _ (file : CountyFile) (lines : List (List ℕ)) (line new_line : LineParts) (old now new : Reader)
+    (read : IsReadSoFar file lines line old now) where
+  -- what the bytes behind these lines are says this of all bytes
+  known_behind : (Q R : List ℕ → List ℕ → Type 0)
+      → ((file mid rest : List ℕ) → AreFirstLines file lines mid → Q mid rest → R file rest) → WhereKnown now.left new.left Q
+      → WhereKnown old.left new.left R
+  known_behind Q R joined =
+      known_both (λ bytes rest. AreFirstLines bytes lines rest) Q old.left now.left new.left R joined read.reads.known
+
   -- a good line more
-  pub one_line_more : (done : Unit {0}) → IsLineRead line new_line now new (Ok (Some done)) → IsNextOf file lines new_line → IsReadSoFar file (lines ++ new_line.bytes ∷ []) new_line old new
+  pub one_line_more : (done : Unit {0}) → IsLineRead line new_line now new (Ok (Some done)) → IsNextOf file lines new_line
+      → IsReadSoFar file (lines ++ new_line.bytes ∷ []) new_line old new
   one_line_more done next good = record {
     reads = record {
-      good = record { good = All-push (IsGoodLine (layout file)) lines new_line.bytes read.reads.good.good good.good; within = good.within };
-      known = known_both old.left now.left new.left (λ bytes rest. AreFirstLines bytes lines rest) (IsNextLine new_line.bytes) (λ bytes rest. AreFirstLines bytes (lines ++ new_line.bytes ∷ []) rest) (λ bytes mid rest a b. AreFirstLines-push lines bytes mid new_line.bytes rest a b.0) read.reads.known next.3;
+      good = record {
+        good = All-push (IsGoodLine (layout file)) lines new_line.bytes read.reads.good.good good.good;
+        within =
+            good.within;
+      };
+      known =
+          known_behind (IsNextLine new_line.bytes) (λ bytes rest. AreFirstLines bytes (lines ++ new_line.bytes ∷ []) rest)
+          (λ bytes mid rest a b. AreFirstLines-push lines bytes mid new_line.bytes rest a b.0) next.3;
       reads = next.0 ∙ read.reads.reads;
     };
     counted = omega (arith, next.2, read.counted, length-append lines (new_line.bytes ∷ []));
@@ -169,17 +199,21 @@ module _ (file : CountyFile) (lines : List (List ℕ)) (line new_line : LinePart
   all_read next = record {
     good = read.reads.good;
     few = omega (arith, read.counted, read.small);
-    known = known_then old.left now.left new.left (λ bytes rest. AreFirstLines bytes lines rest) (λ bytes rest. bytes ≡ []) (λ bytes. AreLines bytes lines) (λ bytes mid rest a b. subst (λ rest. AreFirstLines bytes lines rest) b a) read.reads.known next.3;
+    known =
+        known_then (λ bytes rest. AreFirstLines bytes lines rest) (λ bytes rest. bytes ≡ []) old.left now.left new.left
+        (λ bytes. AreLines bytes lines) (λ bytes mid rest a b. subst (λ rest. AreFirstLines bytes lines rest) b a) read.reads.known next.3;
     at_end = next.2;
     reads = next.0 ∙ read.reads.reads;
   }
 
   -- a line with a flaw
-  flaw_after : (flaw : LineFlaw) (number : ℕ) (done : Unit {0}) → IsLineRead line new_line now new (Ok (Some done)) → number ≡ new_line.number → line_flaw (layout file) new_line.bytes ≡ Some flaw → (number < 2 ^ 32) × MayHave file flaw × WhereKnown old.left new.left (HasFlawAfter file flaw lines) × (new.failed ≡ old.failed)
+  flaw_after : (flaw : LineFlaw) (number : ℕ) (done : Unit {0}) → IsLineRead line new_line now new (Ok (Some done))
+      → number ≡ new_line.number → line_flaw (layout file) new_line.bytes ≡ Some flaw → (number < 2 ^ 32) × MayHave file flaw
+      × WhereKnown old.left new.left (HasFlawAfter file flaw lines) × (new.failed ≡ old.failed)
   flaw_after flaw number done next at flawed = (
     omega (arith, at, next.1, next.2),
     may_have file new_line.bytes flaw flawed,
-    known_both old.left now.left new.left (λ bytes rest. AreFirstLines bytes lines rest) (IsNextLine new_line.bytes) (HasFlawAfter file flaw lines) (λ bytes mid rest a b. record {
+    known_behind (IsNextLine new_line.bytes) (HasFlawAfter file flaw lines) (λ bytes mid rest a b. record {
       after = mid;
       line = new_line.bytes;
       rest = rest;
@@ -187,11 +221,12 @@ module _ (file : CountyFile) (lines : List (List ℕ)) (line new_line : LinePart
       first = b.0;
       flawed = flawed;
       stands = inl (refl, b.2);
-    }) read.reads.known next.3,
+    }) next.3,
     next.0 ∙ read.reads.reads,
   )
 
-  flaw_comes : (flaw : LineFlaw) (number : ℕ) (done : Unit {0}) → IsLineRead line new_line now new (Ok (Some done)) → number ≡ new_line.number → line_flaw (layout file) new_line.bytes ≡ Some flaw → ComesAfter file flaw number lines old new
+  flaw_comes : (flaw : LineFlaw) (number : ℕ) (done : Unit {0}) → IsLineRead line new_line now new (Ok (Some done))
+      → number ≡ new_line.number → line_flaw (layout file) new_line.bytes ≡ Some flaw → ComesAfter file flaw number lines old new
   flaw_comes WrongLength number done next at flawed = flaw_after WrongLength number done next at flawed
   flaw_comes WrongType number done next at flawed = flaw_after WrongType number done next at flawed
   flaw_comes BadTlid number done next at flawed = flaw_after BadTlid number done next at flawed
@@ -199,7 +234,8 @@ module _ (file : CountyFile) (lines : List (List ℕ)) (line new_line : LinePart
   flaw_comes Read number done next at flawed = absurd (not_read file (may_have file new_line.bytes Read flawed))
   flaw_comes TooManyLines number done next at flawed = absurd (not_too_many file (may_have file new_line.bytes TooManyLines flawed))
 
-  pub at_flaw : (fault : LineFault) (done : Unit {0}) → IsLineRead line new_line now new (Ok (Some done)) → IsLineFault (layout file) new_line fault → IsFirstFault file fault lines old new
+  pub at_flaw : (fault : LineFault) (done : Unit {0}) → IsLineRead line new_line now new (Ok (Some done))
+      → IsLineFault (layout file) new_line fault → IsFirstFault file fault lines old new
   at_flaw fault done next flawed = record {
     good = read.reads.good;
     counted = omega (arith, flawed.0, next.2, read.counted);
@@ -207,7 +243,8 @@ module _ (file : CountyFile) (lines : List (List ℕ)) (line new_line : LinePart
   }
 
   -- a line with which the lines are beyond the limits
-  pub at_beyond : (number : ℕ) (done : Unit {0}) → IsLineRead line new_line now new (Ok (Some done)) → number ≡ new_line.number → IsBeyond file lines new_line → IsOneTooMany file number old new
+  pub at_beyond : (number : ℕ) (done : Unit {0}) → IsLineRead line new_line now new (Ok (Some done)) → number ≡ new_line.number
+      → IsBeyond file lines new_line → IsOneTooMany file number old new
   at_beyond number done next at beyond = record {
     lines = lines;
     line = new_line.bytes;
@@ -216,33 +253,39 @@ module _ (file : CountyFile) (lines : List (List ℕ)) (line new_line : LinePart
     beyond = beyond.beyond;
     counted = omega (arith, at, next.2, read.counted);
     small = omega (arith, at, next.1, next.2);
-    known = known_both old.left now.left new.left (λ bytes rest. AreFirstLines bytes lines rest) (IsNextLine new_line.bytes) (λ bytes rest. AreFirstLines bytes (lines ++ new_line.bytes ∷ []) rest) (λ bytes mid rest a b. AreFirstLines-push lines bytes mid new_line.bytes rest a b.0) read.reads.known next.3;
+    known =
+        known_behind (IsNextLine new_line.bytes) (λ bytes rest. AreFirstLines bytes (lines ++ new_line.bytes ∷ []) rest)
+        (λ bytes mid rest a b. AreFirstLines-push lines bytes mid new_line.bytes rest a b.0) next.3;
     reads = next.0 ∙ read.reads.reads;
   }
 
   -- a line that isn't taken
-  pub not_taken : (keeps : List (List ℕ) → Type 0) (fault : LoadFault) (done : Unit {0}) → IsLineRead line new_line now new (Ok (Some done)) → IsTaken file lines new_line (Err fault) keeps → IsFileFault file fault old new
+  pub not_taken : (keeps : List (List ℕ) → Type 0) (fault : LoadFault) (done : Unit {0}) → IsLineRead line new_line now new (Ok (Some done))
+      → IsTaken file lines new_line (Err fault) keeps → IsFileFault file fault old new
   not_taken keeps (Line of_file fault) done next taken = (taken.0, lines, at_flaw fault done next taken.1)
   not_taken keeps (TooManyNames number) done next taken = (taken.0, at_beyond number done next taken.1 taken.2)
   not_taken keeps (TooManyRanges number) done next taken = (taken.0, at_beyond number done next taken.1 taken.2)
   not_taken keeps Memory done next taken = next.0 ∙ read.reads.reads
 
   -- a line that couldn't be read
-  unread_comes : (flaw : LineFlaw) (number : ℕ) → number ≡ line.number + 1 → IsUnreadLine line.number flaw now new → ComesAfter file flaw number lines old new
+  unread_comes : (flaw : LineFlaw) (number : ℕ) → number ≡ line.number + 1 → IsUnreadLine line.number flaw now new
+      → ComesAfter file flaw number lines old new
   unread_comes WrongLength number at unread = (
     omega (arith, at, unread.1),
     inl refl,
-    known_both old.left now.left new.left (λ bytes rest. AreFirstLines bytes lines rest) BeginsTooLong (HasFlawAfter file WrongLength lines) (λ bytes mid rest a b. too_long_after file bytes mid rest lines a b) read.reads.known unread.2,
+    known_behind BeginsTooLong (HasFlawAfter file WrongLength lines)
+        (λ bytes mid rest a b. too_long_after file bytes mid rest lines a b) unread.2,
     unread.0 ∙ read.reads.reads,
   )
   unread_comes Read number at unread = (
     omega (arith, at, read.small),
-    known_both old.left now.left new.left (λ bytes rest. AreFirstLines bytes lines rest) (FailsWithin (most_bytes line.number)) (FailsAfter lines) (λ bytes mid rest a b. (mid, a, subst (λ (n : ℕ). FailsWithin (most_bytes n) mid rest) read.counted b)) read.reads.known unread.1,
+    known_behind (FailsWithin (most_bytes line.number)) (FailsAfter lines)
+        (λ bytes mid rest a b. (mid, a, subst (λ (n : ℕ). FailsWithin (most_bytes n) mid rest) read.counted b)) unread.1,
     λ e. unread.0 (e ∙ sym read.reads.reads),
   )
   unread_comes TooManyLines number at unread = (
     omega (arith, at, unread.1),
-    known_both old.left now.left new.left (λ bytes rest. AreFirstLines bytes lines rest) HasOneMore (HasMoreAfter lines) (λ bytes mid rest a b. (mid, a, b)) read.reads.known unread.2,
+    known_behind HasOneMore (HasMoreAfter lines) (λ bytes mid rest a b. (mid, a, b)) unread.2,
     unread.0 ∙ read.reads.reads,
   )
   unread_comes WrongType number at unread = absurd unread

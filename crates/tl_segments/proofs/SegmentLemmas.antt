@@ -1,5 +1,6 @@
 -- Parts of a segment by their numbers, and fields of its record.
-use Rattle.std.proofs.Common.{◌≡◌, ℕ, ◌+◌, ◌-◌, ◌<◌, ◌≤◌, zero, suc, add-one, List, [], ◌∷◌, length, get_or, take, drop, slice_index, Some, None, slice_get, ◌∙◌, ap, sym, refl, arith}
+use Rattle.std.proofs.Common.{◌≡◌, ℕ, ◌+◌, ◌-◌, ◌<◌, ◌≤◌, zero, suc, add-one, List, [], ◌∷◌, length, get_or, take, drop, slice_index, Some}
+use Rattle.std.proofs.Common.{None, slice_get, ◌∙◌, ap, sym, refl, arith}
 use Rattle.std.proofs.lemmas.Grind.{common_steps}
 use Rattle.std.proofs.lemmas.List.{get_or-drop}
 use Rattle.std.proofs.lemmas.Option.{slice_get_past, slice_get-get_or}
@@ -11,13 +12,15 @@ pub slice_get-own : {X : Type 0} (own : X) (further : List X) (n : ℕ) → n < 
 slice_get-own own further n first = grind (arith, common_steps)
 
 -- the parts behind it are the further ones
-pub slice_get-further : {X : Type 0} (own part : X) (further : List X) (n index : ℕ) → n ≡ index + 1 → index < length further → part ≡ get_or further index part → slice_get (own ∷ further) n ≡ Some part
+pub slice_get-further : {X : Type 0} (own part : X) (further : List X) (n index : ℕ) → n ≡ index + 1 → index < length further
+    → part ≡ get_or further index part → slice_get (own ∷ further) n ≡ Some part
 slice_get-further own part further n index is inside same =
     let behind : slice_get (own ∷ further) (index + 1) ≡ slice_get further index = rw add-one refl in
     rw is (behind ∙ slice_get-get_or further index part inside ∙ ap (λ part. Some part) (sym same))
 
 -- and there are no more
-pub slice_get-beyond : {X : Type 0} (own : X) (further : List X) (n index : ℕ) → n ≡ index + 1 → length further ≤ index → slice_get (own ∷ further) n ≡ None
+pub slice_get-beyond : {X : Type 0} (own : X) (further : List X) (n index : ℕ) → n ≡ index + 1 → length further ≤ index
+    → slice_get (own ∷ further) n ≡ None
 slice_get-beyond own further n index is past = slice_get_past (own ∷ further) n (omega arith)
 
 below-take : (n : ℕ) (bytes : List ℕ) → ((i : ℕ) → slice_index bytes i < 256) → (i : ℕ) → slice_index (take n bytes) i < 256
@@ -30,7 +33,8 @@ below-drop : (n : ℕ) (bytes : List ℕ) → ((i : ℕ) → slice_index bytes i
 below-drop n bytes below i = rw (get_or-drop n bytes i 0) (below (n + i))
 
 -- a field of bytes is bytes
-pub AreBytes-field_of : (bytes : List ℕ) (total first last : ℕ) → AreBytes total bytes → 1 ≤ first → first ≤ last → last ≤ total → AreBytes (last + 1 - first) (field_of bytes first last)
+pub AreBytes-field_of : (bytes : List ℕ) (total first last : ℕ) → AreBytes total bytes → 1 ≤ first → first ≤ last → last ≤ total
+    → AreBytes (last + 1 - first) (field_of bytes first last)
 AreBytes-field_of bytes total first last are from order until = record {
   length = grind (arith, common_steps);
   bytes = below-take (last + 1 - first) (drop (first - 1) bytes) (below-drop (first - 1) bytes are.bytes);

@@ -1,5 +1,7 @@
 -- Tables by number: what they have after a change.
-use Rattle.std.proofs.Common.{◌≡◌, ℕ, zero, suc, ◌+◌, ◌-◌, ◌<◌, ◌≤◌, nat_eq, nat_le, cond, if◌then◌else◌, List, [], ◌∷◌, ◌++◌, length, get_or, take, Option, Some, None, slice_get, Vec, ap, sym, subst, refl, ◌∙◌, append_assoc, arith, Bool, true, false, unwrap_or}
+use Rattle.std.proofs.Common.{◌≡◌, ℕ, zero, suc, ◌+◌, ◌-◌, ◌<◌, ◌≤◌, nat_eq, nat_le, cond, if◌then◌else◌, List, [], ◌∷◌, ◌++◌, length}
+use Rattle.std.proofs.Common.{get_or, take, Option, Some, None, slice_get, Vec, ap, sym, subst, refl, ◌∙◌, append_assoc, arith, Bool, true}
+use Rattle.std.proofs.Common.{false, unwrap_or}
 use Rattle.std.specs.HashMap.{get}
 use Rattle.std.specs.List.{filter_map, cons_option}
 use Rattle.std.specs.Option.{option_map_or, option_or}
@@ -7,8 +9,7 @@ use Rattle.std.proofs.lemmas.Grind.{common_steps, take_at_read}
 use Rattle.std.proofs.lemmas.List.Elements.{filter_map-append}
 use Rattle.std.proofs.lemmas.Bool.Decides.{nat_tests}
 use Rattle.tl_segments.specs.Segment.{Contents}
-use Rattle.tl_segments.specs.Tables.{HasShortLists, list_at, name_at}
-use Rattle.tl_segments.specs.declared.feature_names.FeatureNames.{FeatureNames}
+use Rattle.tl_segments.specs.Tables.{HasShortLists, list_at}
 use Rattle.tl_segments.specs.declared.grouped.Grouped.{Grouped}
 
 -- where no number has a value, all lists are short
@@ -16,16 +17,21 @@ pub HasShortLists-none : {V A : Type 0} (table : Grouped V A) → ((number : ℕ
 HasShortLists-none table none number = rw (none number) (omega arith)
 
 -- what a map has at a number where a list was written, which is the list from before with one value more
-pub added_at : {V A : Type 0} (old : Grouped V A) (found : Option (Vec V A)) (number : ℕ) (value : V) (list : Vec V A) (q : ℕ) → found ≡ cond (nat_eq number q) (Some list) (get nat_eq old.lists q) → list.items ≡ list_at old number ++ value ∷ [] → option_map_or (λ list. list.items) found [] ≡ (if nat_eq number q then list_at old q ++ value ∷ [] else list_at old q)
+pub added_at : {V A : Type 0} (old : Grouped V A) (found : Option (Vec V A)) (number : ℕ) (value : V) (list : Vec V A) (q : ℕ)
+    → found ≡ cond (nat_eq number q) (Some list) (get nat_eq old.lists q) → list.items ≡ list_at old number ++ value ∷ []
+    → option_map_or (λ list. list.items) found [] ≡ (if nat_eq number q then list_at old q ++ value ∷ [] else list_at old q)
 added_at old found number value list q here items = grind (arith, nat_tests, common_steps)
 
 -- what is found of the elements up to one more, where this is found of it
-pub filter_map-more : {X Y : Type 0} (h : X → Option Y) (xs : List X) (i : ℕ) (d : X) (found : Option Y) → i < length xs → found ≡ h (get_or xs i d) → filter_map h (take (i + 1) xs) ≡ filter_map h (take i xs) ++ cons_option found []
+pub filter_map-more : {X Y : Type 0} (h : X → Option Y) (xs : List X) (i : ℕ) (d : X) (found : Option Y) → i < length xs
+    → found ≡ h (get_or xs i d) → filter_map h (take (i + 1) xs) ≡ filter_map h (take i xs) ++ cons_option found []
 filter_map-more h xs i d found inside is =
-    ap (λ s. filter_map h s) (take_at_read xs i d inside).1 ∙ filter_map-append h (take i xs) (get_or xs i d ∷ []) ∙ ap (λ found. filter_map h (take i xs) ++ cons_option found []) (sym is)
+    ap (λ s. filter_map h s) (take_at_read xs i d inside).1 ∙ filter_map-append h (take i xs) (get_or xs i d ∷ [])
+    ∙ ap (λ found. filter_map h (take i xs) ++ cons_option found []) (sym is)
 
 -- something is found among all elements, where something is found of one
-pub filter_map-some : {X Y : Type 0} (h : X → Option Y) (xs : List X) (i : ℕ) (d : X) (y : Y) → i < length xs → Some y ≡ h (get_or xs i d) → 1 ≤ length (filter_map h xs)
+pub filter_map-some : {X Y : Type 0} (h : X → Option Y) (xs : List X) (i : ℕ) (d : X) (y : Y) → i < length xs → Some y ≡ h (get_or xs i d)
+    → 1 ≤ length (filter_map h xs)
 filter_map-some h [] i d y inside is = absurd (omega arith)
 filter_map-some {Y = Y} h (x ∷ xs) zero d y inside is =
     subst (λ (found : Option Y). 1 ≤ length (cons_option found (filter_map h xs))) is (omega arith)
@@ -36,12 +42,16 @@ filter_map-some {Y = Y} h (x ∷ xs) (suc i) d y inside is = with_first (h x) (f
     with_first (Some first) others some = omega arith
 
 -- names that were added behind names
-pub names-more : (start now next : Contents) (names more all : List (List ℕ)) → now ≡ record start { names = start.names ++ names } → next ≡ record now { names = now.names ++ more } → all ≡ names ++ more → next ≡ record start { names = start.names ++ all }
-names-more start now next names more all so_far added is =
-    added ∙ ap (λ (segment : Contents). record segment { names = segment.names ++ more }) so_far ∙ ap (λ names. record start { names = names }) (append_assoc start.names names more ∙ ap (λ names. start.names ++ names) (sym is))
+pub names-more : {now next : Contents} (start : Contents) {all : List (List ℕ)} (names more : List (List ℕ))
+    → now ≡ record start { names = start.names ++ names } → next ≡ record now { names = now.names ++ more } → all ≡ names ++ more
+    → next ≡ record start { names = start.names ++ all }
+names-more start names more so_far added is =
+    added ∙ ap (λ (segment : Contents). record segment { names = segment.names ++ more }) so_far
+    ∙ ap (λ names. record start { names = names }) (append_assoc start.names names more ∙ ap (λ names. start.names ++ names) (sym is))
 
 -- the element at an index, where one more is pushed
-slice_get-push : {Y : Type 0} (xs : List Y) (y : Y) (k : ℕ) → slice_get (xs ++ y ∷ []) k ≡ (if nat_eq (length xs) k then Some y else slice_get xs k)
+slice_get-push : {Y : Type 0} (xs : List Y) (y : Y) (k : ℕ) → slice_get (xs ++ y ∷ [])
+    k ≡ (if nat_eq (length xs) k then Some y else slice_get xs k)
 slice_get-push [] y zero = refl
 slice_get-push [] y (suc k) = grind (arith, nat_tests)
 slice_get-push (x ∷ xs) y zero = grind (arith, nat_tests)
@@ -51,21 +61,35 @@ slice_get-push (x ∷ xs) y (suc k) = slice_get-push xs y k ∙ grind (arith, na
 end_of : (first length q : ℕ) → first ≤ q → nat_eq length (q - first) ≡ nat_eq (first + length) q
 end_of first length q e = grind (arith, nat_tests)
 
-following_by : {Y : Type 0} (xs : List Y) (y : Y) (first q : ℕ) (reaches : Bool) → nat_le first q ≡ reaches → (if reaches then slice_get (xs ++ y ∷ []) (q - first) else None) ≡ (if nat_eq (first + length xs) q then Some y else (if reaches then slice_get xs (q - first) else None))
-following_by xs y first q true e = slice_get-push xs y (q - first) ∙ ap (λ b. if b then Some y else slice_get xs (q - first)) (end_of first (length xs) q (grind (arith, nat_tests)))
-following_by xs y first q false e = grind (arith, nat_tests)
-
--- a list of names that follow a first number, where one more is pushed
-following-push : {Y : Type 0} (xs : List Y) (y : Y) (first q : ℕ) → (if nat_le first q then slice_get (xs ++ y ∷ []) (q - first) else None) ≡ (if nat_eq (first + length xs) q then Some y else (if nat_le first q then slice_get xs (q - first) else None))
-following-push xs y first q = following_by xs y first q (nat_le first q) refl
-
-named_by_push : {Y : Type 0} (same : Bool) (found other before : Option Y) (name : Y) → (same ≡ true → before ≡ None) → option_or found other ≡ before → option_or (if same then Some name else found) other ≡ (if same then Some (unwrap_or before name) else before)
+named_by_push : {Y : Type 0} (same : Bool) (found other before : Option Y) (name : Y) → (same ≡ true → before ≡ None)
+    → option_or found other ≡ before → option_or (if same then Some name else found)
+    other ≡ (if same then Some (unwrap_or before name) else before)
 named_by_push true found other before name none is = ap (λ b. Some (unwrap_or b name)) (sym (none refl))
 named_by_push false found other before name none is = is
 
--- names of FEATs that follow the first one, and those of others, where the FEAT behind the former gets a name and had none
-pub follows-push : {A : Type 0} (old : FeatureNames A) (names : List (List ℕ)) (others : ℕ → Option (List ℕ)) (first feat : ℕ) (name : List ℕ) → ((q : ℕ) → option_or (if nat_le first q then slice_get names (q - first) else None) (others q) ≡ name_at old q) → name_at old feat ≡ None → feat ≡ first + length names → (q : ℕ) → option_or (if nat_le first q then slice_get (names ++ name ∷ []) (q - first) else None) (others q) ≡ (if nat_eq feat q then Some (unwrap_or (name_at old q) name) else name_at old q)
-follows-push old names others first feat name before none next q =
-    ap (λ found. option_or found (others q)) (following-push names name first q)
-    ∙ ap (λ n. option_or (if nat_eq n q then Some name else (if nat_le first q then slice_get names (q - first) else None)) (others q)) (sym next)
-    ∙ named_by_push (nat_eq feat q) (if nat_le first q then slice_get names (q - first) else None) (others q) (name_at old q) name (λ is. subst (λ n. name_at old n ≡ None) (grind (arith, nat_tests)) none) (before q)
+-- a list of names that follow a first number, where one more is pushed
+module _ {Y : Type 0} (xs : List Y) (y : Y) (first : ℕ) where
+  following_by : (q : ℕ) (reaches : Bool) → nat_le first q ≡ reaches
+      → (if reaches then slice_get (xs ++ y ∷ []) (q - first) else None)
+      ≡ (if nat_eq (first + length xs) q then Some y else (if reaches then slice_get xs (q - first) else None))
+  following_by q true e =
+      slice_get-push xs y (q - first)
+      ∙ ap (λ b. if b then Some y else slice_get xs (q - first)) (end_of first (length xs) q (grind (arith, nat_tests)))
+  following_by q false e = grind (arith, nat_tests)
+
+  following-push : (q : ℕ) → (if nat_le first q then slice_get (xs ++ y ∷ []) (q - first) else None)
+      ≡ (if nat_eq (first + length xs) q then Some y else (if nat_le first q then slice_get xs (q - first) else None))
+  following-push q = following_by q (nat_le first q) refl
+
+  -- names of FEATs that follow the first one, and those of others, where the FEAT behind the former gets a name and had none
+  pub follows-push : (known others : ℕ → Option Y) (feat : ℕ)
+      → ((q : ℕ) → option_or (if nat_le first q then slice_get xs (q - first) else None) (others q) ≡ known q)
+      → known feat ≡ None → feat ≡ first + length xs → (q : ℕ)
+      → option_or (if nat_le first q then slice_get (xs ++ y ∷ []) (q - first) else None) (others q)
+      ≡ (if nat_eq feat q then Some (unwrap_or (known q) y) else known q)
+  follows-push known others feat before none next q =
+      let found : Option Y = if nat_le first q then slice_get xs (q - first) else None in
+      ap (λ found. option_or found (others q)) (following-push q)
+      ∙ ap (λ n. option_or (if nat_eq n q then Some y else found) (others q)) (sym next)
+      ∙ named_by_push (nat_eq feat q) found (others q) (known q) y
+      (λ is. subst (λ n. known n ≡ None) (grind (arith, nat_tests)) none) (before q)

@@ -3,7 +3,7 @@ use Rattle.std.specs.Prelude.{◌≡◌, ℕ, List, length, map, All, Option, So
 use Rattle.tl_fields.specs.Device.{Reader}
 use Rattle.tl_fields.specs.Number.{number_of}
 use Rattle.tl_records.specs.Layout.{field_at}
-use Rattle.tl_records.specs.declared.type1.TheConstants.Rt1.{TLID}
+use Rattle.tl_records.specs.declared.layout.TheConstants.Type1.{TLID}
 use Rattle.tl_segments.specs.Indexing.{IsIndexOf}
 use Rattle.tl_segments.specs.Joining.{JoinedLines, segments_of}
 use Rattle.tl_segments.specs.Loading.{Readers, ReadsFile, ReadsJoined, IsFileFault, IsJoinedFault}

@@ -5,9 +5,9 @@ use Rattle.std.specs.List.{filter_map, flat_map}
 use Rattle.std.specs.Option.{option_eq, option_map_or}
 use Rattle.tl_fields.specs.Number.{number_of}
 use Rattle.tl_records.specs.Layout.{field_at}
-use Rattle.tl_records.specs.declared.type4.TheConstants.Rt4.{FEAT1, FEAT2, FEAT3, FEAT4, FEAT5}
-use Rattle.tl_records.specs.declared.type5.TheConstants.Rt5.{FENAME}
-use Rattle.tl_records.specs.declared.type6.TheConstants.Rt6.{FRADDL, TOADDL, FRADDR, TOADDR, ZIPL, ZIPR}
+use Rattle.tl_records.specs.declared.layout.TheConstants.Type4.{FEAT1, FEAT2, FEAT3, FEAT4, FEAT5}
+use Rattle.tl_records.specs.declared.layout.TheConstants.Type5.{FENAME}
+use Rattle.tl_records.specs.declared.layout.TheConstants.Type6.{FRADDL, TOADDL, FRADDR, TOADDR, ZIPL, ZIPR}
 use Rattle.tl_segments.specs.CountyFile.{layout}
 use Rattle.tl_segments.specs.Segment.{Contents}
 use Rattle.tl_segments.specs.declared.fault.CountyFile.{CountyFile}

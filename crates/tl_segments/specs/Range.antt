@@ -2,7 +2,7 @@
 use Rattle.std.specs.Prelude.{◌≡◌, ℕ, ◌%◌, ◌^◌, ◌<◌, min, max, nat_le, Bool, false, not, ◌==◌, ◌&&◌, ◌||◌, List, length, slice_index, Option, Some}
 use Rattle.tl_fields.specs.Number.{number_of}
 use Rattle.tl_records.specs.Layout.{field_at}
-use Rattle.tl_records.specs.declared.type1.TheConstants.Rt1.{FRADDL, TOADDL, FRADDR, TOADDR, ZIPL, ZIPR}
+use Rattle.tl_records.specs.declared.layout.TheConstants.Type1.{FRADDL, TOADDL, FRADDR, TOADDR, ZIPL, ZIPR}
 use Rattle.tl_segments.specs.declared.range.Range.{Range}
 use Rattle.tl_segments.specs.declared.range.RangeFields.{RangeFields}
 use Rattle.tl_segments.specs.declared.range.TheConstants.{ADDRESS_LENGTH, ZIP_LENGTH}

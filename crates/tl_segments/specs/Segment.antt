@@ -2,7 +2,7 @@
 use Rattle.std.specs.Prelude.{◌≢◌, ◌⊎◌, ℕ, ◌≤◌, List, [], ◌∷◌, length, replicate, All}
 use Rattle.tl_records.specs.Layout.{field_at}
 use Rattle.tl_records.specs.Lines.{LineParts}
-use Rattle.tl_records.specs.declared.type1.TheConstants.Rt1.{FENAME}
+use Rattle.tl_records.specs.declared.layout.TheConstants.Type1.{FENAME}
 use Rattle.tl_segments.specs.Range.{AreBytes, IsRange, own_range}
 use Rattle.tl_segments.specs.declared.name.TheConstants.{NAME_LENGTH}
 use Rattle.tl_segments.specs.declared.range.RangeFields.{RangeFields}

@@ -5,9 +5,9 @@ use Rattle.std.specs.List.{filter_map}
 use Rattle.std.specs.Option.{option_map_or, option_or}
 use Rattle.tl_fields.specs.Number.{number_of}
 use Rattle.tl_records.specs.Layout.{field_at}
-use Rattle.tl_records.specs.declared.type4.TheConstants.Rt4.{FEAT1, FEAT2, FEAT3, FEAT4, FEAT5}
+use Rattle.tl_records.specs.declared.layout.TheConstants.Type4.{FEAT1, FEAT2, FEAT3, FEAT4, FEAT5}
 use Rattle.tl_segments.specs.Joining.{lines_with, feature_name, further_range}
-use Rattle.tl_segments.specs.declared.counts.Counts.{Counts}
+use Rattle.tl_segments.specs.declared.checked.Counts.{Counts}
 use Rattle.tl_segments.specs.declared.fault.CountyFile.{CountyFile}
 use Rattle.tl_segments.specs.declared.fault.CountyFile.TheVariants.{Rt4, Rt6}
 use Rattle.tl_segments.specs.declared.feature_names.FeatureNames.{FeatureNames}
@@ -60,14 +60,14 @@ abbrev pub HasShortLists : {V A : Type 0} → Grouped V A → Type 0
 HasShortLists table = (number : ℕ) → length (list_at table number) ≤ LINE_LIMIT
 
 -- how many lines a number has
-abbrev pub count_at : {A : Type 0} → Counts A → ℕ → ℕ
+abbrev pub count_at : {T A : Type 0} → Counts T A → ℕ → ℕ
 count_at counts number = unwrap_or (get nat_eq counts.counts number) 0
 
 -- a line more was counted of a number, which had room
-pub record CountsAt {A : Type 0} (old new : Counts A) (number : ℕ) : Type 0 where
+pub record CountsAt {T A : Type 0} (old new : Counts T A) (number : ℕ) : Type 0 where
   pub room : count_at old number < LINE_LIMIT
   pub counts : (q : ℕ) → count_at new q ≡ count_at old q + cond (nat_eq number q) 1 0
 
 -- each number has as many lines as these of the file are that have it
-abbrev pub KeepsCounts : {A : Type 0} → CountyFile → Counts A → List (List ℕ) → Type 0
+abbrev pub KeepsCounts : {T A : Type 0} → CountyFile → Counts T A → List (List ℕ) → Type 0
 KeepsCounts file counts lines = (number : ℕ) → count_at counts number ≡ length (lines_with file number lines)

@@ -1,5 +1,5 @@
 -- What a table does with the lines of a county's file.
-use Rattle.std.specs.Prelude.{◌≡◌, ℕ, List, [], ◌∷◌, ◌++◌, Result, Ok, Err}
+use Rattle.std.specs.Prelude.{◌≡◌, ℕ, Bool, true, false, List, [], ◌∷◌, ◌++◌, Result, Ok, Err}
 use Rattle.tl_fields.specs.Device.{Reader}
 use Rattle.tl_records.specs.Lines.{LineParts}
 use Rattle.tl_records.specs.Records.{IsGoodLine, IsLineFault}
@@ -20,6 +20,11 @@ pub record IsBeyond (file : CountyFile) (lines : List (List ℕ)) (line : LinePa
 pub record IsNextOf (file : CountyFile) (lines : List (List ℕ)) (line : LineParts) : Type 0 where
   pub good : IsGoodLine (layout file) line.bytes
   pub within : IsWithinLimits file (lines ++ line.bytes ∷ [])
+
+-- a line is kept behind these, or with it they are beyond the limits
+abbrev pub IsAdded : CountyFile → List (List ℕ) → List ℕ → (List (List ℕ) → Type 0) → Bool → Type 0
+IsAdded file lines line keeps true = IsWithinLimits file (lines ++ line ∷ []) × keeps (lines ++ line ∷ [])
+IsAdded file lines line keeps false = ¬ IsWithinLimits file (lines ++ line ∷ [])
 
 -- the line behind these is kept with them, or refused by the fault that it has
 abbrev pub IsTaken : CountyFile → List (List ℕ) → LineParts → Result (Unit {0}) LoadFault → (List (List ℕ) → Type 0) → Type 0

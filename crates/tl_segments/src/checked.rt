@@ -1,55 +1,54 @@
 //! What is kept of the lines of a file that is only checked.
+ghost use Rattle.std.specs.Prelude.{◌≡◌, ◌≤◌, ℕ, IfOk, MatchBool};
+ghost use Rattle.tl_segments.specs.Tables.{CountsAt, KeepsCounts, count_at};
 
-use crate::counts::Counts;
-use crate::county_file::Table;
-use crate::fault::{CountyFile, LoadFault};
-use crate::grouped::NotAdded;
-use std::alloc::Allocator;
-use tl_records::{Line, rt4, rt5, rt6};
+use crate::county_file::{Limited, Table};
+use crate::near_hash::NearHasher;
+use crate::segment::LINE_LIMIT;
+use std::alloc::{AllocError, Allocator};
+use std::collections::HashMap;
+use std::hash::BuildHasherDefault;
+use std::marker::PhantomData;
+use tl_records::{Record, Type5};
 
-/// How many type 4 lines each TLID has.
+/// How many lines each TLID has, at most [`LINE_LIMIT`].
 #[derive(Drop)]
-pub(crate) struct Rt4Counts<A: Allocator> {
-    counts: Counts<A>,
+pub(crate) struct Counts<T, A: Allocator> {
+    counts: HashMap<u64, u16, BuildHasherDefault<NearHasher>, A>,
+    of: PhantomData<T>,
 }
 
-impl<A: Allocator + Copy> Rt4Counts<A> {
-    ghost use Rattle.std.specs.Prelude.{[]};
-    ghost use Rattle.tl_segments.specs.Tables.{KeepsCounts};
-    ghost use Rattle.tl_segments.specs.declared.fault.CountyFile.TheVariants.{Rt4};
-
+impl<T, A: Allocator + Copy> Counts<T, A> {
     pub(crate) fn new(alloc: A) -> Self
-        ensures { KeepsCounts Rt4 result.counts [] }
+        ensures { (number : ℕ) → count_at result number ≡ 0 }
     {
-        Rt4Counts {
-            counts: Counts::new(alloc),
+        Counts {
+            counts: HashMap::with_hasher(alloc, BuildHasherDefault::new()),
+            of: PhantomData,
         }
+    }
+
+    /// Counts a line more of a number, if it has room for it.
+    fn count(&mut self, number: u64) -> Result<bool, AllocError>
+        ensures { IfOk result (λ counted.
+            MatchBool counted (CountsAt self.old self.new number) (LINE_LIMIT ≤ count_at self.old number)) }
+    {
+        let count = self.counts.entry(number)?.or_default();
+        if usize::from(*count) >= LINE_LIMIT {
+            return Ok(false);
+        }
+        *count += 1;
+        Ok(true)
     }
 }
 
-impl<A: Allocator + Copy> Table for Rt4Counts<A> {
-    ghost use Rattle.tl_segments.specs.Tables.{KeepsCounts};
-    ghost use Rattle.tl_segments.specs.declared.fault.CountyFile.TheVariants.{Rt4};
+impl<T: Limited, A: Allocator + Copy> Table for Counts<T, A> {
+    type Lines = T;
 
-    ghost file = { Rt4 };
+    ghost keeps = { λ table lines. KeepsCounts T.FILE table lines };
 
-    ghost keeps = { λ table lines. KeepsCounts Rt4 table.counts lines };
-
-    fn take(&mut self, line: &Line) -> Result<(), LoadFault> {
-        let record = match rt4(line) {
-            Ok(record) => record,
-            Err(fault) => {
-                let file = CountyFile::Rt4;
-                return Err(LoadFault::Line { file, fault });
-            }
-        };
-        match self.counts.add(record.tlid_number()) {
-            Ok(()) => Ok(()),
-            Err(NotAdded::Full) => Err(LoadFault::TooManyNames {
-                line: u64::from(line.number()),
-            }),
-            Err(NotAdded::Memory) => Err(LoadFault::Memory),
-        }
+    fn add(&mut self, rt: &Record<'_, T>) -> Result<bool, AllocError> {
+        self.count(rt.number())
     }
 }
 
@@ -58,65 +57,11 @@ impl<A: Allocator + Copy> Table for Rt4Counts<A> {
 pub(crate) struct NoNames;
 
 impl Table for NoNames {
-    ghost use Rattle.tl_segments.specs.declared.fault.CountyFile.TheVariants.{Rt5};
-
-    ghost file = { Rt5 };
+    type Lines = Type5;
 
     ghost keeps = { λ _ _. Unit {0} };
 
-    fn take(&mut self, line: &Line) -> Result<(), LoadFault> {
-        match rt5(line) {
-            Ok(_) => Ok(()),
-            Err(fault) => {
-                let file = CountyFile::Rt5;
-                Err(LoadFault::Line { file, fault })
-            }
-        }
-    }
-}
-
-/// How many type 6 lines each TLID has.
-#[derive(Drop)]
-pub(crate) struct Rt6Counts<A: Allocator> {
-    counts: Counts<A>,
-}
-
-impl<A: Allocator + Copy> Rt6Counts<A> {
-    ghost use Rattle.std.specs.Prelude.{[]};
-    ghost use Rattle.tl_segments.specs.Tables.{KeepsCounts};
-    ghost use Rattle.tl_segments.specs.declared.fault.CountyFile.TheVariants.{Rt6};
-
-    pub(crate) fn new(alloc: A) -> Self
-        ensures { KeepsCounts Rt6 result.counts [] }
-    {
-        Rt6Counts {
-            counts: Counts::new(alloc),
-        }
-    }
-}
-
-impl<A: Allocator + Copy> Table for Rt6Counts<A> {
-    ghost use Rattle.tl_segments.specs.Tables.{KeepsCounts};
-    ghost use Rattle.tl_segments.specs.declared.fault.CountyFile.TheVariants.{Rt6};
-
-    ghost file = { Rt6 };
-
-    ghost keeps = { λ table lines. KeepsCounts Rt6 table.counts lines };
-
-    fn take(&mut self, line: &Line) -> Result<(), LoadFault> {
-        let record = match rt6(line) {
-            Ok(record) => record,
-            Err(fault) => {
-                let file = CountyFile::Rt6;
-                return Err(LoadFault::Line { file, fault });
-            }
-        };
-        match self.counts.add(record.tlid_number()) {
-            Ok(()) => Ok(()),
-            Err(NotAdded::Full) => Err(LoadFault::TooManyRanges {
-                line: u64::from(line.number()),
-            }),
-            Err(NotAdded::Memory) => Err(LoadFault::Memory),
-        }
+    fn add(&mut self, _rt: &Record<'_, Type5>) -> Result<bool, AllocError> {
+        Ok(true)
     }
 }

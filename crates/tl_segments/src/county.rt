@@ -8,13 +8,14 @@ ghost use Rattle.tl_segments.specs.Loading.{IsFileFault, readers};
 ghost use Rattle.tl_segments.specs.Taking.{IsTaken, KeepsFile};
 ghost use Rattle.tl_segments.specs.declared.fault.CountyFile.TheVariants.{Rt1};
 
+use crate::county_file::record_in;
 use crate::fault::LoadFault;
 use crate::index::{Index, rt1_fault};
 use crate::segment::Segment;
 use std::alloc::Allocator;
 use std::marker::Model;
 use tl_fields::CountedRead;
-use tl_records::{Line, read_line, rt1};
+use tl_records::{Line, Type1, read_line};
 
 /// The segments of a county, one of each line of its type 1 file, in their order: fewer than 2^32. The TLID of each has a number. Contracts see
 /// it as a record with the field `segments`.
@@ -108,11 +109,8 @@ fn push_segment<A: Allocator + Copy>(
     ensures { (lines : List (List ℕ)) → KeepsSegments index.now segments.old.items tlids.old.items lines
         → IsTaken Rt1 lines line.now result (KeepsSegments index.now segments.new.items tlids.new.items) }
 {
-    let record = match rt1(line) {
-        Ok(record) => record,
-        Err(fault) => return Err(rt1_fault(fault)),
-    };
+    let record = record_in::<Type1>(line)?;
     segments.push(index.segment(&record)?)?;
-    tlids.push(record.tlid_number())?;
+    tlids.push(record.number())?;
     Ok(())
 }

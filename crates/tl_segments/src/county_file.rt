@@ -1,49 +1,144 @@
 //! The lines of a county's file, read to its end.
-ghost use Rattle.std.specs.Prelude.{◌≡◌, ℕ, List, [], OnOk, IfErr};
+ghost use Rattle.std.specs.Prelude.{◌≡◌, ℕ, List, [], ◌∷◌, ◌++◌, IfErr, IfOk, OnOk, refl};
 ghost use Rattle.tl_fields.specs.Device.{reader};
-ghost use Rattle.tl_segments.specs.Joining.{IsWithinLimits};
+ghost use Rattle.tl_records.specs.Records.{IsGoodLine, IsLineFault};
+ghost use Rattle.tl_records.specs.declared.fault.LineFault.{LineFault};
+ghost use Rattle.tl_segments.specs.CountyFile.{layout};
+ghost use Rattle.tl_segments.specs.Joining.{FewHaveEach, IsWithinLimits};
 ghost use Rattle.tl_segments.specs.Loading.{IsFileFault};
-ghost use Rattle.tl_segments.specs.Taking.{IsTaken, KeepsFile};
+ghost use Rattle.tl_segments.specs.Taking.{IsAdded, IsTaken, KeepsFile};
+ghost use Rattle.tl_segments.specs.declared.fault.CountyFile.TheVariants.{Rt1, Rt4, Rt5, Rt6};
+ghost use Rattle.tl_segments.specs.declared.fault.LoadFault.TheVariants as load_fault;
 
 use crate::fault::{CountyFile, LoadFault};
+use std::alloc::AllocError;
 use tl_fields::CountedRead;
-use tl_records::{Line, read_line};
+use tl_records::{Line, Record, RecordType, Type1, Type4, Type5, Type6, read_line};
+
+/// A record type, with the county's file that has its lines.
+pub(crate) trait FileType: RecordType {
+    ghost use Rattle.tl_segments.specs.declared.fault.CountyFile.{CountyFile};
+
+    ghost FILE: { CountyFile };
+
+    ghost layout_is: { Self.LAYOUT ≡ layout FILE };
+
+    const FILE: CountyFile;
+}
+
+impl FileType for Type1 {
+    ghost FILE = { Rt1 };
+
+    ghost layout_is = { refl };
+
+    const FILE: CountyFile = CountyFile::Rt1;
+}
+
+impl FileType for Type4 {
+    ghost FILE = { Rt4 };
+
+    ghost layout_is = { refl };
+
+    const FILE: CountyFile = CountyFile::Rt4;
+}
+
+impl FileType for Type5 {
+    ghost FILE = { Rt5 };
+
+    ghost layout_is = { refl };
+
+    const FILE: CountyFile = CountyFile::Rt5;
+}
+
+impl FileType for Type6 {
+    ghost FILE = { Rt6 };
+
+    ghost layout_is = { refl };
+
+    const FILE: CountyFile = CountyFile::Rt6;
+}
+
+/// The type of a file that may have so many lines of a TLID and no more.
+pub(crate) trait Limited: FileType {
+    ghost limited: { (lines : List (List ℕ)) → IsWithinLimits Self.FILE lines → FewHaveEach Self.FILE lines };
+}
+
+impl Limited for Type4 {
+    ghost limited = { λ lines few. few };
+}
+
+impl Limited for Type6 {
+    ghost limited = { λ lines few. few };
+}
 
 /// What the lines of a county's file are kept in.
 pub(crate) trait Table {
-    ghost use Rattle.tl_segments.specs.declared.fault.CountyFile.{CountyFile};
-
-    // the file whose lines it keeps
-    ghost file: { CountyFile };
+    // the type of the file's lines
+    type Lines: FileType;
 
     // it keeps these lines
     ghost keeps: { Self → List (List ℕ) → Type 0 };
 
-    /// Keeps a line more, behind those that it has, or answers the fault that it is.
-    fn take(&mut self, line: &Line) -> Result<(), LoadFault>
-        ensures { (lines : List (List ℕ)) → keeps self.old lines → IsWithinLimits file lines
-            → IsTaken file lines line.now result (keeps self.new) };
+    /// Keeps a line more, behind those that it has, and answers whether there was room for it.
+    fn add(&mut self, rt: &Record<'_, Self::Lines>) -> Result<bool, AllocError>
+        ensures { (lines : List (List ℕ)) → keeps self.old lines → IsWithinLimits Self.Lines.FILE lines
+            → IfOk result (IsAdded Self.Lines.FILE lines rt.now.bytes (keeps self.new)) };
 }
 
 /// Reads a file to its end into an empty table, up to the first fault, where the input then stands.
 pub(crate) fn read_file<T: Table, R: CountedRead>(
-    file: CountyFile,
     table: &mut T,
     input: &mut R,
 ) -> Result<(), LoadFault>
-    requires file { file ≡ T.file }
-    requires empty { T.keeps table.old [] }
-    ensures ok { OnOk result (KeepsFile T.file (T.keeps table.new)
+    requires { T.keeps table.old [] }
+    ensures ok { OnOk result (KeepsFile T.Lines.FILE (T.keeps table.new)
         (reader R.remaining R.failed_reads input.old) (reader R.remaining R.failed_reads input.new)) }
-    ensures err { IfErr result (λ fault. IsFileFault T.file fault
+    ensures err { IfErr result (λ fault. IsFileFault T.Lines.FILE fault
         (reader R.remaining R.failed_reads input.old) (reader R.remaining R.failed_reads input.new)) }
 {
     let mut line = Line::new();
     loop {
         match read_line(input, &mut line) {
-            Ok(Some(())) => table.take(&line)?,
+            Ok(Some(())) => take(table, &line)?,
             Ok(None) => return Ok(()),
-            Err(fault) => return Err(LoadFault::Line { file, fault }),
+            Err(fault) => {
+                return Err(LoadFault::Line {
+                    file: T::Lines::FILE,
+                    fault,
+                });
+            }
         }
+    }
+}
+
+/// Keeps a line more, behind those that the table has, or answers the fault that it is.
+fn take<T: Table>(table: &mut T, line: &Line) -> Result<(), LoadFault>
+    ensures { (lines : List (List ℕ)) → T.keeps table.old lines → IsWithinLimits T.Lines.FILE lines
+        → IsTaken T.Lines.FILE lines line.now result (T.keeps table.new) }
+{
+    let record = record_in::<T::Lines>(line)?;
+    if table.add(&record)? {
+        return Ok(());
+    }
+    let line = u64::from(line.number());
+    match T::Lines::FILE {
+        CountyFile::Rt4 => Err(LoadFault::TooManyNames { line }),
+        // Of type 6, as no other file has a limit.
+        _ => Err(LoadFault::TooManyRanges { line }),
+    }
+}
+
+/// The line as a record of its file's type, or the fault that it is.
+pub(crate) fn record_in<T: FileType>(line: &Line) -> Result<Record<'_, T>, LoadFault>
+    ensures ok { IfOk result (λ rt. (rt.bytes ≡ line.now.bytes) × IsGoodLine (layout T.FILE) line.now.bytes) }
+    ensures err { IfErr result (λ fault. (flaw : LineFault)
+        × (fault ≡ load_fault.Line T.FILE flaw) × IsLineFault (layout T.FILE) line.now flaw) }
+{
+    match Record::of(line.number(), line.bytes()) {
+        Ok(record) => Ok(record),
+        Err(fault) => Err(LoadFault::Line {
+            file: T::FILE,
+            fault,
+        }),
     }
 }

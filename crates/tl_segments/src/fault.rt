@@ -1,12 +1,10 @@
-//! Why the files of a county can't be loaded, and the line of text that a refusal gets.
-ghost use Rattle.std.specs.Prelude.{◌≡◌, ◌≤◌, length};
-ghost use Rattle.tl_segments.specs.CountyFile as county_file;
-ghost use Rattle.tl_segments.specs.LoadFault as load_fault;
-ghost use Rattle.tl_segments.specs.LoadFault.{file_line};
+//! Why the files of a county can't be loaded.
+ghost use Rattle.std.specs.Prelude.{◌≡◌};
+ghost use Rattle.tl_segments.specs.CountyFile.{record_type};
+ghost use Rattle.tl_segments.specs.LoadFault.{in_file};
 ghost use Rattle.tl_segments.specs.declared.fault.LoadFault.TheVariants.{Memory};
 
-use arrayvec::ArrayString;
-use itoa::Buffer;
+use refusals::{Fault, Refusal};
 use std::alloc::{AllocError, AllocFailed};
 use thiserror::Error;
 use tl_records::LineFault;
@@ -21,16 +19,15 @@ pub enum CountyFile {
 }
 
 impl CountyFile {
-    /// The name that the file has in a refusal.
-    pub fn name(self) -> &'static str
-        ensures value { result.now ≡ county_file.name self }
-        ensures short { length result.now ≤ 3 }
+    /// Returns the record type of the file's lines.
+    pub fn record_type(self) -> u8
+        ensures { result ≡ record_type self }
     {
         match self {
-            CountyFile::Rt1 => "rt1",
-            CountyFile::Rt4 => "rt4",
-            CountyFile::Rt5 => "rt5",
-            CountyFile::Rt6 => "rt6",
+            CountyFile::Rt1 => 1,
+            CountyFile::Rt4 => 4,
+            CountyFile::Rt5 => 5,
+            CountyFile::Rt6 => 6,
         }
     }
 }
@@ -66,66 +63,27 @@ impl<T: Drop> From<AllocFailed<T>> for LoadFault {
     }
 }
 
-impl LoadFault {
-    /// The number that the fault has in a refusal: none for want of memory.
-    pub fn number(&self) -> Option<u8>
-        ensures { result ≡ load_fault.number self.now }
-    {
-        match *self {
-            LoadFault::Line { fault, .. } => Some(fault.number()),
-            LoadFault::TooManyNames { .. } => Some(6),
-            LoadFault::TooManyRanges { .. } => Some(7),
-            LoadFault::Memory => None,
-        }
-    }
+impl Fault for LoadFault {
+    ghost use Rattle.tl_segments.specs.LoadFault.{refusal};
 
-    /// The name that the fault has in a refusal.
-    pub fn name(&self) -> &'static str
-        ensures { result.now ≡ load_fault.name self.now }
-    {
-        match *self {
-            LoadFault::Line { fault, .. } => fault.name(),
-            LoadFault::TooManyNames { .. } => "TooManyNames",
-            LoadFault::TooManyRanges { .. } => "TooManyRanges",
-            LoadFault::Memory => "memory",
-        }
-    }
+    ghost refusal_of = { refusal };
 
-    /// The refusal's line of text, as `refused 6 rt4 line 1001 TooManyNames`, without an end of line. It takes no memory.
-    pub fn line(&self) -> ArrayString<64>
-        ensures { result.bytes ≡ load_fault.line self.now }
-    {
+    fn refusal(&self) -> Refusal {
         match *self {
-            LoadFault::Line { file, fault } => {
-                file_line(fault.number(), file, fault.line, fault.name())
-            }
+            LoadFault::Line { file, fault } => { in_file(fault.flaw.refusal(), file, fault.line) }
             LoadFault::TooManyNames { line } => {
-                file_line(6, CountyFile::Rt4, line, "TooManyNames")
+                in_file(Refusal::refused(6, "TooManyNames"), CountyFile::Rt4, line)
             }
             LoadFault::TooManyRanges { line } => {
-                file_line(7, CountyFile::Rt6, line, "TooManyRanges")
+                in_file(Refusal::refused(7, "TooManyRanges"), CountyFile::Rt6, line)
             }
-            LoadFault::Memory => {
-                let mut text = ArrayString::new();
-                text.push_str("refused memory");
-                text
-            }
+            LoadFault::Memory => Refusal::memory(),
         }
     }
 }
 
-fn file_line(number: u8, file: CountyFile, at: u64, name: &str) -> ArrayString<64>
-    requires { length name.now ≤ 13 }
-    ensures { result.bytes ≡ file_line number file at name.now }
+fn in_file(refusal: Refusal, file: CountyFile, line: u64) -> Refusal
+    ensures { result ≡ in_file file line refusal }
 {
-    let mut text = ArrayString::new();
-    text.push_str("refused ");
-    text.push_str(Buffer::new().format(number));
-    text.push_str(" ");
-    text.push_str(file.name());
-    text.push_str(" line ");
-    text.push_str(Buffer::new().format(at));
-    text.push_str(" ");
-    text.push_str(name);
-    text
+    refusal.at_file_line(file.record_type(), line)
 }

@@ -31,7 +31,7 @@ impl<A: Allocator + Copy> FeatureNames<A> {
     }
 
     /// Gives a FEAT this name, if it has none yet.
-    pub(crate) fn add(&mut self, feat: u64, name: &[u8]) -> Result<(), AllocError>
+    pub(crate) fn set(&mut self, feat: u64, name: &[u8]) -> Result<(), AllocError>
         requires { length name.now ≡ NAME_LENGTH }
         ensures ok { OnOk result (AddsNameAt self.old self.new feat name.now) }
     {

@@ -1,11 +1,10 @@
 //! Lists of values by number.
-ghost use Rattle.std.specs.Prelude.{◌≡◌, ◌≤◌, ℕ, [], length, IfErr, OnOk};
+ghost use Rattle.std.specs.Prelude.{◌≡◌, ◌≤◌, ℕ, [], length, IfOk, MatchBool};
 ghost use Rattle.tl_segments.specs.Tables.{AddsAt, list_at};
-ghost use Rattle.tl_segments.specs.declared.grouped.NotAdded.TheVariants.{Full, Memory};
 
 use crate::near_hash::NearHasher;
 use crate::segment::LINE_LIMIT;
-use std::alloc::{AllocError, AllocFailed, Allocator};
+use std::alloc::{AllocError, Allocator};
 use std::collections::HashMap;
 use std::hash::BuildHasherDefault;
 
@@ -13,30 +12,6 @@ use std::hash::BuildHasherDefault;
 #[derive(Drop)]
 pub(crate) struct Grouped<V, A: Allocator> {
     lists: HashMap<u64, Vec<V, A>, BuildHasherDefault<NearHasher>, A>,
-}
-
-/// Why a value wasn't added.
-#[derive(Clone, Copy)]
-pub(crate) enum NotAdded {
-    /// The number has as many values as it may have.
-    Full,
-    Memory,
-}
-
-impl From<AllocError> for NotAdded {
-    ghost from_gives = { λ _ fault. fault ≡ Memory };
-
-    fn from(_error: AllocError) -> NotAdded {
-        NotAdded::Memory
-    }
-}
-
-impl<T: Drop> From<AllocFailed<T>> for NotAdded {
-    ghost from_gives = { λ _ fault. fault ≡ Memory };
-
-    fn from(_error: AllocFailed<T>) -> NotAdded {
-        NotAdded::Memory
-    }
 }
 
 impl<V: Drop, A: Allocator + Copy> Grouped<V, A> {
@@ -48,21 +23,21 @@ impl<V: Drop, A: Allocator + Copy> Grouped<V, A> {
         }
     }
 
-    /// Adds a value behind those that have this number.
-    pub(crate) fn add(&mut self, number: u64, value: V) -> Result<(), NotAdded>
-        ensures ok { OnOk result (AddsAt self.old self.new number value) }
-        ensures full { IfErr result (λ error. error ≡ Full → LINE_LIMIT ≤ length (list_at self.old number)) }
+    /// Adds a value behind those that have this number, if there is room for it.
+    pub(crate) fn push(&mut self, number: u64, value: V) -> Result<bool, AllocError>
+        ensures { IfOk result (λ added.
+            MatchBool added (AddsAt self.old self.new number value) (LINE_LIMIT ≤ length (list_at self.old number))) }
     {
         let list = self.lists.entry(number)?.or_default();
         if list.len() >= LINE_LIMIT {
-            return Err(NotAdded::Full);
+            return Ok(false);
         }
         if list.is_empty() {
             // Most have one value, so the first asks for no more than its own room.
             list.reserve_exact(1)?;
         }
         list.push(value)?;
-        Ok(())
+        Ok(true)
     }
 }
 

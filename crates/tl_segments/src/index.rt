@@ -9,7 +9,7 @@ ghost use Rattle.tl_segments.specs.declared.fault.CountyFile.TheVariants as coun
 ghost use Rattle.tl_segments.specs.declared.fault.LoadFault.TheVariants as load_fault;
 ghost use Rattle.tl_segments.specs.declared.segment.TheConstants.{NAME_LIMIT};
 
-use crate::checked::{NoNames, Rt4Counts, Rt6Counts};
+use crate::checked::{Counts, NoNames};
 use crate::county_file::read_file;
 use crate::fault::{CountyFile, LoadFault};
 use crate::feature_names::FeatureNames;
@@ -19,7 +19,7 @@ use crate::segment::Segment;
 use crate::tables::Features;
 use std::alloc::{AllocError, Allocator};
 use tl_fields::CountedRead;
-use tl_records::{LineFault, Rt1};
+use tl_records::{LineFault, Rt1, Type4, Type6};
 
 /// The alternate names and the further ranges of a county's segments, by TLID: what its files of types 4, 5 and 6 have.
 #[derive(Drop)]
@@ -62,9 +62,9 @@ impl<A: Allocator + Copy> Index<A> {
         let mut features = Grouped::new(alloc);
         let mut names = FeatureNames::new(alloc);
         let mut ranges = Grouped::new(alloc);
-        read_file(CountyFile::Rt4, &mut features, rt4)?;
-        read_file(CountyFile::Rt5, &mut names, rt5)?;
-        read_file(CountyFile::Rt6, &mut ranges, rt6)?;
+        read_file(&mut features, rt4)?;
+        read_file(&mut names, rt5)?;
+        read_file(&mut ranges, rt6)?;
         Ok(Index {
             alloc,
             features,
@@ -86,9 +86,9 @@ impl<A: Allocator + Copy> Index<A> {
         ensures err { IfErr result (λ fault. IsJoinedFault fault
             (readers R.remaining R.failed_reads rt4.old rt5.old rt6.old) (readers R.remaining R.failed_reads rt4.new rt5.new rt6.new)) }
     {
-        read_file(CountyFile::Rt4, &mut Rt4Counts::new(alloc), rt4)?;
-        read_file(CountyFile::Rt5, &mut NoNames, rt5)?;
-        read_file(CountyFile::Rt6, &mut Rt6Counts::new(alloc), rt6)?;
+        read_file(&mut Counts::<Type4, A>::new(alloc), rt4)?;
+        read_file(&mut NoNames, rt5)?;
+        read_file(&mut Counts::<Type6, A>::new(alloc), rt6)?;
         Ok(())
     }
 
@@ -101,7 +101,7 @@ impl<A: Allocator + Copy> Index<A> {
         ensures memory { OnErr result ((lines : JoinedLines) → IsIndexOf self.now lines → HasJoined (segment_of lines rt1.now.bytes)) }
     {
         let mut segment = Segment::of(self.alloc, rt1.bytes());
-        let tlid = rt1.tlid_number();
+        let tlid = rt1.number();
         self.push_names(tlid, &mut segment)?;
         self.push_ranges(tlid, &mut segment)?;
         Ok(segment)

@@ -2,7 +2,6 @@
 #![tactic(auto)]
 
 mod checked;
-mod counts;
 mod county;
 mod county_file;
 mod fault;

@@ -1,12 +1,11 @@
 //! Address ranges of street segments.
-ghost use Rattle.std.specs.Prelude.{◌≡◌, ◌+◌, ◌-◌, length};
-ghost use Rattle.tl_records.specs.Layout.{IsWithin, field_at};
+ghost use Rattle.std.specs.Prelude.{◌≡◌, length};
 ghost use Rattle.tl_segments.specs.Range.{AreBytes, HasFieldLengths, IsRange, fields_of, lies_on, own_range};
 ghost use Rattle.tl_segments.specs.declared.range.RangeFields.{RangeFields};
 
 use crate::segment::RECORD_LENGTH;
-use tl_fields::{field, number};
-use tl_records::{Places, Rt1};
+use tl_fields::number;
+use tl_records::Type1;
 
 /// How many bytes an address has, its blanks counted.
 pub const ADDRESS_LENGTH: usize = 11;
@@ -86,22 +85,13 @@ pub(crate) fn own_range(line: &[u8]) -> Range<'_>
     ensures fields { IsRange (fields_of result) }
 {
     Range {
-        fraddl: field_at(Rt1::FRADDL, line),
-        toaddl: field_at(Rt1::TOADDL, line),
-        fraddr: field_at(Rt1::FRADDR, line),
-        toaddr: field_at(Rt1::TOADDR, line),
-        zipl: field_at(Rt1::ZIPL, line),
-        zipr: field_at(Rt1::ZIPR, line),
+        fraddl: Type1::FRADDL.of(line),
+        toaddl: Type1::TOADDL.of(line),
+        fraddr: Type1::FRADDR.of(line),
+        toaddr: Type1::TOADDR.of(line),
+        zipl: Type1::ZIPL.of(line),
+        zipr: Type1::ZIPR.of(line),
     }
-}
-
-/// The field at these places of a line.
-pub(crate) fn field_at(places: Places, line: &[u8]) -> &[u8]
-    requires { IsWithin places (length line.now) }
-    ensures value { result.now ≡ field_at places line.now }
-    ensures len { length result.now ≡ places.1 + 1 - places.0 }
-{
-    field(line, places.0, places.1)
 }
 
 /// Whether a house number lies on a side of a street, by the FR and TO addresses of that side: both have a number, it lies between them

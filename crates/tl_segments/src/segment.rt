@@ -7,12 +7,12 @@ ghost use Rattle.tl_segments.specs.Segment.{IsSegment, blank_segment, line_of, n
 ghost use Rattle.tl_segments.specs.declared.range.RangeFields.{RangeFields};
 
 use crate::name::NAME_LENGTH;
-use crate::range::{Range, RangeFields, copy_of, field_at, own_range};
+use crate::range::{Range, RangeFields, copy_of, own_range};
 use arrayvec::ArrayVec;
 use std::alloc::{AllocError, Allocator};
 use std::marker::Model;
 use tl_fields::{CountedRead, LONGEST_CONTENT};
-use tl_records::{LineFault, Rt1, read_line_into, rt1_of};
+use tl_records::{LineFault, Rt1, Type1, read_line_into};
 
 /// How many bytes a type 1 record has, its end of line not counted (TIGER/Line 2006, record type 1).
 pub const RECORD_LENGTH: usize = 228;
@@ -146,7 +146,7 @@ impl<A: Allocator> Segment<A> {
         ensures bytes { IfSome result (λ name. AreBytes NAME_LENGTH name.now) }
     {
         let Some(further) = n.checked_sub(1) else {
-            return Some(field_at(Rt1::FENAME, self.record.as_slice()));
+            return Some(Type1::FENAME.of(self.record.as_slice()));
         };
         let name = self.names.get(further as usize)?;
         Some(name)
@@ -209,8 +209,8 @@ fn read_rt1<R: CountedRead>(
         Ok(None) => return Ok(None),
         Err(fault) => return Err(fault),
     }
-    match rt1_of(*number, content.as_slice()) {
-        Ok(rt1) => Ok(Some(rt1.tlid_number())),
+    match Rt1::of(*number, content.as_slice()) {
+        Ok(rt1) => Ok(Some(rt1.number())),
         Err(fault) => Err(fault),
     }
 }

@@ -6,4 +6,5 @@ pub returns-clause-length : goal.returns-clause-length
 returns-clause-length c = written-length
 
 pub returns-clause-bytes : goal.returns-clause-bytes
-returns-clause-bytes c = λ helper segment arguments bytes score i is meets. (written-bytes helper segment arguments bytes score is meets).bytes i
+returns-clause-bytes c = λ helper segment arguments bytes score i is meets.
+    (written-bytes helper segment arguments bytes score is meets).bytes i

@@ -9,7 +9,8 @@ use Rattle.geocode.proofs.hits.has_name.Goals.{in-Some+else-name_equals, in_defa
 
 pub returns-then-name_equals : goal.returns-then-name_equals
 returns-then-name_equals g c =
-    sym (list_any-at (λ named. name_equals named c.args.name.now) (names_of c.args.segment.now) c.loop-n.n c.in-Some.named.now c.in-Some.ensures.value c.if-name_equals.ensures)
+    sym (list_any-at (λ named. name_equals named c.args.name.now)
+    (names_of c.args.segment.now) c.loop-n.n c.in-Some.named.now c.in-Some.ensures.value c.if-name_equals.ensures)
 
 pub loop-n-preserved : goal.loop-n-preserved
 loop-n-preserved g c =
@@ -17,7 +18,8 @@ loop-n-preserved g c =
     let n = c.loop-n.n in
     let inside : n < length names = omega (arith, c.loop-n-test.true, c.names-n-end.ensures.value) in
     elim c.match-name.branch [
-      | in-Some+else-name_equals w ↦ list_any-next (λ named. name_equals named c.args.name.now) names n w.in-Some.named.now w.in-Some.ensures.value w.if-name_equals.ensures c.loop-n.invariant
+      | in-Some+else-name_equals w ↦ list_any-next (λ named. name_equals named c.args.name.now) names n w.in-Some.named.now
+          w.in-Some.ensures.value w.if-name_equals.ensures c.loop-n.invariant
       | in_default w ↦ absurd (read-within names n [] inside w.in_default.ensures.value)
     ]
 
@@ -29,7 +31,8 @@ returns-after-name g c =
     let inside : n < length names = omega (arith, c.loop-n-test.true, c.names-n-end.ensures.value) in
     let last : length names ≤ n + 1 = omega (arith, c.names-n-end.ensures.value) in
     let none : list_any test (take (n + 1) names) ≡ false = elim c.match-name.branch [
-      | in-Some+else-name_equals w ↦ list_any-next test names n w.in-Some.named.now w.in-Some.ensures.value w.if-name_equals.ensures c.loop-n.invariant
+      | in-Some+else-name_equals w ↦ list_any-next test names n w.in-Some.named.now w.in-Some.ensures.value w.if-name_equals.ensures
+          c.loop-n.invariant
       | in_default w ↦ absurd (read-within names n [] inside w.in_default.ensures.value)
     ] in
     sym none ∙ ap (list_any test) (take_all (n + 1) names last)

@@ -17,7 +17,10 @@ loop-n-preserved g c =
     elim c.match-range.branch [
       | in-Some+in_ok-push_on_range w ↦ (
           let range = fields_of w.in-Some.range in
-          let pushed : c.match-range.hits.items ≡ now ++ hits_on_range house w.bytes.result.now range = ap (λ hits. hits.items) w.hits-is ∙ w.in_ok-push_on_range.ensures in
-          pushed ∙ ap (λ bytes. now ++ hits_on_range house bytes range) w.bytes.ensures.value ∙ flat_map-at (hits_on_range house segment.bytes) c.args.hits.now.items now ranges n range w.in-Some.ensures.value c.loop-n.invariant)
+          let pushed : c.match-range.hits.items ≡ now ++ hits_on_range house w.bytes.result.now range =
+          ap (λ hits. hits.items) w.hits-is ∙ w.in_ok-push_on_range.ensures in
+          pushed ∙ ap (λ bytes. now ++ hits_on_range house bytes range) w.bytes.ensures.value
+          ∙ flat_map-at (hits_on_range house segment.bytes) c.args.hits.now.items now ranges n range w.in-Some.ensures.value
+          c.loop-n.invariant)
       | in_default w ↦ absurd (read-within ranges n (own_range segment.bytes) inside w.in_default.ensures.value)
     ]

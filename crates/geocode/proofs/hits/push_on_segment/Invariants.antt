@@ -5,4 +5,5 @@ use Rattle.geocode.specs.Hits.{hits_on_range}
 use Rattle.geocode.proofs.hits.push_on_segment.Given as goal
 
 abbrev pub invariant-loop-n : goal.invariant-loop-n
-invariant-loop-n g l = l.hits.items ≡ l.initial.hits.items ++ flat_map (hits_on_range l.house l.segment.bytes) (take l.n (ranges_of l.segment))
+invariant-loop-n g l = l.hits.items ≡ l.initial.hits.items ++ flat_map (hits_on_range l.house l.segment.bytes)
+    (take l.n (ranges_of l.segment))

@@ -6,5 +6,11 @@ pub returns-in-LineFeed : goal.returns-in-LineFeed
 returns-in-LineFeed g c =
     let content = c.read_content.new.content.items in
     let read = c.in-LineFeed.ensures in
-    let without = c.take_off_return.ensures in
-    (read.0, omega arith, refl, line_by_lf _ _ content _ read.1 read.2 read.3 without, line_whole content _ read.1 without, line_short content _ read.2 without)
+    let without = c.take_off_return.ensures in (
+      read.0,
+      omega arith,
+      refl,
+      line_by_lf _ _ content _ read.1 read.2 read.3 without,
+      line_whole content _ read.1 without,
+      line_short content _ read.2 without,
+    )

@@ -12,17 +12,26 @@ returns g c = λ lines kept.
     let segments = c.args.segments.now.items in
     let tlids = c.args.tlids.now.items in
     let segment = c.in_ok-segment.field-0 in
-    let record_of = c.in-Ok.ensures.ok in
-    let tlid : tlid_of segment ≡ Some c.tlid_number.result = ap (λ bytes. number_in Rt1 bytes) c.in_ok-segment.ensures.bytes ∙ c.tlid_number.ensures.value in
-    let numbered : AreTlids c.push-2.new.self.items c.push.new.self.items = rw (c.in_ok-push.ensures.items, c.in_ok-push-2.ensures.items) (tlids_push tlids segments c.tlid_number.result segment kept.numbered tlid) in (
+    let record_of = c.in_ok-record.ensures.ok in
+    let tlid : tlid_of segment ≡ Some c.number.result =
+    ap (λ bytes. number_in Rt1 bytes) c.in_ok-segment.ensures.bytes ∙ c.number.ensures.value in
+    let numbered : AreTlids c.push-2.new.self.items c.push.new.self.items =
+    rw (c.in_ok-push.ensures.items, c.in_ok-push-2.ensures.items)
+    (tlids_push tlids segments c.number.result segment kept.numbered tlid) in (
       record { good = record_of.1; within = tt },
       record {
         joined = λ joined of_joined.
             c.in_ok-push.ensures.items
-            ∙ ap (λ segment. segments ++ segment ∷ []) (c.in_ok-segment.ensures.ok joined of_joined ∙ ap (λ bytes. segment_of joined bytes) record_of.0)
+            ∙ ap (λ segment. segments ++ segment ∷ []) (c.in_ok-segment.ensures.ok joined of_joined
+            ∙ ap (λ bytes. segment_of joined bytes) record_of.0)
             ∙ ap (λ segments. segments ++ segment_of joined bytes ∷ []) (kept.joined joined of_joined)
             ∙ sym (segments_push joined lines bytes);
-        counted = rw c.in_ok-push.ensures.items (omega (arith, kept.counted, length-append segments (segment ∷ []), length-append lines (bytes ∷ [])));
+        counted = rw c.in_ok-push.ensures.items (omega (
+          arith,
+          kept.counted,
+          length-append segments (segment ∷ []),
+          length-append lines (bytes ∷ []),
+        ));
         numbered = numbered;
       },
     )

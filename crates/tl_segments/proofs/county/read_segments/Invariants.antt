@@ -7,7 +7,9 @@ use Rattle.tl_segments.proofs.county.read_segments.Given as goal
 
 abbrev pub invariant-loop-line : goal.invariant-loop-line
 invariant-loop-line g l =
-    KeepsSoFar Rt1 (KeepsSegments l.index l.segments.items l.tlids.items) l.line (reader g.R.Read.remaining g.R.CountedRead.failed_reads l.initial.input) (reader g.R.Read.remaining g.R.CountedRead.failed_reads l.input)
+    KeepsSoFar Rt1 (KeepsSegments l.index l.segments.items l.tlids.items) l.line
+    (reader g.R.Read.remaining g.R.CountedRead.failed_reads l.initial.input)
+    (reader g.R.Read.remaining g.R.CountedRead.failed_reads l.input)
 
 abbrev pub decreases-loop-line : goal.decreases-loop-line
 decreases-loop-line g l = 2 ^ 32 - l.line.number

@@ -22,7 +22,11 @@ returns-in_err-take-in-Ok-Some-clause-err g c =
     let next = rw c.in-Ok-Some.field-0-is at c.in-Ok-Some.ensures in
     let fault = c.in_err-take-in-Ok-Some.field-0.0 in
     let taken = c.in_err-take-in-Ok-Some.ensures so_far.lines so_far.kept so_far.read.reads.good.within in
-    rw (returned.1, returned.2) (not_taken g.T.Table.file so_far.lines _ c.read_line.new.line _ _ _ so_far.read (g.T.Table.keeps c.take.new.self) fault tt next taken)
+    rw (returned.1, returned.2)
+    (not_taken g.T.Lines.FileType.FILE so_far.lines _ c.read_line.new.line _ _ _ so_far.read
+    (g.T.Table.keeps c.take.new.table) fault tt next taken)
 
 pub returns-in-Err-clause-err : goal.returns-in-Err-clause-err
-returns-in-Err-clause-err g c = (c.requires.file, c.loop-table.invariant.lines, at_fault _ _ _ c.read_line.new.line _ _ _ c.loop-table.invariant.read _ c.in-Err.ensures)
+returns-in-Err-clause-err g c =
+    let so_far = c.loop-table.invariant in
+    (c.FILE.ensures, so_far.lines, at_fault _ _ _ c.read_line.new.line _ _ _ so_far.read _ c.in-Err.ensures)

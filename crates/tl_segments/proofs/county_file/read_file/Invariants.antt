@@ -5,7 +5,9 @@ use Rattle.tl_segments.proofs.county_file.read_file.Given as goal
 
 abbrev pub invariant-loop-table : goal.invariant-loop-table
 invariant-loop-table g l =
-    KeepsSoFar g.T.Table.file (g.T.Table.keeps l.table) l.line (reader g.R.Read.remaining g.R.CountedRead.failed_reads l.initial.input) (reader g.R.Read.remaining g.R.CountedRead.failed_reads l.input)
+    KeepsSoFar g.T.Lines.FileType.FILE (g.T.Table.keeps l.table) l.line
+    (reader g.R.Read.remaining g.R.CountedRead.failed_reads l.initial.input)
+    (reader g.R.Read.remaining g.R.CountedRead.failed_reads l.input)
 
 abbrev pub decreases-loop-table : goal.decreases-loop-table
 decreases-loop-table g l = 2 ^ 32 - l.line.number

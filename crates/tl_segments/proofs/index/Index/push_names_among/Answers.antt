@@ -20,13 +20,22 @@ loop-feat-preserved g c =
     elim c.match-name.branch [
       | in-Some+in_ok-push_name w ↦ (
           let more = filter_map-more (option_and_then (name_at table)) feats i None (Some w.in-Some.name.now) inside w.in-Some.ensures in
-          record { names = names-more start now c.match-name.segment names (w.in-Some.name.now ∷ []) _ c.loop-feat.invariant.names (w.segment-is ∙ w.in_ok-push_name.ensures.ok) more; few = grind (arith, common_steps) })
+          record {
+            names = names-more start names (w.in-Some.name.now ∷ []) c.loop-feat.invariant.names
+                (w.segment-is ∙ w.in_ok-push_name.ensures.ok) more;
+            few = grind (arith, common_steps);
+          })
       | in_default w ↦ (
           let more = filter_map-more (option_and_then (name_at table)) feats i None None inside w.in_default.ensures in
-          record { names = names-more start now c.match-name.segment names [] _ c.loop-feat.invariant.names (w.segment-is ∙ ap (λ names. record now { names = names }) (sym (append-nil now.names))) more; few = grind (arith, common_steps) })
+          record {
+            names = names-more start names [] c.loop-feat.invariant.names
+                (w.segment-is ∙ ap (λ names. record now { names = names }) (sym (append-nil now.names))) more;
+            few = grind (arith, common_steps);
+          })
     ]
 
 pub returns-in_err-push_name-clause-some : goal.returns-in_err-push_name-clause-some
 returns-in_err-push_name-clause-some g c =
     let returned = err_from_is_err_and c.from_residual.result c.from_residual.ensures.1 in
-    rw returned.1 (filter_map-some (option_and_then (name_at c.args.self.now.names)) c.args.features.now c.loop-feat.feat-index None c.in-Some.name.now (omega arith) c.in-Some.ensures)
+    rw returned.1 (filter_map-some (option_and_then (name_at c.args.self.now.names)) c.args.features.now c.loop-feat.feat-index None
+    c.in-Some.name.now (omega arith) c.in-Some.ensures)

@@ -4,6 +4,8 @@ use Rattle.tl_segments.proofs.index.Index.push_names_among.Given as goal
 
 abbrev pub invariant-loop-feat : goal.invariant-loop-feat
 invariant-loop-feat g l = record {
-  names : l.segment ≡ record l.initial.segment { names = l.initial.segment.names ++ names_among l.self.names (take l.feat-index l.features) };
+  names : l.segment ≡ record l.initial.segment {
+    names = l.initial.segment.names ++ names_among l.self.names (take l.feat-index l.features);
+  };
   few : length l.segment.names ≤ length l.initial.segment.names + l.feat-index;
 }

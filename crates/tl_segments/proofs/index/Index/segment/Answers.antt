@@ -9,23 +9,27 @@ use Rattle.tl_segments.proofs.index.Index.segment.Goals as goal
 pub returns-clause-ok : goal.returns-clause-ok
 returns-clause-ok g c = λ lines of_lines.
     let index = c.args.self.now in
-    let tlid = c.tlid_number-tlid.result in
+    let tlid = c.number-tlid.result in
     let names = names_in index tlid in
     let ranges = list_at index.ranges tlid in
     let line = c.args.rt1.now.bytes in
-    let first : ◌≡◌ {A = Contents} c.of-segment.result record { bytes = line; names = []; ranges = [] } = c.of-segment.ensures ∙ ap (λ bytes. let segment : Contents = record { bytes = bytes; names = []; ranges = [] } in segment) c.bytes.ensures.value in
+    let first : ◌≡◌ {A = Contents} c.of-segment.result record { bytes = line; names = []; ranges = [] } =
+    c.of-segment.ensures ∙ ap (λ bytes. let segment : Contents = record { bytes = bytes; names = []; ranges = [] } in segment)
+    c.bytes.ensures.value in
     let named = c.in_ok-push_names.ensures.names ∙ ap (λ (segment : Contents). record segment { names = names }) first in
     let ranged = c.in_ok-push_ranges.ensures.ranges ∙ ap (λ (segment : Contents). record segment { ranges = ranges }) named in
-    segment_from_index index lines line tlid c.push_ranges.new.segment of_lines c.tlid_number-tlid.ensures.value ranged
+    segment_from_index index lines line tlid c.push_ranges.new.segment of_lines c.number-tlid.ensures.value ranged
 
 pub returns-in_err-push_names-clause-memory : goal.returns-in_err-push_names-clause-memory
 returns-in_err-push_names-clause-memory g c =
     let returned = err_from_is_err_and c.from_residual.result c.from_residual.ensures.1 in
     rw returned.1
-    (λ lines of_lines. names_joined c.args.self.now lines c.args.rt1.now.bytes c.tlid_number-tlid.result of_lines c.tlid_number-tlid.ensures.value c.in_err-push_names.ensures.some)
+    (λ lines of_lines. names_joined c.args.self.now lines c.args.rt1.now.bytes c.number-tlid.result of_lines
+    c.number-tlid.ensures.value c.in_err-push_names.ensures.some)
 
 pub returns-in_err-push_ranges-clause-memory : goal.returns-in_err-push_ranges-clause-memory
 returns-in_err-push_ranges-clause-memory g c =
     let returned = err_from_is_err_and c.from_residual-in_err-push_ranges.result c.from_residual-in_err-push_ranges.ensures.1 in
     rw returned.1
-    (λ lines of_lines. ranges_joined c.args.self.now lines c.args.rt1.now.bytes c.tlid_number-tlid.result of_lines c.tlid_number-tlid.ensures.value c.in_err-push_ranges.ensures.some)
+    (λ lines of_lines. ranges_joined c.args.self.now lines c.args.rt1.now.bytes c.number-tlid.result of_lines
+    c.number-tlid.ensures.value c.in_err-push_ranges.ensures.some)

@@ -6,7 +6,8 @@ use Rattle.tl_segments.proofs.segment.Segment.name.Goals as goal
 
 pub returns-in_default-clause-bytes : goal.returns-in_default-clause-bytes
 returns-in_default-clause-bytes g c =
-    rw (c.field_at.ensures.value, c.as_slice.ensures.value) (AreBytes-field_of c.self.inside.record.items 228 20 49 c.self.invariant.bytes (omega arith) (omega arith) (omega arith))
+    rw (c.of.ensures.value, c.as_slice.ensures.value)
+    (AreBytes-field_of c.self.inside.record.items 228 20 49 c.self.invariant.bytes (omega arith) (omega arith) (omega arith))
 
 pub returns-in_err-name-clause-value : goal.returns-in_err-name-clause-value
 returns-in_err-name-clause-value g c =
@@ -23,6 +24,7 @@ returns-clause-value g c =
     let names = c.deref.ensures.value ∙ ap (λ (segment : Contents). segment.names) c.self.view_is in
     let found = c.in_ok-name.ensures.lookup in
     let inside : c.in-Some.further < length segment.names = omega (arith, ap length names, found.3.0) in
-    let same : name ≡ get_or segment.names c.in-Some.further name = found.1 ∙ ap (λ (xs : List (List ℕ)). get_or xs c.in-Some.further name) names in
+    let same : name ≡ get_or segment.names c.in-Some.further name =
+    found.1 ∙ ap (λ (xs : List (List ℕ)). get_or xs c.in-Some.further name) names in
     let number : c.args.n ≡ c.in-Some.further + 1 = omega (arith, c.in-Some.ensures) in
     sym (slice_get-further (field_of segment.bytes 20 49) name segment.names c.args.n c.in-Some.further number inside same)

@@ -1,6 +1,0 @@
-use Rattle.tl_fields.proofs.NumberLemmas.{number_of_lt}
-use Rattle.tl_records.proofs.type5.Rt5.feat_number.Goals as goal
-
-pub returns-clause-small : goal.returns-clause-small
-returns-clause-small c =
-    number_of_lt c.self.inside.line.now 11 18 _ c.self.invariant.numbered

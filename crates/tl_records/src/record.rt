@@ -1,0 +1,140 @@
+//! Records: lines that are good for their record type, the checks that tell, and their fields.
+ghost use Rattle.std.specs.Prelude.{◌≡◌, ◌+◌, ◌-◌, ◌^◌, ◌<◌, Some, length, IfErr, IfOk};
+ghost use Rattle.tl_fields.specs.Number.{number_of};
+ghost use Rattle.tl_records.specs.Layout.{IsWithin, field_at, type1, type4, type5, type6};
+ghost use Rattle.tl_records.specs.Records.{IsGoodLine, IsLineFault, line_flaw};
+
+use crate::fault::{LineFault, LineFlaw};
+use crate::layout::{Layout, Places, RecordType, Type1, Type4, Type5, Type6};
+use crate::lines::Line;
+use std::marker::{Model, PhantomData};
+use tl_fields::number;
+
+/// A line of a record type, lent. Contracts see it as a record with the field `bytes`.
+#[derive(Drop)]
+pub struct Record<'a, T: RecordType> {
+    line: &'a [u8],
+    number: u64,
+    of: PhantomData<T>,
+}
+
+/// A line of record type 1: a street segment's own record.
+pub type Rt1<'a> = Record<'a, Type1>;
+
+/// A line of record type 4: the numbers of a segment's alternate names.
+pub type Rt4<'a> = Record<'a, Type4>;
+
+/// A line of record type 5: a feature's name, by its number.
+pub type Rt5<'a> = Record<'a, Type5>;
+
+/// A line of record type 6: a further address range of a segment.
+pub type Rt6<'a> = Record<'a, Type6>;
+
+impl<'a, T: RecordType> Model for Record<'a, T> {
+    ghost use Rattle.tl_records.specs.Records.{IsRecord, RecordParts};
+
+    ghost Value = { RecordParts };
+
+    ghost view = { λ rt. record { bytes = rt.line.now } };
+
+    ghost invariant = { λ rt. IsRecord T.LAYOUT rt.line.now rt.number };
+}
+
+impl<'a, T: RecordType> Record<'a, T> {
+    /// The line with a number as a record of its type, or its first flaw: `WrongLength`, `WrongType`, and `BadTlid`, in type 5 `BadFeature`.
+    #[inline]
+    pub fn of(number: u32, line: &'a [u8]) -> Result<Self, LineFault>
+        ensures ok { IfOk result (λ rt. (rt.bytes ≡ line.now) × IsGoodLine T.LAYOUT line.now) }
+        ensures err { IfErr result (λ fault. IsLineFault T.LAYOUT (record { number = number; bytes = line.now }) fault) }
+    {
+        match flawless_number(T::LAYOUT, line) {
+            Ok(found) => Ok(Record {
+                line,
+                number: found,
+                of: PhantomData,
+            }),
+            Err(flaw) => Err(LineFault {
+                line: u64::from(number),
+                flaw,
+            }),
+        }
+    }
+
+    /// All of the line, without its end.
+    #[inline]
+    pub fn bytes(&self) -> &'a [u8]
+        ensures value { result.now ≡ self.now.bytes }
+        ensures len { length result.now ≡ T.LAYOUT.length }
+        ensures good { IsGoodLine T.LAYOUT self.now.bytes }
+    {
+        self.line
+    }
+
+    /// The field at these places, lent with its blanks.
+    #[inline]
+    pub fn field(&self, places: Places) -> &'a [u8]
+        requires { IsWithin places T.LAYOUT.length }
+        ensures value { result.now ≡ field_at places self.now.bytes }
+        ensures len { length result.now ≡ places.1 + 1 - places.0 }
+    {
+        places.of(self.line)
+    }
+
+    /// The number of the field that has one in each line of the record type: of TLID, in type 5 of FEAT.
+    #[inline]
+    pub fn number(&self) -> u64
+        ensures value { number_of (field_at T.LAYOUT.number self.now.bytes) ≡ Some result }
+        ensures small { result < 10 ^ (T.LAYOUT.number.1 + 1 - T.LAYOUT.number.0) }
+    {
+        self.number
+    }
+}
+
+/// The number of the field that has one in each line of a record type, or the first flaw of the line.
+#[inline]
+fn flawless_number(layout: Layout, line: &[u8]) -> Result<u64, LineFlaw>
+    requires { IsWithin layout.number layout.length }
+    ensures number { IfOk result (λ n. number_of (field_at layout.number line.now) ≡ Some n) }
+    ensures good { IfOk result (λ _. IsGoodLine layout line.now) }
+    ensures err { IfErr result (λ flaw. line_flaw layout line.now ≡ Some flaw) }
+{
+    if line.len() != layout.length {
+        return Err(LineFlaw::WrongLength);
+    }
+    if line[0] != layout.tag {
+        return Err(LineFlaw::WrongType);
+    }
+    number(layout.number.of(line)).ok_or(layout.without_number)
+}
+
+/// The line as a record of type 1, or its first flaw: `WrongLength`, `WrongType`, `BadTlid`.
+pub fn rt1(line: &Line) -> Result<Rt1<'_>, LineFault>
+    ensures ok { IfOk result (λ rt1. (rt1.bytes ≡ line.now.bytes) × IsGoodLine type1 line.now.bytes) }
+    ensures err { IfErr result (λ fault. IsLineFault type1 line.now fault) }
+{
+    Record::of(line.number(), line.bytes())
+}
+
+/// The line as a record of type 4, or its first flaw: `WrongLength`, `WrongType`, `BadTlid`.
+pub fn rt4(line: &Line) -> Result<Rt4<'_>, LineFault>
+    ensures ok { IfOk result (λ rt4. (rt4.bytes ≡ line.now.bytes) × IsGoodLine type4 line.now.bytes) }
+    ensures err { IfErr result (λ fault. IsLineFault type4 line.now fault) }
+{
+    Record::of(line.number(), line.bytes())
+}
+
+/// The line as a record of type 5, or its first flaw: `WrongLength`, `WrongType`, `BadFeature`.
+pub fn rt5(line: &Line) -> Result<Rt5<'_>, LineFault>
+    ensures ok { IfOk result (λ rt5. (rt5.bytes ≡ line.now.bytes) × IsGoodLine type5 line.now.bytes) }
+    ensures err { IfErr result (λ fault. IsLineFault type5 line.now fault) }
+{
+    Record::of(line.number(), line.bytes())
+}
+
+/// The line as a record of type 6, or its first flaw: `WrongLength`, `WrongType`, `BadTlid`.
+pub fn rt6(line: &Line) -> Result<Rt6<'_>, LineFault>
+    ensures ok { IfOk result (λ rt6. (rt6.bytes ≡ line.now.bytes) × IsGoodLine type6 line.now.bytes) }
+    ensures err { IfErr result (λ fault. IsLineFault type6 line.now fault) }
+{
+    Record::of(line.number(), line.bytes())
+}
