@@ -1,10 +1,13 @@
 -- Where jumps lead, by the index of an instruction; and flat forms that grow by one.
-use Rattle.std.proofs.Common.{◌≡◌, ℕ, zero, suc, ◌+◌, ◌-◌, ◌<◌, ◌≤◌, ◌==◌, ◌⊎◌, inl, inr, nat_lt, Bool, true, false, if◌then◌else◌, pos, IfSome, IsSome, List, [], ◌∷◌, ◌++◌, length, take, get_or, Option, Some, None, option_map, refl, sym, ap, ◌∙◌, subst, arith, length-append, is_some}
+use Rattle.std.proofs.Common.{◌≡◌, ℕ, zero, suc, ◌+◌, ◌-◌, ◌<◌, ◌≤◌, ◌==◌, ◌⊎◌, inl, inr, nat_lt, Bool, true, false, if◌then◌else◌, pos}
+use Rattle.std.proofs.Common.{IfSome, IsSome, List, [], ◌∷◌, ◌++◌, length, take, get_or, Option, Some, None, option_map, refl, sym, ap, ◌∙◌}
+use Rattle.std.proofs.Common.{subst, arith, length-append, is_some}
 use Rattle.std.proofs.lemmas.Bool.{cases_lt}
 use Rattle.std.proofs.lemmas.Bool.Decides.{nat_tests}
 use Rattle.std.proofs.lemmas.Grind.{common_steps}
 use Rattle.std.proofs.lemmas.List.{get_or_default, take_all}
 use Rattle.bpf_insn.specs.Code.{index_at, instruction_at, place_of, spelling, word_count}
+use Rattle.bpf_insn.specs.Immediates.{HasImmediates}
 use Rattle.bpf_insn.specs.Jump.{jump_distance}
 use Rattle.bpf_insn.specs.declared.instruction.Insn.{Insn}
 use Rattle.bpf_insn.specs.declared.value.Area.{Area}
@@ -12,7 +15,7 @@ use Rattle.bpf_insn.proofs.CodeLemmas.{length-spelling_positive}
 use Rattle.bpf_insn.proofs.PlaceLemmas.{instruction_at-index, instruction_within, word_count-cons}
 use Rattle.bpf_insn.proofs.SpanLemmas.{begins_at_its_place}
 use Rattle.bpf_flow.specs.Flow.{target_of}
-use Rattle.bpf_flat.specs.Flat.{AreFlatForms, HasImmediates, IsFlatForm, JumpsTo, Keeps, insn_of, without_distance}
+use Rattle.bpf_flat.specs.Flat.{AreFlatForms, IsFlatForm, JumpsTo, Keeps, insn_of, without_distance}
 use Rattle.bpf_flat.specs.declared.flat.FlatInsn.{FlatInsn}
 
 -- an index that is found at a place is that of the instruction there
@@ -28,18 +31,21 @@ past_words : (place words : ℕ) → nat_lt place words ≡ false → words ≤ 
 past_words place words test = grind (arith, nat_tests)
 
 further : (insn : Insn) (code : List Insn) (place : ℕ) → 0 < place
-    → index_at (insn ∷ code) place ≡ (if nat_lt place (length (spelling insn)) then None else option_map (λ (i : ℕ). suc i) (index_at code (place - length (spelling insn))))
+    → index_at (insn ∷ code) place ≡ (if nat_lt place (length (spelling insn)) then None else option_map (λ (i : ℕ). suc i)
+    (index_at code (place - length (spelling insn))))
 further insn code place above = rw (starts_not place above) refl
 
 pub found_place : (code : List Insn) (place index : ℕ) → index_at code place ≡ Some index → place_of code index ≡ place
 found_place [] place index is = absurd (let no : ⊥ = cc in no)
 found_place (insn ∷ code) zero index is = let first : index ≡ 0 = cc in ap (place_of (insn ∷ code)) first
 found_place (insn ∷ code) (suc place) index is =
-    by_test (nat_lt (suc place) (length (spelling insn))) refl (sym (further insn code (suc place) (omega arith)) ∙ is) (found_place code (suc place - length (spelling insn)))
+    by_test (nat_lt (suc place) (length (spelling insn))) refl (sym (further insn code (suc place) (omega arith)) ∙ is)
+    (found_place code (suc place - length (spelling insn)))
   where
     by_test : (inside : Bool) → nat_lt (suc place) (length (spelling insn)) ≡ inside
         → (if inside then None else option_map (λ (i : ℕ). suc i) (index_at code (suc place - length (spelling insn)))) ≡ Some index
-        → ((before : ℕ) → index_at code (suc place - length (spelling insn)) ≡ Some before → place_of code before ≡ suc place - length (spelling insn)) → place_of (insn ∷ code) index ≡ suc place
+        → ((before : ℕ) → index_at code (suc place - length (spelling insn)) ≡ Some before
+        → place_of code before ≡ suc place - length (spelling insn)) → place_of (insn ∷ code) index ≡ suc place
     by_test true test nothing found = absurd (let no : ⊥ = cc in no)
     by_test false test some found =
         let past = past_words (suc place) (length (spelling insn)) test in
@@ -51,16 +57,21 @@ found_place (insn ∷ code) (suc place) index is =
 
 -- where the instruction at a place jumps
 
-pub jumps_to : (code : List Insn) (place target index : ℕ) (found : Option Insn) → IfSome found (λ insn. option_map pos (Some target) ≡ option_map (target_of place) (jump_distance insn)) → Some index ≡ index_at code target → IfSome found (λ insn. JumpsTo code place insn index)
+pub jumps_to : (code : List Insn) (place target index : ℕ) (found : Option Insn)
+    → IfSome found (λ insn. option_map pos (Some target) ≡ option_map (target_of place) (jump_distance insn))
+    → Some index ≡ index_at code target → IfSome found (λ insn. JumpsTo code place insn index)
 jumps_to code place target index None leads at = tt
 jumps_to code place target index (Some insn) leads at = λ distance jumps.
     let there = leads ∙ ap (option_map (target_of place)) jumps in
     let is : target_of place distance ≡ pos target = cc in
     is ∙ ap pos (sym (found_place code target index (sym at)))
 
-pub jumps_nowhere : (code : List Insn) (place : ℕ) (found : Option Insn) → IfSome found (λ insn. option_map pos None ≡ option_map (target_of place) (jump_distance insn)) → IfSome found (λ insn. JumpsTo code place insn 0)
+pub jumps_nowhere : (code : List Insn) (place : ℕ) (found : Option Insn)
+    → IfSome found (λ insn. option_map pos None ≡ option_map (target_of place) (jump_distance insn))
+    → IfSome found (λ insn. JumpsTo code place insn 0)
 jumps_nowhere code place None leads = tt
-jumps_nowhere code place (Some insn) leads = λ distance jumps. let there = leads ∙ ap (option_map (target_of place)) jumps in absurd (let no : ⊥ = cc in no)
+jumps_nowhere code place (Some insn) leads = λ distance jumps. let there = leads ∙ ap (option_map (target_of place)) jumps in
+    absurd (let no : ⊥ = cc in no)
 
 pub nothing_found : (code : List Insn) (place : ℕ) → index_at code place ≡ None → IsSome (instruction_at code place) → ⊥
 nothing_found code place none some =
@@ -71,9 +82,10 @@ nothing_found code place none some =
 pub forms_start : (code : List Insn) (areas : List (Option Area)) (flats : List FlatInsn) → flats ≡ [] → AreFlatForms code areas 0 flats
 forms_start code areas flats none = record { count_is = ap length none; each = λ index insn flat below stands is. absurd (omega arith) }
 
-pub forms_grow : (code : List Insn) (areas : List (Option Area)) (count : ℕ) (flats more : List FlatInsn) (insn : Insn) (flat : FlatInsn) → AreFlatForms code areas count flats → more ≡ flats ++ flat ∷ [] → insn ≡ get_or code count insn → count < length code → IsFlatForm code (place_of code count) insn (get_or areas count None) flat
-    → AreFlatForms code areas (count + 1) more
-forms_grow code areas count flats more insn flat are grown stands within form = record {
+pub forms_grow : {code : List Insn} {areas : List (Option Area)} {count : ℕ} {flats more : List FlatInsn} {insn : Insn} (flat : FlatInsn)
+    → AreFlatForms code areas count flats → more ≡ flats ++ flat ∷ [] → insn ≡ get_or code count insn → count < length code
+    → IsFlatForm code (place_of code count) insn (get_or areas count None) flat → AreFlatForms code areas (count + 1) more
+forms_grow {code} {areas} {count} {flats} {more} {insn} flat are grown stands within form = record {
   count_is = let long = are.count_is in ap length grown ∙ length-append flats (flat ∷ []) ∙ omega arith;
   each = λ index other last below there is. by_place index other last below there is (cases_lt index count);
 }
@@ -87,32 +99,40 @@ forms_grow code areas count flats more insn flat are grown stands within form = 
     same_insn : (other : Insn) → other ≡ get_or code count other → other ≡ insn
     same_insn other there = there ∙ get_or_default code count other insn within ∙ sym stands
 
-    by_place : (index : ℕ) (other : Insn) (last : FlatInsn) → index < count + 1 → other ≡ get_or code index other → last ≡ get_or more index last → (index < count) ⊎ (count ≤ index)
+    by_place : (index : ℕ) (other : Insn) (last : FlatInsn) → index < count + 1 → other ≡ get_or code index other
+        → last ≡ get_or more index last → (index < count) ⊎ (count ≤ index)
         → IsFlatForm code (place_of code index) other (get_or areas index None) last
     by_place index other last below there is (inl less) = are.each index other last less there (is ∙ before index last less)
     by_place index other last below there is (inr past) =
         let same : index ≡ count = omega arith in
         subst (λ (i : ℕ). IsFlatForm code (place_of code i) other (get_or areas i None) last) (sym same)
-        (subst (λ (x : Insn). IsFlatForm code (place_of code count) x (get_or areas count None) last) (sym (same_insn other (subst (λ (i : ℕ). other ≡ get_or code i other) same there)))
-        (subst (λ (f : FlatInsn). IsFlatForm code (place_of code count) insn (get_or areas count None) f) (sym (subst (λ (i : ℕ). last ≡ get_or more i last) same is ∙ at_end last)) form))
+        (subst (λ (x : Insn). IsFlatForm code (place_of code count) x (get_or areas count None) last)
+        (sym (same_insn other (subst (λ (i : ℕ). other ≡ get_or code i other) same there)))
+        (subst (λ (f : FlatInsn). IsFlatForm code (place_of code count) insn (get_or areas count None) f)
+        (sym (subst (λ (i : ℕ). last ≡ get_or more i last) same is ∙ at_end last)) form))
 
-pub form_at : (code : List Insn) (index place target : ℕ) (insn : Insn) (area : Option Area) (flat : FlatInsn) → place ≡ place_of code index → instruction_at code place ≡ Some insn → IfSome (instruction_at code place) (λ insn. JumpsTo code place insn target) → insn_of flat ≡ without_distance insn → HasImmediates insn → Keeps insn area target flat
-    → IsFlatForm code (place_of code index) insn area flat
-form_at code index place target insn area flat at stands jumps is immediates keeps = record {
+pub form_at : {code : List Insn} {place : ℕ} (index target : ℕ) {insn : Insn} {area : Option Area} {flat : FlatInsn}
+    → place ≡ place_of code index → instruction_at code place ≡ Some insn
+    → IfSome (instruction_at code place) (λ insn. JumpsTo code place insn target) → insn_of flat ≡ without_distance insn
+    → HasImmediates insn → Keeps insn area target flat → IsFlatForm code (place_of code index) insn area flat
+form_at {code} {place} index target {insn} at stands jumps is immediates keeps = record {
   stands_for = is;
   immediates = immediates;
   target = target;
-  jumps = subst (λ (p : ℕ). JumpsTo code p insn target) at (subst (λ (o : Option Insn). IfSome o (λ insn. JumpsTo code place insn target)) stands jumps);
+  jumps = subst (λ (p : ℕ). JumpsTo code p insn target) at
+      (subst (λ (o : Option Insn). IfSome o (λ insn. JumpsTo code place insn target)) stands jumps);
   keeps = keeps;
 }
 
 -- the index of the instruction with a place
 
-index_more : (first : Insn) (code : List Insn) (place : ℕ) (index : ℕ) → index_at code place ≡ Some index → index_at (first ∷ code) (length (spelling first) + place) ≡ Some (suc index)
+index_more : (first : Insn) (code : List Insn) (place : ℕ) (index : ℕ) → index_at code place ≡ Some index
+    → index_at (first ∷ code) (length (spelling first) + place) ≡ Some (suc index)
 index_more first code place index is =
     let some = length-spelling_positive first in
     further first code (length (spelling first) + place) (omega arith)
-    ∙ ap (λ (inside : Bool). if inside then None else option_map (λ (i : ℕ). suc i) (index_at code (length (spelling first) + place - length (spelling first)))) (not_less (length (spelling first)) place)
+    ∙ ap (λ (inside : Bool). if inside then None else option_map (λ (i : ℕ). suc i)
+    (index_at code (length (spelling first) + place - length (spelling first)))) (not_less (length (spelling first)) place)
     ∙ ap (λ (at : ℕ). option_map (λ (i : ℕ). suc i) (index_at code at)) (omega arith) ∙ ap (option_map (λ (i : ℕ). suc i)) is
   where
     not_less : (words more : ℕ) → nat_lt (words + more) words ≡ false
@@ -122,7 +142,8 @@ pub place_found : (code : List Insn) (index : ℕ) → index < length code → i
 place_found [] index within = absurd (omega arith)
 place_found (first ∷ code) zero within = refl
 place_found (first ∷ code) (suc index) within =
-    ap (index_at (first ∷ code)) (word_count-cons first (take index code)) ∙ index_more first code (place_of code index) index (place_found code index (omega arith))
+    ap (index_at (first ∷ code)) (word_count-cons first (take index code))
+    ∙ index_more first code (place_of code index) index (place_found code index (omega arith))
 
 -- an instruction that begins at the place of an index has this index
 
@@ -134,6 +155,8 @@ within_code code index insn stands = elim (cases_lt index (length code)) as (λ 
       let inside = instruction_within code (place_of code index) (ap is_some stands) in absurd (omega arith)
 ]
 
-pub stands_there : (code : List Insn) (index : ℕ) (insn : Insn) → instruction_at code (place_of code index) ≡ Some insn → insn ≡ get_or code index insn
+pub stands_there : (code : List Insn) (index : ℕ) (insn : Insn) → instruction_at code (place_of code index) ≡ Some insn
+    → insn ≡ get_or code index insn
 stands_there code index insn stands =
-    let begins = begins_at_its_place code index (get_or code index insn) (within_code code index insn stands) (get_or_default code index insn (get_or code index insn) (within_code code index insn stands)) in cc
+    let begins = begins_at_its_place code index (get_or code index insn) (within_code code index insn stands)
+    (get_or_default code index insn (get_or code index insn) (within_code code index insn stands)) in cc

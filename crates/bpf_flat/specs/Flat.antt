@@ -1,8 +1,8 @@
 -- Instructions in flat form: which instruction each stands for. It keeps where a jump leads and not how far, so it stands for one with a
 -- distance of 0; and it keeps the area that the base of a load points into.
-use Rattle.std.specs.Prelude.{◌≡◌, ℕ, ◌+◌, ◌<◌, ℤ, pos, ◌+ℤ◌, List, length, get_or, Option, Some, None, FitsSigned}
-use Rattle.std.specs.Int.{w32}
+use Rattle.std.specs.Prelude.{◌≡◌, ℕ, ◌+◌, ◌<◌, ℤ, pos, ◌+ℤ◌, List, length, get_or, Option, Some, None}
 use Rattle.bpf_insn.specs.Code.{place_of}
+use Rattle.bpf_insn.specs.Immediates.{HasImmediates}
 use Rattle.bpf_insn.specs.Jump.{jump_distance}
 use Rattle.bpf_insn.specs.declared.instruction.ByteOrder.TheVariants.{LittleEndian, BigEndian, Swapped}
 use Rattle.bpf_insn.specs.declared.instruction.Condition.{Condition}
@@ -17,7 +17,6 @@ use Rattle.bpf_insn.specs.declared.instruction.Operation.{Operation}
 use Rattle.bpf_insn.specs.declared.instruction.Operation.TheVariants.{Add, Subtract, Multiply, Divide, SignedDivide, Or, And, ShiftLeft, ShiftRight, Modulo, SignedModulo, ExclusiveOr, Move, ArithmeticShiftRight}
 use Rattle.bpf_insn.specs.declared.instruction.SignExtension.{SignExtension}
 use Rattle.bpf_insn.specs.declared.instruction.SignExtension.TheVariants.{Bits8To32, Bits16To32, Bits8To64, Bits16To64, Bits32To64}
-use Rattle.bpf_insn.specs.declared.instruction.Source.{Source}
 use Rattle.bpf_insn.specs.declared.instruction.Source.TheVariants.{Immediate, Register}
 use Rattle.bpf_insn.specs.declared.instruction.StoreSize.{StoreSize}
 use Rattle.bpf_insn.specs.declared.instruction.StoreSize.TheVariants as size
@@ -62,210 +61,179 @@ store_immediate size operands = insn.StoreImmediate size operands.base operands.
 abbrev pub store_register : StoreSize → StoreRegisterOperands → Insn
 store_register size operands = Store size operands.base operands.offset operands.source
 
+-- what a flat form stands for: an instruction, the area that the base of a load points into, and the index of the instruction to which a jump
+-- leads
+pub record Parts : Type 0 where
+  pub insn : Insn
+  pub area : Area
+  pub target : ℕ
+
+-- an instruction that is no load and no jump: stores write the frame
+abbrev pub plain : Insn → Parts
+plain insn = record { insn = insn; area = Frame; target = 0 }
+
+abbrev pub leads : ℕ → Insn → Parts
+leads target insn = record { insn = insn; area = Frame; target = target }
+
+abbrev pub from : Area → Insn → Parts
+from area insn = record { insn = insn; area = area; target = 0 }
+
+-- the table of flat forms, one row each
+unfoldable pub parts_of : FlatInsn → Parts
+parts_of (flat.Add32Immediate operands) = plain (alu_immediate Add Bits32 operands)
+parts_of (flat.Add32Register operands) = plain (alu_register Add Bits32 operands)
+parts_of (flat.Add64Immediate operands) = plain (alu_immediate Add Bits64 operands)
+parts_of (flat.Add64Register operands) = plain (alu_register Add Bits64 operands)
+parts_of (flat.Subtract32Immediate operands) = plain (alu_immediate Subtract Bits32 operands)
+parts_of (flat.Subtract32Register operands) = plain (alu_register Subtract Bits32 operands)
+parts_of (flat.Subtract64Immediate operands) = plain (alu_immediate Subtract Bits64 operands)
+parts_of (flat.Subtract64Register operands) = plain (alu_register Subtract Bits64 operands)
+parts_of (flat.Multiply32Immediate operands) = plain (alu_immediate Multiply Bits32 operands)
+parts_of (flat.Multiply32Register operands) = plain (alu_register Multiply Bits32 operands)
+parts_of (flat.Multiply64Immediate operands) = plain (alu_immediate Multiply Bits64 operands)
+parts_of (flat.Multiply64Register operands) = plain (alu_register Multiply Bits64 operands)
+parts_of (flat.Divide32Immediate operands) = plain (alu_immediate Divide Bits32 operands)
+parts_of (flat.Divide32Register operands) = plain (alu_register Divide Bits32 operands)
+parts_of (flat.Divide64Immediate operands) = plain (alu_immediate Divide Bits64 operands)
+parts_of (flat.Divide64Register operands) = plain (alu_register Divide Bits64 operands)
+parts_of (flat.SignedDivide32Immediate operands) = plain (alu_immediate SignedDivide Bits32 operands)
+parts_of (flat.SignedDivide32Register operands) = plain (alu_register SignedDivide Bits32 operands)
+parts_of (flat.SignedDivide64Immediate operands) = plain (alu_immediate SignedDivide Bits64 operands)
+parts_of (flat.SignedDivide64Register operands) = plain (alu_register SignedDivide Bits64 operands)
+parts_of (flat.Or32Immediate operands) = plain (alu_immediate Or Bits32 operands)
+parts_of (flat.Or32Register operands) = plain (alu_register Or Bits32 operands)
+parts_of (flat.Or64Immediate operands) = plain (alu_immediate Or Bits64 operands)
+parts_of (flat.Or64Register operands) = plain (alu_register Or Bits64 operands)
+parts_of (flat.And32Immediate operands) = plain (alu_immediate And Bits32 operands)
+parts_of (flat.And32Register operands) = plain (alu_register And Bits32 operands)
+parts_of (flat.And64Immediate operands) = plain (alu_immediate And Bits64 operands)
+parts_of (flat.And64Register operands) = plain (alu_register And Bits64 operands)
+parts_of (flat.ShiftLeft32Immediate operands) = plain (alu_immediate ShiftLeft Bits32 operands)
+parts_of (flat.ShiftLeft32Register operands) = plain (alu_register ShiftLeft Bits32 operands)
+parts_of (flat.ShiftLeft64Immediate operands) = plain (alu_immediate ShiftLeft Bits64 operands)
+parts_of (flat.ShiftLeft64Register operands) = plain (alu_register ShiftLeft Bits64 operands)
+parts_of (flat.ShiftRight32Immediate operands) = plain (alu_immediate ShiftRight Bits32 operands)
+parts_of (flat.ShiftRight32Register operands) = plain (alu_register ShiftRight Bits32 operands)
+parts_of (flat.ShiftRight64Immediate operands) = plain (alu_immediate ShiftRight Bits64 operands)
+parts_of (flat.ShiftRight64Register operands) = plain (alu_register ShiftRight Bits64 operands)
+parts_of (flat.Modulo32Immediate operands) = plain (alu_immediate Modulo Bits32 operands)
+parts_of (flat.Modulo32Register operands) = plain (alu_register Modulo Bits32 operands)
+parts_of (flat.Modulo64Immediate operands) = plain (alu_immediate Modulo Bits64 operands)
+parts_of (flat.Modulo64Register operands) = plain (alu_register Modulo Bits64 operands)
+parts_of (flat.SignedModulo32Immediate operands) = plain (alu_immediate SignedModulo Bits32 operands)
+parts_of (flat.SignedModulo32Register operands) = plain (alu_register SignedModulo Bits32 operands)
+parts_of (flat.SignedModulo64Immediate operands) = plain (alu_immediate SignedModulo Bits64 operands)
+parts_of (flat.SignedModulo64Register operands) = plain (alu_register SignedModulo Bits64 operands)
+parts_of (flat.ExclusiveOr32Immediate operands) = plain (alu_immediate ExclusiveOr Bits32 operands)
+parts_of (flat.ExclusiveOr32Register operands) = plain (alu_register ExclusiveOr Bits32 operands)
+parts_of (flat.ExclusiveOr64Immediate operands) = plain (alu_immediate ExclusiveOr Bits64 operands)
+parts_of (flat.ExclusiveOr64Register operands) = plain (alu_register ExclusiveOr Bits64 operands)
+parts_of (flat.Move32Immediate operands) = plain (alu_immediate Move Bits32 operands)
+parts_of (flat.Move32Register operands) = plain (alu_register Move Bits32 operands)
+parts_of (flat.Move64Immediate operands) = plain (alu_immediate Move Bits64 operands)
+parts_of (flat.Move64Register operands) = plain (alu_register Move Bits64 operands)
+parts_of (flat.ArithmeticShiftRight32Immediate operands) = plain (alu_immediate ArithmeticShiftRight Bits32 operands)
+parts_of (flat.ArithmeticShiftRight32Register operands) = plain (alu_register ArithmeticShiftRight Bits32 operands)
+parts_of (flat.ArithmeticShiftRight64Immediate operands) = plain (alu_immediate ArithmeticShiftRight Bits64 operands)
+parts_of (flat.ArithmeticShiftRight64Register operands) = plain (alu_register ArithmeticShiftRight Bits64 operands)
+parts_of (flat.Extend8To32 operands) = plain (move_extended Bits8To32 operands)
+parts_of (flat.Extend16To32 operands) = plain (move_extended Bits16To32 operands)
+parts_of (flat.Extend8To64 operands) = plain (move_extended Bits8To64 operands)
+parts_of (flat.Extend16To64 operands) = plain (move_extended Bits16To64 operands)
+parts_of (flat.Extend32To64 operands) = plain (move_extended Bits32To64 operands)
+parts_of (flat.Negate32 destination) = plain (Negate Bits32 destination)
+parts_of (flat.Negate64 destination) = plain (Negate Bits64 destination)
+parts_of (flat.LittleEndian16 destination) = plain (ByteSwap LittleEndian swap.Bits16 destination)
+parts_of (flat.LittleEndian32 destination) = plain (ByteSwap LittleEndian swap.Bits32 destination)
+parts_of (flat.LittleEndian64 destination) = plain (ByteSwap LittleEndian swap.Bits64 destination)
+parts_of (flat.BigEndian16 destination) = plain (ByteSwap BigEndian swap.Bits16 destination)
+parts_of (flat.BigEndian32 destination) = plain (ByteSwap BigEndian swap.Bits32 destination)
+parts_of (flat.BigEndian64 destination) = plain (ByteSwap BigEndian swap.Bits64 destination)
+parts_of (flat.Swapped16 destination) = plain (ByteSwap Swapped swap.Bits16 destination)
+parts_of (flat.Swapped32 destination) = plain (ByteSwap Swapped swap.Bits32 destination)
+parts_of (flat.Swapped64 destination) = plain (ByteSwap Swapped swap.Bits64 destination)
+parts_of (flat.JumpIfEqual32Immediate jump) = leads jump.target (jump_immediate Equal Bits32 jump)
+parts_of (flat.JumpIfEqual32Register jump) = leads jump.target (jump_register Equal Bits32 jump)
+parts_of (flat.JumpIfEqual64Immediate jump) = leads jump.target (jump_immediate Equal Bits64 jump)
+parts_of (flat.JumpIfEqual64Register jump) = leads jump.target (jump_register Equal Bits64 jump)
+parts_of (flat.JumpIfGreater32Immediate jump) = leads jump.target (jump_immediate Greater Bits32 jump)
+parts_of (flat.JumpIfGreater32Register jump) = leads jump.target (jump_register Greater Bits32 jump)
+parts_of (flat.JumpIfGreater64Immediate jump) = leads jump.target (jump_immediate Greater Bits64 jump)
+parts_of (flat.JumpIfGreater64Register jump) = leads jump.target (jump_register Greater Bits64 jump)
+parts_of (flat.JumpIfGreaterOrEqual32Immediate jump) = leads jump.target (jump_immediate GreaterOrEqual Bits32 jump)
+parts_of (flat.JumpIfGreaterOrEqual32Register jump) = leads jump.target (jump_register GreaterOrEqual Bits32 jump)
+parts_of (flat.JumpIfGreaterOrEqual64Immediate jump) = leads jump.target (jump_immediate GreaterOrEqual Bits64 jump)
+parts_of (flat.JumpIfGreaterOrEqual64Register jump) = leads jump.target (jump_register GreaterOrEqual Bits64 jump)
+parts_of (flat.JumpIfSharesBit32Immediate jump) = leads jump.target (jump_immediate SharesBit Bits32 jump)
+parts_of (flat.JumpIfSharesBit32Register jump) = leads jump.target (jump_register SharesBit Bits32 jump)
+parts_of (flat.JumpIfSharesBit64Immediate jump) = leads jump.target (jump_immediate SharesBit Bits64 jump)
+parts_of (flat.JumpIfSharesBit64Register jump) = leads jump.target (jump_register SharesBit Bits64 jump)
+parts_of (flat.JumpIfNotEqual32Immediate jump) = leads jump.target (jump_immediate NotEqual Bits32 jump)
+parts_of (flat.JumpIfNotEqual32Register jump) = leads jump.target (jump_register NotEqual Bits32 jump)
+parts_of (flat.JumpIfNotEqual64Immediate jump) = leads jump.target (jump_immediate NotEqual Bits64 jump)
+parts_of (flat.JumpIfNotEqual64Register jump) = leads jump.target (jump_register NotEqual Bits64 jump)
+parts_of (flat.JumpIfSignedGreater32Immediate jump) = leads jump.target (jump_immediate SignedGreater Bits32 jump)
+parts_of (flat.JumpIfSignedGreater32Register jump) = leads jump.target (jump_register SignedGreater Bits32 jump)
+parts_of (flat.JumpIfSignedGreater64Immediate jump) = leads jump.target (jump_immediate SignedGreater Bits64 jump)
+parts_of (flat.JumpIfSignedGreater64Register jump) = leads jump.target (jump_register SignedGreater Bits64 jump)
+parts_of (flat.JumpIfSignedGreaterOrEqual32Immediate jump) = leads jump.target (jump_immediate SignedGreaterOrEqual Bits32 jump)
+parts_of (flat.JumpIfSignedGreaterOrEqual32Register jump) = leads jump.target (jump_register SignedGreaterOrEqual Bits32 jump)
+parts_of (flat.JumpIfSignedGreaterOrEqual64Immediate jump) = leads jump.target (jump_immediate SignedGreaterOrEqual Bits64 jump)
+parts_of (flat.JumpIfSignedGreaterOrEqual64Register jump) = leads jump.target (jump_register SignedGreaterOrEqual Bits64 jump)
+parts_of (flat.JumpIfLess32Immediate jump) = leads jump.target (jump_immediate Less Bits32 jump)
+parts_of (flat.JumpIfLess32Register jump) = leads jump.target (jump_register Less Bits32 jump)
+parts_of (flat.JumpIfLess64Immediate jump) = leads jump.target (jump_immediate Less Bits64 jump)
+parts_of (flat.JumpIfLess64Register jump) = leads jump.target (jump_register Less Bits64 jump)
+parts_of (flat.JumpIfLessOrEqual32Immediate jump) = leads jump.target (jump_immediate LessOrEqual Bits32 jump)
+parts_of (flat.JumpIfLessOrEqual32Register jump) = leads jump.target (jump_register LessOrEqual Bits32 jump)
+parts_of (flat.JumpIfLessOrEqual64Immediate jump) = leads jump.target (jump_immediate LessOrEqual Bits64 jump)
+parts_of (flat.JumpIfLessOrEqual64Register jump) = leads jump.target (jump_register LessOrEqual Bits64 jump)
+parts_of (flat.JumpIfSignedLess32Immediate jump) = leads jump.target (jump_immediate SignedLess Bits32 jump)
+parts_of (flat.JumpIfSignedLess32Register jump) = leads jump.target (jump_register SignedLess Bits32 jump)
+parts_of (flat.JumpIfSignedLess64Immediate jump) = leads jump.target (jump_immediate SignedLess Bits64 jump)
+parts_of (flat.JumpIfSignedLess64Register jump) = leads jump.target (jump_register SignedLess Bits64 jump)
+parts_of (flat.JumpIfSignedLessOrEqual32Immediate jump) = leads jump.target (jump_immediate SignedLessOrEqual Bits32 jump)
+parts_of (flat.JumpIfSignedLessOrEqual32Register jump) = leads jump.target (jump_register SignedLessOrEqual Bits32 jump)
+parts_of (flat.JumpIfSignedLessOrEqual64Immediate jump) = leads jump.target (jump_immediate SignedLessOrEqual Bits64 jump)
+parts_of (flat.JumpIfSignedLessOrEqual64Register jump) = leads jump.target (jump_register SignedLessOrEqual Bits64 jump)
+parts_of (flat.LoadFromRecordByte operands) = from Record (load format.Byte operands)
+parts_of (flat.LoadFromFrameByte operands) = from Frame (load format.Byte operands)
+parts_of (flat.LoadFromRecordHalfWord operands) = from Record (load format.HalfWord operands)
+parts_of (flat.LoadFromFrameHalfWord operands) = from Frame (load format.HalfWord operands)
+parts_of (flat.LoadFromRecordWord operands) = from Record (load format.Word operands)
+parts_of (flat.LoadFromFrameWord operands) = from Frame (load format.Word operands)
+parts_of (flat.LoadFromRecordDoubleWord operands) = from Record (load format.DoubleWord operands)
+parts_of (flat.LoadFromFrameDoubleWord operands) = from Frame (load format.DoubleWord operands)
+parts_of (flat.LoadFromRecordSignedByte operands) = from Record (load format.SignedByte operands)
+parts_of (flat.LoadFromFrameSignedByte operands) = from Frame (load format.SignedByte operands)
+parts_of (flat.LoadFromRecordSignedHalfWord operands) = from Record (load format.SignedHalfWord operands)
+parts_of (flat.LoadFromFrameSignedHalfWord operands) = from Frame (load format.SignedHalfWord operands)
+parts_of (flat.LoadFromRecordSignedWord operands) = from Record (load format.SignedWord operands)
+parts_of (flat.LoadFromFrameSignedWord operands) = from Frame (load format.SignedWord operands)
+parts_of (flat.StoreByteImmediate operands) = plain (store_immediate size.Byte operands)
+parts_of (flat.StoreHalfWordImmediate operands) = plain (store_immediate size.HalfWord operands)
+parts_of (flat.StoreWordImmediate operands) = plain (store_immediate size.Word operands)
+parts_of (flat.StoreDoubleWordImmediate operands) = plain (store_immediate size.DoubleWord operands)
+parts_of (flat.StoreByteRegister operands) = plain (store_register size.Byte operands)
+parts_of (flat.StoreHalfWordRegister operands) = plain (store_register size.HalfWord operands)
+parts_of (flat.StoreWordRegister operands) = plain (store_register size.Word operands)
+parts_of (flat.StoreDoubleWordRegister operands) = plain (store_register size.DoubleWord operands)
+parts_of (flat.Jump target) = leads target (insn.Jump (Short (pos 0)))
+parts_of (flat.Call immediate) = plain (insn.Call immediate)
+parts_of flat.Exit = plain insn.Exit
+parts_of (flat.WideLoad destination immediate next_immediate) = plain (insn.WideLoad destination immediate next_immediate)
+
 -- the instruction that a flat form stands for
-unfoldable pub insn_of : FlatInsn → Insn
-insn_of (flat.Add32Immediate operands) = alu_immediate Add Bits32 operands
-insn_of (flat.Add32Register operands) = alu_register Add Bits32 operands
-insn_of (flat.Add64Immediate operands) = alu_immediate Add Bits64 operands
-insn_of (flat.Add64Register operands) = alu_register Add Bits64 operands
-insn_of (flat.Subtract32Immediate operands) = alu_immediate Subtract Bits32 operands
-insn_of (flat.Subtract32Register operands) = alu_register Subtract Bits32 operands
-insn_of (flat.Subtract64Immediate operands) = alu_immediate Subtract Bits64 operands
-insn_of (flat.Subtract64Register operands) = alu_register Subtract Bits64 operands
-insn_of (flat.Multiply32Immediate operands) = alu_immediate Multiply Bits32 operands
-insn_of (flat.Multiply32Register operands) = alu_register Multiply Bits32 operands
-insn_of (flat.Multiply64Immediate operands) = alu_immediate Multiply Bits64 operands
-insn_of (flat.Multiply64Register operands) = alu_register Multiply Bits64 operands
-insn_of (flat.Divide32Immediate operands) = alu_immediate Divide Bits32 operands
-insn_of (flat.Divide32Register operands) = alu_register Divide Bits32 operands
-insn_of (flat.Divide64Immediate operands) = alu_immediate Divide Bits64 operands
-insn_of (flat.Divide64Register operands) = alu_register Divide Bits64 operands
-insn_of (flat.SignedDivide32Immediate operands) = alu_immediate SignedDivide Bits32 operands
-insn_of (flat.SignedDivide32Register operands) = alu_register SignedDivide Bits32 operands
-insn_of (flat.SignedDivide64Immediate operands) = alu_immediate SignedDivide Bits64 operands
-insn_of (flat.SignedDivide64Register operands) = alu_register SignedDivide Bits64 operands
-insn_of (flat.Or32Immediate operands) = alu_immediate Or Bits32 operands
-insn_of (flat.Or32Register operands) = alu_register Or Bits32 operands
-insn_of (flat.Or64Immediate operands) = alu_immediate Or Bits64 operands
-insn_of (flat.Or64Register operands) = alu_register Or Bits64 operands
-insn_of (flat.And32Immediate operands) = alu_immediate And Bits32 operands
-insn_of (flat.And32Register operands) = alu_register And Bits32 operands
-insn_of (flat.And64Immediate operands) = alu_immediate And Bits64 operands
-insn_of (flat.And64Register operands) = alu_register And Bits64 operands
-insn_of (flat.ShiftLeft32Immediate operands) = alu_immediate ShiftLeft Bits32 operands
-insn_of (flat.ShiftLeft32Register operands) = alu_register ShiftLeft Bits32 operands
-insn_of (flat.ShiftLeft64Immediate operands) = alu_immediate ShiftLeft Bits64 operands
-insn_of (flat.ShiftLeft64Register operands) = alu_register ShiftLeft Bits64 operands
-insn_of (flat.ShiftRight32Immediate operands) = alu_immediate ShiftRight Bits32 operands
-insn_of (flat.ShiftRight32Register operands) = alu_register ShiftRight Bits32 operands
-insn_of (flat.ShiftRight64Immediate operands) = alu_immediate ShiftRight Bits64 operands
-insn_of (flat.ShiftRight64Register operands) = alu_register ShiftRight Bits64 operands
-insn_of (flat.Modulo32Immediate operands) = alu_immediate Modulo Bits32 operands
-insn_of (flat.Modulo32Register operands) = alu_register Modulo Bits32 operands
-insn_of (flat.Modulo64Immediate operands) = alu_immediate Modulo Bits64 operands
-insn_of (flat.Modulo64Register operands) = alu_register Modulo Bits64 operands
-insn_of (flat.SignedModulo32Immediate operands) = alu_immediate SignedModulo Bits32 operands
-insn_of (flat.SignedModulo32Register operands) = alu_register SignedModulo Bits32 operands
-insn_of (flat.SignedModulo64Immediate operands) = alu_immediate SignedModulo Bits64 operands
-insn_of (flat.SignedModulo64Register operands) = alu_register SignedModulo Bits64 operands
-insn_of (flat.ExclusiveOr32Immediate operands) = alu_immediate ExclusiveOr Bits32 operands
-insn_of (flat.ExclusiveOr32Register operands) = alu_register ExclusiveOr Bits32 operands
-insn_of (flat.ExclusiveOr64Immediate operands) = alu_immediate ExclusiveOr Bits64 operands
-insn_of (flat.ExclusiveOr64Register operands) = alu_register ExclusiveOr Bits64 operands
-insn_of (flat.Move32Immediate operands) = alu_immediate Move Bits32 operands
-insn_of (flat.Move32Register operands) = alu_register Move Bits32 operands
-insn_of (flat.Move64Immediate operands) = alu_immediate Move Bits64 operands
-insn_of (flat.Move64Register operands) = alu_register Move Bits64 operands
-insn_of (flat.ArithmeticShiftRight32Immediate operands) = alu_immediate ArithmeticShiftRight Bits32 operands
-insn_of (flat.ArithmeticShiftRight32Register operands) = alu_register ArithmeticShiftRight Bits32 operands
-insn_of (flat.ArithmeticShiftRight64Immediate operands) = alu_immediate ArithmeticShiftRight Bits64 operands
-insn_of (flat.ArithmeticShiftRight64Register operands) = alu_register ArithmeticShiftRight Bits64 operands
-insn_of (flat.Extend8To32 operands) = move_extended Bits8To32 operands
-insn_of (flat.Extend16To32 operands) = move_extended Bits16To32 operands
-insn_of (flat.Extend8To64 operands) = move_extended Bits8To64 operands
-insn_of (flat.Extend16To64 operands) = move_extended Bits16To64 operands
-insn_of (flat.Extend32To64 operands) = move_extended Bits32To64 operands
-insn_of (flat.Negate32 destination) = Negate Bits32 destination
-insn_of (flat.Negate64 destination) = Negate Bits64 destination
-insn_of (flat.LittleEndian16 destination) = ByteSwap LittleEndian swap.Bits16 destination
-insn_of (flat.LittleEndian32 destination) = ByteSwap LittleEndian swap.Bits32 destination
-insn_of (flat.LittleEndian64 destination) = ByteSwap LittleEndian swap.Bits64 destination
-insn_of (flat.BigEndian16 destination) = ByteSwap BigEndian swap.Bits16 destination
-insn_of (flat.BigEndian32 destination) = ByteSwap BigEndian swap.Bits32 destination
-insn_of (flat.BigEndian64 destination) = ByteSwap BigEndian swap.Bits64 destination
-insn_of (flat.Swapped16 destination) = ByteSwap Swapped swap.Bits16 destination
-insn_of (flat.Swapped32 destination) = ByteSwap Swapped swap.Bits32 destination
-insn_of (flat.Swapped64 destination) = ByteSwap Swapped swap.Bits64 destination
-insn_of (flat.JumpIfEqual32Immediate jump) = jump_immediate Equal Bits32 jump
-insn_of (flat.JumpIfEqual32Register jump) = jump_register Equal Bits32 jump
-insn_of (flat.JumpIfEqual64Immediate jump) = jump_immediate Equal Bits64 jump
-insn_of (flat.JumpIfEqual64Register jump) = jump_register Equal Bits64 jump
-insn_of (flat.JumpIfGreater32Immediate jump) = jump_immediate Greater Bits32 jump
-insn_of (flat.JumpIfGreater32Register jump) = jump_register Greater Bits32 jump
-insn_of (flat.JumpIfGreater64Immediate jump) = jump_immediate Greater Bits64 jump
-insn_of (flat.JumpIfGreater64Register jump) = jump_register Greater Bits64 jump
-insn_of (flat.JumpIfGreaterOrEqual32Immediate jump) = jump_immediate GreaterOrEqual Bits32 jump
-insn_of (flat.JumpIfGreaterOrEqual32Register jump) = jump_register GreaterOrEqual Bits32 jump
-insn_of (flat.JumpIfGreaterOrEqual64Immediate jump) = jump_immediate GreaterOrEqual Bits64 jump
-insn_of (flat.JumpIfGreaterOrEqual64Register jump) = jump_register GreaterOrEqual Bits64 jump
-insn_of (flat.JumpIfSharesBit32Immediate jump) = jump_immediate SharesBit Bits32 jump
-insn_of (flat.JumpIfSharesBit32Register jump) = jump_register SharesBit Bits32 jump
-insn_of (flat.JumpIfSharesBit64Immediate jump) = jump_immediate SharesBit Bits64 jump
-insn_of (flat.JumpIfSharesBit64Register jump) = jump_register SharesBit Bits64 jump
-insn_of (flat.JumpIfNotEqual32Immediate jump) = jump_immediate NotEqual Bits32 jump
-insn_of (flat.JumpIfNotEqual32Register jump) = jump_register NotEqual Bits32 jump
-insn_of (flat.JumpIfNotEqual64Immediate jump) = jump_immediate NotEqual Bits64 jump
-insn_of (flat.JumpIfNotEqual64Register jump) = jump_register NotEqual Bits64 jump
-insn_of (flat.JumpIfSignedGreater32Immediate jump) = jump_immediate SignedGreater Bits32 jump
-insn_of (flat.JumpIfSignedGreater32Register jump) = jump_register SignedGreater Bits32 jump
-insn_of (flat.JumpIfSignedGreater64Immediate jump) = jump_immediate SignedGreater Bits64 jump
-insn_of (flat.JumpIfSignedGreater64Register jump) = jump_register SignedGreater Bits64 jump
-insn_of (flat.JumpIfSignedGreaterOrEqual32Immediate jump) = jump_immediate SignedGreaterOrEqual Bits32 jump
-insn_of (flat.JumpIfSignedGreaterOrEqual32Register jump) = jump_register SignedGreaterOrEqual Bits32 jump
-insn_of (flat.JumpIfSignedGreaterOrEqual64Immediate jump) = jump_immediate SignedGreaterOrEqual Bits64 jump
-insn_of (flat.JumpIfSignedGreaterOrEqual64Register jump) = jump_register SignedGreaterOrEqual Bits64 jump
-insn_of (flat.JumpIfLess32Immediate jump) = jump_immediate Less Bits32 jump
-insn_of (flat.JumpIfLess32Register jump) = jump_register Less Bits32 jump
-insn_of (flat.JumpIfLess64Immediate jump) = jump_immediate Less Bits64 jump
-insn_of (flat.JumpIfLess64Register jump) = jump_register Less Bits64 jump
-insn_of (flat.JumpIfLessOrEqual32Immediate jump) = jump_immediate LessOrEqual Bits32 jump
-insn_of (flat.JumpIfLessOrEqual32Register jump) = jump_register LessOrEqual Bits32 jump
-insn_of (flat.JumpIfLessOrEqual64Immediate jump) = jump_immediate LessOrEqual Bits64 jump
-insn_of (flat.JumpIfLessOrEqual64Register jump) = jump_register LessOrEqual Bits64 jump
-insn_of (flat.JumpIfSignedLess32Immediate jump) = jump_immediate SignedLess Bits32 jump
-insn_of (flat.JumpIfSignedLess32Register jump) = jump_register SignedLess Bits32 jump
-insn_of (flat.JumpIfSignedLess64Immediate jump) = jump_immediate SignedLess Bits64 jump
-insn_of (flat.JumpIfSignedLess64Register jump) = jump_register SignedLess Bits64 jump
-insn_of (flat.JumpIfSignedLessOrEqual32Immediate jump) = jump_immediate SignedLessOrEqual Bits32 jump
-insn_of (flat.JumpIfSignedLessOrEqual32Register jump) = jump_register SignedLessOrEqual Bits32 jump
-insn_of (flat.JumpIfSignedLessOrEqual64Immediate jump) = jump_immediate SignedLessOrEqual Bits64 jump
-insn_of (flat.JumpIfSignedLessOrEqual64Register jump) = jump_register SignedLessOrEqual Bits64 jump
-insn_of (flat.LoadFromRecordByte operands) = load format.Byte operands
-insn_of (flat.LoadFromFrameByte operands) = load format.Byte operands
-insn_of (flat.LoadFromRecordHalfWord operands) = load format.HalfWord operands
-insn_of (flat.LoadFromFrameHalfWord operands) = load format.HalfWord operands
-insn_of (flat.LoadFromRecordWord operands) = load format.Word operands
-insn_of (flat.LoadFromFrameWord operands) = load format.Word operands
-insn_of (flat.LoadFromRecordDoubleWord operands) = load format.DoubleWord operands
-insn_of (flat.LoadFromFrameDoubleWord operands) = load format.DoubleWord operands
-insn_of (flat.LoadFromRecordSignedByte operands) = load format.SignedByte operands
-insn_of (flat.LoadFromFrameSignedByte operands) = load format.SignedByte operands
-insn_of (flat.LoadFromRecordSignedHalfWord operands) = load format.SignedHalfWord operands
-insn_of (flat.LoadFromFrameSignedHalfWord operands) = load format.SignedHalfWord operands
-insn_of (flat.LoadFromRecordSignedWord operands) = load format.SignedWord operands
-insn_of (flat.LoadFromFrameSignedWord operands) = load format.SignedWord operands
-insn_of (flat.StoreByteImmediate operands) = store_immediate size.Byte operands
-insn_of (flat.StoreHalfWordImmediate operands) = store_immediate size.HalfWord operands
-insn_of (flat.StoreWordImmediate operands) = store_immediate size.Word operands
-insn_of (flat.StoreDoubleWordImmediate operands) = store_immediate size.DoubleWord operands
-insn_of (flat.StoreByteRegister operands) = store_register size.Byte operands
-insn_of (flat.StoreHalfWordRegister operands) = store_register size.HalfWord operands
-insn_of (flat.StoreWordRegister operands) = store_register size.Word operands
-insn_of (flat.StoreDoubleWordRegister operands) = store_register size.DoubleWord operands
-insn_of (flat.Jump target) = insn.Jump (Short (pos 0))
-insn_of (flat.Call immediate) = insn.Call immediate
-insn_of flat.Exit = insn.Exit
-insn_of (flat.WideLoad destination immediate next_immediate) = insn.WideLoad destination immediate next_immediate
+abbrev pub insn_of : FlatInsn → Insn
+insn_of flat = (parts_of flat).insn
 
 -- the index of the instruction where a jump leads; of any other instruction it's 0
-unfoldable pub target_of : FlatInsn → ℕ
-target_of (flat.JumpIfEqual32Immediate jump) = jump.target
-target_of (flat.JumpIfEqual32Register jump) = jump.target
-target_of (flat.JumpIfEqual64Immediate jump) = jump.target
-target_of (flat.JumpIfEqual64Register jump) = jump.target
-target_of (flat.JumpIfGreater32Immediate jump) = jump.target
-target_of (flat.JumpIfGreater32Register jump) = jump.target
-target_of (flat.JumpIfGreater64Immediate jump) = jump.target
-target_of (flat.JumpIfGreater64Register jump) = jump.target
-target_of (flat.JumpIfGreaterOrEqual32Immediate jump) = jump.target
-target_of (flat.JumpIfGreaterOrEqual32Register jump) = jump.target
-target_of (flat.JumpIfGreaterOrEqual64Immediate jump) = jump.target
-target_of (flat.JumpIfGreaterOrEqual64Register jump) = jump.target
-target_of (flat.JumpIfSharesBit32Immediate jump) = jump.target
-target_of (flat.JumpIfSharesBit32Register jump) = jump.target
-target_of (flat.JumpIfSharesBit64Immediate jump) = jump.target
-target_of (flat.JumpIfSharesBit64Register jump) = jump.target
-target_of (flat.JumpIfNotEqual32Immediate jump) = jump.target
-target_of (flat.JumpIfNotEqual32Register jump) = jump.target
-target_of (flat.JumpIfNotEqual64Immediate jump) = jump.target
-target_of (flat.JumpIfNotEqual64Register jump) = jump.target
-target_of (flat.JumpIfSignedGreater32Immediate jump) = jump.target
-target_of (flat.JumpIfSignedGreater32Register jump) = jump.target
-target_of (flat.JumpIfSignedGreater64Immediate jump) = jump.target
-target_of (flat.JumpIfSignedGreater64Register jump) = jump.target
-target_of (flat.JumpIfSignedGreaterOrEqual32Immediate jump) = jump.target
-target_of (flat.JumpIfSignedGreaterOrEqual32Register jump) = jump.target
-target_of (flat.JumpIfSignedGreaterOrEqual64Immediate jump) = jump.target
-target_of (flat.JumpIfSignedGreaterOrEqual64Register jump) = jump.target
-target_of (flat.JumpIfLess32Immediate jump) = jump.target
-target_of (flat.JumpIfLess32Register jump) = jump.target
-target_of (flat.JumpIfLess64Immediate jump) = jump.target
-target_of (flat.JumpIfLess64Register jump) = jump.target
-target_of (flat.JumpIfLessOrEqual32Immediate jump) = jump.target
-target_of (flat.JumpIfLessOrEqual32Register jump) = jump.target
-target_of (flat.JumpIfLessOrEqual64Immediate jump) = jump.target
-target_of (flat.JumpIfLessOrEqual64Register jump) = jump.target
-target_of (flat.JumpIfSignedLess32Immediate jump) = jump.target
-target_of (flat.JumpIfSignedLess32Register jump) = jump.target
-target_of (flat.JumpIfSignedLess64Immediate jump) = jump.target
-target_of (flat.JumpIfSignedLess64Register jump) = jump.target
-target_of (flat.JumpIfSignedLessOrEqual32Immediate jump) = jump.target
-target_of (flat.JumpIfSignedLessOrEqual32Register jump) = jump.target
-target_of (flat.JumpIfSignedLessOrEqual64Immediate jump) = jump.target
-target_of (flat.JumpIfSignedLessOrEqual64Register jump) = jump.target
-target_of (flat.Jump target) = target
-target_of flat = 0
+abbrev pub target_of : FlatInsn → ℕ
+target_of flat = (parts_of flat).target
 
 -- the area that the base of a load points into; stores write the frame
-unfoldable pub area_of : FlatInsn → Area
-area_of (flat.LoadFromRecordByte operands) = Record
-area_of (flat.LoadFromRecordHalfWord operands) = Record
-area_of (flat.LoadFromRecordWord operands) = Record
-area_of (flat.LoadFromRecordDoubleWord operands) = Record
-area_of (flat.LoadFromRecordSignedByte operands) = Record
-area_of (flat.LoadFromRecordSignedHalfWord operands) = Record
-area_of (flat.LoadFromRecordSignedWord operands) = Record
-area_of flat = Frame
+abbrev pub area_of : FlatInsn → Area
+area_of flat = (parts_of flat).area
 
 -- an instruction, but for how far it jumps
 abbrev pub without_distance : Insn → Insn
@@ -283,18 +251,6 @@ Keeps insn area target flat = Unit {0}
 -- an instruction at a place jumps to the one with an index, if it jumps: its distance counts words from the word after it (section 4.3)
 abbrev pub JumpsTo : List Insn → ℕ → Insn → ℕ → Type 0
 JumpsTo code place insn target = (distance : ℤ) → jump_distance insn ≡ Some distance → pos (place + 1) +ℤ distance ≡ pos (place_of code target)
-
--- the immediates that become operands are signed numbers of 32 bits, as those of each instruction of the code are
-abbrev pub HasImmediate : Source → Type 0
-HasImmediate (Immediate immediate) = FitsSigned w32 immediate
-HasImmediate (Register register) = Unit {0}
-
-abbrev pub HasImmediates : Insn → Type 0
-HasImmediates (Alu operation width destination source) = HasImmediate source
-HasImmediates (JumpIf condition width left right distance) = HasImmediate right
-HasImmediates (insn.StoreImmediate size base offset immediate) = FitsSigned w32 immediate
-HasImmediates (insn.WideLoad destination immediate next_immediate) = FitsSigned w32 immediate × FitsSigned w32 next_immediate
-HasImmediates insn = Unit {0}
 
 -- the flat form of an instruction at a place of a code, whose base points into an area, if it's known which
 pub record IsFlatForm (code : List Insn) (place : ℕ) (insn : Insn) (area : Option Area) (flat : FlatInsn) : Type 0 where

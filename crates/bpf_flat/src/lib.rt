@@ -5,6 +5,7 @@
 mod flat;
 mod forms;
 mod operands;
+mod rows;
 mod table;
 
 pub use flat::FlatInsn;

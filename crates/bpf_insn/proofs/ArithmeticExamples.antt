@@ -1,7 +1,8 @@
 -- The definitions of arithmetic at worked examples: what they give is computed.
 use Rattle.std.proofs.Common.{◌≡◌, pos, negsuc, true, false, refl}
 use Rattle.bpf_insn.specs.Arithmetic.{result_of, negate, extension_of, byte_swap, is_met, wide_number, load_extension}
-use Rattle.bpf_insn.specs.declared.instruction.Operation.TheVariants.{Subtract, Multiply, Divide, SignedDivide, ShiftLeft, ShiftRight, Modulo, SignedModulo, Move, ArithmeticShiftRight}
+use Rattle.bpf_insn.specs.declared.instruction.Operation.TheVariants.{Subtract, Multiply, Divide, SignedDivide, ShiftLeft, ShiftRight}
+use Rattle.bpf_insn.specs.declared.instruction.Operation.TheVariants.{Modulo, SignedModulo, Move, ArithmeticShiftRight}
 use Rattle.bpf_insn.specs.declared.instruction.Width.TheVariants.{Bits32, Bits64}
 use Rattle.bpf_insn.specs.declared.instruction.SignExtension.TheVariants.{Bits8To32, Bits16To64}
 use Rattle.bpf_insn.specs.declared.instruction.ByteOrder.TheVariants.{LittleEndian, BigEndian, Swapped}

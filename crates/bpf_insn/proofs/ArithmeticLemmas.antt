@@ -15,14 +15,16 @@ use Rattle.bpf_insn.specs.declared.instruction.Width.TheVariants.{Bits32, Bits64
 
 -- A signed number that is cut to its low bits has its two's complement there, where it lies from -2^(w-1) to 2^(w-1). (The quotient of
 -- the least number and -1 is 2^(w-1).)
-low_bits-signed : (width : Width) (z : ℤ) → mag z ≤ 2 ^ hbits (operand_bits width) → low_bits (operand_bits width) (cast_unsigned w64 z) ≡ cast_unsigned (operand_bits width) z
+low_bits-signed : (width : Width) (z : ℤ) → mag z ≤ 2 ^ hbits (operand_bits width)
+    → low_bits (operand_bits width) (cast_unsigned w64 z) ≡ cast_unsigned (operand_bits width) z
 low_bits-signed Bits32 (pos n) h = omega arith
 low_bits-signed Bits32 (negsuc n) h = omega arith
 low_bits-signed Bits64 (pos n) h = omega arith
 low_bits-signed Bits64 (negsuc n) h = omega arith
 
 -- the low bits, read as a signed number
-mag-signed : (width : Width) (x : ℕ) → mag (cast_signed (operand_bits width) (low_bits (operand_bits width) x)) < 2 ^ hbits (operand_bits width)
+mag-signed : (width : Width) (x : ℕ) → mag (cast_signed (operand_bits width) (low_bits (operand_bits width) x)) < 2 ^ hbits
+    (operand_bits width)
 mag-signed width x = (sfits_to_z {w = operand_bits width} (record { fits = mod-lt x (pow_pos (bits (operand_bits width))) })).sfits
 
 mag-neg_le : (n : ℕ) → mag (neg_ℤ (pos n)) ≤ n
@@ -35,7 +37,8 @@ mag-quotient (pos a) (negsuc d) = let e = div-le_self a (suc d) in let f = mag-n
 mag-quotient (negsuc a) (pos d) = let e = div-le_self (suc a) d in let f = mag-neg_le (suc a / d) in omega arith
 mag-quotient (negsuc a) (negsuc d) = div-le_self (suc a) (suc d)
 
-quotient_within : (width : Width) (x : ℕ) (d : ℤ) → mag (int_div (cast_signed (operand_bits width) (low_bits (operand_bits width) x)) d) ≤ 2 ^ hbits (operand_bits width)
+quotient_within : (width : Width) (x : ℕ) (d : ℤ) → mag (int_div (cast_signed (operand_bits width) (low_bits (operand_bits width) x)) d) ≤ 2
+    ^ hbits (operand_bits width)
 quotient_within width x d =
     let below = mag-signed width x in
     let quotient = mag-quotient (cast_signed (operand_bits width) (low_bits (operand_bits width) x)) d in
@@ -50,7 +53,9 @@ unsigned_fits (pos n) h = omega arith
 unsigned_fits (negsuc n) h = omega arith
 
 -- The remainder of low bits as signed numbers, found among signed 64-bit numbers, and the bits of it.
-pub remainder_bits : (width : Width) (x : ℕ) (d : ℤ) → let r = int_rem (cast_signed (operand_bits width) (low_bits (operand_bits width) x)) d in low_bits (operand_bits width) (cast_unsigned w64 r) ≡ cast_unsigned (operand_bits width) r
+pub remainder_bits : (width : Width) (x : ℕ) (d : ℤ) → let r =
+    int_rem (cast_signed (operand_bits width) (low_bits (operand_bits width) x)) d in
+    low_bits (operand_bits width) (cast_unsigned w64 r) ≡ cast_unsigned (operand_bits width) r
 remainder_bits width x d =
     let a = cast_signed (operand_bits width) (low_bits (operand_bits width) x) in
     let below : mag a < 2 ^ hbits (operand_bits width) = mag-signed width x in
@@ -58,7 +63,9 @@ remainder_bits width x d =
     low_bits-signed width (int_rem a d) (omega arith)
 
 -- The same of the quotient. It's wrapped to 64 bits, where the quotient of the least number and -1 becomes the least number.
-pub quotient_bits : (width : Width) (x : ℕ) (d : ℤ) → let q = int_div (cast_signed (operand_bits width) (low_bits (operand_bits width) x)) d in low_bits (operand_bits width) (cast_unsigned w64 (cast_signed w64 (cast_unsigned w64 q))) ≡ cast_unsigned (operand_bits width) q
+pub quotient_bits : (width : Width) (x : ℕ) (d : ℤ) → let q =
+    int_div (cast_signed (operand_bits width) (low_bits (operand_bits width) x)) d in
+    low_bits (operand_bits width) (cast_unsigned w64 (cast_signed w64 (cast_unsigned w64 q))) ≡ cast_unsigned (operand_bits width) q
 quotient_bits width x d =
     let a = cast_signed (operand_bits width) (low_bits (operand_bits width) x) in
     let within = quotient_within width x d in

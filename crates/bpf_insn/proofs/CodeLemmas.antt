@@ -1,5 +1,6 @@
 -- How codes, words and faults determine each other.
-use Rattle.std.proofs.Common.{◌≡◌, ◌≢◌, ℕ, ◌/◌, ◌<◌, List, [], ◌∷◌, ◌++◌, length, Some, Result, Ok, Err, IfOk, IfErr, MatchResult, IsErrAnd, ◌⊎◌, inl, inr, refl, sym, ap, ◌∙◌, arith}
+use Rattle.std.proofs.Common.{◌≡◌, ◌≢◌, ℕ, ◌/◌, ◌<◌, List, [], ◌∷◌, ◌++◌, length, Some, Result, Ok, Err, IfOk, IfErr, MatchResult, IsErrAnd}
+use Rattle.std.proofs.Common.{◌⊎◌, inl, inr, refl, sym, ap, ◌∙◌, arith}
 use Rattle.std.proofs.lemmas.List.{append_assoc, length-append}
 use Rattle.std.proofs.lemmas.Option.{none-some}
 use Rattle.bpf_insn.specs.Word.{words_of}
@@ -24,12 +25,14 @@ spelling_is_not_empty : (insn : Insn) (xs : List Word) → [] ≡ spelling insn 
 spelling_is_not_empty insn xs e = cc
 
 -- words that begin with an instruction have no fault
-has_no_fault : (insn : Insn) (after rest : List Word) (first : Word) (fault : WordFault) → spelling insn ++ after ≡ first ∷ rest → first_fault first rest ≡ Some fault → ⊥
+has_no_fault : (insn : Insn) (after rest : List Word) (first : Word) (fault : WordFault) → spelling insn ++ after ≡ first ∷ rest
+    → first_fault first rest ≡ Some fault → ⊥
 has_no_fault insn after rest first fault e h =
     let words : first_word insn ∷ (further_words insn ++ after) ≡ first ∷ rest = e in
     let begins = same_first (first_word insn) first (further_words insn ++ after) rest words in
     let goes_on = same_others (first_word insn) first (further_words insn ++ after) rest words in
-    none-some fault (sym (no_fault insn after) ∙ ap (λ (w : Word). first_fault w (further_words insn ++ after)) begins ∙ ap (first_fault first) goes_on ∙ h)
+    none-some fault (sym (no_fault insn after) ∙ ap (λ (w : Word). first_fault w (further_words insn ++ after)) begins
+    ∙ ap (first_fault first) goes_on ∙ h)
 
 -- words have at most one code
 pub one_code : (a b : List Insn) → code_words a ≡ code_words b → a ≡ b
@@ -42,7 +45,8 @@ one_code (insn ∷ a) (other ∷ b) e =
     cc
 
 -- no word of a code has a fault
-pub no_fault_in_code : (code before : List Insn) (faulty : Word) (rest : List Word) (fault : WordFault) → code_words code ≡ code_words before ++ faulty ∷ rest → first_fault faulty rest ≡ Some fault → ⊥
+pub no_fault_in_code : (code before : List Insn) (faulty : Word) (rest : List Word) (fault : WordFault)
+    → code_words code ≡ code_words before ++ faulty ∷ rest → first_fault faulty rest ≡ Some fault → ⊥
 no_fault_in_code [] [] faulty rest fault e h = cc
 no_fault_in_code (insn ∷ code) [] faulty rest fault e h = has_no_fault insn (code_words code) rest faulty fault e h
 no_fault_in_code [] (first ∷ before) faulty rest fault e h =
@@ -56,7 +60,8 @@ pub word_count_of : (bytes : List ℕ) (code : List Insn) → words_of bytes ≡
 word_count_of bytes code e = ap length (sym e) ∙ length-first_words (length bytes / 8) bytes
 
 -- bytes that have a code are refused for memory alone
-pub memory_alone : (bytes : List ℕ) (code : List Insn) (fault : CodeFault) → IsCodeOf bytes code → IsFirstFault bytes fault → fault ≡ code_fault.Memory
+pub memory_alone : (bytes : List ℕ) (code : List Insn) (fault : CodeFault) → IsCodeOf bytes code → IsFirstFault bytes fault
+    → fault ≡ code_fault.Memory
 memory_alone bytes code code_fault.Empty is f = let n = word_count_of bytes code is.words in absurd (omega arith)
 memory_alone bytes code code_fault.NotWhole is f = absurd (f is.whole)
 memory_alone bytes code code_fault.TooLong is f = let n = word_count_of bytes code is.words in absurd (omega arith)
@@ -65,25 +70,28 @@ memory_alone bytes code (code_fault.InWord place fault) is f =
 memory_alone bytes code code_fault.Memory is f = refl
 
 -- so a reader that gives a code or the first fault gives the one code
-pub gives_the_code : (bytes : List ℕ) (result : Result (List Insn) CodeFault) → IfOk result (IsCodeOf bytes) → IfErr result (IsFirstFault bytes) → (code : List Insn) → IsCodeOf bytes code → MatchResult result (λ decoded. decoded ≡ code) (λ fault. fault ≡ code_fault.Memory)
+pub gives_the_code : (bytes : List ℕ) (result : Result (List Insn) CodeFault) → IfOk result (IsCodeOf bytes)
+    → IfErr result (IsFirstFault bytes) → (code : List Insn) → IsCodeOf bytes code
+    → MatchResult result (λ decoded. decoded ≡ code) (λ fault. fault ≡ code_fault.Memory)
 gives_the_code bytes (Ok decoded) ok err code is = one_code decoded code (sym ok.words ∙ is.words)
 gives_the_code bytes (Err fault) ok err code is = memory_alone bytes code fault is err
 
 -- two fronts of instructions, each with a fault behind it, of the same words are the same
-same_front : (a b : List Insn) (f g : Word) (r s : List Word) (x y : WordFault) → code_words a ++ f ∷ r ≡ code_words b ++ g ∷ s → first_fault f r ≡ Some x → first_fault g s ≡ Some y → (a ≡ b) × ((f ≡ g) × (r ≡ s))
-same_front [] [] f g r s x y e h k = (refl, (same_first f g r s e, same_others f g r s e))
-same_front [] (insn ∷ b) f g r s x y e h k =
+same_front : (a b : List Insn) (f g : Word) {r s : List Word} {x y : WordFault} → code_words a ++ f ∷ r ≡ code_words b ++ g ∷ s
+    → first_fault f r ≡ Some x → first_fault g s ≡ Some y → (a ≡ b) × ((f ≡ g) × (r ≡ s))
+same_front [] [] f g {r} {s} e h k = (refl, (same_first f g r s e, same_others f g r s e))
+same_front [] (insn ∷ b) f g {r} {s} {x} e h k =
     absurd (has_no_fault insn (code_words b ++ g ∷ s) r f x (sym (e ∙ append_assoc (spelling insn) (code_words b) (g ∷ s))) h)
-same_front (insn ∷ a) [] f g r s x y e h k =
+same_front (insn ∷ a) [] f g {r} {s} {y} e h k =
     absurd (has_no_fault insn (code_words a ++ f ∷ r) s g y (sym (append_assoc (spelling insn) (code_words a) (f ∷ r)) ∙ e) k)
-same_front (insn ∷ a) (other ∷ b) f g r s x y e h k =
+same_front (insn ∷ a) (other ∷ b) f g {r} {s} e h k =
     let joined = sym (append_assoc (spelling insn) (code_words a) (f ∷ r)) ∙ e ∙ append_assoc (spelling other) (code_words b) (g ∷ s) in
     let first = one_instruction insn other (code_words a ++ f ∷ r) (code_words b ++ g ∷ s) joined in
-    let rest = same_front a b f g r s x y (same_rest insn other (code_words a ++ f ∷ r) (code_words b ++ g ∷ s) joined) h k in
+    let rest = same_front a b f g (same_rest insn other (code_words a ++ f ∷ r) (code_words b ++ g ∷ s) joined) h k in
     (let front = rest.0 in cc, rest.1)
 
-same_fault : (x y : WordFault) (f g : Word) (r s : List Word) → f ≡ g → r ≡ s → first_fault f r ≡ Some x → first_fault g s ≡ Some y → x ≡ y
-same_fault x y f g r s e k h i =
+same_fault : {x y : WordFault} {f g : Word} {r s : List Word} → f ≡ g → r ≡ s → first_fault f r ≡ Some x → first_fault g s ≡ Some y → x ≡ y
+same_fault {x} {y} {g} {r} e k h i =
     let both : Some x ≡ Some y = sym h ∙ ap (λ (w : Word). first_fault w r) e ∙ ap (first_fault g) k ∙ i in cc
 
 -- where a word is faulty there is a word
@@ -92,15 +100,17 @@ has_words bytes p x h none =
     let l = sym (length-first_words (length bytes / 8) bytes) ∙ ap length h.3 in
     omega (arith, length-append (code_words h.0) (h.1 ∷ h.2))
 
-same_place : (bytes : List ℕ) (p q : ℕ) (x y : WordFault) → HasFaultAt bytes p x → HasFaultAt bytes q y → code_fault.InWord p x ≡ code_fault.InWord q y
+same_place : (bytes : List ℕ) (p q : ℕ) (x y : WordFault) → HasFaultAt bytes p x → HasFaultAt bytes q y
+    → code_fault.InWord p x ≡ code_fault.InWord q y
 same_place bytes p q x y one other =
-    let front = same_front one.0 other.0 one.1 other.1 one.2 other.2 x y (sym one.3 ∙ other.3) one.5 other.5 in
-    let fault = same_fault x y one.1 other.1 one.2 other.2 front.1.0 front.1.1 one.5 other.5 in
+    let front = same_front one.0 other.0 one.1 other.1 (sym one.3 ∙ other.3) one.5 other.5 in
+    let fault = same_fault front.1.0 front.1.1 one.5 other.5 in
     let place : p ≡ q = one.4 ∙ ap word_count front.0 ∙ sym other.4 in
     cc
 
 -- bytes have at most one first fault, apart from want of memory
-pub one_fault : (bytes : List ℕ) (a b : CodeFault) → IsFirstFault bytes a → IsFirstFault bytes b → a ≢ code_fault.Memory → b ≢ code_fault.Memory → a ≡ b
+pub one_fault : (bytes : List ℕ) (a b : CodeFault) → IsFirstFault bytes a → IsFirstFault bytes b → a ≢ code_fault.Memory
+    → b ≢ code_fault.Memory → a ≡ b
 one_fault bytes code_fault.Empty code_fault.Empty h k m n = refl
 one_fault bytes code_fault.Empty code_fault.NotWhole h k m n = absurd (k (omega arith))
 one_fault bytes code_fault.Empty code_fault.TooLong h k m n = absurd (omega arith)
@@ -129,7 +139,9 @@ for_memory_or_not (code_fault.InWord place fault) = inl (λ e. cc)
 for_memory_or_not code_fault.Memory = inr refl
 
 -- so a reader that gives a code or the first fault names the one first fault, where there is one
-pub names_the_fault : (bytes : List ℕ) (result : Result (List Insn) CodeFault) → IfOk result (IsCodeOf bytes) → IfErr result (IsFirstFault bytes) → (fault : CodeFault) → IsFirstFault bytes fault → fault ≢ code_fault.Memory → IsErrAnd result (λ given. (given ≡ fault) ⊎ (given ≡ code_fault.Memory))
+pub names_the_fault : (bytes : List ℕ) (result : Result (List Insn) CodeFault) → IfOk result (IsCodeOf bytes)
+    → IfErr result (IsFirstFault bytes) → (fault : CodeFault) → IsFirstFault bytes fault → fault ≢ code_fault.Memory
+    → IsErrAnd result (λ given. (given ≡ fault) ⊎ (given ≡ code_fault.Memory))
 names_the_fault bytes (Ok code) ok err fault is n = absurd (n (memory_alone bytes code fault ok is))
 names_the_fault bytes (Err given) ok err fault is n =
     elim (for_memory_or_not given) as (λ _. (given ≡ fault) ⊎ (given ≡ code_fault.Memory))

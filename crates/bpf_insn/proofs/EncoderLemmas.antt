@@ -1,5 +1,6 @@
 -- From words to bytes, and back.
-use Rattle.std.proofs.Common.{◌≡◌, ℕ, zero, suc, ◌+◌, ◌*◌, ◌/◌, ◌%◌, ◌<◌, ◌≤◌, ◌^◌, List, [], ◌∷◌, ◌++◌, length, take, drop, get_or, All, Option, Some, None, refl, sym, ap, ◌∙◌, subst, arith, option_to_list}
+use Rattle.std.proofs.Common.{◌≡◌, ℕ, zero, suc, ◌+◌, ◌*◌, ◌/◌, ◌%◌, ◌<◌, ◌≤◌, ◌^◌, List, [], ◌∷◌, ◌++◌, length, take, drop, get_or, All}
+use Rattle.std.proofs.Common.{Option, None, refl, sym, ap, ◌∙◌, subst, arith, option_to_list}
 use Rattle.std.specs.Int.{cast_signed, cast_unsigned, w16, w32, Width}
 use mir.Val.{bits}
 use Rattle.std.proofs.lemmas.Int.{of_z-to_z}
@@ -35,7 +36,8 @@ words-joined (suc n) m xs ys e =
     let behind = length-behind xs long in
     ap (λ k. first_words k (xs ++ ys)) (let p : suc n + m ≡ suc (n + m) = omega arith in p)
     ∙ ap (λ (w : Word). w ∷ first_words (n + m) (drop 8 (xs ++ ys))) (word_of-front xs ys long)
-    ∙ ap (λ (ws : List Word). word_of xs ∷ ws) (ap (first_words (n + m)) (drop-front xs ys long) ∙ words-joined n m (drop 8 xs) ys (omega arith))
+    ∙ ap (λ (ws : List Word). word_of xs ∷ ws) (ap (first_words (n + m)) (drop-front xs ys long)
+    ∙ words-joined n m (drop 8 xs) ys (omega arith))
 
 pub no_words : (bytes : List ℕ) → bytes ≡ [] → AreWords [] bytes
 unfolding first_words
@@ -47,7 +49,8 @@ unfolding first_words
 one_word word eight written = record { long = written.long; same = ap (λ (w : Word). w ∷ []) written.is_word; small = written.small }
 
 -- more words
-pub words_more : (words more : List Word) (bytes others : List ℕ) → AreWords words bytes → AreWords more others → AreWords (words ++ more) (bytes ++ others)
+pub words_more : (words more : List Word) (bytes others : List ℕ) → AreWords words bytes → AreWords more others
+    → AreWords (words ++ more) (bytes ++ others)
 words_more words more bytes others are also =
     let count : length (words ++ more) ≡ length words + length more = length-append words more in
     let size = length-append bytes others in
@@ -61,25 +64,38 @@ words_more words more bytes others are also =
     }
 
 -- an instruction's words behind others
-pub writes_one : (insn : Insn) (first : Word) (second : Option Word) (old new eight : List ℕ) → first ≡ first_word insn → option_to_list second ≡ further_words insn → second ≡ None → IsWritten first eight → new ≡ old ++ eight → AppendsWords (spelling insn) old new
-writes_one insn first second old new eight is further none written grown =
-    let alone : further_words insn ≡ [] = sym further ∙ ap option_to_list none in
-    (eight, subst (λ (ws : List Word). AreWords ws eight) (ap (λ (w : Word). w ∷ []) is ∙ ap (λ (ws : List Word). first_word insn ∷ ws) (sym alone)) (one_word first eight written), grown)
-
-pub writes_two : (insn : Insn) (first word : Word) (second : Option Word) (old middle new eight more : List ℕ) → first ≡ first_word insn → option_to_list second ≡ further_words insn → second ≡ Some word → IsWritten first eight → IsWritten word more → middle ≡ old ++ eight → new ≡ middle ++ more → AppendsWords (spelling insn) old new
-writes_two insn first word second old middle new eight more is further some written also grown again =
-    let two : word ∷ [] ≡ further_words insn = sym (ap option_to_list some) ∙ further in (
-      eight ++ more,
-      subst (λ (ws : List Word). AreWords ws (eight ++ more)) (ap (λ (w : Word). w ∷ word ∷ []) is ∙ ap (λ (ws : List Word). first_word insn ∷ ws) two) (words_more (first ∷ []) (word ∷ []) eight more (one_word first eight written) (one_word word more also)),
-      again ∙ ap (λ (bs : List ℕ). bs ++ more) grown ∙ append_assoc old eight more,
+pub writes_one : (insn : Insn) {first : Word} {second : Option Word} {new eight : List ℕ} (old : List ℕ) → first ≡ first_word insn
+    → option_to_list second ≡ further_words insn → second ≡ None → IsWritten first eight → new ≡ old ++ eight
+    → AppendsWords (spelling insn) old new
+writes_one insn {first} {eight} old is further none written grown =
+    let alone : further_words insn ≡ [] = sym further ∙ ap option_to_list none in (
+      eight,
+      subst (λ (ws : List Word). AreWords ws eight)
+          (ap (λ (w : Word). w ∷ []) is ∙ ap (λ (ws : List Word). first_word insn ∷ ws) (sym alone)) (one_word first eight written),
+      grown,
     )
 
+pub writes_two : (insn : Insn) {first word : Word} {middle new eight more : List ℕ} (old : List ℕ) → first ≡ first_word insn
+    → word ∷ [] ≡ further_words insn → IsWritten first eight → IsWritten word more → middle ≡ old ++ eight → new ≡ middle ++ more
+    → AppendsWords (spelling insn) old new
+writes_two insn {first} {word} {eight} {more} old is two written also grown again = (
+  eight ++ more,
+  subst (λ (ws : List Word). AreWords ws (eight ++ more))
+      (ap (λ (w : Word). w ∷ word ∷ []) is ∙ ap (λ (ws : List Word). first_word insn ∷ ws) two)
+      (words_more (first ∷ []) (word ∷ []) eight more (one_word first eight written) (one_word word more also)),
+  again ∙ ap (λ (bs : List ℕ). bs ++ more) grown ∙ append_assoc old eight more,
+)
+
 -- the words of a code so far, with an instruction more
-pub code_more : (code : List Insn) (i : ℕ) (insn : Insn) (old new : List ℕ) → i < length code → insn ≡ get_or code i insn → AreWords (code_words (take i code)) old → AppendsWords (spelling insn) old new → AreWords (code_words (take (i + 1) code)) new
-code_more code i insn old new within is are (more, also, grown) =
+pub code_more : (code : List Insn) (i : ℕ) {insn : Insn} {old : List ℕ} (new : List ℕ) → i < length code → insn ≡ get_or code i insn
+    → AreWords (code_words (take i code)) old → AppendsWords (spelling insn) old new → AreWords (code_words (take (i + 1) code)) new
+code_more code i {insn} {old} new within is are (more, also, grown) =
     let next : code_words (take (i + 1) code) ≡ code_words (take i code) ++ spelling insn =
-    ap code_words (take_more code i insn within ∙ ap (λ (x : Insn). take i code ++ x ∷ []) (sym is)) ∙ sym (flat_map_more spelling [] (take i code) insn) in
-    subst (λ (ws : List Word). AreWords ws new) (sym next) (subst (AreWords (code_words (take i code) ++ spelling insn)) (sym grown) (words_more (code_words (take i code)) (spelling insn) old more are also))
+    ap code_words (take_more code i insn within ∙ ap (λ (x : Insn). take i code ++ x ∷ []) (sym is))
+    ∙ sym (flat_map_more spelling [] (take i code) insn) in
+    subst (λ (ws : List Word). AreWords ws new) (sym next)
+    (subst (AreWords (code_words (take i code) ++ spelling insn)) (sym grown)
+    (words_more (code_words (take i code)) (spelling insn) old more are also))
 
 -- bytes that are the words of a code
 pub are_code : (words : List Word) (bytes : List ℕ) → AreWords words bytes → (length bytes % 8 ≡ 0) × (words_of bytes ≡ words)
@@ -97,14 +113,21 @@ AreBytes [] = Unit {0}
 AreBytes (x ∷ xs) = (x < 256) × AreBytes xs
 
 -- one word has one spelling in bytes
-same_eight : (a b c d e f g h a' b' c' d' e' f' g' h' : ℕ) (r r' : List ℕ) → AreBytes (a ∷ b ∷ c ∷ d ∷ e ∷ f ∷ g ∷ h ∷ []) → AreBytes (a' ∷ b' ∷ c' ∷ d' ∷ e' ∷ f' ∷ g' ∷ h' ∷ []) → word_of (a ∷ b ∷ c ∷ d ∷ e ∷ f ∷ g ∷ h ∷ r) ≡ word_of (a' ∷ b' ∷ c' ∷ d' ∷ e' ∷ f' ∷ g' ∷ h' ∷ r') → r ≡ r' → a ∷ b ∷ c ∷ d ∷ e ∷ f ∷ g ∷ h ∷ r ≡ a' ∷ b' ∷ c' ∷ d' ∷ e' ∷ f' ∷ g' ∷ h' ∷ r'
-same_eight a b c d e f g h a' b' c' d' e' f' g' h' r r' (ha, (hb, (hc, (hd, (he, (hf, (hg, (hh, _)))))))) (ha', (hb', (hc', (hd', (he', (hf', (hg', (hh', _)))))))) w rest =
+same_eight : {a b c d e f g h a' b' c' d' e' f' g' h' : ℕ} {r r' : List ℕ} → AreBytes (a ∷ b ∷ c ∷ d ∷ e ∷ f ∷ g ∷ h ∷ [])
+    → AreBytes (a' ∷ b' ∷ c' ∷ d' ∷ e' ∷ f' ∷ g' ∷ h' ∷ [])
+    → word_of (a ∷ b ∷ c ∷ d ∷ e ∷ f ∷ g ∷ h ∷ r) ≡ word_of (a' ∷ b' ∷ c' ∷ d' ∷ e' ∷ f' ∷ g' ∷ h' ∷ r') → r ≡ r'
+    → a ∷ b ∷ c ∷ d ∷ e ∷ f ∷ g ∷ h ∷ r ≡ a' ∷ b' ∷ c' ∷ d' ∷ e' ∷ f' ∷ g' ∷ h' ∷ r'
+same_eight {a} {b} {c} {d} {e} {f} {g} {h} {a'} {b'} {c'} {d'} {e'} {f'} {g'} {h'} (ha, (hb, (hc, (hd, (he, (hf, (hg, (hh, _))))))))
+    (ha', (hb', (hc', (hd', (he', (hf', (hg', (hh', _)))))))) w rest =
     let low : b % 16 ≡ b' % 16 = ap (λ (x : Word). x.destination) w in
     let high : b / 16 ≡ b' / 16 = ap (λ (x : Word). x.source) w in
     let opcode : a ≡ a' = ap (λ (x : Word). x.opcode) w in
     let registers : b ≡ b' = omega arith in
-    let offset : c + 256 * (d + 256 * 0) ≡ c' + 256 * (d' + 256 * 0) = signed_same w16 (c + 256 * (d + 256 * 0)) (c' + 256 * (d' + 256 * 0)) (omega arith) (omega arith) (ap (λ (x : Word). x.offset) w) in
-    let immediate : e + 256 * (f + 256 * (g + 256 * (h + 256 * 0))) ≡ e' + 256 * (f' + 256 * (g' + 256 * (h' + 256 * 0))) = signed_same w32 (e + 256 * (f + 256 * (g + 256 * (h + 256 * 0)))) (e' + 256 * (f' + 256 * (g' + 256 * (h' + 256 * 0)))) (omega arith) (omega arith) (ap (λ (x : Word). x.immediate) w) in
+    let offset : c + 256 * (d + 256 * 0) ≡ c' + 256 * (d' + 256 * 0) =
+    signed_same w16 (c + 256 * (d + 256 * 0)) (c' + 256 * (d' + 256 * 0)) (omega arith) (omega arith) (ap (λ (x : Word). x.offset) w) in
+    let immediate : e + 256 * (f + 256 * (g + 256 * (h + 256 * 0))) ≡ e' + 256 * (f' + 256 * (g' + 256 * (h' + 256 * 0))) =
+    signed_same w32 (e + 256 * (f + 256 * (g + 256 * (h + 256 * 0)))) (e' + 256 * (f' + 256 * (g' + 256 * (h' + 256 * 0))))
+    (omega arith) (omega arith) (ap (λ (x : Word). x.immediate) w) in
     let c_same : c ≡ c' = omega arith in
     let d_same : d ≡ d' = omega arith in
     let e_same : e ≡ e' = omega arith in
@@ -114,16 +137,19 @@ same_eight a b c d e f g h a' b' c' d' e' f' g' h' r r' (ha, (hb, (hc, (hd, (he,
     rw (opcode, registers, c_same, d_same, e_same, f_same, g_same, h_same, rest) refl
 
 -- so bytes with the same words are the same
-pub same_bytes : (n : ℕ) (xs ys : List ℕ) → AreBytes xs → AreBytes ys → length xs ≡ n * 8 → length ys ≡ n * 8 → first_words n xs ≡ first_words n ys → xs ≡ ys
+pub same_bytes : (n : ℕ) (xs ys : List ℕ) → AreBytes xs → AreBytes ys → length xs ≡ n * 8 → length ys ≡ n * 8
+    → first_words n xs ≡ first_words n ys → xs ≡ ys
 unfolding first_words
 same_bytes zero [] [] bx by ex ey w = refl
 same_bytes zero [] (y ∷ ys) bx by ex ey w = absurd (omega arith)
 same_bytes zero (x ∷ xs) ys bx by ex ey w = absurd (omega arith)
-same_bytes (suc n) (a ∷ b ∷ c ∷ d ∷ e ∷ f ∷ g ∷ h ∷ r) (a' ∷ b' ∷ c' ∷ d' ∷ e' ∷ f' ∷ g' ∷ h' ∷ r') (ha, (hb, (hc, (hd, (he, (hf, (hg, (hh, br)))))))) (ha', (hb', (hc', (hd', (he', (hf', (hg', (hh', br')))))))) ex ey w =
-    let both : word_of (a ∷ b ∷ c ∷ d ∷ e ∷ f ∷ g ∷ h ∷ r) ∷ first_words n r ≡ word_of (a' ∷ b' ∷ c' ∷ d' ∷ e' ∷ f' ∷ g' ∷ h' ∷ r') ∷ first_words n r' = w in
+same_bytes (suc n) (a ∷ b ∷ c ∷ d ∷ e ∷ f ∷ g ∷ h ∷ r) (a' ∷ b' ∷ c' ∷ d' ∷ e' ∷ f' ∷ g' ∷ h' ∷ r')
+    (ha, (hb, (hc, (hd, (he, (hf, (hg, (hh, br)))))))) (ha', (hb', (hc', (hd', (he', (hf', (hg', (hh', br')))))))) ex ey w =
+    let both : word_of (a ∷ b ∷ c ∷ d ∷ e ∷ f ∷ g ∷ h ∷ r) ∷ first_words n r ≡ word_of
+    (a' ∷ b' ∷ c' ∷ d' ∷ e' ∷ f' ∷ g' ∷ h' ∷ r') ∷ first_words n r' = w in
     let first : word_of (a ∷ b ∷ c ∷ d ∷ e ∷ f ∷ g ∷ h ∷ r) ≡ word_of (a' ∷ b' ∷ c' ∷ d' ∷ e' ∷ f' ∷ g' ∷ h' ∷ r') = cc in
     let others : first_words n r ≡ first_words n r' = cc in
-    same_eight a b c d e f g h a' b' c' d' e' f' g' h' r r' (ha, (hb, (hc, (hd, (he, (hf, (hg, (hh, tt)))))))) (ha', (hb', (hc', (hd', (he', (hf', (hg', (hh', tt)))))))) first
+    same_eight (ha, (hb, (hc, (hd, (he, (hf, (hg, (hh, tt)))))))) (ha', (hb', (hc', (hd', (he', (hf', (hg', (hh', tt)))))))) first
     (same_bytes n r r' br br' (omega arith) (omega arith) others)
 same_bytes (suc n) xs ys bx by ex ey w = absurd (omega arith)
 
@@ -133,20 +159,25 @@ each_byte [] all = tt
 each_byte (x ∷ xs) all = (all 0 0 (omega arith), each_byte xs (λ k d h. all (suc k) d (omega arith)))
 
 -- a code has one spelling in bytes
-pub one_spelling : (a b : List ℕ) (code : List Insn) → All (λ byte. byte < 256) a → All (λ byte. byte < 256) b → IsCodeOf a code → IsCodeOf b code → a ≡ b
+pub one_spelling : (a b : List ℕ) (code : List Insn) → All (λ byte. byte < 256) a → All (λ byte. byte < 256) b → IsCodeOf a code
+    → IsCodeOf b code → a ≡ b
 one_spelling a b code small little is also =
     let first = is.whole in
     let second = also.whole in
-    let same : length a / 8 ≡ length b / 8 = sym (length-first_words (length a / 8) a) ∙ ap length (is.words ∙ sym also.words) ∙ length-first_words (length b / 8) b in
+    let same : length a / 8 ≡ length b / 8 = sym (length-first_words (length a / 8) a) ∙ ap length (is.words ∙ sym also.words)
+    ∙ length-first_words (length b / 8) b in
     same_bytes (length a / 8) a b (each_byte a small) (each_byte b little) (omega arith) (omega arith)
     (is.words ∙ sym also.words ∙ ap (λ k. first_words k b) (sym same))
 
 -- so whatever bytes have this code are the bytes that were written
-pub only_spelling : (code : List Insn) (written bytes : List ℕ) → AreWords (code_words code) written → All (λ byte. byte < 256) bytes → IsCodeOf bytes code → written ≡ bytes
+pub only_spelling : (code : List Insn) (written bytes : List ℕ) → AreWords (code_words code) written → All (λ byte. byte < 256) bytes
+    → IsCodeOf bytes code → written ≡ bytes
 only_spelling code written bytes are small is =
     let has = are_code (code_words code) written are in
     one_spelling written bytes code are.small small (record { whole = has.0; words = has.1; sized = is.sized }) is
 
 -- what was written has the code
-pub writes_code : (code items : List Insn) (count : ℕ) (bytes : List ℕ) → items ≡ code → length items ≤ count → AreWords (code_words (take count items)) bytes → AreWords (code_words code) bytes
-writes_code code items count bytes same late are = subst (λ (c : List Insn). AreWords (code_words c) bytes) (take_all count items late ∙ same) are
+pub writes_code : (code items : List Insn) (count : ℕ) (bytes : List ℕ) → items ≡ code → length items ≤ count
+    → AreWords (code_words (take count items)) bytes → AreWords (code_words code) bytes
+writes_code code items count bytes same late are = subst (λ (c : List Insn). AreWords (code_words c) bytes)
+    (take_all count items late ∙ same) are

@@ -1,5 +1,7 @@
 -- Instructions by place and by index.
-use Rattle.std.proofs.Common.{◌≡◌, MatchOption, ℕ, zero, suc, ◌+◌, ◌-◌, ◌<◌, ◌≤◌, ◌==◌, nat_lt, true, false, List, [], ◌∷◌, ◌++◌, length, map, take, get_or, Option, Some, None, IsSome, is_some, option_and_then, IfSome, slice_get, refl, sym, ap, ◌∙◌, subst, arith, inl, inr, option_map}
+use Rattle.std.proofs.Common.{◌≡◌, MatchOption, ℕ, zero, suc, ◌+◌, ◌-◌, ◌<◌, ◌≤◌, ◌==◌, nat_lt, true, false, List, [], ◌∷◌, ◌++◌, length}
+use Rattle.std.proofs.Common.{map, take, get_or, Option, Some, None, IsSome, is_some, option_and_then, IfSome, slice_get, refl, sym, ap}
+use Rattle.std.proofs.Common.{◌∙◌, subst, arith, inl, inr, option_map}
 use Rattle.std.specs.Borrow.{Bor}
 use Rattle.std.specs.Option.{option_flatten, option_copied}
 use Rattle.std.proofs.lemmas.Option.{slice_get_past, slice_get_read}
@@ -31,20 +33,25 @@ few_instructions [] = omega arith
 few_instructions (insn ∷ code) = let rest = few_instructions code in let sum = word_count-cons insn code in omega arith
 
 -- one instruction more
-pub places_from-more : (place : ℕ) (code : List Insn) (insn : Insn) → places_from place (code ++ insn ∷ []) ≡ places_from place code ++ (place + word_count code) ∷ []
+pub places_from-more : (place : ℕ) (code : List Insn) (insn : Insn)
+    → places_from place (code ++ insn ∷ []) ≡ places_from place code ++ (place + word_count code) ∷ []
 places_from-more place [] insn = ap (λ (p : ℕ). p ∷ []) (omega arith)
 places_from-more place (first ∷ code) insn =
     let rest = places_from-more (place + length (spelling first)) code insn in
-    let sum : place + length (spelling first) + word_count code ≡ place + word_count (first ∷ code) = omega (arith, word_count-cons first code) in
+    let sum : place + length (spelling first) + word_count code ≡ place + word_count (first ∷ code) =
+    omega (arith, word_count-cons first code) in
     ap (λ (ps : List ℕ). place ∷ ps) (rest ∙ ap (λ (p : ℕ). places_from (place + length (spelling first)) code ++ p ∷ []) sum)
 
-pub indexes_from-more : (index : ℕ) (code : List Insn) (insn : Insn) → indexes_from index (code ++ insn ∷ []) ≡ indexes_from index code ++ indexes_in (index + length code) (spelling insn)
+pub indexes_from-more : (index : ℕ) (code : List Insn) (insn : Insn)
+    → indexes_from index (code ++ insn ∷ []) ≡ indexes_from index code ++ indexes_in (index + length code) (spelling insn)
 indexes_from-more index [] insn = append-nil (indexes_in index (spelling insn)) ∙ ap (λ (i : ℕ). indexes_in i (spelling insn)) (omega arith)
 indexes_from-more index (first ∷ code) insn =
     let rest = indexes_from-more (suc index) code insn in
     let sum : suc index + length code ≡ index + length (first ∷ code) = omega arith in
-    ap (λ (xs : List (Option ℕ)). indexes_in index (spelling first) ++ xs) (rest ∙ ap (λ (i : ℕ). indexes_from (suc index) code ++ indexes_in i (spelling insn)) sum)
-    ∙ sym (append_assoc (indexes_in index (spelling first)) (indexes_from (suc index) code) (indexes_in (index + length (first ∷ code)) (spelling insn)))
+    ap (λ (xs : List (Option ℕ)). indexes_in index (spelling first) ++ xs)
+    (rest ∙ ap (λ (i : ℕ). indexes_from (suc index) code ++ indexes_in i (spelling insn)) sum)
+    ∙ sym (append_assoc (indexes_in index (spelling first)) (indexes_from (suc index) code)
+    (indexes_in (index + length (first ∷ code)) (spelling insn)))
 
 -- there are as many indexes as words, and as many places as instructions
 length-indexes_in : (index : ℕ) (words : List Word) → length (indexes_in index words) ≡ length words
@@ -55,14 +62,16 @@ pub length-indexes_from : (index : ℕ) (code : List Insn) → length (indexes_f
 length-indexes_from index [] = refl
 length-indexes_from index (insn ∷ code) =
     length-append (indexes_in index (spelling insn)) (indexes_from (suc index) code)
-    ∙ (let here = length-indexes_in index (spelling insn) in let rest = length-indexes_from (suc index) code in let sum = word_count-cons insn code in omega arith)
+    ∙ (let here = length-indexes_in index (spelling insn) in let rest = length-indexes_from (suc index) code in let sum =
+    word_count-cons insn code in omega arith)
 
 pub length-places_from : (place : ℕ) (code : List Insn) → length (places_from place code) ≡ length code
 length-places_from place [] = refl
 length-places_from place (insn ∷ code) = ap suc (length-places_from (place + length (spelling insn)) code)
 
 -- the place of an instruction
-pub places_from-at : (place : ℕ) (code : List Insn) (index d : ℕ) → index < length code → get_or (places_from place code) index d ≡ place + place_of code index
+pub places_from-at : (place : ℕ) (code : List Insn) (index d : ℕ) → index < length code
+    → get_or (places_from place code) index d ≡ place + place_of code index
 places_from-at place [] index d h = absurd (omega arith)
 places_from-at place (insn ∷ code) zero d h = let none : place_of (insn ∷ code) 0 ≡ 0 = refl in omega arith
 places_from-at place (insn ∷ code) (suc index) d h =
@@ -80,39 +89,46 @@ is_within place words h = grind (arith, nat_tests)
 is_behind : (place words : ℕ) → words ≤ place → nat_lt place words ≡ false
 is_behind place words h = grind (arith, nat_tests)
 
-pub instruction_at-inside : (insn : Insn) (code : List Insn) (place : ℕ) → 0 < place → place < length (spelling insn) → instruction_at (insn ∷ code) place ≡ None
+pub instruction_at-inside : (insn : Insn) (code : List Insn) (place : ℕ) → 0 < place → place < length (spelling insn)
+    → instruction_at (insn ∷ code) place ≡ None
 instruction_at-inside insn code place above below =
     rw (starts_not place (length (spelling insn)) above, is_within place (length (spelling insn)) below) refl
 
-index_at-inside : (insn : Insn) (code : List Insn) (place : ℕ) → 0 < place → place < length (spelling insn) → index_at (insn ∷ code) place ≡ None
+index_at-inside : (insn : Insn) (code : List Insn) (place : ℕ) → 0 < place → place < length (spelling insn)
+    → index_at (insn ∷ code) place ≡ None
 index_at-inside insn code place above below =
     rw (starts_not place (length (spelling insn)) above, is_within place (length (spelling insn)) below) refl
 
-pub instruction_at-behind : (insn : Insn) (code : List Insn) (place : ℕ) → length (spelling insn) ≤ place → instruction_at (insn ∷ code) place ≡ instruction_at code (place - length (spelling insn))
+pub instruction_at-behind : (insn : Insn) (code : List Insn) (place : ℕ) → length (spelling insn) ≤ place
+    → instruction_at (insn ∷ code) place ≡ instruction_at code (place - length (spelling insn))
 instruction_at-behind insn code place past =
     rw (starts_not place (length (spelling insn)) (omega arith), is_behind place (length (spelling insn)) past) refl
 
-index_at-behind : (insn : Insn) (code : List Insn) (place : ℕ) → length (spelling insn) ≤ place → index_at (insn ∷ code) place ≡ option_map (λ (i : ℕ). suc i) (index_at code (place - length (spelling insn)))
+index_at-behind : (insn : Insn) (code : List Insn) (place : ℕ) → length (spelling insn) ≤ place
+    → index_at (insn ∷ code) place ≡ option_map (λ (i : ℕ). suc i) (index_at code (place - length (spelling insn)))
 index_at-behind insn code place past =
     rw (starts_not place (length (spelling insn)) (omega arith), is_behind place (length (spelling insn)) past) refl
 
 -- what stands at a place, by the index of what begins there
-next_index : (insn : Insn) (code : List Insn) (o : Option ℕ) → option_and_then (slice_get code) o ≡ option_and_then (slice_get (insn ∷ code)) (option_map (λ (i : ℕ). suc i) o)
+next_index : (insn : Insn) (code : List Insn) (o : Option ℕ)
+    → option_and_then (slice_get code) o ≡ option_and_then (slice_get (insn ∷ code)) (option_map (λ (i : ℕ). suc i) o)
 next_index insn code None = refl
 next_index insn code (Some index) = refl
 
-pub instruction_at-index : (code : List Insn) (place : ℕ) → instruction_at code place ≡ option_and_then (slice_get code) (index_at code place)
+pub instruction_at-index : (code : List Insn) (place : ℕ) → instruction_at code place ≡ option_and_then (slice_get code)
+    (index_at code place)
 instruction_at-index [] place = refl
 instruction_at-index (insn ∷ code) zero = refl
-instruction_at-index (insn ∷ code) (suc place) = elim (cases_lt (suc place) (length (spelling insn))) as (λ _. instruction_at (insn ∷ code) (suc place) ≡ option_and_then (slice_get (insn ∷ code)) (index_at (insn ∷ code) (suc place))) [
-  | inl below ↦
-      instruction_at-inside insn code (suc place) (omega arith) below
-      ∙ ap (option_and_then (slice_get (insn ∷ code))) (sym (index_at-inside insn code (suc place) (omega arith) below))
-  | inr past ↦
-      instruction_at-behind insn code (suc place) past ∙ instruction_at-index code (suc place - length (spelling insn))
-      ∙ next_index insn code (index_at code (suc place - length (spelling insn)))
-      ∙ ap (option_and_then (slice_get (insn ∷ code))) (sym (index_at-behind insn code (suc place) past))
-]
+instruction_at-index (insn ∷ code) (suc place) = elim (cases_lt (suc place) (length (spelling insn))) as
+    (λ _. instruction_at (insn ∷ code) (suc place) ≡ option_and_then (slice_get (insn ∷ code)) (index_at (insn ∷ code) (suc place))) [
+      | inl below ↦
+          instruction_at-inside insn code (suc place) (omega arith) below
+          ∙ ap (option_and_then (slice_get (insn ∷ code))) (sym (index_at-inside insn code (suc place) (omega arith) below))
+      | inr past ↦
+          instruction_at-behind insn code (suc place) past ∙ instruction_at-index code (suc place - length (spelling insn))
+          ∙ next_index insn code (index_at code (suc place - length (spelling insn)))
+          ∙ ap (option_and_then (slice_get (insn ∷ code))) (sym (index_at-behind insn code (suc place) past))
+    ]
 
 -- an index that is found is one of the code's
 below_one_more : (o : Option ℕ) (n : ℕ) → IfSome o (λ i. i < n) → IfSome (option_map (λ (i : ℕ). suc i) o) (λ i. i < suc n)
@@ -122,10 +138,13 @@ below_one_more (Some i) n h = omega arith
 pub index_within : (code : List Insn) (place : ℕ) → IfSome (index_at code place) (λ index. index < length code)
 index_within [] place = tt
 index_within (insn ∷ code) zero = let h : 0 < length (insn ∷ code) = omega arith in h
-index_within (insn ∷ code) (suc place) = elim (cases_lt (suc place) (length (spelling insn))) as (λ _. IfSome (index_at (insn ∷ code) (suc place)) (λ index. index < length (insn ∷ code))) [
-  | inl below ↦ rw (index_at-inside insn code (suc place) (omega arith) below) tt
-  | inr past ↦ rw (index_at-behind insn code (suc place) past) (below_one_more (index_at code (suc place - length (spelling insn))) (length code) (index_within code (suc place - length (spelling insn))))
-]
+index_within (insn ∷ code) (suc place) = elim (cases_lt (suc place) (length (spelling insn))) as
+    (λ _. IfSome (index_at (insn ∷ code) (suc place)) (λ index. index < length (insn ∷ code))) [
+      | inl below ↦ rw (index_at-inside insn code (suc place) (omega arith) below) tt
+      | inr past ↦ rw (index_at-behind insn code (suc place) past)
+          (below_one_more (index_at code (suc place - length (spelling insn))) (length code)
+          (index_within code (suc place - length (spelling insn))))
+    ]
 
 -- an instruction begins within the code
 pub instruction_within : (code : List Insn) (place : ℕ) → IsSome (instruction_at code place) → place < word_count code
@@ -133,7 +152,8 @@ instruction_within [] place found = absurd (false≢true found)
 instruction_within (insn ∷ code) place found = elim (cases_lt place (length (spelling insn))) as (λ _. place < word_count (insn ∷ code)) [
   | inl below ↦ let sum = word_count-cons insn code in omega arith
   | inr past ↦
-      let there = instruction_within code (place - length (spelling insn)) (sym (ap is_some (instruction_at-behind insn code place past)) ∙ found) in
+      let there = instruction_within code (place - length (spelling insn))
+      (sym (ap is_some (instruction_at-behind insn code place past)) ∙ found) in
       let sum = word_count-cons insn code in omega arith
 ]
 
@@ -146,7 +166,8 @@ front (x ∷ xs) ys (suc n) h = front xs ys n (omega arith)
 back : {X : Type 0} (xs ys : List X) (n : ℕ) → length xs ≤ n → slice_get (xs ++ ys) n ≡ slice_get ys (n - length xs)
 back [] ys n h = ap (slice_get ys) (let e : n ≡ n - 0 = omega arith in e)
 back (x ∷ xs) ys zero h = absurd (omega arith)
-back (x ∷ xs) ys (suc n) h = back xs ys n (omega arith) ∙ ap (slice_get ys) (let e : n - length xs ≡ suc n - suc (length xs) = omega arith in e)
+back (x ∷ xs) ys (suc n) h = back xs ys n (omega arith) ∙ ap (slice_get ys)
+    (let e : n - length xs ≡ suc n - suc (length xs) = omega arith in e)
 
 abbrev nothing : Word → Option ℕ
 nothing word = None
@@ -156,30 +177,37 @@ no_index [] n = refl
 no_index (word ∷ words) zero = refl
 no_index (word ∷ words) (suc n) = no_index words n
 
-one_further : (index : ℕ) (o : Option ℕ) → option_map (λ (i : ℕ). suc index + i) o ≡ option_map (λ (i : ℕ). index + i) (option_map (λ (i : ℕ). suc i) o)
+one_further : (index : ℕ) (o : Option ℕ) → option_map (λ (i : ℕ). suc index + i) o ≡ option_map (λ (i : ℕ). index + i)
+    (option_map (λ (i : ℕ). suc i) o)
 one_further index None = refl
 one_further index (Some i) = ap Some (let e : suc index + i ≡ index + suc i = omega arith in e)
 
 -- what the indexes hold at a place
-pub indexes_from-at : (index : ℕ) (code : List Insn) (place : ℕ) → option_flatten (slice_get (indexes_from index code) place) ≡ option_map (λ (i : ℕ). index + i) (index_at code place)
+pub indexes_from-at : (index : ℕ) (code : List Insn) (place : ℕ)
+    → option_flatten (slice_get (indexes_from index code) place) ≡ option_map (λ (i : ℕ). index + i) (index_at code place)
 indexes_from-at index [] place = refl
 indexes_from-at index (insn ∷ code) zero = ap Some (let e : index ≡ index + 0 = omega arith in e)
-indexes_from-at index (insn ∷ code) (suc place) = elim (cases_lt (suc place) (length (spelling insn))) as (λ _. option_flatten (slice_get (indexes_from index (insn ∷ code)) (suc place)) ≡ option_map (λ (i : ℕ). index + i) (index_at (insn ∷ code) (suc place))) [
-  | inl below ↦
-      let long = length-map (further_words insn) nothing in
-      ap option_flatten (front (map nothing (further_words insn)) (indexes_from (suc index) code) place (omega arith)) ∙ no_index (further_words insn) place
-      ∙ ap (option_map (λ (i : ℕ). index + i)) (sym (index_at-inside insn code (suc place) (omega arith) below))
-  | inr past ↦
-      let long = length-map (further_words insn) nothing in
-      let same : place - length (map nothing (further_words insn)) ≡ suc place - length (spelling insn) = omega arith in
-      ap option_flatten (back (map nothing (further_words insn)) (indexes_from (suc index) code) place (omega arith) ∙ ap (slice_get (indexes_from (suc index) code)) same)
-      ∙ indexes_from-at (suc index) code (suc place - length (spelling insn))
-      ∙ one_further index (index_at code (suc place - length (spelling insn)))
-      ∙ ap (option_map (λ (i : ℕ). index + i)) (sym (index_at-behind insn code (suc place) past))
-]
+indexes_from-at index (insn ∷ code) (suc place) = elim (cases_lt (suc place) (length (spelling insn))) as
+    (λ _. option_flatten (slice_get (indexes_from index (insn ∷ code)) (suc place)) ≡ option_map (λ (i : ℕ). index + i)
+    (index_at (insn ∷ code) (suc place))) [
+      | inl below ↦
+          let long = length-map (further_words insn) nothing in
+          ap option_flatten (front (map nothing (further_words insn)) (indexes_from (suc index) code) place (omega arith))
+          ∙ no_index (further_words insn) place
+          ∙ ap (option_map (λ (i : ℕ). index + i)) (sym (index_at-inside insn code (suc place) (omega arith) below))
+      | inr past ↦
+          let long = length-map (further_words insn) nothing in
+          let same : place - length (map nothing (further_words insn)) ≡ suc place - length (spelling insn) = omega arith in
+          ap option_flatten (back (map nothing (further_words insn)) (indexes_from (suc index) code) place (omega arith)
+          ∙ ap (slice_get (indexes_from (suc index) code)) same)
+          ∙ indexes_from-at (suc index) code (suc place - length (spelling insn))
+          ∙ one_further index (index_at code (suc place - length (spelling insn)))
+          ∙ ap (option_map (λ (i : ℕ). index + i)) (sym (index_at-behind insn code (suc place) past))
+    ]
 
 -- the instruction behind others
-pub instruction_at-middle : (before : List Insn) (insn : Insn) (after : List Insn) → instruction_at (before ++ insn ∷ after) (word_count before) ≡ Some insn
+pub instruction_at-middle : (before : List Insn) (insn : Insn) (after : List Insn)
+    → instruction_at (before ++ insn ∷ after) (word_count before) ≡ Some insn
 instruction_at-middle [] insn after = refl
 instruction_at-middle (first ∷ before) insn after =
     let sum = word_count-cons first before in
@@ -194,7 +222,8 @@ not_empty [] e = absurd (omega arith)
 not_empty (insn ∷ code) e = let sum = word_count-cons insn code in omega arith
 
 -- what a read finds
-pub read_finds : {X : Type 0} (o : Option (Bor X)) (xs : List X) (i : ℕ) (At : Bor X → Type 0) → IfSome o (λ x. x.now ≡ get_or xs i x.now) → MatchOption o (length xs ≤ i) (λ x. (i < length xs) × At x) → option_copied o ≡ slice_get xs i
+pub read_finds : {X : Type 0} (o : Option (Bor X)) (xs : List X) (i : ℕ) (At : Bor X → Type 0) → IfSome o (λ x. x.now ≡ get_or xs i x.now)
+    → MatchOption o (length xs ≤ i) (λ x. (i < length xs) × At x) → option_copied o ≡ slice_get xs i
 read_finds None xs i At item within = sym (slice_get_past xs i within)
 read_finds (Some x) xs i At item within = sym (slice_get_read xs (length xs) i x.now refl within.0 item)
 
@@ -202,48 +231,71 @@ none_further : (o : Option ℕ) → option_map (λ (i : ℕ). 0 + i) o ≡ o
 none_further None = refl
 none_further (Some i) = ap Some (let e : 0 + i ≡ i = omega arith in e)
 
-pub indexes_find : (indexes : List (Option ℕ)) (code : List Insn) (place : ℕ) → indexes ≡ indexes_from 0 code → option_flatten (slice_get indexes place) ≡ index_at code place
+pub indexes_find : (indexes : List (Option ℕ)) (code : List Insn) (place : ℕ) → indexes ≡ indexes_from 0 code
+    → option_flatten (slice_get indexes place) ≡ index_at code place
 indexes_find indexes code place e =
     ap (λ (xs : List (Option ℕ)). option_flatten (slice_get xs place)) e ∙ indexes_from-at 0 code place ∙ none_further (index_at code place)
 
 -- an index leads to the instruction
 -- the places that are kept, read by index
-pub place_kept : (places : List ℕ) (kept code : List Insn) (index default : ℕ) → places ≡ places_from 0 kept → kept ≡ code → index < length code → get_or places index default ≡ place_of code index
+pub place_kept : (places : List ℕ) (kept code : List Insn) (index default : ℕ) → places ≡ places_from 0 kept → kept ≡ code
+    → index < length code → get_or places index default ≡ place_of code index
 place_kept places kept code index default are same within =
     ap (λ (ps : List ℕ). get_or ps index default) (are ∙ ap (places_from 0) same) ∙ places_from-at 0 code index default within
     ∙ (let e : 0 + place_of code index ≡ place_of code index = omega arith in e)
 
-pub places_enough : (places : List ℕ) (kept code : List Insn) (index : ℕ) → places ≡ places_from 0 kept → kept ≡ code → index < length code → index < length places
+pub places_enough : (places : List ℕ) (kept code : List Insn) (index : ℕ) → places ≡ places_from 0 kept → kept ≡ code → index < length code
+    → index < length places
 places_enough places kept code index are same within =
     let counted = ap length (are ∙ ap (places_from 0) same) ∙ length-places_from 0 code in omega arith
 
-pub found_at : (code : List Insn) (place index : ℕ) (insn : Insn) → Some index ≡ index_at code place → index < length code → insn ≡ get_or code index insn → Some insn ≡ instruction_at code place
+pub found_at : (code : List Insn) (place index : ℕ) (insn : Insn) → Some index ≡ index_at code place → index < length code
+    → insn ≡ get_or code index insn → Some insn ≡ instruction_at code place
 found_at code place index insn e within is =
-    sym (slice_get_read code (length code) index insn refl within is) ∙ ap (option_and_then (slice_get code)) e ∙ sym (instruction_at-index code place)
+    sym (slice_get_read code (length code) index insn refl within is) ∙ ap (option_and_then (slice_get code)) e
+    ∙ sym (instruction_at-index code place)
 
 pub nothing_at : (code : List Insn) (place : ℕ) → None ≡ index_at code place → None ≡ instruction_at code place
 nothing_at code place e = ap (option_and_then (slice_get code)) e ∙ sym (instruction_at-index code place)
 
 -- the three lists with one instruction more
-pub places_grow : (places places' : List ℕ) (code : List Insn) (place : ℕ) (insn : Insn) → places ≡ places_from 0 code → place ≡ word_count code → places' ≡ places ++ place ∷ [] → places' ≡ places_from 0 (code ++ insn ∷ [])
+pub places_grow : (places places' : List ℕ) (code : List Insn) (place : ℕ) (insn : Insn) → places ≡ places_from 0 code
+    → place ≡ word_count code → places' ≡ places ++ place ∷ [] → places' ≡ places_from 0 (code ++ insn ∷ [])
 places_grow places places' code place insn are here grown =
-    grown ∙ ap (λ (ps : List ℕ). ps ++ place ∷ []) are ∙ ap (λ (p : ℕ). places_from 0 code ++ p ∷ []) (let e : place ≡ 0 + word_count code = omega arith in e)
+    grown ∙ ap (λ (ps : List ℕ). ps ++ place ∷ []) are ∙ ap (λ (p : ℕ). places_from 0 code ++ p ∷ [])
+    (let e : place ≡ 0 + word_count code = omega arith in e)
     ∙ sym (places_from-more 0 code insn)
 
-pub indexes_grow : (indexes indexes' more : List (Option ℕ)) (code : List Insn) (insn : Insn) → indexes ≡ indexes_from 0 code → more ≡ indexes_in (length code) (spelling insn) → indexes' ≡ indexes ++ more → indexes' ≡ indexes_from 0 (code ++ insn ∷ [])
+pub indexes_grow : (indexes indexes' more : List (Option ℕ)) (code : List Insn) (insn : Insn) → indexes ≡ indexes_from 0 code
+    → more ≡ indexes_in (length code) (spelling insn) → indexes' ≡ indexes ++ more → indexes' ≡ indexes_from 0 (code ++ insn ∷ [])
 indexes_grow indexes indexes' more code insn are here grown =
     grown ∙ ap (λ (xs : List (Option ℕ)). xs ++ more) are ∙ ap (λ (xs : List (Option ℕ)). indexes_from 0 code ++ xs) here
     ∙ ap (λ (i : ℕ). indexes_from 0 code ++ indexes_in i (spelling insn)) (let e : length code ≡ 0 + length code = omega arith in e)
     ∙ sym (indexes_from-more 0 code insn)
 
--- what a code keeps, with one instruction more: each list stayed as it was and then grew by what belongs to the instruction
-pub all_grow : (code code' middle : List Insn) (places places' room : List ℕ) (indexes indexes' space : List (Option ℕ)) (insn : Insn) (place index : ℕ) → places ≡ places_from 0 code → indexes ≡ indexes_from 0 code → place ≡ word_count code → index ≡ length code → room ≡ places → places' ≡ room ++ place ∷ [] → space ≡ indexes → indexes' ≡ space ++ indexes_in index (spelling insn) → middle ≡ code → code' ≡ middle ++ insn ∷ [] → word_count code + length (spelling insn) ≤ WORD_LIMIT → (places' ≡ places_from 0 code') × (indexes' ≡ indexes_from 0 code') × (word_count code' ≤ WORD_LIMIT)
-all_grow code code' middle places places' room indexes indexes' space insn place index are_places are_indexes at counted kept put left noted stayed more fits =
-    let is : code' ≡ code ++ insn ∷ [] = more ∙ ap (λ (c : List Insn). c ++ insn ∷ []) stayed in
+-- a list that was kept as it was, and then grew
+abbrev pub Grows : {X : Type 0} → List X → List X → List X → List X → Type 0
+Grows old kept more new = (kept ≡ old) × (new ≡ kept ++ more)
+
+grown : {X : Type 0} {old kept new : List X} (more : List X) → Grows old kept more new → new ≡ old ++ more
+grown more (stayed, put) = put ∙ ap (λ xs. xs ++ more) stayed
+
+-- what is kept beside a code
+abbrev pub AreBeside : List Insn → List ℕ → List (Option ℕ) → Type 0
+AreBeside code places indexes = (places ≡ places_from 0 code) × (indexes ≡ indexes_from 0 code) × (word_count code ≤ WORD_LIMIT)
+
+-- what is kept beside a code with one instruction more, where each list grew by what belongs to the instruction
+pub all_grow : {code code' middle : List Insn} {places places' room : List ℕ} {indexes indexes' space : List (Option ℕ)} (insn : Insn)
+    {place index : ℕ} → AreBeside code places indexes → place ≡ word_count code → index ≡ length code
+    → Grows places room (place ∷ []) places' → Grows indexes space (indexes_in index (spelling insn)) indexes'
+    → Grows code middle (insn ∷ []) code' → word_count code + length (spelling insn) ≤ WORD_LIMIT → AreBeside code' places' indexes'
+all_grow {code} {code'} {places} {places'} {indexes} {indexes'} insn {place} are at counted put noted more fits =
+    let is : code' ≡ code ++ insn ∷ [] = grown _ more in
     let sum = word_count-append code (insn ∷ []) in
     let one = word_count-one insn in
     let whole : word_count (code ++ insn ∷ []) ≤ WORD_LIMIT = omega arith in (
-      places_grow places places' code place insn are_places at (put ∙ ap (λ (ps : List ℕ). ps ++ place ∷ []) kept) ∙ ap (places_from 0) (sym is),
-      indexes_grow indexes indexes' (indexes_in (length code) (spelling insn)) code insn are_indexes refl (noted ∙ ap (λ (xs : List (Option ℕ)). xs ++ indexes_in index (spelling insn)) left ∙ ap (λ (i : ℕ). indexes ++ indexes_in i (spelling insn)) counted) ∙ ap (indexes_from 0) (sym is),
+      places_grow places places' code place insn are.0 at (grown _ put) ∙ ap (places_from 0) (sym is),
+      indexes_grow indexes indexes' (indexes_in (length code) (spelling insn)) code insn are.1 refl
+          (grown _ noted ∙ ap (λ (i : ℕ). indexes ++ indexes_in i (spelling insn)) counted) ∙ ap (indexes_from 0) (sym is),
       subst (λ (c : List Insn). word_count c ≤ WORD_LIMIT) (sym is) whole,
     )

@@ -1,10 +1,12 @@
 -- What a row lets stand, from the tests that find no fault.
-use Rattle.std.proofs.Common.{◌≡◌, ℕ, ◌≤◌, ◌==◌, ◌&&◌, ◌||◌, not, nat_lt, Bool, true, false, ℤ, pos, Option, Some, None, MatchBool, if◌then◌else◌, refl, sym, arith}
+use Rattle.std.proofs.Common.{◌≡◌, ℕ, ◌≤◌, ◌==◌, ◌&&◌, ◌||◌, not, nat_lt, Bool, true, false, ℤ, pos, Option, Some, None, MatchBool}
+use Rattle.std.proofs.Common.{if◌then◌else◌, refl, sym, arith}
 use Rattle.std.proofs.lemmas.Bool.Decides.{nat_tests, Decides-int_eq, Decides-or}
 use Rattle.std.specs.Bool.{⊤, Decides}
 use Rattle.std.proofs.lemmas.Bool.{true≢false}
 use Rattle.std.proofs.lemmas.Option.{none-some}
-use Rattle.bpf_insn.specs.Row.{fault, names_bad_register, writes_frame_pointer, has_bad_width, has_unused_field, is_bad_width, is_out_of_use, is_used, is_written, IsInUse, Fits}
+use Rattle.bpf_insn.specs.Row.{fault, names_bad_register, writes_frame_pointer, has_bad_width, has_unused_field, is_bad_width}
+use Rattle.bpf_insn.specs.Row.{is_out_of_use, is_used, is_written, IsInUse, Fits}
 use Rattle.bpf_insn.specs.declared.row.Row.{Row}
 use Rattle.bpf_insn.specs.declared.row.Use.{Use}
 use Rattle.bpf_insn.specs.declared.row.Use.TheVariants.{Unused, Any, ZeroOrOne, MoveBits, SwapBits}
@@ -14,7 +16,8 @@ use Rattle.bpf_insn.specs.declared.fault.WordFault.TheVariants.{BadRegister, Wri
 use Rattle.bpf_insn.specs.declared.instruction.Width.TheVariants.{Bits32, Bits64}
 
 -- a chain of tests that gives nothing
-no_fault : (test : Bool) (found : WordFault) (rest : Option WordFault) → (if test then Some found else rest) ≡ None → (test ≡ false) × (rest ≡ None)
+no_fault : (test : Bool) (found : WordFault) (rest : Option WordFault) → (if test then Some found else rest) ≡ None → (test ≡ false)
+    × (rest ≡ None)
 no_fault true found rest e = absurd (none-some found (sym e))
 no_fault false found rest e = (refl, e)
 
@@ -23,11 +26,13 @@ neither true b e = absurd (true≢false e)
 neither false b e = (refl, e)
 
 -- a register field
-names_register : (uses : Bool) (n : ℕ) → (uses && nat_lt 10 n) ≡ false → (not uses && not (n == 0)) ≡ false → MatchBool uses (n ≤ 10) (n ≡ 0)
+names_register : (uses : Bool) (n : ℕ) → (uses && nat_lt 10 n) ≡ false → (not uses && not (n == 0)) ≡ false
+    → MatchBool uses (n ≤ 10) (n ≡ 0)
 names_register true n low zero = grind (arith, nat_tests)
 names_register false n low zero = grind (arith, nat_tests)
 
-names_writable : (uses writes : Bool) (n : ℕ) → (uses && nat_lt 10 n) ≡ false → (writes && n == 10) ≡ false → (not uses && not (n == 0)) ≡ false → MatchBool writes (n ≤ 9) ⊤
+names_writable : (uses writes : Bool) (n : ℕ) → (uses && nat_lt 10 n) ≡ false → (writes && n == 10) ≡ false
+    → (not uses && not (n == 0)) ≡ false → MatchBool writes (n ≤ 9) ⊤
 names_writable uses false n low ten zero = tt
 names_writable true true n low ten zero = grind (arith, nat_tests)
 names_writable false true n low ten zero = grind (arith, nat_tests)
@@ -44,7 +49,8 @@ in_use ZeroOrOne z wide out = holds _ (Decides-or _ _ (Decides-int_eq z (pos 0))
 in_use (MoveBits Bits32) z wide out =
     holds _ (Decides-or _ _ (Decides-or _ _ (Decides-int_eq z (pos 0)) (Decides-int_eq z (pos 8))) (Decides-int_eq z (pos 16))) wide
 in_use (MoveBits Bits64) z wide out =
-    holds _ (Decides-or _ _ (Decides-or _ _ (Decides-or _ _ (Decides-int_eq z (pos 0)) (Decides-int_eq z (pos 8))) (Decides-int_eq z (pos 16))) (Decides-int_eq z (pos 32))) wide
+    holds _ (Decides-or _ _ (Decides-or _ _ (Decides-or _ _ (Decides-int_eq z (pos 0)) (Decides-int_eq z (pos 8)))
+    (Decides-int_eq z (pos 16))) (Decides-int_eq z (pos 32))) wide
 in_use SwapBits z wide out =
     holds _ (Decides-or _ _ (Decides-or _ _ (Decides-int_eq z (pos 16)) (Decides-int_eq z (pos 32))) (Decides-int_eq z (pos 64))) wide
 

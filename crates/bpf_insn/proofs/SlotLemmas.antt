@@ -8,7 +8,8 @@ use Rattle.bpf_insn.specs.declared.memory.TheConstants.{SLOT_LENGTH}
 pub slot_at-is : (at count slot : ℕ) → slot_at at count ≡ Some slot → (count ≡ SLOT_LENGTH) × (at ≡ SLOT_LENGTH * slot)
 slot_at-is at count slot is = by_count (cases_Bool (count == SLOT_LENGTH)) (cases_Bool (at % SLOT_LENGTH == 0)) is
   where
-    by_count : ((count == SLOT_LENGTH) ≡ true) ⊎ ((count == SLOT_LENGTH) ≡ false) → ((at % SLOT_LENGTH == 0) ≡ true) ⊎ ((at % SLOT_LENGTH == 0) ≡ false) → slot_at at count ≡ Some slot → (count ≡ SLOT_LENGTH) × (at ≡ SLOT_LENGTH * slot)
+    by_count : ((count == SLOT_LENGTH) ≡ true) ⊎ ((count == SLOT_LENGTH) ≡ false) → ((at % SLOT_LENGTH == 0) ≡ true)
+        ⊎ ((at % SLOT_LENGTH == 0) ≡ false) → slot_at at count ≡ Some slot → (count ≡ SLOT_LENGTH) × (at ≡ SLOT_LENGTH * slot)
     by_count (inl whole) (inl first) found =
         let all : count ≡ SLOT_LENGTH = grind (arith, nat_tests) in
         let begins : at % SLOT_LENGTH ≡ 0 = grind (arith, nat_tests) in

@@ -1,5 +1,6 @@
 -- An instruction is determined by the words that it's written in.
-use Rattle.std.proofs.Common.{◌≡◌, ℕ, ◌≤◌, Bool, true, false, ℤ, pos, List, ◌∷◌, ◌++◌, Some, if◌then◌else◌, refl, sym, ap, ◌∙◌, subst, arith}
+use Rattle.std.proofs.Common.{◌≡◌, ℕ, ◌≤◌, Bool, true, false, ℤ, pos, List, ◌∷◌, ◌++◌, Some, if◌then◌else◌, refl, sym, ap, ◌∙◌, subst}
+use Rattle.std.proofs.Common.{arith}
 use Rattle.std.proofs.lemmas.List.{append_cancel_left}
 use Rattle.std.specs.Ordering.{int_eq}
 use Rattle.std.specs.Coded.{le_prop}
@@ -12,7 +13,8 @@ use Rattle.bpf_insn.specs.declared.word.Word.{Word}
 use Rattle.bpf_insn.specs.declared.register.Register.{Register as RegisterNumber}
 use Rattle.bpf_insn.specs.declared.register.WritableRegister.{WritableRegister}
 use Rattle.bpf_insn.specs.declared.instruction.Insn.{Insn}
-use Rattle.bpf_insn.specs.declared.instruction.Insn.TheVariants.{Alu, MoveSignExtended, Negate, ByteSwap, JumpIf, Jump, Call, Exit, Load, StoreImmediate, Store, WideLoad}
+use Rattle.bpf_insn.specs.declared.instruction.Insn.TheVariants.{Alu, MoveSignExtended, Negate, ByteSwap, JumpIf, Jump, Call, Exit, Load}
+use Rattle.bpf_insn.specs.declared.instruction.Insn.TheVariants.{StoreImmediate, Store, WideLoad}
 use Rattle.bpf_insn.specs.declared.instruction.Operation.{Operation}
 use Rattle.bpf_insn.specs.declared.instruction.Operation.TheVariants.{Divide, SignedDivide, Modulo, SignedModulo, Move}
 use Rattle.bpf_insn.specs.declared.instruction.Width.{Width}
@@ -42,12 +44,14 @@ swap_in immediate = if int_eq immediate (pos 16) then swap.Bits16 else (if int_e
 pub same_writable : (a b : WritableRegister) → a.number ≡ b.number → a ≡ b
 same_writable a b e =
     let At : ℕ → Type 0 = λ n. (k : n ≤ 9) → a ≡ record { number = n; in_range = k } in
-    subst At e (λ k. ap (λ (h : a.number ≤ 9). let r : WritableRegister = record { number = a.number; in_range = h } in r) (le_prop a.in_range k)) b.in_range
+    subst At e (λ k. ap (λ (h : a.number ≤ 9). let r : WritableRegister = record { number = a.number; in_range = h } in r)
+    (le_prop a.in_range k)) b.in_range
 
 pub same_register : (a b : RegisterNumber) → a.number ≡ b.number → a ≡ b
 same_register a b e =
     let At : ℕ → Type 0 = λ n. (k : n ≤ 10) → a ≡ record { number = n; in_range = k } in
-    subst At e (λ k. ap (λ (h : a.number ≤ 10). let r : RegisterNumber = record { number = a.number; in_range = h } in r) (le_prop a.in_range k)) b.in_range
+    subst At e (λ k. ap (λ (h : a.number ≤ 10). let r : RegisterNumber = record { number = a.number; in_range = h } in r)
+    (le_prop a.in_range k)) b.in_range
 
 -- the registers of an instruction, each 0 where there is none
 abbrev no_writable : WritableRegister
@@ -122,7 +126,8 @@ source_from false s v = Immediate v
 
 -- the instruction of a form, with these registers and numbers
 abbrev made : Form → WritableRegister → RegisterNumber → RegisterNumber → ℤ → ℤ → ℤ → Insn
-made (form.Alu Move width true) d l s z v n = if int_eq z (pos 0) then Alu Move width d (Register s) else MoveSignExtended (extension_in width z) d s
+made (form.Alu Move width true) d l s z v n = if int_eq z (pos 0) then Alu Move width d (Register s) else MoveSignExtended
+    (extension_in width z) d s
 made (form.Alu operation width from_register) d l s z v n = Alu (signed_by operation z) width d (source_from from_register s v)
 made (form.Negate width) d l s z v n = Negate width d
 made (form.ByteSwap order) d l s z v n = ByteSwap order (swap_in v) d
@@ -137,7 +142,8 @@ made (form.Store size) d l s z v n = Store size l z s
 made form.WideLoad d l s z v n = WideLoad d v n
 
 -- an instruction is made of its form, its registers and the words' numbers
-is_made : (insn : Insn) (rest : List Word) → insn ≡ made (insn_form insn) (written insn) (first_read insn) (second_read insn) (first_word insn).offset (first_word insn).immediate (next_of (insn_form insn) (further_words insn ++ rest))
+is_made : (insn : Insn) (rest : List Word) → insn ≡ made (insn_form insn) (written insn) (first_read insn) (second_read insn)
+    (first_word insn).offset (first_word insn).immediate (next_of (insn_form insn) (further_words insn ++ rest))
 is_made (Alu Move width d (Immediate v)) rest = refl
 is_made (Alu operation width d (Immediate v)) rest = refl
 is_made (Alu operation width d (Register s)) rest = refl
@@ -167,10 +173,17 @@ one_instruction a b xs ys e =
     let others = same_others (first_word a) (first_word b) (further_words a ++ xs) (further_words b ++ ys) words in
     let both : Some (insn_form a) ≡ Some (insn_form b) = sym (has_form a) ∙ ap (λ (w : Word). form_of w.opcode) first ∙ has_form b in
     let forms : insn_form a ≡ insn_form b = cc in
-    let d = same_writable (written a) (written b) (writes_number a ∙ ap (λ (f : Form). if writes f then (first_word a).destination else 0) forms ∙ ap (λ (w : Word). if writes (insn_form b) then w.destination else 0) first ∙ sym (writes_number b)) in
-    let l = same_register (first_read a) (first_read b) (reads_first a ∙ ap (λ (f : Form). if writes f then 0 else (first_word a).destination) forms ∙ ap (λ (w : Word). if writes (insn_form b) then 0 else w.destination) first ∙ sym (reads_first b)) in
+    let d = same_writable (written a) (written b) (writes_number a
+    ∙ ap (λ (f : Form). if writes f then (first_word a).destination else 0) forms
+    ∙ ap (λ (w : Word). if writes (insn_form b) then w.destination else 0) first ∙ sym (writes_number b)) in
+    let l = same_register (first_read a) (first_read b)
+    (reads_first a ∙ ap (λ (f : Form). if writes f then 0 else (first_word a).destination) forms
+    ∙ ap (λ (w : Word). if writes (insn_form b) then 0 else w.destination) first ∙ sym (reads_first b)) in
     let s = same_register (second_read a) (second_read b) (reads_second a ∙ ap (λ (w : Word). w.source) first ∙ sym (reads_second b)) in
-    is_made a xs ∙ (let parts : made (insn_form a) (written a) (first_read a) (second_read a) (first_word a).offset (first_word a).immediate (next_of (insn_form a) (further_words a ++ xs)) ≡ made (insn_form b) (written b) (first_read b) (second_read b) (first_word b).offset (first_word b).immediate (next_of (insn_form b) (further_words b ++ ys)) = rw (forms, d, l, s, first, others) refl in parts) ∙ sym (is_made b ys)
+    is_made a xs ∙ (let parts : made (insn_form a) (written a) (first_read a) (second_read a) (first_word a).offset (first_word a).immediate
+    (next_of (insn_form a) (further_words a ++ xs)) ≡ made (insn_form b) (written b) (first_read b) (second_read b)
+    (first_word b).offset (first_word b).immediate (next_of (insn_form b) (further_words b ++ ys)) =
+    rw (forms, d, l, s, first, others) refl in parts) ∙ sym (is_made b ys)
 
 -- the rests of two lists that begin with an instruction's words
 pub same_rest : (a b : Insn) (xs ys : List Word) → spelling a ++ xs ≡ spelling b ++ ys → xs ≡ ys

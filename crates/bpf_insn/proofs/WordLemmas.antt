@@ -10,17 +10,24 @@ length-first_words zero bytes = refl
 length-first_words (suc count) bytes = ap suc (length-first_words count (drop 8 bytes))
 
 -- the words of a longer front: those of the shorter one, the next word, and the rest
-pub first_words_split : (before after total : ℕ) (bytes : List ℕ) → total ≡ before + suc after → first_words total bytes ≡ first_words before bytes ++ word_of (drop (before * 8) bytes) ∷ first_words after (drop (before * 8 + 8) bytes)
+pub first_words_split : (before after total : ℕ) (bytes : List ℕ) → total ≡ before + suc after
+    → first_words total bytes ≡ first_words before bytes ++ word_of (drop (before * 8) bytes) ∷ first_words after
+    (drop (before * 8 + 8) bytes)
 unfolding first_words
-first_words_split zero after total bytes e = subst (λ n. first_words n bytes ≡ word_of bytes ∷ first_words after (drop 8 bytes)) (let p : suc after ≡ total = omega arith in p) refl
+first_words_split zero after total bytes e = subst (λ n. first_words n bytes ≡ word_of bytes ∷ first_words after (drop 8 bytes))
+    (let p : suc after ≡ total = omega arith in p) refl
 first_words_split (suc before) after zero bytes e = absurd (omega arith)
 first_words_split (suc before) after (suc total) bytes e =
     let rest = first_words_split before after total (drop 8 bytes) (omega arith) in
-    let here : drop (before * 8) (drop 8 bytes) ≡ drop (suc before * 8) bytes = drop-drop (before * 8) 8 bytes ∙ ap (λ n. drop n bytes) (let p : 8 + before * 8 ≡ suc before * 8 = omega arith in p) in
-    let next : drop (before * 8 + 8) (drop 8 bytes) ≡ drop (suc before * 8 + 8) bytes = drop-drop (before * 8 + 8) 8 bytes ∙ ap (λ n. drop n bytes) (let p : 8 + (before * 8 + 8) ≡ suc before * 8 + 8 = omega arith in p) in
+    let here : drop (before * 8) (drop 8 bytes) ≡ drop (suc before * 8) bytes =
+    drop-drop (before * 8) 8 bytes ∙ ap (λ n. drop n bytes) (let p : 8 + before * 8 ≡ suc before * 8 = omega arith in p) in
+    let next : drop (before * 8 + 8) (drop 8 bytes) ≡ drop (suc before * 8 + 8) bytes =
+    drop-drop (before * 8 + 8) 8 bytes ∙ ap (λ n. drop n bytes) (let p : 8 + (before * 8 + 8) ≡ suc before * 8 + 8 = omega arith in p)
+    in
     ap (λ (words : List Word). word_of bytes ∷ words) (rw (← here, ← next) rest)
 
 -- one word more
-pub first_words_more : (count : ℕ) (bytes : List ℕ) → first_words (count + 1) bytes ≡ first_words count bytes ++ word_of (drop (count * 8) bytes) ∷ []
+pub first_words_more : (count : ℕ) (bytes : List ℕ) → first_words (count + 1) bytes ≡ first_words count bytes ++ word_of
+    (drop (count * 8) bytes) ∷ []
 unfolding first_words
 first_words_more count bytes = first_words_split count 0 (count + 1) bytes (omega arith)

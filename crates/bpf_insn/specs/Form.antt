@@ -1,6 +1,8 @@
 -- The instruction table (RFC 9669, sections 3 to 5): how each instruction is written, one line a row.
-use Rattle.std.specs.Prelude.{ℕ, ◌+◌, ◌*◌, ℤ, pos, List, [], ◌∷◌}
+use Rattle.std.specs.Prelude.{ℕ, ◌+◌, ◌*◌, ℤ, pos, Bool, true, false, if◌then◌else◌, List, [], ◌∷◌}
 use Rattle.bpf_insn.specs.declared.word.Word.{Word}
+use Rattle.bpf_insn.specs.declared.form.Form.{Form}
+use Rattle.bpf_insn.specs.declared.form.Form.TheVariants as form
 use Rattle.bpf_insn.specs.declared.instruction.Insn.{Insn}
 use Rattle.bpf_insn.specs.declared.instruction.Insn.TheVariants.{Alu, MoveSignExtended, Negate, ByteSwap, JumpIf, Jump, Call, Exit, Load, StoreImmediate, Store, WideLoad}
 use Rattle.bpf_insn.specs.declared.instruction.Operation.{Operation}
@@ -66,13 +68,13 @@ operation_offset SignedDivide = pos 1
 operation_offset SignedModulo = pos 1
 operation_offset operation = pos 0
 
--- a move with sign extension: the class of the bits that it writes, and as the offset the bits that it takes (section 4.1)
-abbrev pub extension_class : SignExtension → ℕ
-extension_class Bits8To32 = 4
-extension_class Bits16To32 = 4
-extension_class Bits8To64 = 7
-extension_class Bits16To64 = 7
-extension_class Bits32To64 = 7
+-- a move with sign extension: how many bits it writes, and as the offset those that it takes (section 4.1)
+abbrev pub extension_width : SignExtension → Width
+extension_width Bits8To32 = Bits32
+extension_width Bits16To32 = Bits32
+extension_width Bits8To64 = Bits64
+extension_width Bits16To64 = Bits64
+extension_width Bits32To64 = Bits64
 
 abbrev pub extension_bits : SignExtension → ℤ
 extension_bits Bits8To32 = pos 8
@@ -117,24 +119,37 @@ load_opcode load.SignedWord = 0x81
 load_opcode load.SignedHalfWord = 0x89
 load_opcode load.SignedByte = 0x91
 
--- stores of an immediate, in the class ST (section 5.1)
-abbrev pub store_immediate_opcode : StoreSize → ℕ
-store_immediate_opcode store.Word = 0x62
-store_immediate_opcode store.HalfWord = 0x6a
-store_immediate_opcode store.Byte = 0x72
-store_immediate_opcode store.DoubleWord = 0x7a
+-- the sizes of stores (section 5.1)
+abbrev pub size_code : StoreSize → ℕ
+size_code store.Word = 0x00
+size_code store.HalfWord = 0x08
+size_code store.Byte = 0x10
+size_code store.DoubleWord = 0x18
 
--- stores of a register, in the class STX (section 5.1)
-abbrev pub store_opcode : StoreSize → ℕ
-store_opcode store.Word = 0x63
-store_opcode store.HalfWord = 0x6b
-store_opcode store.Byte = 0x73
-store_opcode store.DoubleWord = 0x7b
+-- the source bit (section 4)
+abbrev pub bit : Bool → ℕ
+bit from_register = if from_register then 1 else 0
 
--- the second operand: its source bit (section 4), and what stands in the fields of the source register and of the immediate
-abbrev pub source_bit : Source → ℕ
-source_bit (Immediate value) = 0
-source_bit (Register register) = 1
+-- The opcode of a form: the jumps JA, calls and EXIT (section 4.3), stores of an immediate in the class ST and of a register in STX
+-- (section 5.1), the wide load (section 5.4).
+abbrev pub form_opcode : Form → ℕ
+form_opcode (form.Alu operation width from_register) = opcode_of (operation_code operation) (bit from_register) (arithmetic_class width)
+form_opcode (form.Negate width) = opcode_of 0x8 0 (arithmetic_class width)
+form_opcode (form.ByteSwap order) = swap_opcode order
+form_opcode (form.JumpIf condition width from_register) = opcode_of (condition_code condition) (bit from_register) (jump_class width)
+form_opcode form.ShortJump = 0x05
+form_opcode form.LongJump = 0x06
+form_opcode form.Call = 0x85
+form_opcode form.Exit = 0x95
+form_opcode (form.Load format) = load_opcode format
+form_opcode (form.StoreImmediate size) = 0x62 + size_code size
+form_opcode (form.Store size) = 0x63 + size_code size
+form_opcode form.WideLoad = 0x18
+
+-- the second operand: whether it's a register, and what stands in the fields of the source register and of the immediate
+abbrev pub is_register : Source → Bool
+is_register (Immediate value) = false
+is_register (Register register) = true
 
 abbrev pub source_field : Source → ℕ
 source_field (Immediate value) = 0
@@ -148,21 +163,22 @@ source_immediate (Register register) = pos 0
 -- that aren't used are zero). One line for each row of the instruction table.
 abbrev pub first_word : Insn → Word
 first_word (Alu operation width destination source) =
-    word (opcode_of (operation_code operation) (source_bit source) (arithmetic_class width)) destination.number (source_field source) (operation_offset operation) (source_immediate source)
+    word (form_opcode (form.Alu operation width (is_register source))) destination.number (source_field source) (operation_offset operation)
+    (source_immediate source)
 first_word (MoveSignExtended extension destination source) =
-    word (opcode_of 0xb 1 (extension_class extension)) destination.number source.number (extension_bits extension) (pos 0)
-first_word (Negate width destination) = word (opcode_of 0x8 0 (arithmetic_class width)) destination.number 0 (pos 0) (pos 0)
-first_word (ByteSwap order width destination) = word (swap_opcode order) destination.number 0 (pos 0) (swap_bits width)
+    word (form_opcode (form.Alu Move (extension_width extension) true)) destination.number source.number (extension_bits extension) (pos 0)
+first_word (Negate width destination) = word (form_opcode (form.Negate width)) destination.number 0 (pos 0) (pos 0)
+first_word (ByteSwap order width destination) = word (form_opcode (form.ByteSwap order)) destination.number 0 (pos 0) (swap_bits width)
 first_word (JumpIf condition width left right offset) =
-    word (opcode_of (condition_code condition) (source_bit right) (jump_class width)) left.number (source_field right) offset (source_immediate right)
-first_word (Jump (Short distance)) = word 0x05 0 0 distance (pos 0)
-first_word (Jump (Long distance)) = word 0x06 0 0 (pos 0) distance
-first_word (Call immediate) = word 0x85 0 0 (pos 0) immediate
-first_word Exit = word 0x95 0 0 (pos 0) (pos 0)
-first_word (Load format destination base offset) = word (load_opcode format) destination.number base.number offset (pos 0)
-first_word (StoreImmediate size base offset immediate) = word (store_immediate_opcode size) base.number 0 offset immediate
-first_word (Store size base offset source) = word (store_opcode size) base.number source.number offset (pos 0)
-first_word (WideLoad destination immediate next_immediate) = word 0x18 destination.number 0 (pos 0) immediate
+    word (form_opcode (form.JumpIf condition width (is_register right))) left.number (source_field right) offset (source_immediate right)
+first_word (Jump (Short distance)) = word (form_opcode form.ShortJump) 0 0 distance (pos 0)
+first_word (Jump (Long distance)) = word (form_opcode form.LongJump) 0 0 (pos 0) distance
+first_word (Call immediate) = word (form_opcode form.Call) 0 0 (pos 0) immediate
+first_word Exit = word (form_opcode form.Exit) 0 0 (pos 0) (pos 0)
+first_word (Load format destination base offset) = word (form_opcode (form.Load format)) destination.number base.number offset (pos 0)
+first_word (StoreImmediate size base offset immediate) = word (form_opcode (form.StoreImmediate size)) base.number 0 offset immediate
+first_word (Store size base offset source) = word (form_opcode (form.Store size)) base.number source.number offset (pos 0)
+first_word (WideLoad destination immediate next_immediate) = word (form_opcode form.WideLoad) destination.number 0 (pos 0) immediate
 
 -- the words behind it: a wide load's second one, with its immediate alone (section 5.4)
 abbrev pub further_words : Insn → List Word

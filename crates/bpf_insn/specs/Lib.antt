@@ -6,11 +6,11 @@ pub mod Fault
 pub mod Reading
 pub mod Code
 pub mod Jump
+pub mod Immediates
 pub mod Pointer
 pub mod Memory
 pub mod Frame
 pub mod Table
 pub mod Arithmetic
-pub mod Refusal
 pub mod WordFault
 pub mod CodeFault

@@ -1,9 +1,9 @@
 -- What is read off the words of an instruction.
 use Rattle.std.specs.Prelude.{◌≡◌, ℕ, ◌-◌, ◌*◌, ◌/◌, ◌≤◌, MatchBool, ℤ, Bool, false, List, [], ◌∷◌, ◌++◌, length, drop, ◌⊎◌, Option, Some}
-use Rattle.bpf_insn.specs.Form.{spelling, source_bit, source_field, source_immediate}
+use Rattle.bpf_insn.specs.Form.{spelling, form_opcode, is_register, source_field, source_immediate}
 use Rattle.bpf_insn.specs.Word.{first_words}
 use Rattle.bpf_insn.specs.Row.{Fits, IsInUse}
-use Rattle.bpf_insn.specs.Opcode.{form_opcode, row, bit, offset_use, immediate_use}
+use Rattle.bpf_insn.specs.Opcode.{row, offset_use, immediate_use}
 use Rattle.bpf_insn.specs.Fault.{first_fault}
 use Rattle.bpf_insn.specs.declared.fault.WordFault.{WordFault}
 use Rattle.bpf_insn.specs.declared.form.Form.{Form}
@@ -26,7 +26,7 @@ pub record HasForm (form : Form) (word : Word) : Type 0 where
 -- the second operand that a word has, which may be a register
 abbrev pub IsSource : Bool → Word → Source → Type 0
 IsSource from_register word source =
-    (bit from_register ≡ source_bit source) × (word.source ≡ source_field source) × (word.immediate ≡ source_immediate source)
+    (from_register ≡ is_register source) × (word.source ≡ source_field source) × (word.immediate ≡ source_immediate source)
 
 -- its fields
 pub record HasOperand (from_register : Bool) (word : Word) : Type 0 where

@@ -1,20 +1,13 @@
--- The number and the name of a word's fault.
-use Rattle.std.specs.Prelude.{ℕ, List, codes}
+-- The refusal of a word's fault, without its place.
+use Rattle.std.specs.Prelude.{codes}
+use Rattle.refusals.specs.Refusal.{RefusalParts, refused}
 use Rattle.bpf_insn.specs.declared.fault.WordFault.{WordFault}
 use Rattle.bpf_insn.specs.declared.fault.WordFault.TheVariants.{UnknownOpcode, BadRegister, UnusedNotZero, BadWidth, CutWide, WritesFramePointer}
 
-abbrev pub number : WordFault → ℕ
-number UnknownOpcode = 13
-number BadRegister = 14
-number UnusedNotZero = 15
-number BadWidth = 16
-number CutWide = 17
-number WritesFramePointer = 18
-
-abbrev pub name : WordFault → List ℕ
-name UnknownOpcode = codes "UnknownOpcode"
-name BadRegister = codes "BadRegister"
-name UnusedNotZero = codes "UnusedNotZero"
-name BadWidth = codes "BadWidth"
-name CutWide = codes "CutWide"
-name WritesFramePointer = codes "WritesFramePointer"
+abbrev pub refusal : WordFault → RefusalParts
+refusal UnknownOpcode = refused 13 (codes "UnknownOpcode")
+refusal BadRegister = refused 14 (codes "BadRegister")
+refusal UnusedNotZero = refused 15 (codes "UnusedNotZero")
+refusal BadWidth = refused 16 (codes "BadWidth")
+refusal CutWide = refused 17 (codes "CutWide")
+refusal WritesFramePointer = refused 18 (codes "WritesFramePointer")

@@ -1,17 +1,14 @@
-//! Why bytes are no program: each fault has its number and its name here, and nowhere else.
-ghost use Rattle.std.specs.Prelude.{◌≡◌, ◌≤◌, length};
+//! Why bytes are no program.
+ghost use Rattle.std.specs.Prelude.{◌≡◌};
 ghost use Rattle.bpf_insn.specs.declared.fault.CodeFault.TheVariants.{Memory};
 ghost use Rattle.bpf_insn.specs.WordFault as word_fault;
-ghost use Rattle.bpf_insn.specs.CodeFault as code_fault;
 
-use crate::refusal::{memory_name, place_line, refusal_line};
-use arrayvec::ArrayString;
+use refusals::{Fault, Refusal};
 use std::alloc::{AllocError, AllocFailed};
 use thiserror::Error;
 
 /// Why words are no instruction. Where several apply it's the first of opcode, second word, registers,
-/// frame pointer, widths and unused fields. The derived text is for people; the refusal's text is
-/// `CodeFault::line`.
+/// frame pointer, widths and unused fields. The derived text is for people.
 #[derive(Clone, Copy, Debug, PartialEq, Eq, Error)]
 pub enum WordFault {
     #[error("no instruction has this opcode")]
@@ -28,7 +25,7 @@ pub enum WordFault {
     WritesFramePointer,
 }
 
-/// Why bytes are no program, or that memory was wanting.
+/// Why bytes are no program, or that an allocation failed. The derived text is for people.
 #[derive(Clone, Copy, Debug, PartialEq, Eq, Error)]
 pub enum CodeFault {
     #[error("the program has no bytes")]
@@ -64,70 +61,33 @@ impl<T: Drop> From<AllocFailed<T>> for CodeFault {
 }
 
 impl WordFault {
-    pub fn number(self) -> u8
-        ensures { result ≡ word_fault.number self }
+    /// Returns the fault as a refusal, without its place.
+    pub fn refusal(self) -> Refusal
+        ensures { result ≡ word_fault.refusal self }
     {
         match self {
-            WordFault::UnknownOpcode => 13,
-            WordFault::BadRegister => 14,
-            WordFault::UnusedNotZero => 15,
-            WordFault::BadWidth => 16,
-            WordFault::CutWide => 17,
-            WordFault::WritesFramePointer => 18,
-        }
-    }
-
-    pub fn name(self) -> &'static str
-        ensures value { result.now ≡ word_fault.name self }
-        ensures short { length result.now ≤ 18 }
-    {
-        match self {
-            WordFault::UnknownOpcode => "UnknownOpcode",
-            WordFault::BadRegister => "BadRegister",
-            WordFault::UnusedNotZero => "UnusedNotZero",
-            WordFault::BadWidth => "BadWidth",
-            WordFault::CutWide => "CutWide",
-            WordFault::WritesFramePointer => "WritesFramePointer",
+            WordFault::UnknownOpcode => Refusal::refused(13, "UnknownOpcode"),
+            WordFault::BadRegister => Refusal::refused(14, "BadRegister"),
+            WordFault::UnusedNotZero => Refusal::refused(15, "UnusedNotZero"),
+            WordFault::BadWidth => Refusal::refused(16, "BadWidth"),
+            WordFault::CutWide => Refusal::refused(17, "CutWide"),
+            WordFault::WritesFramePointer => Refusal::refused(18, "WritesFramePointer"),
         }
     }
 }
 
-impl CodeFault {
-    /// None for want of memory.
-    pub fn number(&self) -> Option<u8>
-        ensures { result ≡ code_fault.number self.now }
-    {
-        match *self {
-            CodeFault::Empty => Some(10),
-            CodeFault::NotWhole => Some(11),
-            CodeFault::TooLong => Some(12),
-            CodeFault::InWord { fault, .. } => Some(fault.number()),
-            CodeFault::Memory => None,
-        }
-    }
+impl Fault for CodeFault {
+    ghost use Rattle.bpf_insn.specs.CodeFault.{refusal};
 
-    pub fn name(&self) -> &'static str
-        ensures value { result.now ≡ code_fault.name self.now }
-        ensures short { length result.now ≤ 18 }
-    {
-        match *self {
-            CodeFault::Empty => "Empty",
-            CodeFault::NotWhole => "NotWhole",
-            CodeFault::TooLong => "TooLong",
-            CodeFault::InWord { fault, .. } => fault.name(),
-            CodeFault::Memory => memory_name(),
-        }
-    }
+    ghost refusal_of = { refusal };
 
-    /// The refusal's line of text, as `refused 13 place 2 UnknownOpcode`.
-    pub fn line(&self) -> ArrayString<64>
-        ensures { result.bytes ≡ code_fault.line self.now }
-    {
+    fn refusal(&self) -> Refusal {
         match *self {
-            CodeFault::InWord { place, fault } => {
-                place_line(fault.number(), place, fault.name(), None)
-            }
-            _ => refusal_line(self.number(), self.name()),
+            CodeFault::Empty => Refusal::refused(10, "Empty"),
+            CodeFault::NotWhole => Refusal::refused(11, "NotWhole"),
+            CodeFault::TooLong => Refusal::refused(12, "TooLong"),
+            CodeFault::InWord { place, fault } => fault.refusal().at_place(place),
+            CodeFault::Memory => Refusal::memory(),
         }
     }
 }

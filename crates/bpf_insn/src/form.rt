@@ -1,7 +1,7 @@
 //! The instruction table, by opcodes: what an opcode says of an instruction, and which fields it uses.
-ghost use Rattle.std.specs.Prelude.{◌≡◌, IfSome};
-ghost use Rattle.bpf_insn.specs.Form.{opcode_of, operation_code, condition_code};
-ghost use Rattle.bpf_insn.specs.Opcode.{form_opcode, form_of, operand_form, operations, conditions, find, offset_use, immediate_use, bit, row};
+ghost use Rattle.std.specs.Prelude.{◌≡◌, ◌==◌, ◌<◌, find, IfSome};
+ghost use Rattle.bpf_insn.specs.Form.{bit, condition_code, form_opcode, opcode_of, operation_code};
+ghost use Rattle.bpf_insn.specs.Opcode.{form_of, immediate_use, offset_use, operand_form, row};
 
 use crate::instruction::{ByteOrder, Condition, LoadFormat, Operation, StoreSize, Width};
 use crate::row::Destination::{Nothing, Read, Written};
@@ -28,41 +28,82 @@ pub(crate) enum Form {
     WideLoad,
 }
 
+/// Passes the given tokens to a macro, and with them the operations or conditions that have a code of their own, or the forms without a second
+/// operand. The offset tells signed operations from the others.
+macro_rules! each {
+    (operation $write:ident $given:tt) => {
+        each!($write $given Operation: Add Subtract Multiply Divide Or And ShiftLeft ShiftRight Modulo ExclusiveOr Move ArithmeticShiftRight;)
+    };
+    (condition $write:ident $given:tt) => {
+        each!($write $given Condition: Equal Greater GreaterOrEqual SharesBit NotEqual SignedGreater SignedGreaterOrEqual
+            Less LessOrEqual SignedLess SignedLessOrEqual;)
+    };
+    (form $write:ident $given:tt) => {
+        each!($write $given Form: Exit Call ShortJump LongJump WideLoad;
+            Load(LoadFormat: Byte HalfWord Word DoubleWord SignedByte SignedHalfWord SignedWord)
+            Store(StoreSize: Byte HalfWord Word DoubleWord)
+            StoreImmediate(StoreSize: Byte HalfWord Word DoubleWord)
+            Negate(Width: Bits32 Bits64)
+            ByteSwap(ByteOrder: LittleEndian BigEndian Swapped))
+    };
+    ($write:ident $given:tt $of:ident: $($one:ident)*; $($made:ident($part:ident: $($variant:ident)*))*) => {
+        $write!($given $($of::$one,)* $($($of::$made($part::$variant),)*)*)
+    };
+}
+
+macro_rules! list {
+    (() $($one:expr,)*) => { [$($one),*] };
+}
+
+/// Writes a match, which becomes one jump, where a search would test one after the other.
+macro_rules! first_with {
+    (($number:expr, $of:ident) $($one:expr,)*) => { match $number { $(n if n == $one.$of() => Some($one),)* _ => None } };
+}
+
+pub(crate) const OPERATIONS: [Operation; 12] = each!(operation list ());
+
+pub(crate) const CONDITIONS: [Condition; 11] = each!(condition list ());
+
+pub(crate) const FORMS: [Form; 25] = each!(form list ());
+
 impl Form {
     /// None where no instruction has the opcode.
     pub(crate) fn of(opcode: u8) -> Option<Form>
         ensures value { result ≡ form_of opcode }
         ensures opcode { IfSome result (λ form. form_opcode form ≡ opcode) }
     {
-        let form = match opcode {
-            0x05 => Form::ShortJump,
-            0x06 => Form::LongJump,
-            0x18 => Form::WideLoad,
-            0x61 => Form::Load(LoadFormat::Word),
-            0x62 => Form::StoreImmediate(StoreSize::Word),
-            0x63 => Form::Store(StoreSize::Word),
-            0x69 => Form::Load(LoadFormat::HalfWord),
-            0x6a => Form::StoreImmediate(StoreSize::HalfWord),
-            0x6b => Form::Store(StoreSize::HalfWord),
-            0x71 => Form::Load(LoadFormat::Byte),
-            0x72 => Form::StoreImmediate(StoreSize::Byte),
-            0x73 => Form::Store(StoreSize::Byte),
-            0x79 => Form::Load(LoadFormat::DoubleWord),
-            0x7a => Form::StoreImmediate(StoreSize::DoubleWord),
-            0x7b => Form::Store(StoreSize::DoubleWord),
-            0x81 => Form::Load(LoadFormat::SignedWord),
-            0x84 => Form::Negate(Width::Bits32),
-            0x85 => Form::Call,
-            0x87 => Form::Negate(Width::Bits64),
-            0x89 => Form::Load(LoadFormat::SignedHalfWord),
-            0x91 => Form::Load(LoadFormat::SignedByte),
-            0x95 => Form::Exit,
-            0xd4 => Form::ByteSwap(ByteOrder::LittleEndian),
-            0xd7 => Form::ByteSwap(ByteOrder::Swapped),
-            0xdc => Form::ByteSwap(ByteOrder::BigEndian),
-            _ => return operand_form(opcode % 8, opcode / 16, opcode / 8 % 2 == 1),
-        };
-        Some(form)
+        match operand_form(opcode % 8, opcode / 16, opcode / 8 % 2 == 1) {
+            Some(form) => Some(form),
+            None => other_form(opcode),
+        }
+    }
+
+    /// The opcode.
+    #[inline(always)]
+    pub(crate) fn opcode(self) -> u8
+        ensures { result ≡ form_opcode self }
+    {
+        match self {
+            Form::Alu(operation, width, from_register) => {
+                opcode(operation.code(), from_register, width as u8)
+            }
+            Form::Negate(width) => opcode(0x8, false, width as u8),
+            Form::ByteSwap(order) => order as u8,
+            Form::JumpIf(condition, Width::Bits32, from_register) => {
+                opcode(condition.code(), from_register, 6)
+            }
+            Form::JumpIf(condition, Width::Bits64, from_register) => {
+                opcode(condition.code(), from_register, 5)
+            }
+            Form::ShortJump => 0x05,
+            Form::LongJump => 0x06,
+            Form::Call => 0x85,
+            Form::Exit => 0x95,
+            Form::Load(format) => format as u8,
+            Form::StoreImmediate(size) => 0x62 + size as u8,
+            Form::Store(size) => 0x63 + size as u8,
+            Form::WideLoad => 0x18,
+        }
     }
 
     /// Which fields it uses.
@@ -90,6 +131,35 @@ impl Form {
     }
 }
 
+/// The opcode of arithmetic or of a jump.
+#[inline(always)]
+pub(crate) fn opcode(code: u8, from_register: bool, class: u8) -> u8
+    requires { (code < 16) × (class < 8) }
+    ensures { result ≡ opcode_of code (bit from_register) class }
+{
+    code * 16 + u8::from(from_register) * 8 + class
+}
+
+impl Operation {
+    #[inline(always)]
+    fn code(self) -> u8
+        ensures value { result ≡ operation_code self }
+        ensures four_bits { result < 16 }
+    {
+        self as u8 % 16
+    }
+}
+
+impl Condition {
+    #[inline(always)]
+    fn code(self) -> u8
+        ensures value { result ≡ condition_code self }
+        ensures four_bits { result < 16 }
+    {
+        self as u8
+    }
+}
+
 /// Arithmetic and jumps with two operands, by class and code (RFC 9669, section 4).
 fn operand_form(class: u8, code: u8, from_register: bool) -> Option<Form>
     ensures value { result ≡ operand_form class code from_register }
@@ -104,47 +174,25 @@ fn operand_form(class: u8, code: u8, from_register: bool) -> Option<Form>
     }
 }
 
-/// The codes of arithmetic with two operands.
 fn operation(code: u8) -> Option<Operation>
-    ensures value { result ≡ find code operations }
+    ensures value { result ≡ find (λ operation. operation_code operation == code) OPERATIONS }
     ensures code { IfSome result (λ operation. operation_code operation ≡ code) }
 {
-    match code {
-        0x0 => Some(Operation::Add),
-        0x1 => Some(Operation::Subtract),
-        0x2 => Some(Operation::Multiply),
-        0x3 => Some(Operation::Divide),
-        0x4 => Some(Operation::Or),
-        0x5 => Some(Operation::And),
-        0x6 => Some(Operation::ShiftLeft),
-        0x7 => Some(Operation::ShiftRight),
-        0x9 => Some(Operation::Modulo),
-        0xa => Some(Operation::ExclusiveOr),
-        0xb => Some(Operation::Move),
-        0xc => Some(Operation::ArithmeticShiftRight),
-        _ => None,
-    }
+    each!(operation first_with (code, code))
 }
 
-/// The codes of jumps on a condition.
 fn condition(code: u8) -> Option<Condition>
-    ensures value { result ≡ find code conditions }
+    ensures value { result ≡ find (λ condition. condition_code condition == code) CONDITIONS }
     ensures code { IfSome result (λ condition. condition_code condition ≡ code) }
 {
-    match code {
-        0x1 => Some(Condition::Equal),
-        0x2 => Some(Condition::Greater),
-        0x3 => Some(Condition::GreaterOrEqual),
-        0x4 => Some(Condition::SharesBit),
-        0x5 => Some(Condition::NotEqual),
-        0x6 => Some(Condition::SignedGreater),
-        0x7 => Some(Condition::SignedGreaterOrEqual),
-        0xa => Some(Condition::Less),
-        0xb => Some(Condition::LessOrEqual),
-        0xc => Some(Condition::SignedLess),
-        0xd => Some(Condition::SignedLessOrEqual),
-        _ => None,
-    }
+    each!(condition first_with (code, code))
+}
+
+fn other_form(opcode: u8) -> Option<Form>
+    ensures value { result ≡ find (λ form. form_opcode form == opcode) FORMS }
+    ensures opcode { IfSome result (λ form. form_opcode form ≡ opcode) }
+{
+    each!(form first_with (opcode, opcode))
 }
 
 /// The use that an operation has for the offset.

@@ -1,8 +1,9 @@
 //! Instructions, with an enum for each of their parts, and the words that they are written in.
-ghost use Rattle.std.specs.Prelude.{◌≡◌, ◌≤◌, ◌<◌, length, option_to_list};
-ghost use Rattle.bpf_insn.specs.Form.{spelling, first_word, further_words, opcode_of, source_bit, source_field, source_immediate};
+ghost use Rattle.std.specs.Prelude.{◌≡◌, ◌≤◌, length, option_to_list};
+ghost use Rattle.bpf_insn.specs.Form.{first_word, further_words, is_register, source_field, source_immediate, spelling};
 ghost use Rattle.bpf_insn.specs.Jump.{words, jump_distance};
 
+use crate::form::{Form, opcode};
 use crate::register::{Register, WritableRegister};
 use crate::word::Word;
 
@@ -51,14 +52,15 @@ pub enum Source {
 }
 
 /// How many bits a move takes of its source, and to how many it extends their sign (RFC 9669,
-/// section 4.1: MOVSX): its number is the opcode, with 256 times the offset more.
+/// section 4.1: MOVSX): its number is the class of the bits that it writes, with 256 times the
+/// offset more.
 #[derive(Clone, Copy, Debug, PartialEq, Eq)]
 pub enum SignExtension {
-    Bits8To32 = 0x08bc,
-    Bits16To32 = 0x10bc,
-    Bits8To64 = 0x08bf,
-    Bits16To64 = 0x10bf,
-    Bits32To64 = 0x20bf,
+    Bits8To32 = 0x0804,
+    Bits16To32 = 0x1004,
+    Bits8To64 = 0x0807,
+    Bits16To64 = 0x1007,
+    Bits32To64 = 0x2007,
 }
 
 /// Which order of bytes a byte swap is for, with its opcode (RFC 9669, section 4.2).
@@ -281,27 +283,26 @@ impl Insn {
                 width,
                 source,
                 ..
-            } => opcode(operation as u8 % 16, source.fields().0, width as u8),
-            Insn::MoveSignExtended { extension, .. } => (extension as u16 % 256) as u8,
-            Insn::Negate { width, .. } => opcode(0x8, 0, width as u8),
-            Insn::ByteSwap { order, .. } => order as u8,
+            } => Form::Alu(operation, width, source.fields().0).opcode(),
+            Insn::MoveSignExtended { extension, .. } => {
+                opcode(Operation::Move as u8, true, (extension as u16 % 256) as u8)
+            }
+            Insn::Negate { width, .. } => Form::Negate(width).opcode(),
+            Insn::ByteSwap { order, .. } => Form::ByteSwap(order).opcode(),
             Insn::JumpIf {
                 condition,
                 width,
                 right,
                 ..
-            } => match width {
-                Width::Bits32 => opcode(condition as u8, right.fields().0, 6),
-                Width::Bits64 => opcode(condition as u8, right.fields().0, 5),
-            },
-            Insn::Jump(JumpDistance::Short(_)) => 0x05,
-            Insn::Jump(JumpDistance::Long(_)) => 0x06,
-            Insn::Call { .. } => 0x85,
-            Insn::Exit => 0x95,
-            Insn::Load { format, .. } => format as u8,
-            Insn::StoreImmediate { size, .. } => 0x62 + size as u8,
-            Insn::Store { size, .. } => 0x63 + size as u8,
-            Insn::WideLoad { .. } => 0x18,
+            } => Form::JumpIf(condition, width, right.fields().0).opcode(),
+            Insn::Jump(JumpDistance::Short(_)) => Form::ShortJump.opcode(),
+            Insn::Jump(JumpDistance::Long(_)) => Form::LongJump.opcode(),
+            Insn::Call { .. } => Form::Call.opcode(),
+            Insn::Exit => Form::Exit.opcode(),
+            Insn::Load { format, .. } => Form::Load(format).opcode(),
+            Insn::StoreImmediate { size, .. } => Form::StoreImmediate(size).opcode(),
+            Insn::Store { size, .. } => Form::Store(size).opcode(),
+            Insn::WideLoad { .. } => Form::WideLoad.opcode(),
         }
     }
 
@@ -366,24 +367,16 @@ impl Insn {
     }
 }
 
-/// The opcode of arithmetic or of a jump.
-fn opcode(code: u8, source: u8, class: u8) -> u8
-    requires { (code < 16) × (source < 2) × (class < 8) }
-    ensures { result ≡ opcode_of code source class }
-{
-    code * 16 + source * 8 + class
-}
-
 impl Source {
-    /// The source bit, the field of the source register, and the immediate.
-    fn fields(self) -> (u8, u8, i32)
-        ensures bit { (result.0 ≡ source_bit self) × (result.0 < 2) }
+    /// Whether it's a register, the field of the source register, and the immediate.
+    fn fields(self) -> (bool, u8, i32)
+        ensures register { result.0 ≡ is_register self }
         ensures field { (result.1 ≡ source_field self) × (result.1 ≤ 10) }
         ensures immediate { result.2 ≡ source_immediate self }
     {
         match self {
-            Source::Immediate(immediate) => (0, 0, immediate),
-            Source::Register(register) => (1, register.number, 0),
+            Source::Immediate(immediate) => (false, 0, immediate),
+            Source::Register(register) => (true, register.number, 0),
         }
     }
 }

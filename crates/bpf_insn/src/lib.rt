@@ -10,7 +10,6 @@ mod form;
 mod instruction;
 pub mod laws;
 mod memory;
-mod refusal;
 mod register;
 mod row;
 mod value;
@@ -26,7 +25,6 @@ pub use instruction::{
     StoreSize, SwapWidth, Width,
 };
 pub use memory::{FRAME_LENGTH, SLOT_LENGTH, SLOTS, load_length, slot_at, store_length};
-pub use refusal::{memory_name, place_line, refusal_line, refusal_line_at};
 pub use register::{Register, WritableRegister};
 pub use value::{Area, Pointer, Value};
 pub use word::Word;

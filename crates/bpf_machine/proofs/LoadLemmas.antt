@@ -16,8 +16,10 @@ all_of zero (byte ∷ bytes) same = absurd (omega arith)
 all_of (suc count) [] same = absurd (omega arith)
 all_of (suc count) (byte ∷ bytes) same = ap (λ (n : ℕ). byte + 256 * n) (all_of count bytes (omega arith) ∙ sym (behind count 0 byte bytes))
 
-pub some_bytes : (bytes : List ℕ) (at count : ℕ) → at + count ≤ length bytes → number_of (take count (drop at bytes)) ≡ little_number count (take count (drop at bytes))
-some_bytes bytes at count within = all_of count (take count (drop at bytes)) (length-take-le count (drop at bytes) (let rest = length-drop at bytes in omega arith))
+pub some_bytes : (bytes : List ℕ) (at count : ℕ) → at + count ≤ length bytes
+    → number_of (take count (drop at bytes)) ≡ little_number count (take count (drop at bytes))
+some_bytes bytes at count within = all_of count (take count (drop at bytes))
+    (length-take-le count (drop at bytes) (let rest = length-drop at bytes in omega arith))
 
 pub one_byte : (bytes : List ℕ) (at : ℕ) → at + 1 ≤ length bytes → number_of (take 1 (drop at bytes)) ≡ get_or bytes at 0
 one_byte [] at within = absurd (omega arith)

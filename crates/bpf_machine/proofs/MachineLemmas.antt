@@ -15,62 +15,77 @@ use Rattle.bpf_machine.specs.declared.bare.Answer.{Answer}
 use Rattle.bpf_machine.specs.declared.bare.Bare.{Bare}
 use Rattle.bpf_meaning.proofs.RunLemmas.{goes_on, one_next, ends_there, IsOnItsWay, comes_to}
 
--- no way that exits is as short as one that is still running
-pub exits_first : (code : List Insn) (segment : Contents) (from : Configuration) (run others : List Configuration) (answer score : ℕ) (state : State) → FollowSteps code segment from run → FollowSteps code segment from others → last_of from run ≡ Exited answer score → last_of from others ≡ Running state → length run ≤ length others → ⊥
-exits_first code segment from [] others answer score state f g e h short =
-    let same = ends_there code segment answer score others (subst (λ (c : Configuration). FollowSteps code segment c others) e g) in
-    let there = subst (λ (c : Configuration). last_of c others ≡ Running state) e h in
-    cc
-exits_first code segment from (next ∷ run) [] answer score state f g e h short = absurd (omega arith)
-exits_first code segment from (next ∷ run) (there ∷ others) answer score state f g e h short =
-    let same = one_next code segment from there next g.0 f.0 in
-    exits_first code segment next run others answer score state f.1
-    (subst (λ (c : Configuration). FollowSteps code segment c others) same g.1) e (subst (λ (c : Configuration). last_of c others ≡ Running state) same h) (omega arith)
+module _ (code : List Insn) (segment : Contents) where
+  -- no way that exits is as short as one that is still running
+  pub exits_first : (from : Configuration) (run others : List Configuration) {answer score : ℕ} {state : State}
+      → FollowSteps code segment from run → FollowSteps code segment from others → last_of from run ≡ Exited answer score
+      → last_of from others ≡ Running state → length run ≤ length others → ⊥
+  exits_first from [] others {answer} {score} {state} f g e h short =
+      let same = ends_there code segment answer score others (subst (λ (c : Configuration). FollowSteps code segment c others) e g) in
+      let there = subst (λ (c : Configuration). last_of c others ≡ Running state) e h in
+      cc
+  exits_first from (next ∷ run) [] f g e h short = absurd (omega arith)
+  exits_first from (next ∷ run) (there ∷ others) {state} f g e h short =
+      let same = one_next code segment from there next g.0 f.0 in
+      exits_first next run others f.1
+      (subst (λ (c : Configuration). FollowSteps code segment c others) same g.1) e
+      (subst (λ (c : Configuration). last_of c others ≡ Running state) same h) (omega arith)
 
--- what a run that is on its way comes to
+  -- what a run that is on its way comes to
 
-pub comes_to_answer : (code : List Insn) (segment : Contents) (steps : ℕ) (state : State) (answer score : ℕ) → IsOnItsWay code segment steps state → Exited answer score ≡ after code segment state → Answers code segment answer score
-comes_to_answer code segment steps state answer score way is =
-    let end = comes_to code segment steps state (Exited answer score) way is in record { run = end.run; is_run = end.is_run; exits = end.ends }
+  pub comes_to_answer : (steps : ℕ) (state : State) (answer score : ℕ) → IsOnItsWay code segment steps state
+      → Exited answer score ≡ after code segment state → Answers code segment answer score
+  comes_to_answer steps state answer score way is =
+      let end = comes_to code segment steps state (Exited answer score) way is in
+      record { run = end.run; is_run = end.is_run; exits = end.ends }
 
-pub is_never_stuck : (code : List Insn) (segment : Contents) (steps : ℕ) (state : State) (place : ℕ) (cause : Cause) → IsNeverStuck code segment → IsOnItsWay code segment steps state → Stuck place cause ≡ after code segment state → ⊥
-is_never_stuck code segment steps state place cause never way is =
-    let end = comes_to code segment steps state (Stuck place cause) way is in never end.run end.is_run place cause end.ends
+  pub is_never_stuck : (steps : ℕ) (state : State) (place : ℕ) (cause : Cause) → IsNeverStuck code segment
+      → IsOnItsWay code segment steps state → Stuck place cause ≡ after code segment state → ⊥
+  is_never_stuck steps state place cause never way is =
+      let end = comes_to code segment steps state (Stuck place cause) way is in never end.run end.is_run place cause end.ends
 
-pub has_exited : (code : List Insn) (segment : Contents) (steps : ℕ) (state : State) → Exits code segment → IsOnItsWay code segment steps state → length code ≤ steps → ⊥
-has_exited code segment steps state exits way late =
-    let short = exits.short in let long = way.long in
-    exits_first code segment (Running start) exits.run way.run exits.answer exits.score state exits.is_run way.is_run exits.exits way.ends (omega arith)
+  pub has_exited : (steps : ℕ) (state : State) → Exits code segment → IsOnItsWay code segment steps state → length code ≤ steps → ⊥
+  has_exited steps state exits way late =
+      let short = exits.short in let long = way.long in
+      exits_first (Running start) exits.run way.run exits.is_run way.is_run exits.exits way.ends (omega arith)
 
 -- what a step that has gone on, or has ended, says of the next configuration
 
-pub went_on : (code : List Insn) (configuration : Configuration) (old new : Bare) → Does code configuration None old new → (state : State) × (configuration ≡ Running state) × HoldsState code state new
+pub went_on : (code : List Insn) (configuration : Configuration) (old new : Bare) → Does code configuration None old new → (state : State)
+    × (configuration ≡ Running state) × HoldsState code state new
 went_on code (Running state) old new does = (state, refl, does)
 went_on code (Exited r0 score) old new does = absurd does
 went_on code (Stuck place cause) old new does = absurd does
 
-pub has_ended : (code : List Insn) (configuration : Configuration) (answer : Answer) (old new : Bare) → Does code configuration (Some answer) old new → configuration ≡ Exited answer.r0 answer.score
+pub has_ended : (code : List Insn) (configuration : Configuration) (answer : Answer) (old new : Bare)
+    → Does code configuration (Some answer) old new → configuration ≡ Exited answer.r0 answer.score
 has_ended code (Exited r0 score) answer old new does = let first = does.0 in let second = does.1 in cc
 has_ended code (Running state) answer old new does = absurd does
 has_ended code (Stuck place cause) answer old new does = absurd does
 
-pub reached_by : (code : List Insn) (segment : Contents) (steps : ℕ) (state : State) → IsOnItsWay code segment steps state → IsReached code segment state
+pub reached_by : (code : List Insn) (segment : Contents) (steps : ℕ) (state : State) → IsOnItsWay code segment steps state
+    → IsReached code segment state
 reached_by code segment steps state way = record { run = way.run; is_run = way.is_run; ends = way.ends }
 
 -- a step that goes on leaves the machine on its way
 
-stays_reached : (code : List Insn) (segment : Contents) (state next : State) → IsReached code segment state → after code segment state ≡ Running next → IsReached code segment next
+stays_reached : (code : List Insn) (segment : Contents) (state next : State) → IsReached code segment state
+    → after code segment state ≡ Running next → IsReached code segment next
 stays_reached code segment state next reached is =
-    let way = goes_on code segment (length reached.run) state next (record { run = reached.run; is_run = reached.is_run; ends = reached.ends; long = refl }) (sym is) in
+    let way = goes_on code segment (length reached.run) state next
+    (record { run = reached.run; is_run = reached.is_run; ends = reached.ends; long = refl }) (sym is) in
     record { run = way.run; is_run = way.is_run; ends = way.ends }
 
-pub stays_on : (code : List Insn) (segment : Contents) (state : State) (old new : Bare) → IsReached code segment state → Does code (after code segment state) None old new → machine.IsOnItsWay code segment new
+pub stays_on : (code : List Insn) (segment : Contents) (state : State) (old new : Bare) → IsReached code segment state
+    → Does code (after code segment state) None old new → machine.IsOnItsWay code segment new
 stays_on code segment state old new reached does =
-    let on = went_on code (after code segment state) old new does in record { state = on.0; reached = stays_reached code segment state on.0 reached on.1; holds = on.2 }
+    let on = went_on code (after code segment state) old new does in
+    record { state = on.0; reached = stays_reached code segment state on.0 reached on.1; holds = on.2 }
 
 -- and so does the start
 
-pub begins : (code : List Insn) (segment : Contents) (bare : Bare) → bare.at ≡ 0 → Holds start (words_of bare) → machine.IsOnItsWay code segment bare
+pub begins : (code : List Insn) (segment : Contents) (bare : Bare) → bare.at ≡ 0 → Holds start (words_of bare)
+    → machine.IsOnItsWay code segment bare
 begins code segment bare at holds = record {
   state = start;
   reached = record { run = []; is_run = tt; ends = refl };

@@ -1,9 +1,11 @@
 -- A step of the bare machine on the words of a state to which a run comes: what it needs, and what it then does.
-use Rattle.std.proofs.Common.{◌≡◌, ℕ, ◌+◌, ◌<◌, pos, List, length, get_or, Option, Some, None, IfSome, Result, Ok, Err, refl, sym, ap, ◌∙◌, subst}
+use Rattle.std.proofs.Common.{◌≡◌, ℕ, ◌+◌, ◌<◌, pos, List, length, get_or, Option, Some, None, IfSome, Result, Ok, Err, refl, sym, ap, ◌∙◌}
+use Rattle.std.proofs.Common.{subst}
 use Rattle.std.specs.Int.{cast_unsigned, w32}
 use Rattle.bpf_insn.specs.Code.{index_at, instruction_at, place_of, spelling}
 use Rattle.bpf_insn.specs.declared.instruction.Insn.{Insn}
-use Rattle.bpf_insn.specs.declared.instruction.Insn.TheVariants.{Alu, MoveSignExtended, Negate, ByteSwap, JumpIf, Jump, Call, Exit, Load, StoreImmediate, Store, WideLoad}
+use Rattle.bpf_insn.specs.declared.instruction.Insn.TheVariants.{Alu, MoveSignExtended, Negate, ByteSwap, JumpIf, Jump, Call, Exit, Load}
+use Rattle.bpf_insn.specs.declared.instruction.Insn.TheVariants.{StoreImmediate, Store, WideLoad}
 use Rattle.bpf_insn.specs.declared.instruction.JumpDistance.TheVariants.{Short}
 use Rattle.bpf_insn.specs.declared.value.Area.{Area}
 use Rattle.bpf_insn.specs.declared.value.Area.TheVariants.{Frame}
@@ -30,7 +32,8 @@ use Rattle.bpf_meaning.proofs.WholeLemmas.{run_bytes, run_whole}
 use Rattle.bpf_verify.specs.Verified.{HasBaseAreas, base_of}
 use Rattle.bpf_verify.specs.Verified as verified
 use Rattle.bpf_machine.specs.Machine.{Does, HoldsState, IsReached}
-use Rattle.bpf_machine.specs.Words.{Goes, Ends, Holds, HoldsEffect, HoldsNext, MeetsCall, Next, PointsInto, Words, argument_words, next_words, words_of}
+use Rattle.bpf_machine.specs.Words.{Goes, Ends, Holds, HoldsEffect, HoldsNext, MeetsCall, Next, PointsInto, Words, argument_words}
+use Rattle.bpf_machine.specs.Words.{next_words, words_of}
 use Rattle.bpf_machine.specs.declared.bare.Answer.{Answer}
 use Rattle.bpf_machine.specs.declared.bare.Bare.{Bare}
 use Rattle.bpf_machine.proofs.MachineLemmas.{is_never_stuck}
@@ -61,45 +64,59 @@ knows_base held area points = points.into ∙ ap (λ (v : Value). Some (pointed_
 
 -- the flat form of an instruction leads where the instruction does
 
-flat_leads : (segment : Contents) (areas : ℕ → Area) (words : Words) (next target : ℕ) (insn : Insn) (area : Option Area) (flat : FlatInsn) → Keeps insn area target flat → KnowsBase areas insn area
-    → next_words segment areas words next target insn ≡ next_words segment (λ register. area_of flat) words next (target_of flat) (without_distance insn)
-unfolding next_words
-flat_leads segment areas words next target (Alu operation width destination source) area flat keeps knows = refl
-flat_leads segment areas words next target (MoveSignExtended extension destination source) area flat keeps knows = refl
-flat_leads segment areas words next target (Negate width destination) area flat keeps knows = refl
-flat_leads segment areas words next target (ByteSwap order width destination) area flat keeps knows = refl
-flat_leads segment areas words next target (JumpIf condition width left right distance) area flat keeps knows =
-    ap (λ (t : ℕ). next_words segment areas words next t (JumpIf condition width left right (pos 0))) (sym keeps)
-flat_leads segment areas words next target (Jump distance) area flat keeps knows = ap (λ (t : ℕ). next_words segment areas words next t (Jump (Short (pos 0)))) (sym keeps)
-flat_leads segment areas words next target (Call immediate) area flat keeps knows = refl
-flat_leads segment areas words next target Exit area flat keeps knows = refl
-flat_leads segment areas words next target (Load format destination base offset) None flat keeps knows = absurd (let no : ⊥ = cc in no)
-flat_leads segment areas words next target (Load format destination base offset) (Some area) flat keeps knows =
-    let same : areas base.number ≡ area_of flat = cc in
-    ap (λ (a : Area). next_words segment (λ register. a) words next (target_of flat) (Load format destination base offset)) same
-flat_leads segment areas words next target (StoreImmediate size base offset immediate) area flat keeps knows = refl
-flat_leads segment areas words next target (Store size base offset source) area flat keeps knows = refl
-flat_leads segment areas words next target (WideLoad destination immediate next_immediate) area flat keeps knows = refl
+module _ (segment : Contents) (areas : ℕ → Area) (words : Words) (next : ℕ) where
+  flat_leads : (target : ℕ) (insn : Insn) (area : Option Area) (flat : FlatInsn) → Keeps insn area target flat → KnowsBase areas insn area
+      → next_words segment areas words next target insn ≡ next_words segment (λ register. area_of flat) words next (target_of flat)
+      (without_distance insn)
+  unfolding next_words
+  flat_leads target (Alu operation width destination source) area flat keeps knows = refl
+  flat_leads target (MoveSignExtended extension destination source) area flat keeps knows = refl
+  flat_leads target (Negate width destination) area flat keeps knows = refl
+  flat_leads target (ByteSwap order width destination) area flat keeps knows = refl
+  flat_leads target (JumpIf condition width left right distance) area flat keeps knows =
+      ap (λ (t : ℕ). next_words segment areas words next t (JumpIf condition width left right (pos 0))) (sym keeps)
+  flat_leads target (Jump distance) area flat keeps knows =
+      ap (λ (t : ℕ). next_words segment areas words next t (Jump (Short (pos 0)))) (sym keeps)
+  flat_leads target (Call immediate) area flat keeps knows = refl
+  flat_leads target Exit area flat keeps knows = refl
+  flat_leads target (Load format destination base offset) None flat keeps knows = absurd (let no : ⊥ = cc in no)
+  flat_leads target (Load format destination base offset) (Some area) flat keeps knows =
+      let same : areas base.number ≡ area_of flat = cc in
+      ap (λ (a : Area). next_words segment (λ register. a) words next (target_of flat) (Load format destination base offset)) same
+  flat_leads target (StoreImmediate size base offset immediate) area flat keeps knows = refl
+  flat_leads target (Store size base offset source) area flat keeps knows = refl
+  flat_leads target (WideLoad destination immediate next_immediate) area flat keeps knows = refl
 
 -- what passes all checks
 
-passes_first : {A B : Type 0} (Q : Type 0) (first : Result A Cause) (others : A → Result B Cause) (end : B) → IfPasses (λ x. Q) first → first >>= others ≡ Ok end → Q
+passes_first : {A B : Type 0} (Q : Type 0) (first : Result A Cause) (others : A → Result B Cause) (end : B) → IfPasses (λ x. Q) first
+    → first >>= others ≡ Ok end → Q
 passes_first Q (Ok x) others end all is = all
 passes_first Q (Err cause) others end all is = absurd (let no : ⊥ = cc in no)
 
-meets_call : (code : List Insn) (segment : Contents) (state : State) (words : Words) (next : ℕ) (found : Option Helper) (does : Effect) → ((helper : Helper) → IfPasses (λ change. MeetsSignature helper (argument_words words (signature helper).arguments)) (effect.call_helper state helper))
-    → effect.call_change state found >>= effect.go_on code next ≡ Ok does → IfSome found (λ helper. MeetsSignature helper (argument_words words (signature helper).arguments))
-meets_call code segment state words next None does meets is = tt
-meets_call code segment state words next (Some helper) does meets is = passes_first _ (effect.call_helper state helper) (effect.go_on code next) does (meets helper) is
+-- where calls pass their checks, their words meet the prototype
+abbrev CallsMeet : State → Words → Type 0
+CallsMeet state words =
+    (helper : Helper)
+    → IfPasses (λ change. MeetsSignature helper (argument_words words (signature helper).arguments)) (effect.call_helper state helper)
 
-calls_meet : (code : List Insn) (segment : Contents) (state : State) (words : Words) (next : ℕ) (insn : Insn) (does : Effect) → ((helper : Helper) → IfPasses (λ change. MeetsSignature helper (argument_words words (signature helper).arguments)) (effect.call_helper state helper))
-    → effect.instruction_effect code segment state next insn ≡ Ok does → MeetsCall words (without_distance insn)
-calls_meet code segment state words next (Call immediate) does meets is = meets_call code segment state words next (by_number (cast_unsigned w32 immediate)) does meets is
-calls_meet code segment state words next (JumpIf condition width left right distance) does meets is = tt
-calls_meet code segment state words next (Jump distance) does meets is = tt
-calls_meet code segment state words next insn does meets is = tt
+meets_call : (code : List Insn) (state : State) (words : Words) (next : ℕ) (found : Option Helper) {does : Effect}
+    → CallsMeet state words → effect.call_change state found >>= effect.go_on code next ≡ Ok does
+    → IfSome found (λ helper. MeetsSignature helper (argument_words words (signature helper).arguments))
+meets_call code state words next None meets is = tt
+meets_call code state words next (Some helper) {does} meets is =
+    passes_first _ (effect.call_helper state helper) (effect.go_on code next) does (meets helper) is
 
-sound_passes : {A B : Type 0} (Holds : A → B → Type 0) (result : Result A Cause) (other : Result B Cause) (x : A) → Sound Holds result other → result ≡ Ok x → (y : B) × (other ≡ Ok y) × Holds x y
+calls_meet : (code : List Insn) (segment : Contents) (state : State) (words : Words) (next : ℕ) (insn : Insn) {does : Effect}
+    → CallsMeet state words → effect.instruction_effect code segment state next insn ≡ Ok does → MeetsCall words (without_distance insn)
+calls_meet code segment state words next (Call immediate) meets is =
+    meets_call code state words next (by_number (cast_unsigned w32 immediate)) meets is
+calls_meet code segment state words next (JumpIf condition width left right distance) meets is = tt
+calls_meet code segment state words next (Jump distance) meets is = tt
+calls_meet code segment state words next insn meets is = tt
+
+sound_passes : {A B : Type 0} (Holds : A → B → Type 0) (result : Result A Cause) (other : Result B Cause) (x : A) → Sound Holds result other
+    → result ≡ Ok x → (y : B) × (other ≡ Ok y) × Holds x y
 sound_passes Holds (Ok first) (Ok y) x sound is = (y, refl, let same : first ≡ x = cc in subst (λ z. Holds z y) same sound)
 sound_passes Holds (Ok first) (Err cause) x sound is = absurd sound
 sound_passes Holds (Err cause) other x sound is = absurd (let no : ⊥ = cc in no)
@@ -117,12 +134,15 @@ module _ (code : List Insn) (segment : Contents) (is : IsSegment segment) (safe 
   unfolding after
   stuck state reached cause fails =
       is_never_stuck code segment (length reached.run) state state.place cause (safe.never_stuck segment is)
-      (record { run = reached.run; is_run = reached.is_run; ends = reached.ends; long = refl }) (sym (ap (next_configuration segment state) fails))
+      (record { run = reached.run; is_run = reached.is_run; ends = reached.ends; long = refl })
+      (sym (ap (next_configuration segment state) fails))
 
-  stands_with : (state : State) (does : Effect) → effect.effect code segment state ≡ Ok does → (found : Option Insn) → instruction_at code state.place ≡ found → effect.effect_of code segment state found ≡ Ok does → Stands state
+  stands_with : (state : State) (does : Effect) → effect.effect code segment state ≡ Ok does → (found : Option Insn)
+      → instruction_at code state.place ≡ found → effect.effect_of code segment state found ≡ Ok does → Stands state
   unfolding after
   stands_with state does all None stands passes = absurd (let no : ⊥ = cc in no)
-  stands_with state does all (Some insn) stands passes = record { insn = insn; stands = stands; does = does; passes = passes; leads = ap (next_configuration segment state) all }
+  stands_with state does all (Some insn) stands passes = record
+      { insn = insn; stands = stands; does = does; passes = passes; leads = ap (next_configuration segment state) all }
 
   stands_at : (state : State) → IsReached code segment state → Stands state
   stands_at state reached = by_result (effect.effect code segment state) refl
@@ -131,7 +151,8 @@ module _ (code : List Insn) (segment : Contents) (is : IsSegment segment) (safe 
       by_result (Err cause) fails = absurd (stuck state reached cause fails)
       by_result (Ok does) all = stands_with state does all (instruction_at code state.place) refl all
 
-  module _ (areas : List (Option Area)) (flats : List FlatInsn) (known : HasBaseAreas code areas) (forms : AreFlatForms code areas (length code) flats) where
+  module _ (areas : List (Option Area)) (flats : List FlatInsn) (known : HasBaseAreas code areas)
+      (forms : AreFlatForms code areas (length code) flats) where
     abbrev leads_to : Bare → FlatInsn → Result Next Cause
     leads_to bare flat = next_words segment (λ register. area_of flat) (words_of bare) (bare.at + 1) (target_of flat) (insn_of flat)
 
@@ -143,57 +164,72 @@ module _ (code : List Insn) (segment : Contents) (is : IsSegment segment) (safe 
       pub meets : MeetsCall (words_of bare) (insn_of flat)
       pub within : bare.at < length code
 
-    base_known : (state : State) → IsReached code segment state → (index : ℕ) (insn : Insn) → index_at code state.place ≡ Some index → instruction_at code state.place ≡ Some insn → KnowsBase (areas_in state) insn (get_or areas index None)
+    base_known : (state : State) → IsReached code segment state → (index : ℕ) (insn : Insn) → index_at code state.place ≡ Some index
+        → instruction_at code state.place ≡ Some insn → KnowsBase (areas_in state) insn (get_or areas index None)
     base_known state reached index (Load format destination base offset) at stands =
-        knows_base _ _ (known.bases segment is reached.run reached.is_run state reached.ends index (Load format destination base offset) base.number at stands refl)
+        knows_base _ _ (known.bases segment is reached.run reached.is_run state reached.ends index
+        (Load format destination base offset) base.number at stands refl)
     base_known state reached index insn at stands = tt
 
-    leads_with : (state : State) (bare : Bare) (flat : FlatInsn) → IsReached code segment state → HoldsState code state bare → flat ≡ get_or flats bare.at flat → Stands state → Leads state bare flat
+    leads_with : (state : State) (bare : Bare) (flat : FlatInsn) → IsReached code segment state → HoldsState code state bare
+        → flat ≡ get_or flats bare.at flat → Stands state → Leads state bare flat
     leads_with state bare flat reached holds there stands =
         let begins = subst (λ (place : ℕ). instruction_at code place ≡ Some stands.insn) holds.at stands.stands in
         let within = within_code code bare.at stands.insn begins in
         let insn_is = stands_there code bare.at stands.insn begins in
         let form = forms.each bare.at stands.insn flat within insn_is there in
         let at = subst (λ (place : ℕ). index_at code place ≡ Some bare.at) (sym holds.at) (place_found code bare.at within) in
-        let next_place = ap (λ (place : ℕ). place + length (spelling stands.insn)) holds.at ∙ sym (place_of-more code bare.at stands.insn within insn_is) in
+        let next_place = ap (λ (place : ℕ). place + length (spelling stands.insn)) holds.at
+        ∙ sym (place_of-more code bare.at stands.insn within insn_is) in
         let whole = run_whole code segment reached.run state reached.is_run reached.ends in
         let bytes = run_bytes code segment reached.run state is reached.is_run reached.ends in
         let jumps = subst (λ (place : ℕ). JumpsTo code place stands.insn form.target) (sym holds.at) form.jumps in
         let sound =
-        walk_held code segment state (areas_in state) (words_of bare) stands.insn (state.place + length (spelling stands.insn)) (bare.at + 1) form.target is whole bytes form.immediates
-        (λ register. points_there (register_value state register)) holds.words next_place jumps in
+        walk_held code segment state (words_of bare) holds.words (state.place + length (spelling stands.insn)) (bare.at + 1) form.target
+        next_place (areas_in state) stands.insn is whole bytes form.immediates
+        (λ register. points_there (register_value state register)) jumps in
         let found = sound_passes (HoldsEffect code segment state) _ _ stands.does sound stands.passes in
-        let as_flat = flat_leads segment (areas_in state) (words_of bare) (bare.at + 1) form.target stands.insn (get_or areas bare.at None) flat form.keeps (base_known state reached bare.at stands.insn at stands.stands) in
+        let as_flat = flat_leads segment (areas_in state) (words_of bare) (bare.at + 1) form.target stands.insn
+        (get_or areas bare.at None) flat form.keeps (base_known state reached bare.at stands.insn at stands.stands) in
         record {
           next = found.0;
-          leads = ap (λ (insn : Insn). next_words segment (λ register. area_of flat) (words_of bare) (bare.at + 1) (target_of flat) insn) form.stands_for ∙ sym as_flat ∙ found.1;
+          leads = ap (λ (insn : Insn). next_words segment (λ register. area_of flat) (words_of bare) (bare.at + 1) (target_of flat) insn)
+              form.stands_for ∙ sym as_flat ∙ found.1;
           holds = subst (λ (configuration : Configuration). HoldsNext code configuration found.0) (sym stands.leads) found.2;
           meets = subst (MeetsCall (words_of bare)) (sym form.stands_for)
-              (calls_meet code segment state (words_of bare) _ stands.insn stands.does (call_meets segment state (words_of bare) is whole holds.words) stands.passes);
+              (calls_meet code segment state (words_of bare) _ stands.insn
+              (call_meets segment state (words_of bare) is whole holds.words) stands.passes);
           within = within;
         }
 
-    pub leads_on : (state : State) (bare : Bare) (flat : FlatInsn) → IsReached code segment state → HoldsState code state bare → flat ≡ get_or flats bare.at flat → Leads state bare flat
+    pub leads_on : (state : State) (bare : Bare) (flat : FlatInsn) → IsReached code segment state → HoldsState code state bare
+        → flat ≡ get_or flats bare.at flat → Leads state bare flat
     leads_on state bare flat reached holds there = leads_with state bare flat reached holds there (stands_at state reached)
 
     pub within_on : (state : State) (bare : Bare) → IsReached code segment state → HoldsState code state bare → bare.at < length code
     within_on state bare reached holds =
-        let stands = stands_at state reached in within_code code bare.at stands.insn (subst (λ (place : ℕ). instruction_at code place ≡ Some stands.insn) holds.at stands.stands)
+        let stands = stands_at state reached in within_code code bare.at stands.insn
+        (subst (λ (place : ℕ). instruction_at code place ≡ Some stands.insn) holds.at stands.stands)
 
 -- where the machine has gone on, and where it has ended
 
-pub goes_on : (code : List Insn) (configuration : Configuration) (bare : Bare) (next : Next) (words : Words) → HoldsNext code configuration next → next ≡ Goes words bare.at → words ≡ words_of bare → (old : Bare) → Does code configuration None old bare
-goes_on code (Running state) bare (Goes words at) others held same kept old =
-    record { at = held.0 ∙ ap (place_of code) (let there : at ≡ bare.at = cc in there); words = subst (Holds state) (let there : words ≡ words_of bare = cc in there) held.1 }
-goes_on code (Exited r0 score) bare (Goes words at) others held same kept old = absurd held
-goes_on code (Stuck place cause) bare (Goes words at) others held same kept old = absurd held
-goes_on code configuration bare (Ends r0 score) others held same kept old = absurd (let no : ⊥ = cc in no)
+pub goes_on : (code : List Insn) (configuration : Configuration) (bare : Bare) (next : Next) → HoldsNext code configuration next
+    → next ≡ Goes (words_of bare) bare.at → (old : Bare) → Does code configuration None old bare
+goes_on code (Running state) bare (Goes words at) held same old = record {
+  at = held.0 ∙ ap (place_of code) (let there : at ≡ bare.at = cc in there);
+  words = subst (Holds state) (let there : words ≡ words_of bare = cc in there) held.1;
+}
+goes_on code (Exited r0 score) bare (Goes words at) held same old = absurd held
+goes_on code (Stuck place cause) bare (Goes words at) held same old = absurd held
+goes_on code configuration bare (Ends r0 score) held same old = absurd (let no : ⊥ = cc in no)
 
-pub ends : (code : List Insn) (configuration : Configuration) (answer : Answer) (next : Next) → HoldsNext code configuration next → next ≡ Ends answer.r0 answer.score → (old new : Bare) → new ≡ old → Does code configuration (Some answer) old new
-ends code (Exited r0 score) answer (Ends word word_score) held same old new kept = (let there : answer.r0 ≡ word = cc in there ∙ held.0, let there : answer.score ≡ word_score = cc in there ∙ held.1, kept)
-ends code (Running state) answer (Ends word word_score) held same old new kept = absurd held
-ends code (Stuck place cause) answer (Ends word word_score) held same old new kept = absurd held
-ends code configuration answer (Goes words at) held same old new kept = absurd (let no : ⊥ = cc in no)
+pub ends : (code : List Insn) (configuration : Configuration) (answer : Answer) (next : Next) → HoldsNext code configuration next
+    → next ≡ Ends answer.r0 answer.score → {old new : Bare} → new ≡ old → Does code configuration (Some answer) old new
+ends code (Exited r0 score) answer (Ends word word_score) held same kept =
+    (let there : answer.r0 ≡ word = cc in there ∙ held.0, let there : answer.score ≡ word_score = cc in there ∙ held.1, kept)
+ends code (Running state) answer (Ends word word_score) held same kept = absurd held
+ends code (Stuck place cause) answer (Ends word word_score) held same kept = absurd held
+ends code configuration answer (Goes words at) held same kept = absurd (let no : ⊥ = cc in no)
 
 pub same_next : (first second : Result Next Cause) (one other : Next) → first ≡ Ok one → second ≡ Ok other → first ≡ second → one ≡ other
 same_next first second one other is there same = let both : Ok one ≡ second = sym is ∙ same in cc

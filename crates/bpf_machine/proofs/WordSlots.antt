@@ -1,5 +1,6 @@
 -- Slots of the frame on words: before a change and after it, the word of a slot stands for the pointer that the slot holds.
-use Rattle.std.proofs.Common.{◌≡◌, ◌≢◌, ℕ, zero, suc, ◌+◌, ◌*◌, ◌/◌, ◌%◌, ◌^◌, ◌<◌, ◌≤◌, ◌⊎◌, List, [], ◌∷◌, ◌++◌, length, map, take, drop, replicate, get_or, slice_set, Option, Some, None, refl, sym, ap, ◌∙◌, subst, inl, inr, arith, append_assoc}
+use Rattle.std.proofs.Common.{◌≡◌, ◌≢◌, ℕ, zero, suc, ◌+◌, ◌*◌, ◌/◌, ◌%◌, ◌^◌, ◌<◌, ◌≤◌, ◌⊎◌, List, [], ◌∷◌, ◌++◌, length, map, take, drop}
+use Rattle.std.proofs.Common.{replicate, get_or, slice_set, Option, Some, None, refl, sym, ap, ◌∙◌, subst, inl, inr, arith, append_assoc}
 use Rattle.std.specs.Int.{bytes_low_first}
 use Rattle.std.specs.Option.{option_map}
 use Rattle.std.proofs.lemmas.Bool.{cases_lt}
@@ -32,9 +33,11 @@ pub none-stands : (count : ℕ) (bytes : List ℕ) → SlotsStandFor (replicate 
 none-stands count bytes slot = no_pointer _ _ (all_alike count slot None)
 
 -- where it holds the pointer that it held, and has the bytes that it had, its word still stands for it
-stays : (held before : Option PointerParts) (bytes old : List ℕ) → held ≡ before → bytes ≡ old → IsWordOfSlot before (number_of old) → IsWordOfSlot held (number_of bytes)
+stays : (held before : Option PointerParts) (bytes old : List ℕ) → held ≡ before → bytes ≡ old → IsWordOfSlot before (number_of old)
+    → IsWordOfSlot held (number_of bytes)
 stays held before bytes old same alike is =
-    subst (λ (l : List ℕ). IsWordOfSlot held (number_of l)) (sym alike) (subst (λ (p : Option PointerParts). IsWordOfSlot p (number_of old)) (sym same) is)
+    subst (λ (l : List ℕ). IsWordOfSlot held (number_of l)) (sym alike)
+    (subst (λ (p : Option PointerParts). IsWordOfSlot p (number_of old)) (sym same) is)
 
 -- of so many bytes from an offset on none lies in a slot, or one does: the first of them, or the slot's first
 
@@ -58,15 +61,19 @@ apart_or_touched slot at (suc more) =
     ]
 
 -- bytes that are written: a slot that has one of them holds no pointer anymore, and the others keep theirs and their bytes
-pub overwrite-stands : (slots : List (Option PointerParts)) (bytes new : List ℕ) (at : ℕ) → length bytes ≡ SLOT_LENGTH * length slots → at + length new ≤ length bytes → SlotsStandFor slots bytes
+pub overwrite-stands : (slots : List (Option PointerParts)) (bytes new : List ℕ) (at : ℕ) → length bytes ≡ SLOT_LENGTH * length slots
+    → at + length new ≤ length bytes → SlotsStandFor slots bytes
     → SlotsStandFor (overwrite_slots None slots at (length new)) (write bytes at new)
 overwrite-stands slots bytes new at long within stand slot =
     elim (cases_lt slot (length slots)) [
-      | inr past ↦ no_pointer _ _ (let same = length-overwrite_slots None slots at (length new) (omega arith) in get_or_past (overwrite_slots None slots at (length new)) slot None (omega arith))
+      | inr past ↦ no_pointer _ _ (let same = length-overwrite_slots None slots at (length new) (omega arith) in
+          get_or_past (overwrite_slots None slots at (length new)) slot None (omega arith))
       | inl inside ↦
           elim (apart_or_touched slot at (length new)) [
-            | inl apart ↦ stays _ _ _ _ (overwritten_apart None slots at (length new) slot inside apart) (slot_bytes-apart bytes new at slot within apart) (stand slot)
-            | inr touched ↦ no_pointer _ _ (overwritten_within None slots at (length new) slot touched.0 inside touched.1 touched.2 touched.3)
+            | inl apart ↦ stays _ _ _ _ (overwritten_apart None slots at (length new) slot inside apart)
+                (slot_bytes-apart bytes new at slot within apart) (stand slot)
+            | inr touched ↦ no_pointer _ _ (overwritten_within None slots at
+                (length new) slot touched.0 inside touched.1 touched.2 touched.3)
           ]
     ]
 
@@ -84,7 +91,8 @@ low_number word =
     let number : number_of (bytes_low_first 0 SLOT_LENGTH word) ≡ word % 256 ^ SLOT_LENGTH = cc in
     number
 
-slot_written : (bytes : List ℕ) (slot word : ℕ) → SLOT_LENGTH * slot + SLOT_LENGTH ≤ length bytes → slot_bytes (write bytes (SLOT_LENGTH * slot) (bytes_low_first 0 SLOT_LENGTH word)) slot ≡ bytes_low_first 0 SLOT_LENGTH word
+slot_written : (bytes : List ℕ) (slot word : ℕ) → SLOT_LENGTH * slot + SLOT_LENGTH ≤ length bytes
+    → slot_bytes (write bytes (SLOT_LENGTH * slot) (bytes_low_first 0 SLOT_LENGTH word)) slot ≡ bytes_low_first 0 SLOT_LENGTH word
 slot_written bytes slot word within =
     let at = SLOT_LENGTH * slot in
     let low = bytes_low_first 0 SLOT_LENGTH word in
@@ -94,19 +102,26 @@ slot_written bytes slot word within =
 
 -- a pointer that is kept: the word of its slot stands for it, and the other slots keep theirs and their bytes
 
-module _ (slots : List (Option PointerParts)) (bytes : List ℕ) (kept : ℕ) (pointer : PointerParts) (word : ℕ) (within : SLOT_LENGTH * kept + SLOT_LENGTH ≤ length bytes) where
-  kept_here : kept < length slots → IsWordOf (value.Pointer pointer) word → IsWordOfSlot (get_or (slice_set slots kept (Some pointer)) kept None) (number_of (slot_bytes (write bytes (SLOT_LENGTH * kept) (bytes_low_first 0 SLOT_LENGTH word)) kept))
+module _ (slots : List (Option PointerParts)) (bytes : List ℕ) (kept : ℕ) (pointer : PointerParts) (word : ℕ)
+    (within : SLOT_LENGTH * kept + SLOT_LENGTH ≤ length bytes) where
+  kept_here : kept < length slots → IsWordOf (value.Pointer pointer) word
+      → IsWordOfSlot (get_or (slice_set slots kept (Some pointer)) kept None)
+      (number_of (slot_bytes (write bytes (SLOT_LENGTH * kept) (bytes_low_first 0 SLOT_LENGTH word)) kept))
   kept_here inside held =
-      stays _ (Some pointer) _ (bytes_low_first 0 SLOT_LENGTH word) (get_or-set_same slots kept (Some pointer) None inside) (slot_written bytes kept word within)
+      stays _ (Some pointer) _ (bytes_low_first 0 SLOT_LENGTH word) (get_or-set_same slots kept (Some pointer) None inside)
+      (slot_written bytes kept word within)
       (subst (IsWordOf (value.Pointer pointer)) (sym (low_number word)) (offset_kept pointer.offset word held.0 held.1, held.1))
 
   kept_apart : (slot : ℕ) → slot ≢ kept → IsWordOfSlot (get_or slots slot None) (number_of (slot_bytes bytes slot))
-      → IsWordOfSlot (get_or (slice_set slots kept (Some pointer)) slot None) (number_of (slot_bytes (write bytes (SLOT_LENGTH * kept) (bytes_low_first 0 SLOT_LENGTH word)) slot))
+      → IsWordOfSlot (get_or (slice_set slots kept (Some pointer)) slot None)
+      (number_of (slot_bytes (write bytes (SLOT_LENGTH * kept) (bytes_low_first 0 SLOT_LENGTH word)) slot))
   kept_apart slot other is =
       stays _ _ _ _ (get_or-set_other slots kept slot (Some pointer) None other)
-      (slot_bytes-apart bytes (bytes_low_first 0 SLOT_LENGTH word) (SLOT_LENGTH * kept) slot within (λ i above below at. other (omega arith))) is
+      (slot_bytes-apart bytes (bytes_low_first 0 SLOT_LENGTH word) (SLOT_LENGTH * kept) slot within
+      (λ i above below at. other (omega arith))) is
 
-  pub keep-stands : kept < length slots → IsWordOf (value.Pointer pointer) word → SlotsStandFor slots bytes → SlotsStandFor (slice_set slots kept (Some pointer)) (write bytes (SLOT_LENGTH * kept) (bytes_low_first 0 SLOT_LENGTH word))
+  pub keep-stands : kept < length slots → IsWordOf (value.Pointer pointer) word → SlotsStandFor slots bytes
+      → SlotsStandFor (slice_set slots kept (Some pointer)) (write bytes (SLOT_LENGTH * kept) (bytes_low_first 0 SLOT_LENGTH word))
   keep-stands inside held stand slot =
       elim (cases_lt slot kept) [
         | inl before ↦ kept_apart slot (λ same. omega arith) (stand slot)
@@ -116,6 +131,7 @@ module _ (slots : List (Option PointerParts)) (bytes : List ℕ) (kept : ℕ) (p
               | inr below ↦
                   let slots_then = slice_set slots kept (Some pointer) in
                   let bytes_then = write bytes (SLOT_LENGTH * kept) (bytes_low_first 0 SLOT_LENGTH word) in
-                  subst (λ (n : ℕ). IsWordOfSlot (get_or slots_then n None) (number_of (slot_bytes bytes_then n))) (omega arith) (kept_here inside held)
+                  subst (λ (n : ℕ). IsWordOfSlot (get_or slots_then n None) (number_of (slot_bytes bytes_then n))) (omega arith)
+                  (kept_here inside held)
             ]
       ]

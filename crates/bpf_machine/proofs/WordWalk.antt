@@ -1,5 +1,6 @@
 -- One instruction on words: where it passes its checks, what it leads to on words holds what it leads to.
-use Rattle.std.proofs.Common.{◌≡◌, ℕ, zero, suc, ◌+◌, ℤ, pos, ◌+ℤ◌, Bool, true, false, IsTrue, List, [], ◌∷◌, length, get_or, is_some, nat_lt, Result, Ok, Err, if◌then◌else◌, refl, sym, ap, subst, arith}
+use Rattle.std.proofs.Common.{◌≡◌, ℕ, zero, suc, ◌+◌, ℤ, pos, ◌+ℤ◌, Bool, true, false, IsTrue, List, [], ◌∷◌, length, get_or, is_some}
+use Rattle.std.proofs.Common.{nat_lt, Result, Ok, Err, if◌then◌else◌, refl, sym, ap, subst, arith}
 use Rattle.std.specs.Prelude.{slice_set, FitsSigned}
 use Rattle.std.specs.Int.{cast_signed, cast_unsigned, w32, w64}
 use Rattle.std.proofs.Math.ListN.{length-set}
@@ -22,8 +23,10 @@ use Rattle.bpf_insn.specs.declared.value.Pointer.{Pointer as PointerParts}
 use Rattle.bpf_insn.specs.declared.value.Value.{Value}
 use Rattle.bpf_insn.specs.declared.value.Value.TheVariants as value
 use Rattle.bpf_kinds.specs.Interval.{single}
-use Rattle.bpf_kinds.proofs.ResultLemmas.{extend-proper, extend-admits, negate-proper, negate-admits, byte_swap-proper, byte_swap-admits, immediate_operand-proper, wide_number-proper}
-use Rattle.bpf_flat.specs.Flat.{HasImmediates, JumpsTo}
+use Rattle.bpf_kinds.proofs.ResultLemmas.{extend-proper, extend-admits, negate-proper, negate-admits, byte_swap-proper, byte_swap-admits}
+use Rattle.bpf_kinds.proofs.ResultLemmas.{immediate_operand-proper, wide_number-proper}
+use Rattle.bpf_insn.specs.Immediates.{HasImmediates}
+use Rattle.bpf_flat.specs.Flat.{JumpsTo}
 use Rattle.tl_segments.specs.Segment.{Contents, IsSegment}
 use Rattle.bpf_meaning.specs.Checks.{◌>>=◌, Sound}
 use Rattle.bpf_meaning.specs.Effect as effect
@@ -38,7 +41,8 @@ use Rattle.bpf_meaning.specs.declared.effect.Effect.{Effect}
 use Rattle.bpf_meaning.specs.declared.effect.Effect.TheVariants.{GoOn}
 use Rattle.bpf_meaning.specs.declared.state.State.{State}
 use Rattle.bpf_meaning.proofs.WalkForesees.{Foresees, walk_foreseen}
-use Rattle.bpf_machine.specs.Words.{Goes, HasAreas, Holds, HoldsEffect, IsWordOf, Next, PointsInto, Words, area_bytes, bare_words, load_bytes, next_words, pointer_of, store_at, with_word}
+use Rattle.bpf_machine.specs.Words.{Goes, HasAreas, Holds, HoldsEffect, IsWordOf, Next, PointsInto, Words, area_bytes, bare_words}
+use Rattle.bpf_machine.specs.Words.{load_bytes, next_words, pointer_of, store_at, with_word}
 use Rattle.bpf_machine.proofs.WordCalls.{call_held}
 use Rattle.bpf_machine.proofs.WordMemory.{HoldsChange, load_held, store_held}
 use Rattle.bpf_machine.proofs.WordArithmetic.{IsNumber, admitted_fits, move_held, operate_held, single-admits, single-proper}
@@ -60,82 +64,70 @@ IsPointer pointer other = other ≡ pointer
 offset_is : (offset : ℤ) (word : ℕ) → word ≡ cast_unsigned w64 offset → IsTrue (is_offset offset) → cast_signed w64 word ≡ offset
 offset_is offset word is near = grind (arith, ints, nat_tests)
 
-same_pointer : (into area : Area) (at offset : ℤ) → into ≡ area → at ≡ offset → IsPointer (record { area = area; offset = offset }) (record { area = into; offset = at })
+same_pointer : (into area : Area) (at offset : ℤ) → into ≡ area → at ≡ offset
+    → IsPointer (record { area = area; offset = offset }) (record { area = into; offset = at })
 same_pointer into area at offset same is = cc
 
-pointer_held : (register : ℕ) (into : Area) (v : Value) (word : ℕ) → IsWordOf v word → PointsInto v into → Sound IsPointer (effect.read_value register v >>= effect.only_pointer) (Ok (pointer_of into word))
+pointer_held : (register : ℕ) (into : Area) (v : Value) (word : ℕ) → IsWordOf v word → PointsInto v into
+    → Sound IsPointer (effect.read_value register v >>= effect.only_pointer) (Ok (pointer_of into word))
 pointer_held register into value.Empty word held is = tt
 pointer_held register into (value.Number n) word held is = tt
-pointer_held register into (value.Pointer pointer) word held is = same_pointer into pointer.area _ pointer.offset is (offset_is pointer.offset word held.0 held.1)
+pointer_held register into (value.Pointer pointer) word held is =
+    same_pointer into pointer.area _ pointer.offset is (offset_is pointer.offset word held.0 held.1)
 
 -- arithmetic on one number
 
-extended_held : (extension : SignExtension) (n word : ℕ) → IsNumber n word → IsNumber (arithmetic.extension_of extension n) (arithmetic.extension_of extension word)
+extended_held : (extension : SignExtension) (n word : ℕ) → IsNumber n word
+    → IsNumber (arithmetic.extension_of extension n) (arithmetic.extension_of extension word)
 extended_held extension n word is =
-    let proper = single-proper n is.1 in
-    (ap (arithmetic.extension_of extension) is.0, admitted_fits _ _ (extend-proper extension (single n) proper) (extend-admits extension (single n) n proper (single-admits n)))
+    let proper = single-proper n is.1 in (
+      ap (arithmetic.extension_of extension) is.0,
+      admitted_fits _ _ (extend-proper extension (single n) proper)
+          (extend-admits extension (single n) n proper (single-admits n)),
+    )
 
 negated_held : (width : Width) (n word : ℕ) → IsNumber n word → IsNumber (arithmetic.negate width n) (arithmetic.negate width word)
 negated_held width n word is =
-    let proper = single-proper n is.1 in
-    (ap (arithmetic.negate width) is.0, admitted_fits _ _ (negate-proper width (single n) proper) (negate-admits width (single n) n proper (single-admits n)))
+    let proper = single-proper n is.1 in (
+      ap (arithmetic.negate width) is.0,
+      admitted_fits _ _ (negate-proper width (single n) proper)
+          (negate-admits width (single n) n proper (single-admits n)),
+    )
 
-swapped_held : (order : ByteOrder) (width : SwapWidth) (n word : ℕ) → IsNumber n word → IsNumber (arithmetic.byte_swap order width n) (arithmetic.byte_swap order width word)
+swapped_held : (order : ByteOrder) (width : SwapWidth) (n word : ℕ) → IsNumber n word
+    → IsNumber (arithmetic.byte_swap order width n) (arithmetic.byte_swap order width word)
 swapped_held order width n word is =
-    let proper = single-proper n is.1 in
-    (ap (arithmetic.byte_swap order width) is.0, admitted_fits _ _ (byte_swap-proper order width (single n) proper) (byte_swap-admits order width (single n) n proper (single-admits n)))
-
--- what comes next
-
-placed : (state : State) (place : ℕ) (words : Words) → Holds state words → Holds (record state { place = place }) words
-placed state place words holds = record { count = holds.count; registers = holds.registers; whole = holds.whole; frame = holds.frame; slots = holds.slots; score = holds.score }
-
-goes_on_held : (code : List Insn) (segment : Contents) (state : State) (place at : ℕ) (change : Change) (words : Words) → place ≡ place_of code at → HoldsChange segment state change words → Sound (HoldsEffect code segment state) (effect.go_on code place change) (Ok (Goes words at))
-goes_on_held code segment state place at change words same holds = by_tests (is_some (instruction_at code place)) (nat_lt place (word_count code))
-  where
-    by_tests : (begins inside : Bool) → Sound (HoldsEffect code segment state) (if begins then Ok (GoOn change place) else (if inside then Err IntoWide else Err OutOfProgram)) (Ok (Goes words at))
-    by_tests true inside = (same, placed (carry_out segment state change) place words holds)
-    by_tests false true = tt
-    by_tests false false = tt
-
-jump_held : (code : List Insn) (segment : Contents) (state : State) (to : ℤ) (at : ℕ) (words : Words) → to ≡ pos (place_of code at) → Holds state words → Sound (HoldsEffect code segment state) (effect.go_to code to) (Ok (Goes words at))
-jump_held code segment state to at words leads holds =
-    subst (λ (z : ℤ). Sound (HoldsEffect code segment state) (effect.go_to code z) (Ok (Goes words at))) (sym leads) (goes_on_held code segment state (place_of code at) at Nothing words refl holds)
-
-branch_held : (code : List Insn) (segment : Contents) (state : State) (words : Words) → Holds state words → (next next_at target : ℕ) (jump : ConditionalJump) → next ≡ place_of code next_at → pos (state.place + 1) +ℤ jump.distance ≡ pos (place_of code target) → (v w : Value) (m n : ℕ) → IsWordOf v m → IsWordOf w n
-    → Sound (HoldsEffect code segment state) ((effect.values code segment state next).branch jump v w) (Ok (Goes words (if is_met jump.condition jump.width m n then target else next_at)))
-branch_held code segment state words holds next next_at target jump same leads (value.Number x) (value.Number y) m n left right =
-    subst (λ (k : ℕ). Sound (HoldsEffect code segment state) (taken (is_met jump.condition jump.width x y)) (Ok (goes (is_met jump.condition jump.width k n)))) (sym left.0)
-    (subst (λ (k : ℕ). Sound (HoldsEffect code segment state) (taken (is_met jump.condition jump.width x y)) (Ok (goes (is_met jump.condition jump.width x k)))) (sym right.0)
-    (by_answer (is_met jump.condition jump.width x y)))
-  where
-    taken : Bool → Result Effect Cause
-    taken answer = if answer then effect.jump code state.place jump.distance else effect.go_on code next Nothing
-
-    goes : Bool → Next
-    goes answer = Goes words (if answer then target else next_at)
-
-    by_answer : (answer : Bool) → Sound (HoldsEffect code segment state) (taken answer) (Ok (goes answer))
-    by_answer true = jump_held code segment state _ target words leads holds
-    by_answer false = goes_on_held code segment state next next_at Nothing words same holds
-branch_held code segment state words holds next next_at target jump same leads v w m n left right = tt
+    let proper = single-proper n is.1 in (
+      ap (arithmetic.byte_swap order width) is.0,
+      admitted_fits _ _ (byte_swap-proper order width (single n) proper)
+          (byte_swap-admits order width (single n) n proper (single-admits n)),
+    )
 
 -- a register is written
 
-registers_held : (values : List Value) (words : List ℕ) (register : ℕ) (v : Value) (word : ℕ) → length words ≡ length values → IsWordOf v word → ((number : ℕ) → IsWordOf (get_or values number value.Empty) (get_or words number 0))
-    → (number : ℕ) → IsWordOf (get_or (slice_set values register v) number value.Empty) (get_or (slice_set words register word) number 0)
-registers_held [] [] register v word same held all number = all number
-registers_held [] (w ∷ words) register v word same held all number = absurd (omega arith)
-registers_held (k ∷ values) [] register v word same held all number = absurd (omega arith)
-registers_held (k ∷ values) (w ∷ words) zero v word same held all zero = held
-registers_held (k ∷ values) (w ∷ words) zero v word same held all (suc number) = all (suc number)
-registers_held (k ∷ values) (w ∷ words) (suc register) v word same held all zero = all zero
-registers_held (k ∷ values) (w ∷ words) (suc register) v word same held all (suc number) = registers_held values words register v word (omega arith) held (λ n. all (suc n)) number
+module _ (v : Value) (word : ℕ) (held : IsWordOf v word) where
+  registers_held : (values : List Value) (words : List ℕ) (register : ℕ) → length words ≡ length values
+      → ((number : ℕ) → IsWordOf (get_or values number value.Empty) (get_or words number 0)) → (number : ℕ)
+      → IsWordOf (get_or (slice_set values register v) number value.Empty) (get_or (slice_set words register word) number 0)
+  registers_held [] [] register same all number = all number
+  registers_held [] (w ∷ words) register same all number = absurd (omega arith)
+  registers_held (k ∷ values) [] register same all number = absurd (omega arith)
+  registers_held (k ∷ values) (w ∷ words) zero same all zero = held
+  registers_held (k ∷ values) (w ∷ words) zero same all (suc number) = all (suc number)
+  registers_held (k ∷ values) (w ∷ words) (suc register) same all zero = all zero
+  registers_held (k ∷ values) (w ∷ words) (suc register) same all (suc number) =
+      registers_held values words register (omega arith) (λ n. all (suc n)) number
 
-register_held : (segment : Contents) (state : State) (words : Words) → Holds state words → (destination : WritableRegister) (v : Value) (word : ℕ) → IsWordOf v word → HoldsChange segment state (SetRegister destination v) (with_word words destination.number word)
+register_held : (segment : Contents) (state : State) (words : Words) → Holds state words
+    → (destination : WritableRegister) (v : Value) (word : ℕ) → IsWordOf v word
+    → HoldsChange segment state (SetRegister destination v) (with_word words destination.number word)
 register_held segment state words holds destination v word held = record {
-  count = let same = holds.count in omega (arith, length-set state.registers destination.number v, length-set words.registers destination.number word);
-  registers = registers_held state.registers words.registers destination.number v word holds.count held holds.registers;
+  count = let same = holds.count in omega (
+    arith,
+    length-set state.registers destination.number v,
+    length-set words.registers destination.number word,
+  );
+  registers = registers_held v word held state.registers words.registers destination.number holds.count holds.registers;
   whole = holds.whole;
   frame = holds.frame;
   slots = holds.slots;
@@ -143,60 +135,119 @@ register_held segment state words holds destination v word held = record {
 }
 
 -- where a store begins
-frame_held : (into : Area) (pointer other : PointerParts) (offset : ℤ) → IsPointer pointer other → Sound (λ (at from : ℤ). from ≡ at) (effect.frame_offset into (pointer.offset +ℤ offset)) (Ok (other.offset +ℤ offset))
+frame_held : (into : Area) (pointer other : PointerParts) (offset : ℤ) → IsPointer pointer other
+    → Sound (λ (at from : ℤ). from ≡ at) (effect.frame_offset into (pointer.offset +ℤ offset)) (Ok (other.offset +ℤ offset))
 frame_held area.Frame pointer other offset same = ap (λ (p : PointerParts). p.offset +ℤ offset) same
 frame_held area.Record pointer other offset same = tt
 
--- where an instruction goes on, and where it jumps
-pub record Leads (code : List Insn) (place : ℕ) (insn : Insn) (behind at target : ℕ) : Type 0 where
-  pub next : behind ≡ place_of code at
-  pub jumps : JumpsTo code place insn target
+-- what comes next
 
--- each step of an instruction
-values_foresee : (code : List Insn) (segment : Contents) (state : State) (areas : ℕ → Area) (words : Words) (insn : Insn) (next next_at target : ℕ) → IsSegment segment → IsWhole state → HoldsBytes state → HasAreas state areas → Holds state words → Leads code state.place insn next next_at target
-    → Foresees (effect.values code segment state next) (bare_words segment areas words next_at target) insn
-values_foresee code segment state areas words insn next next_at target is whole bytes points holds leads = record {
-  Fits = FitsSigned w32;
-  Read = λ register. IsWordOf;
-  Values = IsWordOf;
-  Numbers = IsNumber;
-  Stored = IsWordOf;
-  Pointers = IsPointer;
-  Offsets = λ offset at from. from ≡ at;
-  Changes = HoldsChange segment state;
-  Outcomes = HoldsEffect code segment state;
-  read = λ register. read_held register _ _ (holds.registers register);
-  any = λ register v word held. held;
-  number_or = λ cause register. number_held cause;
-  stored = λ register v word held. held;
-  stored_immediate = λ immediate fits. (refl, (immediate_operand-proper immediate fits).fits);
-  pointer_in = λ register. pointer_held register _ _ _ (holds.registers register) (points register);
-  immediate = λ immediate fits. (refl, (immediate_operand-proper immediate fits).fits);
-  wide = λ immediate next_immediate fits. (refl, (wide_number-proper immediate next_immediate fits.0 fits.1).fits);
-  extend = extended_held;
-  negate = negated_held;
-  byte_swap = swapped_held;
-  move = move_held;
-  operate = operate_held;
-  load = λ format p q offset same.
-      subst (λ (x : PointerParts). Sound IsWordOf (effect.load_from segment state format p.area (p.offset +ℤ offset)) (load_bytes format (area_bytes segment words x.area) (x.offset +ℤ offset))) (sym same)
-      (load_held segment state words is whole bytes holds format p.area (p.offset +ℤ offset));
-  frame = λ p q offset same. frame_held p.area p q offset same;
-  store_at = λ at from offset size v word is stored.
-      subst (λ (k : ℤ). Sound (HoldsChange segment state) (effect.store_at at size v) (store_at words k size word)) (sym is) (store_held segment state words whole holds at size v word stored);
-  call = call_held segment state words is whole holds;
-  set = λ goes_on destination v word held. goes_on_held code segment state next next_at _ _ leads.next (register_held segment state words holds destination v word held);
-  go_on = λ goes_on change behind holds. goes_on_held code segment state next next_at change behind leads.next holds;
-  jump = λ distance jumps. jump_held code segment state _ target words (leads.jumps distance jumps) holds;
-  with_immediate = λ goes_on condition width left immediate distance v m fits jumps first.
-      branch_held code segment state words holds next next_at target (record { condition = condition; width = width; left = left; right = Immediate immediate; distance = distance }) leads.next (leads.jumps distance jumps) v _ m _ first (refl, (immediate_operand-proper immediate fits).fits);
-  with_register = λ goes_on condition width left right distance v w m n jumps first second.
-      branch_held code segment state words holds next next_at target (record { condition = condition; width = width; left = left; right = Register right; distance = distance }) leads.next (leads.jumps distance jumps) v w m n first second;
-  end = λ n word same. (same.0, holds.score);
+placed : (state : State) (place : ℕ) (words : Words) → Holds state words → Holds (record state { place = place }) words
+placed state place words holds = record {
+  count = holds.count;
+  registers = holds.registers;
+  whole = holds.whole;
+  frame = holds.frame;
+  slots = holds.slots;
+  score = holds.score;
 }
 
-pub walk_held : (code : List Insn) (segment : Contents) (state : State) (areas : ℕ → Area) (words : Words) (insn : Insn) (next next_at target : ℕ) → IsSegment segment → IsWhole state → HoldsBytes state → HasImmediates insn → HasAreas state areas → Holds state words → next ≡ place_of code next_at → JumpsTo code state.place insn target
-    → Sound (HoldsEffect code segment state) (effect.instruction_effect code segment state next insn) (next_words segment areas words next_at target insn)
-unfolding values_foresee next_words
-walk_held code segment state areas words insn next next_at target is whole bytes fits points holds same jumps =
-    walk_foreseen (effect.values code segment state next) (bare_words segment areas words next_at target) insn (values_foresee code segment state areas words insn next next_at target is whole bytes points holds (record { next = same; jumps = jumps })) fits
+module _ (code : List Insn) (segment : Contents) (state : State) where
+  goes_on_held : (place at : ℕ) (change : Change) (words : Words) → place ≡ place_of code at → HoldsChange segment state change words
+      → Sound (HoldsEffect code segment state) (effect.go_on code place change) (Ok (Goes words at))
+  goes_on_held place at change words same holds = by_tests (is_some (instruction_at code place)) (nat_lt place (word_count code))
+    where
+      by_tests : (begins inside : Bool)
+          → Sound (HoldsEffect code segment state)
+          (if begins then Ok (GoOn change place) else (if inside then Err IntoWide else Err OutOfProgram)) (Ok (Goes words at))
+      by_tests true inside = (same, placed (carry_out segment state change) place words holds)
+      by_tests false true = tt
+      by_tests false false = tt
+
+  jump_held : (to : ℤ) (at : ℕ) (words : Words) → to ≡ pos (place_of code at) → Holds state words
+      → Sound (HoldsEffect code segment state) (effect.go_to code to) (Ok (Goes words at))
+  jump_held to at words leads holds =
+      subst (λ (z : ℤ). Sound (HoldsEffect code segment state) (effect.go_to code z) (Ok (Goes words at))) (sym leads)
+      (goes_on_held (place_of code at) at Nothing words refl holds)
+
+  -- words that hold the state, and where the instruction there goes on and jumps
+  module _ (words : Words) (holds : Holds state words) (next next_at target : ℕ) (same : next ≡ place_of code next_at) where
+    branch_held : (jump : ConditionalJump) → pos (state.place + 1) +ℤ jump.distance ≡ pos (place_of code target) → (v w : Value) (m n : ℕ)
+        → IsWordOf v m → IsWordOf w n
+        → Sound (HoldsEffect code segment state) ((effect.values code segment state next).branch jump v w)
+        (Ok (Goes words (if is_met jump.condition jump.width m n then target else next_at)))
+    branch_held jump leads (value.Number x) (value.Number y) m n left right =
+        subst (λ (k : ℕ). Sound (HoldsEffect code segment state) (taken (is_met jump.condition jump.width x y))
+        (Ok (goes (is_met jump.condition jump.width k n)))) (sym left.0)
+        (subst (λ (k : ℕ). Sound (HoldsEffect code segment state) (taken (is_met jump.condition jump.width x y))
+        (Ok (goes (is_met jump.condition jump.width x k)))) (sym right.0)
+        (by_answer (is_met jump.condition jump.width x y)))
+      where
+        taken : Bool → Result Effect Cause
+        taken answer = if answer then effect.jump code state.place jump.distance else effect.go_on code next Nothing
+
+        goes : Bool → Next
+        goes answer = Goes words (if answer then target else next_at)
+
+        by_answer : (answer : Bool) → Sound (HoldsEffect code segment state) (taken answer) (Ok (goes answer))
+        by_answer true = jump_held _ target words leads holds
+        by_answer false = goes_on_held next next_at Nothing words same holds
+    branch_held jump leads v w m n left right = tt
+
+    -- each step of an instruction
+    values_foresee : (areas : ℕ → Area) (insn : Insn) → IsSegment segment → IsWhole state → HoldsBytes state → HasAreas state areas
+        → JumpsTo code state.place insn target
+        → Foresees (effect.values code segment state next) (bare_words segment areas words next_at target) insn
+    values_foresee areas insn is whole bytes points leads = record {
+      Fits = FitsSigned w32;
+      Read = λ register. IsWordOf;
+      Values = IsWordOf;
+      Numbers = IsNumber;
+      Stored = IsWordOf;
+      Pointers = IsPointer;
+      Offsets = λ offset at from. from ≡ at;
+      Changes = HoldsChange segment state;
+      Outcomes = HoldsEffect code segment state;
+      read = λ register. read_held register _ _ (holds.registers register);
+      any = λ register v word held. held;
+      number_or = λ cause register. number_held cause;
+      stored = λ register v word held. held;
+      stored_immediate = λ immediate fits. (refl, (immediate_operand-proper immediate fits).fits);
+      pointer_in = λ register. pointer_held register _ _ _ (holds.registers register) (points register);
+      immediate = λ immediate fits. (refl, (immediate_operand-proper immediate fits).fits);
+      wide = λ immediate next_immediate fits. (refl, (wide_number-proper immediate next_immediate fits.0 fits.1).fits);
+      extend = extended_held;
+      negate = negated_held;
+      byte_swap = swapped_held;
+      move = move_held;
+      operate = operate_held;
+      load = λ format p q offset alike.
+          subst (λ (x : PointerParts). Sound IsWordOf (effect.load_from segment state format p.area (p.offset +ℤ offset))
+          (load_bytes format (area_bytes segment words x.area) (x.offset +ℤ offset))) (sym alike)
+          (load_held state words whole bytes holds segment is format p.area (p.offset +ℤ offset));
+      frame = λ p q offset alike. frame_held p.area p q offset alike;
+      store_at = λ at from offset size v word is stored.
+          subst (λ (k : ℤ). Sound (HoldsChange segment state) (effect.store_at at size v) (store_at words k size word)) (sym is)
+          (store_held segment state words whole holds at size v word stored);
+      call = call_held segment state words is whole holds;
+      set = λ goes_on destination v word held.
+          goes_on_held next next_at _ _ same (register_held segment state words holds destination v word held);
+      go_on = λ goes_on change behind holds. goes_on_held next next_at change behind same holds;
+      jump = λ distance jumps. jump_held _ target words (leads distance jumps) holds;
+      with_immediate = λ goes_on condition width left immediate distance v m fits jumps first.
+          branch_held (record { condition = condition; width = width; left = left; right = Immediate immediate; distance = distance })
+          (leads distance jumps) v _ m _ first (refl, (immediate_operand-proper immediate fits).fits);
+      with_register = λ goes_on condition width left right distance v w m n jumps first second.
+          branch_held (record { condition = condition; width = width; left = left; right = Register right; distance = distance })
+          (leads distance jumps) v w m n first second;
+      end = λ n word alike. (alike.0, holds.score);
+    }
+
+    pub walk_held : (areas : ℕ → Area) (insn : Insn) → IsSegment segment → IsWhole state → HoldsBytes state → HasImmediates insn
+        → HasAreas state areas → JumpsTo code state.place insn target
+        → Sound (HoldsEffect code segment state) (effect.instruction_effect code segment state next insn)
+        (next_words segment areas words next_at target insn)
+    unfolding values_foresee next_words
+    walk_held areas insn is whole bytes fits points jumps =
+        walk_foreseen (effect.values code segment state next) (bare_words segment areas words next_at target) insn
+        (values_foresee areas insn is whole bytes points jumps) fits

@@ -1,16 +1,17 @@
-pub mod OperandLemmas
-pub mod NumberLemmas
-pub mod WordLemmas
-pub mod LineLemmas
-pub mod StatementLemmas
 pub mod LineCutLemmas
+pub mod LineLemmas
 pub mod NoteLemmas
-pub mod SpelledLemmas
-pub mod RoundTripLemmas
-pub mod TableLemmas
+pub mod NumberLemmas
+pub mod OperandLemmas
 pub mod ReadLemmas
 pub mod ReadLineLemmas
-pub mod ReadValueLemmas
-pub mod ReadWideLemmas
 pub mod ReadRegisterLemmas
 pub mod ReadRowLemmas
+pub mod ReadValueLemmas
+pub mod ReadWideLemmas
+pub mod RoundTripLemmas
+pub mod SpelledLemmas
+pub mod StatementLemmas
+pub mod TableLemmas
+pub mod WordLemmas
+mod SourceLemmas

@@ -19,20 +19,24 @@ all_digits radix (d ∷ ds) all =
     (ltb-true _ _ parts.0, all_digits radix ds parts.1)
 
 -- so many digits write a number below this power of the radix
-pub digits-lt : (radix most : ℕ) (ds : List ℕ) → 2 ≤ radix → length ds ≤ most → list_all (is_digit radix) ds ≡ true → digits_value radix ds < radix ^ most
+pub digits-lt : (radix most : ℕ) (ds : List ℕ) → 2 ≤ radix → length ds ≤ most → list_all (is_digit radix) ds ≡ true
+    → digits_value radix ds < radix ^ most
 digits-lt radix most ds some few all =
     lt_of_lt_of_le (digits_value-lt radix ds (all_digits radix ds all)) (pow-le-pow_right (omega arith) few)
 
 -- twenty digits, up to hexadecimal ones
-pub digits-small : (radix : ℕ) (ds : List ℕ) → 2 ≤ radix → radix ≤ 16 → length ds ≤ 20 → list_all (is_digit radix) ds ≡ true → digits_value radix ds < 2 ^ 80
+pub digits-small : (radix : ℕ) (ds : List ℕ) → 2 ≤ radix → radix ≤ 16 → length ds ≤ 20 → list_all (is_digit radix) ds ≡ true
+    → digits_value radix ds < 2 ^ 80
 digits-small radix ds some few short all =
     lt_of_lt_of_le (digits-lt radix 20 ds some short all) (pow-le-pow_left few 20)
 
 -- one more digit
-pub digits-next : (radix : ℕ) (ds : List ℕ) (i value : ℕ) → i < length ds → value ≡ digits_value radix (take i ds) → value * radix + digit_value (get_or ds i 0) ≡ digits_value radix (take (i + 1) ds)
+pub digits-next : (radix : ℕ) (ds : List ℕ) (i value : ℕ) → i < length ds → value ≡ digits_value radix (take i ds)
+    → value * radix + digit_value (get_or ds i 0) ≡ digits_value radix (take (i + 1) ds)
 digits-next radix ds i value inside so_far = rw (digits_value_more radix ds i inside, so_far) refl
 
-pub all-next : (radix : ℕ) (ds : List ℕ) (i : ℕ) → i < length ds → digit_value (get_or ds i 0) < radix → list_all (is_digit radix) (take i ds) ≡ true → list_all (is_digit radix) (take (i + 1) ds) ≡ true
+pub all-next : (radix : ℕ) (ds : List ℕ) (i : ℕ) → i < length ds → digit_value (get_or ds i 0) < radix
+    → list_all (is_digit radix) (take i ds) ≡ true → list_all (is_digit radix) (take (i + 1) ds) ≡ true
 all-next radix ds i inside digit so_far = rw (list_all_more (is_digit radix) ds i 0 inside, so_far, lt-ltb _ _ digit) refl
 
 -- a number of 32 bits that is cast to 16

@@ -1,5 +1,6 @@
 -- Words that are written side by side are read one by one.
-use Rattle.std.proofs.Common.{◌≡◌, ℕ, ◌+◌, ◌≤◌, Bool, true, false, List, [], ◌∷◌, ◌++◌, length, take, drop, reverse, refl, sym, ap, ◌∙◌, subst, arith}
+use Rattle.std.proofs.Common.{◌≡◌, ℕ, ◌+◌, ◌≤◌, Bool, true, false, List, [], ◌∷◌, ◌++◌, length, take, drop, reverse, refl, sym, ap, ◌∙◌}
+use Rattle.std.proofs.Common.{subst, arith}
 use Rattle.std.specs.Prelude.{not}
 use Rattle.std.specs.List.{list_all, position_or_len, before_first, after_first}
 use Rattle.std.proofs.lemmas.Bool.{and_parts, and_from}
@@ -25,7 +26,8 @@ all-reverse p (x ∷ xs) all =
     ap (list_all p) (reverse-append (x ∷ []) xs) ∙ all-append p (reverse xs) (x ∷ []) (all-reverse p xs parts.1) (and_from _ _ parts.0 refl)
 
 -- where the first byte of a kind stands
-pub place-at : (p : ℕ → Bool) (xs ys : List ℕ) (c : ℕ) → list_all (λ byte. not (p byte)) xs ≡ true → p c ≡ true → position_or_len p (xs ++ c ∷ ys) ≡ length xs
+pub place-at : (p : ℕ → Bool) (xs ys : List ℕ) (c : ℕ) → list_all (λ byte. not (p byte)) xs ≡ true → p c ≡ true
+    → position_or_len p (xs ++ c ∷ ys) ≡ length xs
 place-at p [] ys c none is = rw is refl
 place-at p (x ∷ xs) ys c none is =
     let parts = and_parts (not (p x)) (list_all (λ byte. not (p byte)) xs) none in
@@ -37,10 +39,12 @@ place-none p (x ∷ xs) none =
     let parts = and_parts (not (p x)) (list_all (λ byte. not (p byte)) xs) none in
     rw parts.0 (omega (arith, place-none p xs parts.1))
 
-pub before-at : (p : ℕ → Bool) (xs ys : List ℕ) (c : ℕ) → list_all (λ byte. not (p byte)) xs ≡ true → p c ≡ true → before_first p (xs ++ c ∷ ys) ≡ xs
+pub before-at : (p : ℕ → Bool) (xs ys : List ℕ) (c : ℕ) → list_all (λ byte. not (p byte)) xs ≡ true → p c ≡ true
+    → before_first p (xs ++ c ∷ ys) ≡ xs
 before-at p xs ys c none is = ap (λ (n : ℕ). take n (xs ++ c ∷ ys)) (place-at p xs ys c none is) ∙ take-append_seam xs (c ∷ ys)
 
-pub after-at : (p : ℕ → Bool) (xs ys : List ℕ) (c : ℕ) → list_all (λ byte. not (p byte)) xs ≡ true → p c ≡ true → after_first p (xs ++ c ∷ ys) ≡ ys
+pub after-at : (p : ℕ → Bool) (xs ys : List ℕ) (c : ℕ) → list_all (λ byte. not (p byte)) xs ≡ true → p c ≡ true
+    → after_first p (xs ++ c ∷ ys) ≡ ys
 after-at p xs ys c none is = ap (λ (n : ℕ). drop (n + 1) (xs ++ c ∷ ys)) (place-at p xs ys c none is) ∙ drop-append-add xs (c ∷ ys) 1
 
 pub before-none : (p : ℕ → Bool) (xs : List ℕ) → list_all (λ byte. not (p byte)) xs ≡ true → before_first p xs ≡ xs
@@ -67,7 +71,8 @@ starts-kept (byte ∷ bytes) begins = kept-by byte bytes (is_blank byte) refl be
 
 pub trim-framed : (xs : List ℕ) → IsFramed xs → trim xs ≡ xs
 trim-framed xs framed =
-    ap (λ (ys : List ℕ). reverse (trim_start (reverse ys))) (starts-kept xs framed.begins) ∙ ap reverse (starts-kept (reverse xs) framed.ends) ∙ reverse-reverse xs
+    ap (λ (ys : List ℕ). reverse (trim_start (reverse ys))) (starts-kept xs framed.begins)
+    ∙ ap reverse (starts-kept (reverse xs) framed.ends) ∙ reverse-reverse xs
 
 starts-append : (xs ys : List ℕ) → 1 ≤ length xs → starts xs ≡ true → starts (xs ++ ys) ≡ true
 starts-append [] ys some begins = absurd (omega arith)
@@ -81,7 +86,8 @@ pub framed-join : (xs ys zs : List ℕ) → IsFramed xs → IsFramed zs → IsFr
 framed-join xs ys zs x z = record {
   some = omega (arith, x.some, length-append (xs ++ ys) zs, length-append xs ys);
   begins = subst (λ (l : List ℕ). starts l ≡ true) (sym (append_assoc xs ys zs)) (starts-append xs (ys ++ zs) x.some x.begins);
-  ends = subst (λ (l : List ℕ). starts l ≡ true) (sym (reverse-append (xs ++ ys) zs)) (starts-append (reverse zs) (reverse (xs ++ ys)) (some-reverse zs z.some) z.ends);
+  ends = subst (λ (l : List ℕ). starts l ≡ true) (sym (reverse-append (xs ++ ys) zs))
+      (starts-append (reverse zs) (reverse (xs ++ ys)) (some-reverse zs z.some) z.ends);
 }
 
 -- words without blanks

@@ -1,5 +1,6 @@
 -- Registers and numbers are read as they're written.
-use Rattle.std.proofs.Common.{◌≡◌, ℕ, suc, zero, ℤ, pos, negsuc, neg_ℤ, ◌≤ℤ◌, ◌<ℤ◌, ◌^◌, ◌<◌, ◌≤◌, ◌++◌, Bool, true, ◌&&◌, cond, nat_le, List, [], ◌∷◌, length, Option, Some, Result, Ok, Err, decimal, refl, ap, ◌∙◌, arith}
+use Rattle.std.proofs.Common.{◌≡◌, ℕ, suc, zero, ℤ, pos, negsuc, neg_ℤ, ◌≤ℤ◌, ◌<ℤ◌, ◌^◌, ◌<◌, ◌≤◌, ◌++◌, Bool, true, ◌&&◌, cond, nat_le}
+use Rattle.std.proofs.Common.{List, [], ◌∷◌, length, Option, Some, Result, Ok, Err, decimal, refl, ap, ◌∙◌, arith}
 use Rattle.std.specs.Prelude.{codes}
 use Rattle.std.specs.Fmt.{digits}
 use Rattle.std.specs.List.{list_all}
@@ -13,7 +14,8 @@ use Rattle.bpf_insn.specs.declared.instruction.Source.TheVariants as source
 use Rattle.bpf_text.specs.declared.fault.TextFlaw.{TextFlaw}
 use Rattle.bpf_text.specs.declared.fault.TextFlaw.TheVariants.{Syntax}
 use Rattle.bpf_text.specs.Number.{and_then, is_digit, decimal_in, positive, negative, signed_in}
-use Rattle.bpf_text.specs.Operand.{register_name, register_number, register_named, register_at, register_in, option_and_then, or_fault, source_in, source_with}
+use Rattle.bpf_text.specs.Operand.{register_name, register_number, register_named, register_at, register_in, option_and_then, or_fault}
+use Rattle.bpf_text.specs.Operand.{source_in, source_with}
 use Rattle.bpf_text.specs.Spelled.{signed_text}
 use Rattle.bpf_text.proofs.OperandLemmas.{register_at-same}
 use Rattle.bpf_text.proofs.ReadLemmas.{all-by}
@@ -26,7 +28,8 @@ pub record IsNamed (number : ℕ) : Type 0 where
   pub some : nat_le 1 (length (register_name number)) ≡ true
   pub found : register_number (register_name number) ≡ Some number
 
-named_register : (number : ℕ) → register_name number ≡ codes "r" ++ decimal number → list_all is_word_byte (register_name number) ≡ true → nat_le 1 (length (register_name number)) ≡ true → register_number (register_name number) ≡ Some number → IsNamed number
+named_register : (number : ℕ) → register_name number ≡ codes "r" ++ decimal number → list_all is_word_byte (register_name number) ≡ true
+    → nat_le 1 (length (register_name number)) ≡ true → register_number (register_name number) ≡ Some number → IsNamed number
 named_register number named word some found = record { named = named; word = word; some = some; found = found }
 
 pub register-name : (number : ℕ) → number ≤ 10 → IsNamed number
@@ -46,7 +49,8 @@ register-name (suc (suc (suc (suc (suc (suc (suc (suc (suc (suc (suc n))))))))))
 
 -- a register
 pub word-of-register : (r : Register) → IsWord (register_name r.number)
-word-of-register r = let name = register-name r.number r.in_range in record { some = leb-true 1 (length (register_name r.number)) name.some; bytes = name.word }
+word-of-register r = let name = register-name r.number r.in_range in
+    record { some = leb-true 1 (length (register_name r.number)) name.some; bytes = name.word }
 
 named-back : (r : Register) → register_named (register_name r.number) ≡ Some r
 named-back r = ap (option_and_then register_at) (register-name r.number r.in_range).found ∙ register_at-same r
@@ -72,14 +76,20 @@ pub decimal-digits : (n : ℕ) → n < 2 ^ 64 → list_all (is_digit 10) (decima
 decimal-digits n small = all-digits (decimal n) (decimal_is_IsNumeral n small).0.1
 
 pub word-of-decimal : (n : ℕ) → n < 2 ^ 64 → IsWord (decimal n)
-word-of-decimal n small = record { some = decimal_nonempty n small; bytes = all-by (is_digit 10) is_word_byte digit-is-word (decimal n) (decimal-digits n small) }
+word-of-decimal n small = record {
+  some = decimal_nonempty n small;
+  bytes =
+      all-by (is_digit 10) is_word_byte digit-is-word (decimal n) (decimal-digits n small);
+}
 
 pub decimal-back : (n : ℕ) → n < 2 ^ 64 → decimal_in (decimal n) ≡ Ok n
 decimal-back n small =
     let some = le-leb 1 (length (decimal n)) (decimal_nonempty n small) in
     let few = le-leb (length (decimal n)) 20 (length-decimal-le 20 n (omega arith) (omega arith) small) in
-    let test : (nat_le 1 (length (decimal n)) && nat_le (length (decimal n)) 20 && list_all (is_digit 10) (decimal n)) ≡ true = and_from _ _ (and_from _ _ some few) (decimal-digits n small) in
-    ap (λ (t : Bool). cond t (Ok (digits_value 10 (decimal n))) (Err Syntax)) test ∙ ap (λ (v : ℕ). let r : Result ℕ TextFlaw = Ok v in r) (decimal_is_IsNumeral n small).1
+    let test : (nat_le 1 (length (decimal n)) && nat_le (length (decimal n)) 20 && list_all (is_digit 10) (decimal n)) ≡ true =
+    and_from _ _ (and_from _ _ some few) (decimal-digits n small) in
+    ap (λ (t : Bool). cond t (Ok (digits_value 10 (decimal n))) (Err Syntax)) test
+    ∙ ap (λ (v : ℕ). let r : Result ℕ TextFlaw = Ok v in r) (decimal_is_IsNumeral n small).1
 
 pub positive-back : (limit n : ℕ) → n < limit → positive limit n ≡ Ok (pos n)
 positive-back limit n within = rw (lt-ltb n limit within) refl

@@ -1,5 +1,6 @@
 -- The number of a wide load is read as it's written.
-use Rattle.std.proofs.Common.{◌≡◌, ℕ, suc, zero, ◌+◌, ◌*◌, ◌/◌, ◌%◌, ◌^◌, ◌<◌, Bool, true, ◌&&◌, cond, nat_le, length, Result, Ok, Err, refl, sym, ap, ◌∙◌, arith}
+use Rattle.std.proofs.Common.{◌≡◌, ℕ, suc, zero, ◌+◌, ◌*◌, ◌/◌, ◌%◌, ◌^◌, ◌<◌, Bool, true, ◌&&◌, cond, nat_le, length, Result, Ok, Err}
+use Rattle.std.proofs.Common.{refl, sym, ap, ◌∙◌, arith}
 use Rattle.std.specs.List.{list_all}
 use Rattle.std.specs.Char.{digit_char, digit_value}
 use Rattle.std.specs.Str.Parse.{digits_value, digits_value_after}
@@ -41,7 +42,9 @@ hexadecimal-value (suc k) acc n =
     let digit = digit-back d (omega arith) in
     let grows : 2 ^ (4 * suc k) ≡ 16 * 2 ^ (4 * k) = ap (λ (e : ℕ). 2 ^ e) (omega arith) ∙ pow-add 2 4 (4 * k) in
     let parts : n % (16 * 2 ^ (4 * k)) ≡ d * 2 ^ (4 * k) + n % 2 ^ (4 * k) = mod-mul n (omega arith) (pow_pos (4 * k)) in
-    ap (λ (v : ℕ). digits_value_after 16 (acc * 16 + v) (hexadecimal k n)) digit ∙ hexadecimal-value k (acc * 16 + d) n ∙ (let sum : (acc * 16 + d) * 2 ^ (4 * k) + n % 2 ^ (4 * k) ≡ acc * (16 * 2 ^ (4 * k)) + (d * 2 ^ (4 * k) + n % 2 ^ (4 * k)) = omega arith in sum) ∙ ap (λ (r : ℕ). acc * (16 * 2 ^ (4 * k)) + r) (sym parts) ∙ ap (λ (p : ℕ). acc * p + n % p) (sym grows)
+    ap (λ (v : ℕ). digits_value_after 16 (acc * 16 + v) (hexadecimal k n)) digit ∙ hexadecimal-value k (acc * 16 + d) n
+    ∙ (let sum : (acc * 16 + d) * 2 ^ (4 * k) + n % 2 ^ (4 * k) ≡ acc * (16 * 2 ^ (4 * k)) + (d * 2 ^ (4 * k) + n % 2 ^ (4 * k)) =
+    omega arith in sum) ∙ ap (λ (r : ℕ). acc * (16 * 2 ^ (4 * k)) + r) (sym parts) ∙ ap (λ (p : ℕ). acc * p + n % p) (sym grows)
 
 pub wide-back : (n : ℕ) → n < 2 ^ 64 → wide_in (wide_text n) ≡ Ok n
 wide-back n small =
@@ -49,9 +52,15 @@ wide-back n small =
     let size = hexadecimal-length 16 n in
     let some = le-leb 1 (length ds) (omega (arith, size)) in
     let few = le-leb (length ds) 16 (omega (arith, size)) in
-    let test : (nat_le 1 (length ds) && nat_le (length ds) 16 && list_all (is_digit 16) ds) ≡ true = and_from _ _ (and_from _ _ some few) (hexadecimal-digits 16 n) in
-    let value : digits_value 16 ds ≡ n = hexadecimal-value 16 0 n ∙ (let whole : 0 * 2 ^ (4 * 16) + n % 2 ^ (4 * 16) ≡ n = omega arith in whole) in
+    let test : (nat_le 1 (length ds) && nat_le (length ds) 16 && list_all (is_digit 16) ds) ≡ true =
+    and_from _ _ (and_from _ _ some few) (hexadecimal-digits 16 n) in
+    let value : digits_value 16 ds ≡ n = hexadecimal-value 16 0 n
+    ∙ (let whole : 0 * 2 ^ (4 * 16) + n % 2 ^ (4 * 16) ≡ n = omega arith in whole) in
     ap (λ (t : Bool). cond t (Ok (digits_value 16 ds)) (Err Syntax)) test ∙ ap (λ (v : ℕ). let r : Result ℕ TextFlaw = Ok v in r) value
 
 pub word-of-wide : (n : ℕ) → IsWord (wide_text n)
-word-of-wide n = record { some = omega arith; bytes = and_from _ _ refl (and_from _ _ refl (all-by (is_digit 16) is_word_byte hex-is-word (hexadecimal 16 n) (hexadecimal-digits 16 n))) }
+word-of-wide n = record {
+  some = omega arith;
+  bytes = and_from _ _ refl
+      (and_from _ _ refl (all-by (is_digit 16) is_word_byte hex-is-word (hexadecimal 16 n) (hexadecimal-digits 16 n)));
+}

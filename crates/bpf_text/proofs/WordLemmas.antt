@@ -1,5 +1,6 @@
 -- What `position` finds.
-use Rattle.std.proofs.Common.{◌≡◌, ℕ, ◌<◌, ◌≤◌, nat_lt, Bool, true, false, List, [], length, cond, Some, None, ◌+◌, ◌-◌, take, drop, refl, sym, ap, ◌∙◌, arith}
+use Rattle.std.proofs.Common.{◌≡◌, ℕ, ◌<◌, ◌≤◌, nat_lt, Bool, true, false, List, [], length, cond, Some, None, ◌+◌, ◌-◌, take, drop, refl}
+use Rattle.std.proofs.Common.{sym, ap, ◌∙◌, arith}
 use Rattle.std.proofs.lemmas.List.{take_all, drop_all, length-drop}
 use Rattle.std.specs.List.{position, position_or_len, before_first, after_first}
 use Rattle.std.proofs.lemmas.Bool.{ltb-true, ltb-false, lt-ltb, le-ltb, le-leb}
@@ -7,14 +8,17 @@ use Rattle.std.specs.Prelude.{slice_index, slice_range}
 use Rattle.bpf_text.specs.Operand.{memory_in, address_in}
 use Rattle.bpf_text.specs.Words.{is_comma, split_operand, trim}
 
-found-by : {X : Type 0} (p : X → Bool) (xs : List X) (i : ℕ) (test : Bool) → nat_lt (position_or_len p xs) (length xs) ≡ test → cond test (Some (position_or_len p xs)) None ≡ Some i → (i ≡ position_or_len p xs) × (position_or_len p xs < length xs)
+found-by : {X : Type 0} (p : X → Bool) (xs : List X) (i : ℕ) (test : Bool) → nat_lt (position_or_len p xs) (length xs) ≡ test
+    → cond test (Some (position_or_len p xs)) None ≡ Some i → (i ≡ position_or_len p xs) × (position_or_len p xs < length xs)
 found-by p xs i true is found = (cc, ltb-true _ _ is)
 found-by p xs i false is found = cc
 
-pub position-found : {X : Type 0} (p : X → Bool) (xs : List X) (i : ℕ) → position p xs ≡ Some i → (i ≡ position_or_len p xs) × (position_or_len p xs < length xs)
+pub position-found : {X : Type 0} (p : X → Bool) (xs : List X) (i : ℕ) → position p xs ≡ Some i → (i ≡ position_or_len p xs)
+    × (position_or_len p xs < length xs)
 position-found p xs i found = found-by p xs i _ refl found
 
-missing-by : {X : Type 0} (p : X → Bool) (xs : List X) (test : Bool) → nat_lt (position_or_len p xs) (length xs) ≡ test → cond test (Some (position_or_len p xs)) None ≡ None → length xs ≤ position_or_len p xs
+missing-by : {X : Type 0} (p : X → Bool) (xs : List X) (test : Bool) → nat_lt (position_or_len p xs) (length xs) ≡ test
+    → cond test (Some (position_or_len p xs)) None ≡ None → length xs ≤ position_or_len p xs
 missing-by p xs true is missing = cc
 missing-by p xs false is missing = ltb-false _ _ is
 
@@ -29,7 +33,8 @@ before-found p xs i found = ap (λ (n : ℕ). take n xs) (position-found p xs i 
 pub rest-from : {X : Type 0} (k : ℕ) (xs : List X) → take (length xs - k) (drop k xs) ≡ drop k xs
 rest-from k xs = take_all (length xs - k) (drop k xs) (omega (arith, length-drop k xs))
 
-pub after-found : {X : Type 0} (p : X → Bool) (xs : List X) (i : ℕ) → Some i ≡ position p xs → take (length xs - (i + 1)) (drop (i + 1) xs) ≡ after_first p xs
+pub after-found : {X : Type 0} (p : X → Bool) (xs : List X) (i : ℕ) → Some i ≡ position p xs
+    → take (length xs - (i + 1)) (drop (i + 1) xs) ≡ after_first p xs
 after-found p xs i found = rest-from (i + 1) xs ∙ ap (λ (n : ℕ). drop (n + 1) xs) (position-found p xs i (sym found)).0
 
 pub before-missing : {X : Type 0} (p : X → Bool) (xs : List X) → None ≡ position p xs → xs ≡ before_first p xs
@@ -40,14 +45,16 @@ after-missing p xs missing =
     let past : length xs ≤ position_or_len p xs = position-missing p xs (sym missing) in
     sym (drop_all (position_or_len p xs + 1) xs (omega arith))
 
-pub from-found : {X : Type 0} (p : X → Bool) (xs : List X) (i : ℕ) → Some i ≡ position p xs → take (length xs - i) (drop i xs) ≡ drop (position_or_len p xs) xs
+pub from-found : {X : Type 0} (p : X → Bool) (xs : List X) (i : ℕ) → Some i ≡ position p xs
+    → take (length xs - i) (drop i xs) ≡ drop (position_or_len p xs) xs
 from-found p xs i found = rest-from i xs ∙ ap (λ (n : ℕ). drop n xs) (position-found p xs i (sym found)).0
 
 pub from-missing : {X : Type 0} (p : X → Bool) (xs : List X) → None ≡ position p xs → [] ≡ drop (position_or_len p xs) xs
 from-missing p xs missing = sym (drop_all (position_or_len p xs) xs (position-missing p xs (sym missing)))
 
 -- operands with a comma, and those with none
-pub cut-found : (xs : List ℕ) (i : ℕ) → Some i ≡ position is_comma xs → split_operand xs ≡ Some (trim (take i xs), trim (take (length xs - (i + 1)) (drop (i + 1) xs)))
+pub cut-found : (xs : List ℕ) (i : ℕ) → Some i ≡ position is_comma xs
+    → split_operand xs ≡ Some (trim (take i xs), trim (take (length xs - (i + 1)) (drop (i + 1) xs)))
 cut-found xs i found =
     let at = position-found is_comma xs i (sym found) in
     rw (rest-from (i + 1) xs, at.0, lt-ltb _ _ at.1) refl
@@ -56,5 +63,6 @@ pub cut-missing : (xs : List ℕ) → None ≡ position is_comma xs → split_op
 cut-missing xs missing = rw (le-ltb _ _ (position-missing is_comma xs (sym missing))) refl
 
 -- a word in brackets
-pub memory-bracketed : (word : List ℕ) → 2 ≤ length word → slice_index word 0 ≡ 91 → slice_index word (length word - 1) ≡ 93 → memory_in word ≡ address_in (slice_range word 1 (length word - 1))
+pub memory-bracketed : (word : List ℕ) → 2 ≤ length word → slice_index word 0 ≡ 91 → slice_index word (length word - 1) ≡ 93
+    → memory_in word ≡ address_in (slice_range word 1 (length word - 1))
 memory-bracketed word long opens closes = rw (le-leb _ _ long, opens, closes) refl

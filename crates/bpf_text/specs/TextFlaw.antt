@@ -1,5 +1,6 @@
--- The number and the name of a flaw in a line of program text. One of the code that the text gives names that fault by its own number.
-use Rattle.std.specs.Prelude.{ℕ, List, Option, Some, None, codes}
+-- The refusal of a flaw in a line of program text, without its line.
+use Rattle.std.specs.Prelude.{codes}
+use Rattle.refusals.specs.Refusal.{RefusalParts, detailed, refused}
 use Rattle.bpf_insn.specs.CodeFault as code_fault
 use Rattle.bpf_insn.specs.WordFault as word_fault
 use Rattle.bpf_insn.specs.declared.fault.CodeFault.TheVariants as code
@@ -7,26 +8,17 @@ use Rattle.bpf_insn.specs.declared.fault.WordFault.TheVariants as word
 use Rattle.bpf_text.specs.declared.fault.TextFlaw.{TextFlaw}
 use Rattle.bpf_text.specs.declared.fault.TextFlaw.TheVariants.{Syntax, UnknownMnemonic, NumberRange, UnknownLabel, DoubleLabel, LabelTooFar, NoInstruction, TooLong, WritesFramePointer}
 
-abbrev pub number : TextFlaw → ℕ
-number Syntax = 20
-number UnknownMnemonic = 21
-number NumberRange = 22
-number UnknownLabel = 23
-number DoubleLabel = 24
-number LabelTooFar = 25
-number flaw = 26
+-- a flaw of the code that the text means names that refusal by its own number
+abbrev pub of_code : RefusalParts → RefusalParts
+of_code code = detailed 26 (codes "CodeFault") code.number
 
-abbrev pub name : TextFlaw → List ℕ
-name Syntax = codes "Syntax"
-name UnknownMnemonic = codes "UnknownMnemonic"
-name NumberRange = codes "NumberRange"
-name UnknownLabel = codes "UnknownLabel"
-name DoubleLabel = codes "DoubleLabel"
-name LabelTooFar = codes "LabelTooFar"
-name flaw = codes "CodeFault"
-
-abbrev pub detail : TextFlaw → Option ℕ
-detail NoInstruction = code_fault.number code.Empty
-detail TooLong = code_fault.number code.TooLong
-detail WritesFramePointer = Some (word_fault.number word.WritesFramePointer)
-detail flaw = None
+abbrev pub refusal : TextFlaw → RefusalParts
+refusal Syntax = refused 20 (codes "Syntax")
+refusal UnknownMnemonic = refused 21 (codes "UnknownMnemonic")
+refusal NumberRange = refused 22 (codes "NumberRange")
+refusal UnknownLabel = refused 23 (codes "UnknownLabel")
+refusal DoubleLabel = refused 24 (codes "DoubleLabel")
+refusal LabelTooFar = refused 25 (codes "LabelTooFar")
+refusal NoInstruction = of_code (code_fault.refusal code.Empty)
+refusal TooLong = of_code (code_fault.refusal code.TooLong)
+refusal WritesFramePointer = of_code (word_fault.refusal word.WritesFramePointer)

@@ -5,6 +5,8 @@ ghost use Rattle.bpf_insn.specs.Code.{IsFirstFault};
 ghost use Rattle.bpf_text.specs.Conversion.{IsAssembled, IsDisassembled};
 ghost use Rattle.bpf_text.specs.SourceFault.{IsSourceFault};
 ghost use Rattle.bpf_text.specs.declared.fault.SourceFault.{SourceFault};
+ghost use Rattle.bpf_text.specs.declared.fault.SourceFault.TheVariants.{Text};
+ghost use Rattle.bpf_text.specs.declared.fault.TextFault.TheVariants.{Memory};
 
 use crate::assembler::assemble;
 use crate::disassembler::disassemble;
@@ -22,11 +24,11 @@ pub fn assemble_source<A: Allocator + Copy>(
 
     // A source that is assembled to some words is refused for memory alone, and gives no other words.
     ensures only { (words : List ℕ) → All (λ byte. byte < 256) words → IsAssembled source.now words
-        → MatchResult result (λ given. given.items ≡ words) (λ fault. fault ≡ SourceFault.Memory) }
+        → MatchResult result (λ given. given.items ≡ words) (λ fault. fault ≡ Text Memory) }
 
     // A source that has a fault is refused, with it or for memory.
-    ensures refused { (fault : SourceFault) → IsSourceFault source.now fault → fault ≢ SourceFault.Memory
-        → IsErrAnd result (λ given. (given ≡ fault) ⊎ (given ≡ SourceFault.Memory)) }
+    ensures refused { (fault : SourceFault) → IsSourceFault source.now fault → fault ≢ Text Memory
+        → IsErrAnd result (λ given. (given ≡ fault) ⊎ (given ≡ Text Memory)) }
 {
     let Ok(text) = str::from_utf8(source) else {
         return Err(SourceFault::NotUtf8);

@@ -1,18 +1,16 @@
 //! Why program text, or a source that should hold one, is refused.
-ghost use Rattle.std.specs.Prelude.{◌≡◌, ◌≤◌, length};
-ghost use Rattle.bpf_text.specs.declared.fault.SourceFault.TheVariants as source;
+ghost use Rattle.std.specs.Prelude.{◌≡◌};
+ghost use Rattle.bpf_text.specs.declared.fault.SourceFault.TheVariants.{Text};
 ghost use Rattle.bpf_text.specs.declared.fault.TextFault.TheVariants.{Memory};
-ghost use Rattle.bpf_text.specs.SourceFault.{of_text};
 ghost use Rattle.bpf_text.specs.TextFlaw as text_flaw;
-ghost use Rattle.bpf_text.specs.TextFault as text_fault;
+ghost use Rattle.bpf_text.specs.TextFlaw.{of_code};
 
-use arrayvec::ArrayString;
-use bpf_insn::{CodeFault, WordFault, refusal_line, refusal_line_at};
+use bpf_insn::{CodeFault, WordFault};
+use refusals::{Fault, Refusal};
 use std::alloc::{AllocError, AllocFailed};
 use thiserror::Error;
 
-/// What is wrong with a line of program text. The derived text is for people; the refusal's text is
-/// `TextFault::line`.
+/// What is wrong with a line of program text. The derived text is for people.
 #[derive(Clone, Copy, Debug, PartialEq, Eq, Error)]
 pub enum TextFlaw {
     #[error("no label, and no mnemonic with its operands")]
@@ -64,117 +62,65 @@ impl<T: Drop> From<AllocFailed<T>> for TextFault {
     }
 }
 
-/// Why a source has no instruction words, or that memory was wanting, which `Text` never says.
+/// Why a source has no instruction words.
 #[derive(Clone, Copy, Debug, PartialEq, Eq, Error)]
 pub enum SourceFault {
     #[error("the source isn't UTF-8")]
     NotUtf8,
     #[error("{0}")]
     Text(TextFault),
-    #[error("out of memory")]
-    Memory,
 }
 
 impl From<TextFault> for SourceFault {
-    ghost from_gives = { λ fault given. given ≡ of_text fault };
+    ghost from_gives = { λ fault given. given ≡ Text fault };
 
     fn from(fault: TextFault) -> SourceFault {
-        match fault {
-            TextFault::Memory => SourceFault::Memory,
-            fault => SourceFault::Text(fault),
-        }
+        SourceFault::Text(fault)
     }
 }
 
 impl From<AllocError> for SourceFault {
-    ghost from_gives = { λ _ fault. fault ≡ source.Memory };
+    ghost from_gives = { λ _ fault. fault ≡ Text Memory };
 
     fn from(_error: AllocError) -> SourceFault {
-        SourceFault::Memory
+        SourceFault::Text(TextFault::Memory)
     }
 }
 
 impl TextFlaw {
-    pub fn number(self) -> u8
-        ensures { result ≡ text_flaw.number self }
+    /// Returns the flaw as a refusal, without its line. A flaw of the code that the text means has the number of the code's refusal as its detail.
+    pub fn refusal(self) -> Refusal
+        ensures { result ≡ text_flaw.refusal self }
     {
         match self {
-            TextFlaw::Syntax => 20,
-            TextFlaw::UnknownMnemonic => 21,
-            TextFlaw::NumberRange => 22,
-            TextFlaw::UnknownLabel => 23,
-            TextFlaw::DoubleLabel => 24,
-            TextFlaw::LabelTooFar => 25,
-            TextFlaw::NoInstruction | TextFlaw::TooLong | TextFlaw::WritesFramePointer => 26,
-        }
-    }
-
-    pub fn name(self) -> &'static str
-        ensures value { result.now ≡ text_flaw.name self }
-        ensures short { length result.now ≤ 18 }
-    {
-        match self {
-            TextFlaw::Syntax => "Syntax",
-            TextFlaw::UnknownMnemonic => "UnknownMnemonic",
-            TextFlaw::NumberRange => "NumberRange",
-            TextFlaw::UnknownLabel => "UnknownLabel",
-            TextFlaw::DoubleLabel => "DoubleLabel",
-            TextFlaw::LabelTooFar => "LabelTooFar",
-            TextFlaw::NoInstruction | TextFlaw::TooLong | TextFlaw::WritesFramePointer =>
-                "CodeFault",
-        }
-    }
-
-    /// The number of the code's fault, where the flaw is one of the code that the text gives.
-    pub fn detail(self) -> Option<u8>
-        ensures { result ≡ text_flaw.detail self }
-    {
-        match self {
-            TextFlaw::NoInstruction => CodeFault::Empty.number(),
-            TextFlaw::TooLong => CodeFault::TooLong.number(),
-            TextFlaw::WritesFramePointer => Some(WordFault::WritesFramePointer.number()),
-            _ => None,
+            TextFlaw::Syntax => Refusal::refused(20, "Syntax"),
+            TextFlaw::UnknownMnemonic => Refusal::refused(21, "UnknownMnemonic"),
+            TextFlaw::NumberRange => Refusal::refused(22, "NumberRange"),
+            TextFlaw::UnknownLabel => Refusal::refused(23, "UnknownLabel"),
+            TextFlaw::DoubleLabel => Refusal::refused(24, "DoubleLabel"),
+            TextFlaw::LabelTooFar => Refusal::refused(25, "LabelTooFar"),
+            TextFlaw::NoInstruction => of_code(&CodeFault::Empty.refusal()),
+            TextFlaw::TooLong => of_code(&CodeFault::TooLong.refusal()),
+            TextFlaw::WritesFramePointer => of_code(&WordFault::WritesFramePointer.refusal()),
         }
     }
 }
 
-impl TextFault {
-    /// None for want of memory.
-    pub fn number(&self) -> Option<u8>
-        ensures { result ≡ text_fault.number self.now }
-    {
-        match *self {
-            TextFault::InLine { flaw, .. } => Some(flaw.number()),
-            TextFault::Memory => None,
-        }
-    }
+fn of_code(code: &Refusal) -> Refusal
+    ensures { result ≡ of_code code.now }
+{
+    Refusal::detailed(26, "CodeFault", code.number())
+}
 
-    pub fn name(&self) -> &'static str
-        ensures value { result.now ≡ text_fault.name self.now }
-        ensures short { length result.now ≤ 18 }
-    {
-        match *self {
-            TextFault::InLine { flaw, .. } => flaw.name(),
-            TextFault::Memory => CodeFault::Memory.name(),
-        }
-    }
+impl Fault for TextFault {
+    ghost use Rattle.bpf_text.specs.TextFault.{refusal};
 
-    /// The refusal's line of text, as `refused 21 line 2 UnknownMnemonic`, without an end of line. It
-    /// takes no memory.
-    pub fn line(&self) -> ArrayString<64>
-        ensures { result.bytes ≡ text_fault.line self.now }
-    {
+    ghost refusal_of = { refusal };
+
+    fn refusal(&self) -> Refusal {
         match *self {
-            TextFault::InLine { line, flaw } => {
-                refusal_line_at(
-                    flaw.number(),
-                    "line",
-                    line as u64,
-                    flaw.name(),
-                    flaw.detail(),
-                )
-            }
-            TextFault::Memory => refusal_line(None, self.name()),
+            TextFault::InLine { line, flaw } => flaw.refusal().at_line(line),
+            TextFault::Memory => Refusal::memory(),
         }
     }
 }

@@ -8,24 +8,28 @@ use Rattle.bpf_flat.proofs.forms.flat_forms.Goals as goal
 
 pub target_index-target-requires-clause-begins : goal.target_index-target-requires-clause-begins
 target_index-target-requires-clause-begins g c =
-    ap is_some (stands_at c.instructions-instructions.result.now c.args.flow.now.code c.loop-index.index c.place.result c.index-instructions-index.result
+    ap is_some (stands_at c.loop-index.index c.place.result
     (c.instructions-instructions.ensures.value ∙ c.code-code.ensures.value)
-    (let same = ap length (c.instructions-instructions.ensures.value ∙ c.code-code.ensures.value) in let all = c.requires in let below = c.loop-index-test.true in omega arith)
+    (let same = ap length (c.instructions-instructions.ensures.value ∙ c.code-code.ensures.value) in let all = c.requires in let below =
+    c.loop-index-test.true in omega arith)
     c.index-instructions-index.is (c.place.ensures ∙ ap (λ (code : List Insn). place_of code c.loop-index.index) c.code-code.ensures.value))
 
 pub loop-index-preserved : goal.loop-index-preserved
 loop-index-preserved g c =
     let items = c.instructions-instructions.ensures.value ∙ c.code-code.ensures.value in
-    let within : c.loop-index.index < length c.args.flow.now.code = let all = c.requires in let below = c.loop-index-test.true in omega arith in
+    let within : c.loop-index.index < length c.args.flow.now.code = let all = c.requires in let below = c.loop-index-test.true in
+    omega arith in
     let inside : c.loop-index.index < length c.instructions-instructions.result.now = let same = ap length items in omega arith in
     let place = c.place.ensures ∙ ap (λ (code : List Insn). place_of code c.loop-index.index) c.code-code.ensures.value in
-    let stands = stands_at c.instructions-instructions.result.now c.args.flow.now.code c.loop-index.index c.place.result c.index-instructions-index.result items inside c.index-instructions-index.is place in
-    let is = c.index-instructions-index.is ∙ ap (λ (code : List Insn). get_or code c.loop-index.index c.index-instructions-index.result) items in
-    forms_grow c.args.flow.now.code c.args.areas.now c.loop-index.index c.loop-index.flats.items c.push.new.self.items c.index-instructions-index.result c.flatten.result
-    c.loop-index.invariant (search rules) is within
-    (form_at c.args.flow.now.code c.loop-index.index c.place.result c.target_index-target.result c.index-instructions-index.result _ c.flatten.result place stands c.target_index-target.ensures c.flatten.ensures.insn c.flatten.ensures.immediates c.flatten.ensures.kept)
+    let stands = stands_at c.loop-index.index c.place.result items inside c.index-instructions-index.is place in
+    let is = c.index-instructions-index.is ∙ ap (λ (code : List Insn). get_or code c.loop-index.index c.index-instructions-index.result)
+    items in
+    forms_grow c.flatten.result c.loop-index.invariant (search rules) is within
+    (form_at c.loop-index.index c.target_index-target.result place stands c.target_index-target.ensures
+    c.flatten.ensures.insn c.flatten.ensures.immediates c.flatten.ensures.kept)
 
 pub returns : goal.returns
 returns g c =
     let all = c.requires in
-    subst (λ count. AreFlatForms c.args.flow.now.code c.args.areas.now count c.loop-index.flats.items) (omega (arith, c.loop-index-test.false)) c.loop-index.invariant
+    subst (λ count. AreFlatForms c.args.flow.now.code c.args.areas.now count c.loop-index.flats.items)
+    (omega (arith, c.loop-index-test.false)) c.loop-index.invariant

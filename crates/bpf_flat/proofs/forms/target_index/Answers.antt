@@ -14,7 +14,9 @@ overflow_cast-result g c =
     omega (arith, sized.1)
 
 pub unreachable-requires : goal.unreachable-requires
-unreachable-requires g c = nothing_found c.code.result.now c.in-Some.target (sym c.in-None.ensures.value) (subst (λ (code : List Insn). IsSome (instruction_at code c.in-Some.target)) (sym c.code.ensures.value) c.in-Some.ensures.begins)
+unreachable-requires g c = nothing_found c.code.result.now c.in-Some.target (sym c.in-None.ensures.value)
+    (subst (λ (code : List Insn). IsSome (instruction_at code c.in-Some.target)) (sym c.code.ensures.value) c.in-Some.ensures.begins)
 
 pub returns : goal.returns
-returns g c = jumps_to c.args.flow.now.code c.args.place c.in-Some.target c.in-Some-index_at.index _ c.in-Some.ensures.value (c.in-Some-index_at.ensures.value ∙ ap (λ code. index_at code c.in-Some.target) c.code.ensures.value)
+returns g c = jumps_to c.args.flow.now.code c.args.place c.in-Some.target c.in-Some-index_at.index _ c.in-Some.ensures.value
+    (c.in-Some-index_at.ensures.value ∙ ap (λ code. index_at code c.in-Some.target) c.code.ensures.value)

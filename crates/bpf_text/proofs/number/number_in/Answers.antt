@@ -29,7 +29,8 @@ loop-byte-preserved c =
     let i = c.loop-byte.byte-index in
     record {
       digits = all-next c.args.radix digits i c.loop-byte-test.true c.in-Some.ensures.value.0 c.loop-byte.invariant.digits;
-      value = rw (c.from.ensures, c.from-in-loop-byte.ensures, c.in-Some.ensures.value.1) (digits-next c.args.radix digits i c.loop-byte.number c.loop-byte-test.true c.loop-byte.invariant.value);
+      value = rw (c.from.ensures, c.from-in-loop-byte.ensures, c.in-Some.ensures.value.1)
+          (digits-next c.args.radix digits i c.loop-byte.number c.loop-byte-test.true c.loop-byte.invariant.value);
     }
 
 pub returns-clause-small : goal.returns-clause-small

@@ -6,12 +6,16 @@ use Rattle.bpf_insn.proofs.PlaceLemmas.{all_grow, few_instructions}
 use Rattle.bpf_insn.proofs.code.CodeBuilder.push.Goals as goal
 
 pub overflow_cast-len : goal.overflow_cast-len
-overflow_cast-len g c = let few = few_instructions c.self.inside.instructions.items in let within = c.self.invariant.2 in omega (arith, c.len.ensures, ap length c.reserve.ensures.items)
+overflow_cast-len g c = let few = few_instructions c.self.inside.instructions.items in let within = c.self.invariant.2 in
+    omega (arith, c.len.ensures, ap length c.reserve.ensures.items)
 
 pub invariant_of-self-2 : goal.invariant_of-self-2
 invariant_of-self-2 g c =
-    let at : c.words-place.result ≡ word_count c.self.inside.instructions.items = c.words-place.ensures ∙ sym (ap word_count c.self.view_is) in
+    let at : c.words-place.result ≡ word_count c.self.inside.instructions.items =
+    c.words-place.ensures ∙ sym (ap word_count c.self.view_is) in
     let seen = ap length c.reserve.ensures.items in
     let counted : c.len.result ≡ length c.self.inside.instructions.items = omega (arith, c.len.ensures) in
-    let fits : word_count c.self.inside.instructions.items + length (spelling c.args.insn) ≤ WORD_LIMIT = omega (arith, at, c.words.ensures, c.if-place-words.false, c.self.invariant.2) in
-    all_grow c.self.inside.instructions.items c.push_reserved-2.new.self.items c.reserve.new.self.items c.self.inside.places.items c.push_reserved.new.self.items c.reserve-2.new.self.items c.self.inside.indexes.items c.push_indexes.new.indexes.items c.self.inside.indexes.items c.args.insn c.words-place.result c.len.result c.self.invariant.0 c.self.invariant.1 at counted c.reserve-2.ensures.items c.push_reserved.ensures.items refl c.in_ok-push_indexes.ensures.ok c.reserve.ensures.items c.push_reserved-2.ensures.items fits
+    let fits : word_count c.self.inside.instructions.items + length (spelling c.args.insn) ≤ WORD_LIMIT =
+    omega (arith, at, c.words.ensures, c.if-place-words.false, c.self.invariant.2) in
+    all_grow c.args.insn c.self.invariant at counted (c.reserve-2.ensures.items, c.push_reserved.ensures.items)
+    (refl, c.in_ok-push_indexes.ensures.ok) (c.reserve.ensures.items, c.push_reserved-2.ensures.items) fits

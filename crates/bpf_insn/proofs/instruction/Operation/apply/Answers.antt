@@ -24,11 +24,19 @@ returns-in-Add-clause-value c =
 
 pub returns-in-Multiply-clause-value : goal.returns-in-Multiply-clause-value
 returns-in-Multiply-clause-value c =
-    rw (c.low_bits-in-Multiply.ensures.value, low_bits-wrapped, c.low_bits-x.ensures.value, c.low_bits-y.ensures.value, c.in-Multiply.is) refl
+    rw (c.low_bits-in-Multiply.ensures.value, low_bits-wrapped, c.low_bits-x.ensures.value, c.low_bits-y.ensures.value, c.in-Multiply.is)
+    refl
 
 pub returns-in-ShiftLeft-clause-value : goal.returns-in-ShiftLeft-clause-value
 returns-in-ShiftLeft-clause-value c =
-    rw (c.low_bits-in-ShiftLeft.ensures.value, low_bits-wrapped, c.shift_amount.ensures.value, c.low_bits-x.ensures.value, c.low_bits-y.ensures.value, c.in-ShiftLeft.is) refl
+    rw (
+      c.low_bits-in-ShiftLeft.ensures.value,
+      low_bits-wrapped,
+      c.shift_amount.ensures.value,
+      c.low_bits-x.ensures.value,
+      c.low_bits-y.ensures.value,
+      c.in-ShiftLeft.is,
+    ) refl
 
 pub returns-in-ArithmeticShiftRight-clause-value : goal.returns-in-ArithmeticShiftRight-clause-value
 returns-in-ArithmeticShiftRight-clause-value c = grind (arith, common_steps)

@@ -9,5 +9,6 @@ use Rattle.bpf_text.proofs.assembler.Notes.add.Goals as goal
 
 pub returns-in-Ok-Blank-clause-noted : goal.returns-in-Ok-Blank-clause-noted
 returns-in-Ok-Blank-clause-noted g c = λ before notes number.
-    let means = sym c.in-Ok-Blank.ensures ∙ ap (λ (s : Statement). let r : Result line.Statement TextFlaw = Ok (meaning_of s) in r) c.in-Ok-Blank.field-0-is in
+    let means = sym c.in-Ok-Blank.ensures ∙ ap (λ (s : Statement). let r : Result line.Statement TextFlaw = Ok (meaning_of s) in r)
+    c.in-Ok-Blank.field-0-is in
     (line.Blank, means, refl, noted-blank c.args.self.now.items.items (places_in c.args.self.now.labels) c.args.self.now.words before notes)

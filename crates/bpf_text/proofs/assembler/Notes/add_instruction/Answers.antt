@@ -2,7 +2,6 @@ use Rattle.std.proofs.Common.{ℕ, refl, ap, arith}
 use Rattle.bpf_text.specs.Line.{Instruction}
 use Rattle.bpf_text.specs.View.{name_view}
 use Rattle.bpf_text.specs.Text.{item}
-use Rattle.bpf_text.specs.Notes.{places_in}
 use Rattle.bpf_text.proofs.NoteLemmas.{noted-instruction, faultless-instruction}
 use Rattle.bpf_text.proofs.assembler.Notes.add_instruction.Goals as goal
 
@@ -10,5 +9,11 @@ pub returns-clause-noted : goal.returns-clause-noted
 returns-clause-noted g c = λ before notes line.
     let target = name_view c.args.target in
     let words = c.args.self.now.words in
-    let numbered = ap (λ (n : ℕ). item n words c.args.insn target) line in
-    (Instruction c.args.insn target, refl, faultless-instruction before c.args.insn target (omega (arith, notes.words_are, c.words-words.ensures)), rw (c.in_ok-push.ensures.items, c.words-words.ensures) (noted-instruction c.args.self.now.items.items (places_in c.args.self.now.labels) words before _ c.args.insn target notes numbered))
+    let numbered = ap (λ (n : ℕ). item n words c.args.insn target) line in (
+      Instruction c.args.insn target,
+      refl,
+      faultless-instruction before c.args.insn target
+          (omega (arith, notes.words_are, c.words-words.ensures)),
+      rw (c.in_ok-push.ensures.items, c.words-words.ensures)
+          (noted-instruction _ c.args.insn target notes numbered),
+    )

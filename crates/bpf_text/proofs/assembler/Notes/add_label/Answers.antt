@@ -11,4 +11,4 @@ returns-clause-noted g c = λ before notes line.
     let old = c.args.self.now.labels in
     let updated = btree_map_updates_str name old c.insert.new.self (Some c.args.self.now.words) c.in_ok-insert.ensures.updates in
     let absent = absent-label before name (places_in old name) (notes.labels_are name) c.if-contains_key.ensures in
-    (Label name, refl, faultless-label before name absent, noted-label c.args.self.now.items.items (places_in old) (places_in c.insert.new.self) c.args.self.now.words before name notes absent updated)
+    (Label name, refl, faultless-label before name absent, noted-label (places_in c.insert.new.self) name notes absent updated)

@@ -5,7 +5,8 @@ use Rattle.bpf_text.proofs.assembler.Notes.read.Goals as goal
 
 pub loop-rest-init : goal.loop-rest-init
 loop-rest-init g c = record {
-  read = read-none c.args.text.now c.new.result.items (places_in c.new-2.result) 0 (noted-new c.new.result.items c.new-2.result c.new.ensures.items c.new-2.ensures.empty);
+  read = read-none c.args.text.now c.new.result.items (places_in c.new-2.result) 0
+      (noted-new c.new.result.items c.new-2.result c.new.ensures.items c.new-2.ensures.empty);
   few = omega arith;
   within = omega arith;
 }
@@ -16,7 +17,7 @@ loop-rest-preserved g c =
     let number = read-counted c.args.text.now c.loop-rest.rest.now c.loop-rest.number _ _ _ before in
     let step = c.in_ok-add.ensures.noted before.statements before.noted number in
     record {
-      read = read-more c.args.text.now c.loop-rest.rest.now c.first_line.result.1.now c.first_line.result.0.now c.loop-rest.number _ _ _ _ _ _ step.0 before c.first_line.ensures.cut step.1 step.2 step.3;
+      read = read-more c.first_line.result.1.now before c.first_line.ensures.cut step.1 step.2 step.3;
       few = omega (arith, c.loop-rest.invariant.few, c.first_line.ensures.shorter);
       within = c.in_ok-add.ensures.within;
     }
@@ -26,7 +27,9 @@ returns-in_err-add-clause-err g c =
     let before = c.loop-rest.invariant.read in
     let number = read-counted c.args.text.now c.loop-rest.rest.now c.loop-rest.number _ _ _ before in
     let given : c.from_residual.result ≡ Err c.in_err-add.field-0.0 = search rules in
-    rw given (reads-fault c.args.text.now c.loop-rest.rest.now c.first_line.result.1.now c.first_line.result.0.now c.loop-rest.number _ _ _ c.in_err-add.field-0.0 before c.first_line.ensures.cut (c.in_err-add.ensures.noted before.statements before.noted number))
+    rw given (reads-fault c.first_line.result.1.now before c.first_line.ensures.cut
+    (c.in_err-add.ensures.noted before.statements before.noted number))
 
 pub returns-clause-notes : goal.returns-clause-notes
-returns-clause-notes g c = read-all c.args.text.now c.loop-rest.rest.now c.loop-rest.number _ _ _ c.loop-rest.invariant.read (sym c.loop-rest-test.ensures)
+returns-clause-notes g c = read-all c.args.text.now c.loop-rest.rest.now c.loop-rest.number _ _ _ c.loop-rest.invariant.read
+    (sym c.loop-rest-test.ensures)
