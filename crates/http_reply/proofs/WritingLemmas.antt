@@ -14,7 +14,8 @@ take-within (suc count) [] more = refl
 take-within (suc count) (byte ∷ text) more = ap (λ (rest : List ℕ). byte ∷ rest) (take-within count text more)
 
 -- the first wasn't written whole, and the second wasn't tried
-pub first_failed : (first second : List ℕ) (fault : WriteFault) (old new : Writer) → WritesText first (Err fault) old new → WritesText (first ++ second) (Err fault) old new
+pub first_failed : (first second : List ℕ) (fault : WriteFault) (old new : Writer) → WritesText first (Err fault) old new
+    → WritesText (first ++ second) (Err fault) old new
 first_failed first second fault old new (beginning, counts) = (
   record {
     count = length (take beginning.count first);
@@ -24,7 +25,8 @@ first_failed first second fault old new (beginning, counts) = (
 )
 
 -- the first was written whole, and the second up to its end or to a fault
-pub then_written : (first second : List ℕ) (result : Result (Unit {0}) WriteFault) (old now new : Writer) → WritesText first (Ok tt) old now → WritesText second result now new → WritesText (first ++ second) result old new
+pub then_written : (first second : List ℕ) (result : Result (Unit {0}) WriteFault) (old now new : Writer) → WritesText first (Ok tt) old now
+    → WritesText second result now new → WritesText (first ++ second) result old new
 then_written first second (Ok done) old now new before next =
     (Appends-append old.held now.held new.held first second before.0 next.0, next.1 ∙ before.1)
 then_written first second (Err fault) old now new before next = (

@@ -1,5 +1,6 @@
 -- What is known of a body while it is read.
-use Rattle.std.proofs.Common.{◌≡◌, ◌≢◌, ℕ, ◌+◌, ◌<◌, ◌≤◌, List, [], ◌∷◌, ◌++◌, length, take, min, inl, inr, ◌∙◌, ap, arith, refl, sym, append_assoc, length-append}
+use Rattle.std.proofs.Common.{◌≡◌, ◌≢◌, ℕ, ◌+◌, ◌<◌, ◌≤◌, List, [], ◌∷◌, ◌++◌, length, take, min, inl, inr, ◌∙◌, ap, arith, refl, sym}
+use Rattle.std.proofs.Common.{append_assoc, length-append}
 use Rattle.std.proofs.lemmas.List.{append-nil, length-take, length-take-le, take-append-le, take_all, take_min}
 use Rattle.std.proofs.lemmas.Bool.{cases_lt}
 use Rattle.std.specs.Io.KnownBytes.{IsAtEnd, Keeps}
@@ -16,9 +17,11 @@ pub record IsBodySoFar (behind : List ℕ) (count : ℕ) (body : List ℕ) (old 
   pub within : length body ≤ count
 
 -- before the first read
-pub body_begins : (behind front : List ℕ) (count room : ℕ) (body : List ℕ) (input : Reader) → body ≡ front ++ take room behind → front ≡ [] → room ≡ min count (length behind) → IsBodySoFar behind count body input input
-body_begins behind front count room body input is nothing least =
-    let same : body ≡ take (min count (length behind)) behind = is ∙ ap (λ (xs : List ℕ). xs ++ take room behind) nothing ∙ ap (λ (n : ℕ). take n behind) least in
+pub body_begins : {behind front : List ℕ} {count room : ℕ} {body : List ℕ} {input : Reader} → body ≡ front ++ take room behind → front ≡ []
+    → room ≡ min count (length behind) → IsBodySoFar behind count body input input
+body_begins {behind} {count} {room} {body} {input} is nothing least =
+    let same : body ≡ take (min count (length behind)) behind = is ∙ ap (λ (xs : List ℕ). xs ++ take room behind) nothing ∙ ap
+    (λ (n : ℕ). take n behind) least in
     record {
       taken = [];
       takes = Takes-refl input;
@@ -27,24 +30,30 @@ body_begins behind front count room body input is nothing least =
     }
 
 -- how many bytes of a body are there, while some are missing
-so_far-length : (behind : List ℕ) (count : ℕ) (body : List ℕ) (old new : Reader) → (so_far : IsBodySoFar behind count body old new) → length body < count → length body ≡ length behind + length so_far.taken
+so_far-length : (behind : List ℕ) (count : ℕ) (body : List ℕ) (old new : Reader) → (so_far : IsBodySoFar behind count body old new)
+    → length body < count → length body ≡ length behind + length so_far.taken
 so_far-length behind count body old new so_far short =
     omega (arith, ap length so_far.is_body, length-append (take count behind) so_far.taken, length-take count behind)
 
 -- one piece more, of the bytes that a read gave
-pub body_more : (behind : List ℕ) (count : ℕ) (body more given rest : List ℕ) (read : ℕ) (old now new : Reader) → IsBodySoFar behind count body old now → Takes (take read given) now new → more ≡ body ++ take read (given ++ rest) → read ≤ length given → length body + read ≤ count → IsBodySoFar behind count more old new
-body_more behind count body more given rest read old now new so_far takes is inside fits =
+pub body_more : {behind : List ℕ} {count : ℕ} {body more : List ℕ} (given rest : List ℕ) (read : ℕ) {old now new : Reader}
+    → IsBodySoFar behind count body old now → Takes (take read given) now new → more ≡ body ++ take read (given ++ rest)
+    → read ≤ length given → length body + read ≤ count → IsBodySoFar behind count more old new
+body_more {behind} {count} {body} {more} given rest read {old} {now} {new} so_far takes is inside fits =
     let same : more ≡ body ++ take read given = is ∙ ap (λ (xs : List ℕ). body ++ xs) (take-append-le read given rest inside) in
     record {
       taken = so_far.taken ++ take read given;
       takes = Takes-append so_far.taken (take read given) old now new so_far.takes takes;
-      is_body = same ∙ ap (λ (xs : List ℕ). xs ++ take read given) so_far.is_body ∙ append_assoc (take count behind) so_far.taken (take read given);
+      is_body = same ∙ ap (λ (xs : List ℕ). xs ++ take read given) so_far.is_body
+          ∙ append_assoc (take count behind) so_far.taken (take read given);
       within = omega (arith, ap length same, length-append body (take read given), length-take-le read given inside);
     }
 
 -- the input ended
-pub body_ends : (behind : List ℕ) (count : ℕ) (body piece : List ℕ) (read : ℕ) (old now new : Reader) → IsBodySoFar behind count body old now → length body < count → Takes (take read piece) now new → read ≡ 0 → IsAtEnd new.left → EndsInBody behind count old new
-body_ends behind count body piece read old now new so_far short takes none ended = record {
+pub body_ends : {behind : List ℕ} {count : ℕ} {body : List ℕ} (piece : List ℕ) {read : ℕ} {old now new : Reader}
+    → IsBodySoFar behind count body old now → length body < count → Takes (take read piece) now new → read ≡ 0 → IsAtEnd new.left
+    → EndsInBody behind count old new
+body_ends {behind} {count} {body} piece {read} {old} {now} {new} so_far short takes none ended = record {
   taken = so_far.taken ++ take read piece;
   takes = Takes-append so_far.taken (take read piece) old now new so_far.takes takes;
   ended = ended;
@@ -52,23 +61,35 @@ body_ends behind count body piece read old now new so_far short takes none ended
 }
 
 -- a read failed
-pub body_fails : (behind : List ℕ) (count : ℕ) (body : List ℕ) (old now new : Reader) → IsBodySoFar behind count body old now → length body < count → Keeps now.left new.left → new.failed ≢ now.failed → FailsInBody behind count old new
-body_fails behind count body old now new so_far short kept failed = record {
+pub body_fails : {behind : List ℕ} {count : ℕ} {body : List ℕ} {old now new : Reader} → IsBodySoFar behind count body old now
+    → length body < count → Keeps now.left new.left → new.failed ≢ now.failed → FailsInBody behind count old new
+body_fails {behind} {count} {body} {old} {now} {new} so_far short kept failed = record {
   taken = so_far.taken ++ [];
   fails = record {
-    consumed = Consumes-append old.left now.left new.left so_far.taken [] so_far.takes.consumed (Consumes-from_keeps now.left new.left kept);
+    consumed = Consumes-append old.left now.left new.left so_far.taken [] so_far.takes.consumed
+        (Consumes-from_keeps now.left new.left kept);
     failed = λ same. failed (same ∙ sym so_far.takes.failed);
   };
   short = rw append-nil (omega (arith, length-append behind so_far.taken, so_far-length behind count body old now so_far short));
 }
 
 -- memory was refused for a piece
-pub body_lacks_memory : (behind : List ℕ) (count : ℕ) (body given : List ℕ) (read : ℕ) (old now new : Reader) → IsBodySoFar behind count body old now → length body < count → Takes (take read given) now new → read ≤ length given → length body + read ≤ count → LacksMemory behind count old new
-body_lacks_memory behind count body given read old now new so_far short takes inside fits = record {
+pub body_lacks_memory : {behind : List ℕ} {count : ℕ} {body : List ℕ} (given : List ℕ) (read : ℕ) {old now new : Reader}
+    → IsBodySoFar behind count body old now → length body < count → Takes (take read given) now new → 0 < read → read ≤ length given
+    → length body + read ≤ count → LacksMemory behind count old new
+body_lacks_memory {behind} {count} {body} given read {old} {now} {new} so_far short takes some inside fits = record {
   taken = so_far.taken ++ take read given;
   takes = Takes-append so_far.taken (take read given) old now new so_far.takes takes;
-  within = omega (arith, length-append so_far.taken (take read given), length-take-le read given inside, so_far-length behind count body old now so_far short);
+  within = omega (
+    arith,
+    length-append so_far.taken (take read given),
+    length-take-le read given inside,
+    so_far-length behind count body old now so_far short,
+  );
   wanted = omega arith;
+  came = (
+      let all = length-append behind (so_far.taken ++ take read given) in let last = length-append so_far.taken (take read given) in
+      let long = length-take-le read given inside in omega (arith, some));
 }
 
 no_bytes : (bytes : List ℕ) → length bytes ≡ 0 → bytes ≡ []
@@ -76,7 +97,8 @@ no_bytes [] is = refl
 no_bytes (byte ∷ bytes) is = absurd (omega arith)
 
 -- where the bytes fit, they are the first of what is there
-take_front : (behind taken : List ℕ) (count : ℕ) → length (take count behind) + length taken ≤ count → take count behind ++ taken ≡ take count (behind ++ taken)
+take_front : (behind taken : List ℕ) (count : ℕ) → length (take count behind) + length taken ≤ count
+    → take count behind ++ taken ≡ take count (behind ++ taken)
 take_front behind taken count fits = elim (cases_lt count (length behind)) [
   | inl more ↦
       let none : taken ≡ [] = no_bytes taken (omega (arith, length-take-le count behind)) in
@@ -87,10 +109,12 @@ take_front behind taken count fits = elim (cases_lt count (length behind)) [
 ]
 
 -- the body is whole
-pub body_whole : (behind : List ℕ) (count : ℕ) (body : List ℕ) (old new : Reader) → IsBodySoFar behind count body old new → count ≤ length body → ReadsBody behind count body old new
+pub body_whole : (behind : List ℕ) (count : ℕ) (body : List ℕ) (old new : Reader) → IsBodySoFar behind count body old new
+    → count ≤ length body → ReadsBody behind count body old new
 body_whole behind count body old new so_far whole =
     let front = take count behind in
-    let len : length body ≡ length front + length so_far.taken = omega (arith, ap length so_far.is_body, length-append front so_far.taken) in
+    let len : length body ≡ length front + length so_far.taken =
+    omega (arith, ap length so_far.is_body, length-append front so_far.taken) in
     record {
       taken = so_far.taken;
       takes = so_far.takes;

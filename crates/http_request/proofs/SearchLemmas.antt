@@ -1,10 +1,10 @@
 -- What is known of a head while it is searched for.
-use Rattle.std.proofs.Common.{◌≡◌, ◌≢◌, ℕ, ◌+◌, ◌<◌, ◌≤◌, List, [], ◌∷◌, ◌++◌, length, take, drop, Ok, ◌∙◌, ap, arith, refl, sym, subst, inl, length-append}
+use Rattle.std.proofs.Common.{◌≡◌, ◌≢◌, ℕ, ◌+◌, ◌<◌, ◌≤◌, List, [], ◌++◌, length, take, drop, Ok, ◌∙◌, ap, arith, refl, sym, subst, inl}
 use Rattle.std.proofs.lemmas.List.{append-nil, length-take, take-append-le, take_at, take-append-drop, length-take-le}
 use Rattle.std.proofs.Math.Seq.{take-append-add}
 use Rattle.std.specs.Io.KnownBytes.{Consumes, Keeps}
 use borrow.Rule.Slice.PartMut.{put_mid, post_of}
-use Rattle.httparse.specs.Grammar.{HasNoRequest, print_request}
+use Rattle.httparse.specs.Grammar.{HasNoRequest, MayBecomeRequest, print_request}
 use Rattle.httparse.specs.Spans.{RequestOverflows}
 use Rattle.httparse.specs.Outcome.{IfComplete, OnPartial}
 use Rattle.httparse.specs.declared.Status.{Status}
@@ -12,7 +12,7 @@ use Rattle.httparse.specs.declared.Status.TheVariants.{Complete, Partial}
 use Rattle.tl_fields.specs.Device.{Reader}
 use Rattle.tl_fields.proofs.KnownBytesLemmas.{Consumes-append, Consumes-from_keeps}
 use Rattle.http_request.specs.Head.{HasNoHead}
-use Rattle.http_request.proofs.HeadLemmas.{empty-HasNoRequest}
+use Rattle.http_request.proofs.HeadLemmas.{empty-HasNoRequest, empty-MayBecomeRequest}
 use Rattle.http_request.proofs.TakeLemmas.{Takes-append, Takes-refl}
 use Rattle.http_request.specs.Reading.{Takes, FailsInHead, LacksHead}
 
@@ -21,9 +21,11 @@ pub record HasReadSoFar (bytes : List ℕ) (count : ℕ) (old new : Reader) : Ty
   pub inside : count ≤ length bytes
   pub takes : Takes (take count bytes) old new
   pub none : HasNoRequest (take count bytes)
+  pub unfinished : MayBecomeRequest (take count bytes)
 
 -- what a clause says of a parser's answer, once that is known
-pub if_complete : {A : Type 0} (E : Type 0) (status : Status A) (value : A) (P : A → Type 0) → status ≡ Complete value → IfComplete {A = A} {E = E} (Ok status) P → P value
+pub if_complete : {A : Type 0} (E : Type 0) (status : Status A) (value : A) (P : A → Type 0) → status ≡ Complete value
+    → IfComplete {A = A} {E = E} (Ok status) P → P value
 if_complete {A} E status value P is p = subst (λ (now : Status A). IfComplete {A = A} {E = E} (Ok now) P) is p
 
 pub on_partial : {A : Type 0} (E : Type 0) (status : Status A) (P : Type 0) → status ≡ Partial → OnPartial {A = A} {E = E} (Ok status) P → P
@@ -35,18 +37,24 @@ nothing_read bytes input = record {
   inside = omega arith;
   takes = Takes-refl input;
   none = empty-HasNoRequest;
+  unfinished = empty-MayBecomeRequest;
 }
 
 -- the bytes behind those that were there come from the read
-take-put_mid_read : (bytes piece : List ℕ) (count room read : ℕ) → count ≤ length bytes → read ≤ length piece → take (count + read) (put_mid count room bytes piece) ≡ take count bytes ++ take read piece
+take-put_mid_read : (bytes piece : List ℕ) (count room read : ℕ) → count ≤ length bytes → read ≤ length piece
+    → take (count + read) (put_mid count room bytes piece) ≡ take count bytes ++ take read piece
 take-put_mid_read bytes piece count room read inside fits =
     let front : length (take count bytes) ≡ count = length-take-le count bytes inside in
     let rest = post_of count room bytes in
-    ap (λ (n : ℕ). take (n + read) (take count bytes ++ (piece ++ rest))) (sym front) ∙ take-append-add (take count bytes) (piece ++ rest) read ∙ ap (λ (xs : List ℕ). take count bytes ++ xs) (take-append-le read piece rest fits)
+    ap (λ (n : ℕ). take (n + read) (take count bytes ++ (piece ++ rest))) (sym front)
+    ∙ take-append-add (take count bytes) (piece ++ rest) read ∙ ap (λ (xs : List ℕ). take count bytes ++ xs)
+    (take-append-le read piece rest fits)
 
 -- one read more
-pub takes_more : (bytes piece : List ℕ) (count room read : ℕ) (old now new : Reader) → HasReadSoFar bytes count old now → read ≤ length piece → Consumes now.left new.left (take read piece) → new.failed ≡ now.failed → Takes (take (count + read) (put_mid count room bytes piece)) old new
-takes_more bytes piece count room read old now new so_far fits consumed failed =
+pub takes_more : {bytes : List ℕ} (piece : List ℕ) {count : ℕ} (room read : ℕ) {old now : Reader} (new : Reader)
+    → HasReadSoFar bytes count old now → read ≤ length piece → Consumes now.left new.left (take read piece) → new.failed ≡ now.failed
+    → Takes (take (count + read) (put_mid count room bytes piece)) old new
+takes_more {bytes} piece {count} room read {old} {now} new so_far fits consumed failed =
     rw (take-put_mid_read bytes piece count room read so_far.inside fits) (
     Takes-append (take count bytes) (take read piece) old now new so_far.takes (record { consumed = consumed; failed = failed })
     )
@@ -56,13 +64,15 @@ HasNoHead-from_request : (bytes : List ℕ) → HasNoRequest bytes → HasNoHead
 HasNoHead-from_request bytes none head rest has = none has.tree rest has.reads
 
 -- a head with too many headers is none, whatever follows
-HasNoHead-from_overflows : (bytes : List ℕ) (room : ℕ) → room ≡ 64 → RequestOverflows room bytes → (more : List ℕ) → HasNoHead (bytes ++ more)
+HasNoHead-from_overflows : (bytes : List ℕ) (room : ℕ) → room ≡ 64 → RequestOverflows room bytes → (more : List ℕ)
+    → HasNoHead (bytes ++ more)
 HasNoHead-from_overflows bytes room is many more head rest has = absurd (omega (arith, many more has.tree rest has.reads, has.few))
 
 -- two texts that begin alike, the first of them the shorter
 front-append : (xs ys us vs : List ℕ) → length us ≤ length xs → xs ++ ys ≡ us ++ vs → xs ≡ us ++ drop (length us) xs
 front-append xs ys us vs short same =
-    let same_front : take (length us) xs ≡ us = sym (take-append-le (length us) xs ys short) ∙ ap (take (length us)) same ∙ take_at us vs (length us) refl in
+    let same_front : take (length us) xs ≡ us = sym (take-append-le (length us) xs ys short) ∙ ap (take (length us)) same
+    ∙ take_at us vs (length us) refl in
     sym (take-append-drop (length us) xs) ∙ ap (λ (front : List ℕ). front ++ drop (length us) xs) same_front
 
 -- as many bytes as a head may have, and no head in them: nothing that follows makes one
@@ -75,8 +85,9 @@ pub length-take_most : (most count : ℕ) (bytes : List ℕ) → count ≤ most 
 length-take_most most count bytes few = omega (arith, length-take count bytes)
 
 -- the parser refused what was read
-pub lacks_by_refusal : (bytes : List ℕ) (room : ℕ) (old new : Reader) → Takes bytes old new → 0 < length bytes → length bytes ≤ 8192 → room ≡ 64 → RequestOverflows room bytes → LacksHead old new
-lacks_by_refusal bytes room old new takes some short is many = record {
+pub lacks_by_refusal : {bytes : List ℕ} (room : ℕ) {old new : Reader} → Takes bytes old new → 0 < length bytes → length bytes ≤ 8192
+    → room ≡ 64 → RequestOverflows room bytes → LacksHead old new
+lacks_by_refusal {bytes} room takes some short is many = record {
   taken = bytes;
   takes = takes;
   some = some;
@@ -85,7 +96,8 @@ lacks_by_refusal bytes room old new takes some short is many = record {
 }
 
 -- no byte more has room
-pub lacks_by_limit : (bytes : List ℕ) (count : ℕ) (old new : Reader) → length bytes ≡ 8192 → length bytes ≤ count → HasReadSoFar bytes count old new → LacksHead old new
+pub lacks_by_limit : (bytes : List ℕ) (count : ℕ) (old new : Reader) → length bytes ≡ 8192 → length bytes ≤ count
+    → HasReadSoFar bytes count old new → LacksHead old new
 lacks_by_limit bytes count old new full past so_far = record {
   taken = take count bytes;
   takes = so_far.takes;
@@ -95,14 +107,17 @@ lacks_by_limit bytes count old new full past so_far = record {
 }
 
 -- a read failed, and it took no byte
-pub fails : (bytes : List ℕ) (count : ℕ) (old now new : Reader) → length bytes ≡ 8192 → count < length bytes → HasReadSoFar bytes count old now → Keeps now.left new.left → new.failed ≢ now.failed → FailsInHead old new
-fails bytes count old now new full inside so_far kept failed = record {
+pub fails : {bytes : List ℕ} {count : ℕ} {old now new : Reader} → length bytes ≡ 8192 → count < length bytes
+    → HasReadSoFar bytes count old now → Keeps now.left new.left → new.failed ≢ now.failed → FailsInHead old new
+fails {bytes} {count} {old} {now} {new} full inside so_far kept failed = record {
   taken = take count bytes;
   fails = record {
-    consumed = rw append-nil at (Consumes-append old.left now.left new.left (take count bytes) [] so_far.takes.consumed (Consumes-from_keeps now.left new.left kept));
+    consumed = rw append-nil at (Consumes-append old.left now.left new.left (take count bytes) [] so_far.takes.consumed
+        (Consumes-from_keeps now.left new.left kept));
     failed = λ same. failed (same ∙ sym so_far.takes.failed);
   };
   part = HasNoHead-from_request (take count bytes) so_far.none;
+  unfinished = so_far.unfinished;
   room = omega (arith, length-take-le count bytes so_far.inside);
 }
 

@@ -56,15 +56,18 @@ had_no_head old new lacking = elim lacking.lacks [
 ]
 
 -- a head was read, and then bytes behind it
-had_more : (request : Request) (taken : List ℕ) (old now new : Reader) → ReadsHead request old now → Takes taken now new → HadHead request.head (request.behind ++ taken ++ left_of new) old
+had_more : (request : Request) (taken : List ℕ) (old now new : Reader) → ReadsHead request old now → Takes taken now new
+    → HadHead request.head (request.behind ++ taken ++ left_of new) old
 had_more request taken old now new read takes = record {
   input = read.taken ++ taken ++ left_of new;
   known = known_whole (read.taken ++ taken) old new (Takes-append read.taken taken old now new read.takes takes);
-  has = HasHead-append (read.taken ++ taken) (left_of new) request.head (request.behind ++ taken) (HasHead-append read.taken taken request.head request.behind read.has);
+  has = HasHead-append (read.taken ++ taken) (left_of new) request.head (request.behind ++ taken)
+      (HasHead-append read.taken taken request.head request.behind read.has);
 }
 
 -- a head was read, and then the body
-pub had_request : (request : Request) (count : ℕ) (body : List ℕ) (old now new : Reader) → ReadsHead request old now → ReadsBody request.behind count body now new → HadRequest request.head count body old
+pub had_request : (request : Request) (count : ℕ) (body : List ℕ) (old now new : Reader) → ReadsHead request old now
+    → ReadsBody request.behind count body now new → HadRequest request.head count body old
 had_request request count body old now new read body_read =
     let there = request.behind ++ body_read.taken in
     record {
@@ -75,7 +78,8 @@ had_request request count body old now new read body_read =
     }
 
 -- a head was read, and the input ended within the body
-pub had_short_request : (request : Request) (count : ℕ) (old now new : Reader) → ReadsHead request old now → EndsInBody request.behind count now new → HadShortRequest request.head count old
+pub had_short_request : (request : Request) (count : ℕ) (old now new : Reader) → ReadsHead request old now
+    → EndsInBody request.behind count now new → HadShortRequest request.head count old
 had_short_request request count old now new read ends =
     let there = request.behind ++ ends.taken in
     let none = nothing_left new.left ends.ended in

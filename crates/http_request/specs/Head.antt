@@ -1,6 +1,6 @@
 -- The head of a request (RFC 9112, sections 2 to 5), at the front of an input.
 use Rattle.std.specs.Prelude.{◌≡◌, ℕ, ◌≤◌, List, length, map}
-use Rattle.httparse.specs.Grammar.{ReadsRequest, RequestHead, print_request}
+use Rattle.httparse.specs.Grammar.{MayBecomeRequest, ReadsRequest, RequestHead, print_request}
 use Rattle.httparse.specs.Spans.{name_and_value}
 use Rattle.http_request.specs.declared.head.TheConstants.{HEAD_LIMIT, HEADER_LIMIT}
 
@@ -20,6 +20,10 @@ pub record HasHead (input : List ℕ) (head : Head) (rest : List ℕ) : Type 0 w
   pub short : length (print_request tree) ≤ HEAD_LIMIT
   pub few : length tree.fields ≤ HEADER_LIMIT
   pub parts : head ≡ head_of tree
+
+-- Bytes may become a head: some that follow make them one; or they end within a target, which is looked at when it ends.
+abbrev pub MayBecomeHead : List ℕ → Type 0
+MayBecomeHead = MayBecomeRequest
 
 abbrev pub HasNoHead : List ℕ → Type 0
 HasNoHead input = (head : Head) (rest : List ℕ) → HasHead input head rest → ⊥

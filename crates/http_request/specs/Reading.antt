@@ -2,7 +2,7 @@
 use Rattle.std.specs.Prelude.{◌≡◌, ◌≢◌, ◌⊎◌, ℕ, ◌-◌, ◌<◌, ◌≤◌, List, [], ◌++◌, length, take, Option, None, Some, Result, Ok, Err}
 use Rattle.std.specs.Io.KnownBytes.{Consumes, IsAtEnd}
 use Rattle.tl_fields.specs.Device.{Reader}
-use Rattle.http_request.specs.Head.{Head, HasHead, HasNoHead}
+use Rattle.http_request.specs.Head.{Head, HasHead, HasNoHead, MayBecomeHead}
 use Rattle.http_request.specs.declared.body.BodyFault.{BodyFault}
 use Rattle.http_request.specs.declared.body.BodyFault.TheVariants.{Short, Read as ReadBody, Memory}
 use Rattle.http_request.specs.declared.head.HeadFault.{HeadFault}
@@ -31,12 +31,13 @@ pub record ReadsHead (request : Request) (old new : Reader) : Type 0 where
   pub has : HasHead taken request.head request.behind
   pub room : length taken ≤ HEAD_LIMIT
 
--- What was taken is not the beginning of an input with a head: whatever follows it, or since nothing does. It is a byte or more, and no more than a head may have.
+-- What was taken is not the beginning of an input with a head: whatever follows it, or since nothing does, though more might have made it
+-- one. It is a byte or more, and no more than a head may have.
 pub record LacksHead (old new : Reader) : Type 0 where
   pub taken : List ℕ
   pub takes : Takes taken old new
   pub some : 0 < length taken
-  pub lacks : ((more : List ℕ) → HasNoHead (taken ++ more)) ⊎ (IsAtEnd new.left × HasNoHead taken)
+  pub lacks : ((more : List ℕ) → HasNoHead (taken ++ more)) ⊎ (IsAtEnd new.left × HasNoHead taken × MayBecomeHead taken)
   pub room : length taken ≤ HEAD_LIMIT
 
 -- the input ended before its first byte
@@ -44,11 +45,12 @@ pub record IsClosed (old new : Reader) : Type 0 where
   pub takes : Takes [] old new
   pub ended : IsAtEnd new.left
 
--- a read failed while the head wasn't whole
+-- A read failed while the head wasn't whole, and more bytes might have made it so: none is read behind what can't begin a head.
 pub record FailsInHead (old new : Reader) : Type 0 where
   pub taken : List ℕ
   pub fails : FailsBehind taken old new
   pub part : HasNoHead taken
+  pub unfinished : MayBecomeHead taken
   pub room : length taken < HEAD_LIMIT
 
 -- what a reading of a head answers
@@ -79,12 +81,13 @@ pub record FailsInBody (behind : List ℕ) (count : ℕ) (old new : Reader) : Ty
   pub fails : FailsBehind taken old new
   pub short : length (behind ++ taken) < count
 
--- Memory was refused for a body that has bytes. No read had failed, and no more was taken than the body has.
+-- Memory was refused for bytes of the body that had come. No read had failed, and no more was taken than the body has.
 pub record LacksMemory (behind : List ℕ) (count : ℕ) (old new : Reader) : Type 0 where
   pub taken : List ℕ
   pub takes : Takes taken old new
   pub within : length taken ≤ count - length behind
   pub wanted : 0 < count
+  pub came : 0 < length (behind ++ taken)
 
 -- how the reading of a body ends without it
 abbrev pub EndsBody : BodyFault → List ℕ → ℕ → Reader → Reader → Type 0

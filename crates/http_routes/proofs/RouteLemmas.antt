@@ -14,14 +14,19 @@ asked methods method = option_map (λ asks. asks.1) (find (λ asks. bytes_eq (ve
 abbrev pub texts : List (Verb × Action) → List (List ℕ × Action)
 texts methods = map (λ asks. (verb_name asks.0, asks.1)) methods
 
-asked_is : (methods : List (Verb × Action)) (method : List ℕ) → asked methods method ≡ option_map (λ asks. asks.1) (find (λ asks. bytes_eq asks.0 method) (texts methods))
+asked_is : (methods : List (Verb × Action)) (method : List ℕ)
+    → asked methods method ≡ option_map (λ asks. asks.1) (find (λ asks. bytes_eq asks.0 method) (texts methods))
 asked_is [] method = refl
 asked_is (asks ∷ methods) method = by_test (bytes_eq (verb_name asks.0) method) (asked_is methods method)
   where
-    by_test : (same : Bool) → asked methods method ≡ option_map (λ asks. asks.1) (find (λ asks. bytes_eq asks.0 method) (texts methods)) → option_map (λ asks. asks.1) (cond same (Some asks) (find (λ asks. bytes_eq (verb_name asks.0) method) methods)) ≡ option_map (λ asks. asks.1) (cond same (Some (verb_name asks.0, asks.1)) (find (λ asks. bytes_eq asks.0 method) (texts methods)))
+    by_test : (same : Bool) → asked methods method ≡ option_map (λ asks. asks.1) (find (λ asks. bytes_eq asks.0 method) (texts methods))
+        → option_map (λ asks. asks.1) (cond same (Some asks) (find (λ asks. bytes_eq (verb_name asks.0) method) methods)) ≡ option_map
+        (λ asks. asks.1) (cond same (Some (verb_name asks.0, asks.1)) (find (λ asks. bytes_eq asks.0 method) (texts methods)))
     by_test true rest = refl
     by_test false rest = rest
 
-pub asked_of : (route : Route) (methods : List (Verb × Action)) (method : List ℕ) → texts methods ≡ (row route).actions → asked methods method ≡ action_of route method
+pub asked_of : (route : Route) (methods : List (Verb × Action)) (method : List ℕ) → texts methods ≡ (row route).actions
+    → asked methods method ≡ action_of route method
 asked_of route methods method same =
-    asked_is methods method ∙ ap (λ (methods : List (List ℕ × Action)). option_map (λ asks. asks.1) (find (λ asks. bytes_eq asks.0 method) methods)) same
+    asked_is methods method ∙ ap (λ (methods : List (List ℕ × Action)). option_map (λ asks. asks.1)
+    (find (λ asks. bytes_eq asks.0 method) methods)) same

@@ -1,5 +1,6 @@
 -- Which route a path finds among literal rows and one row that ends with a parameter.
-use Rattle.std.proofs.Common.{◌≡◌, ℕ, zero, suc, ◌-◌, ◌<◌, ◌≤◌, ◌==◌, ◌&&◌, ◌||◌, Bool, true, false, not, cond, List, [], ◌∷◌, ◌++◌, length, drop, Option, None, Some, refl, sym, ap, subst, ◌∙◌, arith}
+use Rattle.std.proofs.Common.{◌≡◌, ℕ, zero, suc, ◌-◌, ◌<◌, ◌≤◌, ◌==◌, ◌&&◌, ◌||◌, Bool, true, false, not, cond, List, [], ◌∷◌, ◌++◌, length}
+use Rattle.std.proofs.Common.{drop, Option, None, Some, refl, sym, ap, subst, ◌∙◌, arith}
 use Rattle.std.specs.Prelude.{nat_eq, nat_lt}
 use Rattle.std.specs.List.{starts_with}
 use Rattle.std.proofs.lemmas.Bool.Decides.{nat_tests}
@@ -53,16 +54,20 @@ module _ {K : Type 0} where
   seek_none skip [] = refl
   seek_none (suc skip) (byte ∷ path) = seek_none skip path
   seek_none zero (byte ∷ path) =
-      or_else_first _ _ _ (subst (λ (rows : RowsOf K). seek ((param_step {K = K} [] (byte ∷ path)).0 - 1) rows path ≡ None) (sym (param_none (byte ∷ path))) (seek_none _ path)) refl
+      or_else_first _ _ _ (subst (λ (rows : RowsOf K). seek ((param_step {K = K} [] (byte ∷ path)).0 - 1) rows path ≡ None)
+      (sym (param_none (byte ∷ path))) (seek_none _ path)) refl
       ∙ seek_none 0 path
 
-  no_rows : (steps : RowsOf K) (path : List ℕ) → steps ≡ [] → seek ((param_step steps path).0 - 1) (param_step steps path).1 (drop 1 path) ≡ None
+  no_rows : (steps : RowsOf K) (path : List ℕ) → steps ≡ [] → seek ((param_step steps path).0 - 1) (param_step steps path).1
+      (drop 1 path) ≡ None
   no_rows steps path none =
       subst (λ (rows : RowsOf K). seek ((param_step rows path).0 - 1) (param_step rows path).1 (drop 1 path) ≡ None) (sym none)
-      (subst (λ (rows : RowsOf K). seek ((param_step {K = K} [] path).0 - 1) rows (drop 1 path) ≡ None) (sym (param_none path)) (seek_none _ (drop 1 path)))
+      (subst (λ (rows : RowsOf K). seek ((param_step {K = K} [] path).0 - 1) rows (drop 1 path) ≡ None) (sym (param_none path))
+      (seek_none _ (drop 1 path)))
 
   -- a byte of the path, where no row goes on with a parameter
-  one_step : (rows : RowsOf K) (byte : ℕ) (path : List ℕ) → step param_token rows ≡ [] → step catch_all_token rows ≡ [] → seek 0 rows (byte ∷ path) ≡ seek 0 (step byte rows) path
+  one_step : (rows : RowsOf K) (byte : ℕ) (path : List ℕ) → step param_token rows ≡ [] → step catch_all_token rows ≡ []
+      → seek 0 rows (byte ∷ path) ≡ seek 0 (step byte rows) path
   unfolding seek
   one_step rows byte path no_param no_catch_all =
       or_else_first _ _ _ (no_rows (step param_token rows) (byte ∷ path) no_param) (ap own no_catch_all)
@@ -82,7 +87,8 @@ module _ {K : Type 0} where
       rw other (step_token token rows large are.1)
 
   literal_step : (rows : RowsOf K) (byte : ℕ) (path : List ℕ) → AreLiteral rows → seek 0 rows (byte ∷ path) ≡ seek 0 (step byte rows) path
-  literal_step rows byte path are = one_step rows byte path (step_token param_token rows (omega arith) are) (step_token catch_all_token rows (omega arith) are)
+  literal_step rows byte path are = one_step rows byte path (step_token param_token rows (omega arith) are)
+      (step_token catch_all_token rows (omega arith) are)
 
   step_literal : (byte : ℕ) (rows : RowsOf K) → AreLiteral rows → AreLiteral (step byte rows)
   step_literal byte [] are = tt
@@ -98,7 +104,9 @@ module _ {K : Type 0} where
   step_append byte (([], key) ∷ rows) more = step_append byte rows more
   step_append byte ((first ∷ text, key) ∷ rows) more = by_test (first == byte) (step_append byte rows more)
     where
-      by_test : (same : Bool) → step byte (rows ++ more) ≡ step byte rows ++ step byte more → cond same ((text, key) ∷ step byte (rows ++ more)) (step byte (rows ++ more)) ≡ cond same ((text, key) ∷ step byte rows) (step byte rows) ++ step byte more
+      by_test : (same : Bool) → step byte (rows ++ more) ≡ step byte rows ++ step byte more
+          → cond same ((text, key) ∷ step byte (rows ++ more)) (step byte (rows ++ more)) ≡ cond same ((text, key) ∷ step byte rows)
+          (step byte rows) ++ step byte more
       by_test true rest = ap (λ (steps : RowsOf K). (text, key) ∷ steps) rest
       by_test false rest = rest
 
@@ -117,7 +125,9 @@ module _ {K : Type 0} where
   lookup_step byte path (([], key) ∷ rows) = lookup_step byte path rows
   lookup_step byte path ((first ∷ text, key) ∷ rows) = by_test (first == byte) (lookup_step byte path rows)
     where
-      by_test : (same : Bool) → lookup path (step byte rows) ≡ lookup (byte ∷ path) rows → lookup path (cond same ((text, key) ∷ step byte rows) (step byte rows)) ≡ cond (same && same_text text path) (Some key) (lookup (byte ∷ path) rows)
+      by_test : (same : Bool) → lookup path (step byte rows) ≡ lookup (byte ∷ path) rows
+          → lookup path (cond same ((text, key) ∷ step byte rows) (step byte rows)) ≡ cond (same && same_text text path) (Some key)
+          (lookup (byte ∷ path) rows)
       by_test true rest = ap (cond (same_text text path) (Some key)) rest
       by_test false rest = rest
 
@@ -143,18 +153,23 @@ module _ {K : Type 0} where
   unfolding param_step
   parameter_is key [] = refl
   parameter_is key (byte ∷ path) =
-      by_slash (slashed (byte ∷ path)) (suc (length path)) (omega arith) ∙ ap (λ (test : Bool). cond test (Some key) None) (segment_is byte path)
+      by_slash (slashed (byte ∷ path)) (suc (length path)) (omega arith)
+      ∙ ap (λ (test : Bool). cond test (Some key) None) (segment_is byte path)
     where
-      by_slash : (slash : Bool) (count : ℕ) → count - 1 ≡ length path → seek ((cond {A = ℕ × RowsOf K} slash (0, []) (count, ([], key) ∷ [])).0 - 1) (cond {A = ℕ × RowsOf K} slash (0, []) (count, ([], key) ∷ [])).1 path ≡ cond (not slash) (Some key) None
+      by_slash : (slash : Bool) (count : ℕ) → count - 1 ≡ length path
+          → seek ((cond {A = ℕ × RowsOf K} slash (0, []) (count, ([], key) ∷ [])).0 - 1)
+          (cond {A = ℕ × RowsOf K} slash (0, []) (count, ([], key) ∷ [])).1 path ≡ cond (not slash) (Some key) None
       by_slash true count is = seek_none _ path
       by_slash false count is = rw is (skip_all (([], key) ∷ []) path)
 
   -- a byte of the path, where one row goes on with a parameter
-  parameter_step : (rows : RowsOf K) (key : K) (byte : ℕ) (path : List ℕ) → step param_token rows ≡ ([], key) ∷ [] → step catch_all_token rows ≡ [] → seek 0 rows (byte ∷ path) ≡ or_else (seek 0 (step byte rows) path) (parameter key (byte ∷ path))
+  parameter_step : (rows : RowsOf K) (key : K) (byte : ℕ) (path : List ℕ) → step param_token rows ≡ ([], key) ∷ []
+      → step catch_all_token rows ≡ [] → seek 0 rows (byte ∷ path) ≡ or_else (seek 0 (step byte rows) path) (parameter key (byte ∷ path))
   unfolding seek
   parameter_step rows key byte path param no_catch_all =
       ap (or_else (seek 0 (step byte rows) path))
-      (ap (λ (found : Option K). or_else found (own (step catch_all_token rows))) (ap (λ (steps : RowsOf K). seek ((param_step steps (byte ∷ path)).0 - 1) (param_step steps (byte ∷ path)).1 path) param)
+      (ap (λ (found : Option K). or_else found (own (step catch_all_token rows)))
+      (ap (λ (steps : RowsOf K). seek ((param_step steps (byte ∷ path)).0 - 1) (param_step steps (byte ∷ path)).1 path) param)
       ∙ ap (or_else (parameter key (byte ∷ path))) (ap own no_catch_all) ∙ or_else_none _)
 
   row_gone : (key : K) (byte : ℕ) (path : List ℕ) → seek 0 (([], key) ∷ []) (byte ∷ path) ≡ None
@@ -162,21 +177,25 @@ module _ {K : Type 0} where
 
   -- the path's own number may be that of the token: then the row is found all the same
 
-  taken : (key : K) (path : List ℕ) → or_else (seek 0 (([], key) ∷ []) path) (parameter key (param_token ∷ path)) ≡ parameter key (param_token ∷ path)
+  taken : (key : K) (path : List ℕ) → or_else (seek 0 (([], key) ∷ []) path) (parameter key (param_token ∷ path)) ≡ parameter key
+      (param_token ∷ path)
   unfolding seek param_step
   taken key [] = refl
   taken key (byte ∷ path) = ap (λ (found : Option K). or_else found (parameter key (param_token ∷ byte ∷ path))) (row_gone key byte path)
 
-  taken_at : (key : K) (byte : ℕ) (path : List ℕ) → (param_token == byte) ≡ true → or_else (seek 0 (([], key) ∷ []) path) (parameter key (byte ∷ path)) ≡ parameter key (byte ∷ path)
+  taken_at : (key : K) (byte : ℕ) (path : List ℕ) → (param_token == byte) ≡ true
+      → or_else (seek 0 (([], key) ∷ []) path) (parameter key (byte ∷ path)) ≡ parameter key (byte ∷ path)
   taken_at key byte path is =
       let token : param_token ≡ byte = grind (arith, nat_tests) in
-      subst (λ (byte : ℕ). or_else (seek 0 (([], key) ∷ []) path) (parameter key (byte ∷ path)) ≡ parameter key (byte ∷ path)) token (taken key path)
+      subst (λ (byte : ℕ). or_else (seek 0 (([], key) ∷ []) path) (parameter key (byte ∷ path)) ≡ parameter key (byte ∷ path)) token
+      (taken key path)
 
   parameter_alone : (key : K) (byte : ℕ) (path : List ℕ) → seek 0 ((param_token ∷ [], key) ∷ []) (byte ∷ path) ≡ parameter key (byte ∷ path)
   parameter_alone key byte path =
       parameter_step ((param_token ∷ [], key) ∷ []) key byte path refl refl ∙ by_test (param_token == byte) refl
     where
-      by_test : (same : Bool) → (param_token == byte) ≡ same → or_else (seek 0 (cond same (([], key) ∷ []) []) path) (parameter key (byte ∷ path)) ≡ parameter key (byte ∷ path)
+      by_test : (same : Bool) → (param_token == byte) ≡ same → or_else (seek 0 (cond same (([], key) ∷ []) []) path)
+          (parameter key (byte ∷ path)) ≡ parameter key (byte ∷ path)
       by_test true is = taken_at key byte path is
       by_test false is = ap (λ (found : Option K). or_else found (parameter key (byte ∷ path))) (seek_none 0 path)
 
@@ -184,22 +203,28 @@ module _ {K : Type 0} where
   unfolding seek
   seek_end rows = refl
 
-  step_front : (token first : ℕ) (text : List ℕ) (key : K) (rows : RowsOf K) → first < 256 → 256 ≤ token → step token ((first ∷ text, key) ∷ rows) ≡ step token rows
+  step_front : (token first : ℕ) (text : List ℕ) (key : K) (rows : RowsOf K) → first < 256 → 256 ≤ token
+      → step token ((first ∷ text, key) ∷ rows) ≡ step token rows
   step_front token first text key rows small large =
       let other : (first == token) ≡ false = grind (arith, nat_tests) in
       rw other refl
 
   -- one row alone: what is behind its beginning must be a segment
-  pub seek_alone : (front : List ℕ) (key : K) (path : List ℕ) → IsText front → seek 0 ((with_parameter front, key) ∷ []) path ≡ cond (starts_with nat_eq path front && is_segment (drop (length front) path)) (Some key) None
+  pub seek_alone : (front : List ℕ) (key : K) (path : List ℕ) → IsText front
+      → seek 0 ((with_parameter front, key) ∷ []) path ≡ cond (starts_with nat_eq path front && is_segment (drop (length front) path))
+      (Some key) None
   seek_alone [] key [] are = seek_end _
   seek_alone [] key (byte ∷ path) are = parameter_alone key byte path ∙ parameter_is key (byte ∷ path)
   seek_alone (first ∷ front) key [] are = seek_end _
   seek_alone (first ∷ front) key (byte ∷ path) are =
-      one_step _ byte path (step_front param_token first (with_parameter front) key [] are.0 (omega arith)) (step_front catch_all_token first (with_parameter front) key [] are.0 (omega arith))
+      one_step _ byte path (step_front param_token first (with_parameter front) key [] are.0 (omega arith))
+      (step_front catch_all_token first (with_parameter front) key [] are.0 (omega arith))
       ∙ by_test (first == byte) (seek_alone front key path are.1)
     where
-      by_test : (same : Bool) → seek 0 ((with_parameter front, key) ∷ []) path ≡ cond (starts_with nat_eq path front && is_segment (drop (length front) path)) (Some key) None
-          → seek 0 (cond same ((with_parameter front, key) ∷ []) []) path ≡ cond ((same && starts_with nat_eq path front) && is_segment (drop (length front) path)) (Some key) None
+      by_test : (same : Bool) → seek 0 ((with_parameter front, key) ∷ []) path ≡ cond
+          (starts_with nat_eq path front && is_segment (drop (length front) path)) (Some key) None
+          → seek 0 (cond same ((with_parameter front, key) ∷ []) []) path ≡ cond
+          ((same && starts_with nat_eq path front) && is_segment (drop (length front) path)) (Some key) None
       by_test true rest = rest
       by_test false rest = seek_none 0 path
 
@@ -209,24 +234,38 @@ module _ {K : Type 0} where
   own_behind [] key rows = refl
   own_behind (byte ∷ front) key rows = refl
 
-  step_among : (token first : ℕ) (text : List ℕ) (key : K) (before behind : RowsOf K) → first < 256 → 256 ≤ token → AreLiteral before → AreLiteral behind → step token (before ++ (first ∷ text, key) ∷ behind) ≡ []
-  step_among token first text key before behind small large literal more =
-      step_append token before ((first ∷ text, key) ∷ behind)
-      ∙ ap (λ (steps : RowsOf K). steps ++ step token ((first ∷ text, key) ∷ behind)) (step_token token before large literal)
-      ∙ step_front token first text key behind small large ∙ step_token token behind large more
+  -- by neither token does a row go on that begins with a byte, nor do literal ones
+  step_among : (first : ℕ) (text : List ℕ) (key : K) (before behind : RowsOf K) → first < 256 → AreLiteral before → AreLiteral behind
+      → (step param_token (before ++ (first ∷ text, key) ∷ behind) ≡ [])
+      × (step catch_all_token (before ++ (first ∷ text, key) ∷ behind) ≡ [])
+  step_among first text key before behind small literal more = (by_token param_token (omega arith), by_token catch_all_token (omega arith))
+    where
+      by_token : (token : ℕ) → 256 ≤ token → step token (before ++ (first ∷ text, key) ∷ behind) ≡ []
+      by_token token large =
+          step_append token before ((first ∷ text, key) ∷ behind)
+          ∙ ap (λ (steps : RowsOf K). steps ++ step token ((first ∷ text, key) ∷ behind)) (step_token token before large literal)
+          ∙ step_front token first text key behind small large ∙ step_token token behind large more
 
   AreLiteral-append : (rows more : RowsOf K) → AreLiteral rows → AreLiteral more → AreLiteral (rows ++ more)
   AreLiteral-append [] more are are_more = are_more
   AreLiteral-append ((text, key) ∷ rows) more are are_more = (are.0, AreLiteral-append rows more are.1 are_more)
 
-  pub seek_among : (front : List ℕ) (key : K) (before behind : RowsOf K) (path : List ℕ) → IsText front → AreLiteral before → AreLiteral behind
-      → seek 0 (before ++ (with_parameter front, key) ∷ behind) path ≡ or_else (seek 0 (before ++ behind) path) (seek 0 ((with_parameter front, key) ∷ []) path)
+  pub seek_among : (front : List ℕ) (key : K) (before behind : RowsOf K) (path : List ℕ) → IsText front → AreLiteral before
+      → AreLiteral behind
+      → seek 0 (before ++ (with_parameter front, key) ∷ behind) path ≡ or_else (seek 0 (before ++ behind) path)
+      (seek 0 ((with_parameter front, key) ∷ []) path)
   seek_among front key before behind [] are literal more =
       let own_front = own_behind front key [] in
       let own_all : own (before ++ (with_parameter front, key) ∷ behind) ≡ own (before ++ behind) =
-      own_append before ((with_parameter front, key) ∷ behind) ∙ ap (or_else (own before)) (own_behind front key behind) ∙ sym (own_append before behind)
+      own_append before ((with_parameter front, key) ∷ behind) ∙ ap (or_else (own before)) (own_behind front key behind)
+      ∙ sym (own_append before behind)
       in
-      cc (seek_end (before ++ (with_parameter front, key) ∷ behind), seek_end (before ++ behind), seek_end ((with_parameter front, key) ∷ []), or_else_none (own (before ++ behind)))
+      cc (
+        seek_end (before ++ (with_parameter front, key) ∷ behind),
+        seek_end (before ++ behind),
+        seek_end ((with_parameter front, key) ∷ []),
+        or_else_none (own (before ++ behind)),
+      )
   seek_among [] key before behind (byte ∷ path) are literal more =
       let parameters : step param_token (before ++ (param_token ∷ [], key) ∷ behind) ≡ ([], key) ∷ [] =
       step_append param_token before ((param_token ∷ [], key) ∷ behind)
@@ -247,25 +286,29 @@ module _ {K : Type 0} where
       cc
     where
       by_test : (same : Bool) → (param_token == byte) ≡ same
-          → or_else (seek 0 (step byte before ++ cond same (([], key) ∷ step byte behind) (step byte behind)) path) (parameter key (byte ∷ path)) ≡ or_else (seek 0 (step byte before ++ step byte behind) path) (parameter key (byte ∷ path))
+          → or_else (seek 0 (step byte before ++ cond same (([], key) ∷ step byte behind) (step byte behind)) path)
+          (parameter key (byte ∷ path)) ≡ or_else (seek 0 (step byte before ++ step byte behind) path) (parameter key (byte ∷ path))
       by_test true is =
           let large : 256 ≤ byte = grind (arith, nat_tests) in
           rw (step_token byte before large literal, step_token byte behind large more, seek_none 0 path) (taken_at key byte path is)
       by_test false is = refl
   seek_among (first ∷ front) key before behind (byte ∷ path) are literal more =
-      let here = one_step (before ++ (with_parameter (first ∷ front), key) ∷ behind) byte path
-      (step_among param_token first (with_parameter front) key before behind are.0 (omega arith) literal more)
-      (step_among catch_all_token first (with_parameter front) key before behind are.0 (omega arith) literal more) in
+      let none = step_among first (with_parameter front) key before behind are.0 literal more in
+      let here = one_step (before ++ (with_parameter (first ∷ front), key) ∷ behind) byte path none.0 none.1 in
       let steps = step_append byte before ((with_parameter (first ∷ front), key) ∷ behind) in
       let literals = literal_step (before ++ behind) byte path (AreLiteral-append before behind literal more) in
       let literal_steps = step_append byte before behind in
       let alone = one_step ((with_parameter (first ∷ front), key) ∷ []) byte path
-      (step_front param_token first (with_parameter front) key [] are.0 (omega arith)) (step_front catch_all_token first (with_parameter front) key [] are.0 (omega arith)) in
-      let same = by_test (first == byte) (seek_among front key (step byte before) (step byte behind) path are.1 (step_literal byte before literal) (step_literal byte behind more)) in
+      (step_front param_token first (with_parameter front) key [] are.0 (omega arith))
+      (step_front catch_all_token first (with_parameter front) key [] are.0 (omega arith)) in
+      let same = by_test (first == byte) (seek_among front key (step byte before) (step byte behind) path are.1
+      (step_literal byte before literal) (step_literal byte behind more)) in
       cc
     where
       by_test : (same : Bool)
-          → seek 0 (step byte before ++ (with_parameter front, key) ∷ step byte behind) path ≡ or_else (seek 0 (step byte before ++ step byte behind) path) (seek 0 ((with_parameter front, key) ∷ []) path)
-          → seek 0 (step byte before ++ cond same ((with_parameter front, key) ∷ step byte behind) (step byte behind)) path ≡ or_else (seek 0 (step byte before ++ step byte behind) path) (seek 0 (cond same ((with_parameter front, key) ∷ []) []) path)
+          → seek 0 (step byte before ++ (with_parameter front, key) ∷ step byte behind) path ≡ or_else
+          (seek 0 (step byte before ++ step byte behind) path) (seek 0 ((with_parameter front, key) ∷ []) path)
+          → seek 0 (step byte before ++ cond same ((with_parameter front, key) ∷ step byte behind) (step byte behind)) path ≡ or_else
+          (seek 0 (step byte before ++ step byte behind) path) (seek 0 (cond same ((with_parameter front, key) ∷ []) []) path)
       by_test true rest = rest
       by_test false rest = rw seek_none (sym (or_else_none (seek 0 (step byte before ++ step byte behind) path)))

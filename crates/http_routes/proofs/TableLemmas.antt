@@ -1,9 +1,8 @@
 -- The table of routes, as the router holds it.
-use Rattle.std.proofs.Common.{◌≡◌, ℕ, suc, ◌+◌, ◌<◌, ◌≤◌, Bool, true, false, cond, List, [], ◌∷◌, ◌++◌, length, drop, get_or, Err, Option, None, Some, ◌∙◌, sym, refl, ap, subst, add-one, drop-cons, rules}
+use Rattle.std.proofs.Common.{◌≡◌, ℕ, suc, ◌+◌, ◌<◌, ◌≤◌, Bool, true, false, cond, List, [], ◌∷◌, ◌++◌, length, drop, get_or, Err, Option}
+use Rattle.std.proofs.Common.{None, Some, ◌∙◌, sym, refl, ap, subst, add-one, drop-cons, rules}
 use Rattle.std.proofs.Math.ListN.{drop_of_length-le}
 use Rattle.std.specs.Prelude.{Result, codes, option_map}
-use Rattle.std.specs.Str.{bytes_eq}
-use Rattle.std.proofs.lemmas.Slice.Eq.{bytes_eq-Decides}
 use Rattle.matchit.proofs.OnLiterals.{matchit_on_literals}
 use Rattle.matchit.specs.Order.{lookup, placed}
 use Rattle.matchit.specs.Route.{parse_route}
@@ -19,7 +18,8 @@ use Rattle.http_routes.specs.declared.route.Route.{Route}
 use Rattle.http_routes.specs.declared.route.Route.TheVariants.{Verify, Assemble, Disassemble, Extract, Geocode, Jobs, Job}
 
 -- what inserting a route's path does to the rows
-pub row_inserted : (route : Route) (old new : RowsOf (RouteOf Route)) (result : Result (Unit {0}) InsertError) → InsertsRead (parse_route (row route).path) route old new result → Inserted (entry route).1 old new result
+pub row_inserted : (route : Route) (old new : RowsOf (RouteOf Route)) (result : Result (Unit {0}) InsertError)
+    → InsertsRead (parse_route (row route).path) route old new result → Inserted (entry route).1 old new result
 unfolding matchit_on_literals
 row_inserted Verify old new result is = is
 row_inserted Assemble old new result is = is
@@ -30,7 +30,8 @@ row_inserted Jobs old new result is = is
 row_inserted Job old new result is = is
 
 -- a path that conflicts with none is refused for want of memory alone
-pub refused_for_memory : (route : Route) (old new : RowsOf (RouteOf Route)) (error : InsertError) → InsertsRead (parse_route (row route).path) route old new (Err error) → nearest (pattern route) old ≡ None → error ≡ OutOfMemory
+pub refused_for_memory : (route : Route) (old new : RowsOf (RouteOf Route)) (error : InsertError)
+    → InsertsRead (parse_route (row route).path) route old new (Err error) → nearest (pattern route) old ≡ None → error ≡ OutOfMemory
 refused_for_memory route old new error is free = by_error error (row_inserted route old new (Err error) is).1
   where
     by_error : (error : InsertError) → Refused (pattern route) old error → error ≡ OutOfMemory
@@ -50,38 +51,30 @@ behind_job = entry Jobs ∷ entry Verify ∷ []
 pub table : RowsOf (RouteOf Route)
 table = before_job ++ entry Job ∷ behind_job
 
--- which route is found, by which tests pass
-in_order : (assemble disassemble extract geocode jobs job : Bool)
-    → option_map (λ (found : RouteOf Route). found.value) (or_else
-    (cond assemble (Some (entry Assemble).1) (cond disassemble (Some (entry Disassemble).1) (cond extract (Some (entry Extract).1) (cond geocode (Some (entry Geocode).1) (cond jobs (Some (entry Jobs).1) None)))))
-    (cond job (Some (entry Job).1) None))
-    ≡ cond assemble (Some Assemble) (cond disassemble (Some Disassemble) (cond extract (Some Extract) (cond geocode (Some Geocode) (cond jobs (Some Jobs) (cond job (Some Job) None)))))
-in_order true disassemble extract geocode jobs job = refl
-in_order false true extract geocode jobs job = refl
-in_order false false true geocode jobs job = refl
-in_order false false false true jobs job = refl
-in_order false false false false true job = refl
-in_order false false false false false true = refl
-in_order false false false false false false = refl
+-- a test ahead of two answers is one ahead of both, and so it is of what is made of an answer
+or_else-cond : {K : Type 0} (test : Bool) (key : K) (rest last : Option K)
+    → or_else (cond test (Some key) rest) last ≡ cond test (Some key) (or_else rest last)
+or_else-cond true key rest last = refl
+or_else-cond false key rest last = refl
 
-abbrev FindsRoute : List ℕ → Type 0
-FindsRoute path =
-    option_map (λ (found : RouteOf Route). found.value) (or_else (lookup path (before_job ++ behind_job)) (cond (matches Job path) (Some (entry Job).1) None)) ≡ route_of path
+option_map-cond : {A B : Type 0} (f : A → B) (test : Bool) (x : A) (rest : Option A)
+    → option_map f (cond test (Some x) rest) ≡ cond test (Some (f x)) (option_map f rest)
+option_map-cond f true x rest = refl
+option_map-cond f false x rest = refl
 
-finds_route : (path : List ℕ) → FindsRoute path
+finds_route : (path : List ℕ)
+    → option_map (λ (found : RouteOf Route). found.value)
+    (or_else (lookup path (before_job ++ behind_job)) (cond (matches Job path) (Some (entry Job).1) None)) ≡ route_of path
 unfolding before_job behind_job
-finds_route path = by_test (bytes_eq (codes "/verify") path) refl
-  where
-    by_test : (same : Bool) → bytes_eq (codes "/verify") path ≡ same → FindsRoute path
-    by_test true is = subst FindsRoute ((bytes_eq-Decides (codes "/verify") path).0 is) refl
-    by_test false is = rw is (in_order _ _ _ _ _ _)
+finds_route path = simp (or_else-cond, option_map-cond) refl
 
 pub table_finds : FindsRoutes table
 unfolding table before_job behind_job
 table_finds path =
     ap (option_map (λ (found : RouteOf Route). found.value))
     (seek_among (codes "/jobs/") (entry Job).1 before_job behind_job path (search rules) (search rules) (search rules)
-    ∙ ap (λ (found : Option (RouteOf Route)). or_else found (seek 0 (entry Job ∷ []) path)) (seek_literal (before_job ++ behind_job) path (search rules))
+    ∙ ap (λ (found : Option (RouteOf Route)). or_else found (seek 0 (entry Job ∷ []) path))
+    (seek_literal (before_job ++ behind_job) path (search rules))
     ∙ ap (or_else (lookup path (before_job ++ behind_job))) (seek_alone (codes "/jobs/") (entry Job).1 path (search rules)))
     ∙ finds_route path
 
@@ -92,15 +85,18 @@ MakesTable (route ∷ more) rows = (nearest (pattern route) rows ≡ None) × Ma
 
 pub all_make : MakesTable routes []
 unfolding table before_job behind_job
-all_make = (refl, (refl, (refl, (refl, (refl, (refl, (refl, refl)))))))
+all_make = search rules
 
 -- the next one can be inserted
-pub next_route : (all : List Route) (fallback : Route) (index : ℕ) (rows : RowsOf (RouteOf Route)) → index < length all → MakesTable (drop index all) rows → MakesTable (get_or all index fallback ∷ drop (suc index) all) rows
+pub next_route : (all : List Route) (fallback : Route) (index : ℕ) (rows : RowsOf (RouteOf Route)) → index < length all
+    → MakesTable (drop index all) rows → MakesTable (get_or all index fallback ∷ drop (suc index) all) rows
 next_route all fallback index rows below makes = subst (λ left. MakesTable left rows) (drop-cons all index fallback below) makes
 
 -- it is inserted
-pub inserted : (all : List Route) (fallback : Route) (index : ℕ) (rows more : RowsOf (RouteOf Route)) → index < length all → MakesTable (drop index all) rows → more ≡ placed (entry (get_or all index fallback)) rows → MakesTable (drop (index + 1) all) more
+pub inserted : (all : List Route) (fallback : Route) (index : ℕ) (rows more : RowsOf (RouteOf Route)) → index < length all
+    → MakesTable (drop index all) rows → more ≡ placed (entry (get_or all index fallback)) rows → MakesTable (drop (index + 1) all) more
 inserted all fallback index rows more below makes same = rw (same, add-one) (next_route all fallback index rows below makes).1
 
-pub all_inserted : (all : List Route) (index : ℕ) (rows : RowsOf (RouteOf Route)) → length all ≤ index → MakesTable (drop index all) rows → rows ≡ table
+pub all_inserted : (all : List Route) (index : ℕ) (rows : RowsOf (RouteOf Route)) → length all ≤ index → MakesTable (drop index all) rows
+    → rows ≡ table
 all_inserted all index rows above makes = subst (λ left. MakesTable left rows) (drop_of_length-le all above) makes

@@ -43,8 +43,9 @@ abbrev pub matches : Route → List ℕ → Bool
 matches Job text = starts_with nat_eq text (codes "/jobs/") && is_segment (drop 6 text)
 matches route text = bytes_eq (row route).path text
 
+-- all routes, in the order in which a router tries them: the one with a parameter last
 abbrev pub routes : List Route
-routes = Verify ∷ Assemble ∷ Disassemble ∷ Extract ∷ Geocode ∷ Jobs ∷ Job ∷ []
+routes = Assemble ∷ Disassemble ∷ Extract ∷ Geocode ∷ Jobs ∷ Verify ∷ Job ∷ []
 
 -- the route that has a path
 abbrev pub route_of : List ℕ → Option Route

@@ -62,29 +62,24 @@ impl Verb {
     }
 }
 
-impl Row {
-    fn new(path: &'static str, allow: &'static str, methods: &'static [(Verb, Action)]) -> Row
-        ensures path { result.path.now ≡ path.now }
-        ensures allow { result.allow.now ≡ allow.now }
-        ensures methods { result.methods.now ≡ methods.now }
-    {
-        Row {
-            path,
-            allow,
-            methods,
+/// Writes the match from a route to its row.
+macro_rules! row {
+    ($route:expr; $($name:ident: $path:literal $allow:literal $($verb:ident $action:ident),*;)*) => {
+        match $route {
+            $(Route::$name => Row { path: $path, allow: $allow, methods: &[$((Verb::$verb, Action::$action)),*] },)*
         }
-    }
+    };
 }
 
 impl Route {
     /// All routes, each once.
     pub(crate) const ALL: [Route; 7] = [
-        Route::Verify,
         Route::Assemble,
         Route::Disassemble,
         Route::Extract,
         Route::Geocode,
         Route::Jobs,
+        Route::Verify,
         Route::Job,
     ];
 
@@ -95,23 +90,15 @@ impl Route {
         ensures short { length result.allow.now ≤ 32 }
         ensures methods { map (λ asks. (verb_name asks.0, asks.1)) result.methods.now ≡ (row self).actions }
     {
-        match self {
-            Route::Verify => Row::new("/verify", "POST", &[(Verb::Post, Action::Verify)]),
-            Route::Assemble => Row::new("/assemble", "POST", &[(Verb::Post, Action::Assemble)]),
-            Route::Disassemble => Row::new(
-                "/disassemble",
-                "POST",
-                &[(Verb::Post, Action::Disassemble)],
-            ),
-            Route::Extract => Row::new("/extract", "POST", &[(Verb::Post, Action::Extract)]),
-            Route::Geocode => Row::new("/geocode", "GET", &[(Verb::Get, Action::Geocode)]),
-            Route::Jobs => Row::new("/jobs", "POST", &[(Verb::Post, Action::Submit)]),
-            Route::Job => Row::new(
-                "/jobs/{id}",
-                "GET, DELETE",
-                &[(Verb::Get, Action::Fetch), (Verb::Delete, Action::Drop)],
-            ),
-        }
+        row!(self;
+            Verify: "/verify" "POST" Post Verify;
+            Assemble: "/assemble" "POST" Post Assemble;
+            Disassemble: "/disassemble" "POST" Post Disassemble;
+            Extract: "/extract" "POST" Post Extract;
+            Geocode: "/geocode" "GET" Get Geocode;
+            Jobs: "/jobs" "POST" Post Submit;
+            Job: "/jobs/{id}" "GET, DELETE" Get Fetch, Delete Drop;
+        )
     }
 
     /// The route's path.

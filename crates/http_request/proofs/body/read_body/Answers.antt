@@ -6,39 +6,48 @@ use Rattle.http_request.proofs.body.read_body.Goals as goal
 
 pub loop-piece-init : goal.loop-piece-init
 loop-piece-init g c = record {
-  so_far = body_begins _ _ _ _ _ _ c.in_ok-extend_from_slice.ensures.items c.new-body.ensures.items c.min.ensures;
+  so_far = body_begins c.in_ok-extend_from_slice.ensures.items c.new-body.ensures.items c.min.ensures;
   room = refl;
 }
 
 pub returns-in-Ok-eq0 : goal.returns-in-Ok-eq0
 returns-in-Ok-eq0 g c =
-    body_ends _ _ c.loop-piece.body.items c.read_counted.new.buf c.in-Ok-eq0.field-0 _ _ _ c.loop-piece.invariant.so_far (omega arith)
+    body_ends c.read_counted.new.buf c.loop-piece.invariant.so_far (omega arith)
     (record { consumed = c.in-Ok-eq0.ensures.bytes.0; failed = c.in-Ok-eq0.ensures.failures }) c.in-Ok-eq0.field-0-test
-    (c.in-Ok-eq0.ensures.bytes.1 c.in-Ok-eq0.field-0-test (omega (arith, length-take c.min-most.result c.loop-piece.piece, c.min-most.ensures)))
+    (c.in-Ok-eq0.ensures.bytes.1 c.in-Ok-eq0.field-0-test
+    (omega (arith, length-take c.min-most.result c.loop-piece.piece, c.min-most.ensures)))
 
 pub loop-piece-preserved : goal.loop-piece-preserved
 loop-piece-preserved g c =
     let given = c.read_counted.new.buf in
     let rest = drop c.min-most.result c.loop-piece.piece in
     record {
-      so_far = body_more _ _ c.loop-piece.body.items _ given rest c.in-Ok.count _ _ _ c.loop-piece.invariant.so_far
-          (record { consumed = c.in-Ok.ensures.bytes.0; failed = c.in-Ok.ensures.failures }) c.in_ok-extend_from_slice-in-Ok.ensures.items c.in-Ok.ensures.bound.0
+      so_far = body_more given rest c.in-Ok.count c.loop-piece.invariant.so_far
+          (record { consumed = c.in-Ok.ensures.bytes.0; failed = c.in-Ok.ensures.failures }) c.in_ok-extend_from_slice-in-Ok.ensures.items
+          c.in-Ok.ensures.bound.0
           (omega (arith, c.in-Ok.ensures.bound.0, length-take c.min-most.result c.loop-piece.piece, c.min-most.ensures));
-      room = omega (arith, length-append given rest, length-drop c.min-most.result c.loop-piece.piece, length-take c.min-most.result c.loop-piece.piece, c.min-most.ensures);
+      room = omega (
+        arith,
+        length-append given rest,
+        length-drop c.min-most.result c.loop-piece.piece,
+        length-take c.min-most.result c.loop-piece.piece,
+        c.min-most.ensures,
+      );
     }
 
 pub returns-in_err-extend_from_slice-in-Ok : goal.returns-in_err-extend_from_slice-in-Ok
 returns-in_err-extend_from_slice-in-Ok g c =
-    let p = err_from_is_err_and c.from_residual-in_err-extend_from_slice-in-Ok.result c.from_residual-in_err-extend_from_slice-in-Ok.ensures.1 in
+    let p = err_from_is_err_and c.from_residual-in_err-extend_from_slice-in-Ok.result
+    c.from_residual-in_err-extend_from_slice-in-Ok.ensures.1 in
     rw (p.1, p.2) (
-    body_lacks_memory _ _ c.loop-piece.body.items c.read_counted.new.buf c.in-Ok.count _ _ _ c.loop-piece.invariant.so_far (omega arith)
-    (record { consumed = c.in-Ok.ensures.bytes.0; failed = c.in-Ok.ensures.failures }) c.in-Ok.ensures.bound.0
+    body_lacks_memory c.read_counted.new.buf c.in-Ok.count c.loop-piece.invariant.so_far (omega arith)
+    (record { consumed = c.in-Ok.ensures.bytes.0; failed = c.in-Ok.ensures.failures }) (grind (arith)) c.in-Ok.ensures.bound.0
     (omega (arith, c.in-Ok.ensures.bound.0, length-take c.min-most.result c.loop-piece.piece, c.min-most.ensures))
     )
 
 pub returns-in-Err : goal.returns-in-Err
 returns-in-Err g c =
-    body_fails _ _ c.loop-piece.body.items _ _ _ c.loop-piece.invariant.so_far (omega arith) c.in-Err.ensures.bytes c.in-Err.ensures.failures
+    body_fails c.loop-piece.invariant.so_far (omega arith) c.in-Err.ensures.bytes c.in-Err.ensures.failures
 
 pub returns : goal.returns
 returns g c = body_whole _ _ c.loop-piece.body.items _ _ c.loop-piece.invariant.so_far (omega arith)

@@ -5,7 +5,8 @@ use Rattle.http_request.proofs.head.find_head.Given as goal
 
 abbrev pub invariant-loop-count : goal.invariant-loop-count
 invariant-loop-count g l =
-    HasReadSoFar l.bytes l.count (reader g.R.Read.remaining g.R.CountedRead.failed_reads l.initial.input) (reader g.R.Read.remaining g.R.CountedRead.failed_reads l.input)
+    HasReadSoFar l.bytes l.count (reader g.R.Read.remaining g.R.CountedRead.failed_reads l.initial.input)
+    (reader g.R.Read.remaining g.R.CountedRead.failed_reads l.input)
 
 abbrev pub decreases-loop-count : goal.decreases-loop-count
 decreases-loop-count g l = length l.initial.bytes - l.count

@@ -9,7 +9,8 @@ returns-then-number-gt-BODY_LIMIT c =
     let digits = c.args.digits.now in
     let i = c.loop-digit.digit-index in
     let value : c.loop-digit.number * 10 + c.from.result ≡ digits_value 10 (take (i + 1) digits) =
-    rw c.from.ensures (digits_value-next digits i _ c.loop-digit-test.true (digit_at digits i c.requires c.loop-digit-test.true) c.loop-digit.invariant.value) in
+    rw c.from.ensures (digits_value-next digits i _ c.loop-digit-test.true
+    (digit_at digits i c.requires c.loop-digit-test.true) c.loop-digit.invariant.value) in
     up_to_limit-large digits (i + 1) _ value c.if-number-gt-BODY_LIMIT.true
 
 pub loop-digit-preserved : goal.loop-digit-preserved
@@ -17,6 +18,7 @@ loop-digit-preserved c =
     let digits = c.args.digits.now in
     let i = c.loop-digit.digit-index in
     record {
-      value = rw c.from.ensures (digits_value-next digits i _ c.loop-digit-test.true (digit_at digits i c.requires c.loop-digit-test.true) c.loop-digit.invariant.value);
+      value = rw c.from.ensures (digits_value-next digits i _ c.loop-digit-test.true
+          (digit_at digits i c.requires c.loop-digit-test.true) c.loop-digit.invariant.value);
       small = omega arith;
     }

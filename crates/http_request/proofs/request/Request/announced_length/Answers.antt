@@ -11,8 +11,10 @@ loop-header-init c = refl
 
 pub returns-then-is_some : goal.returns-then-is_some
 returns-then-is_some c =
-    found_twice (codes "content-length") (header_bytes c.self.inside.bytes.now) c.self.inside.headers.now c.loop-header.header-index _ c.loop-header.found _
-    c.loop-header.invariant (sym c.if-is_some.ensures) c.loop-header-test.true (sym c.if-is_named.ensures) (ap (λ (request : Request). request.head.headers) c.self.view_is)
+    found_twice (codes "content-length") (header_bytes c.self.inside.bytes.now) c.self.inside.headers.now c.loop-header.header-index _
+    c.loop-header.found _
+    c.loop-header.invariant (sym c.if-is_some.ensures) c.loop-header-test.true (sym c.if-is_named.ensures)
+    (ap (λ (request : Request). request.head.headers) c.self.view_is)
 
 pub loop-header-preserved : goal.loop-header-preserved
 loop-header-preserved c =
@@ -20,7 +22,7 @@ loop-header-preserved c =
     let headers = c.self.inside.headers.now in
     elim c.if-is_named.branch [
       | then-is_named+else-is_some w ↦
-          found_first (codes "content-length") at headers c.loop-header.header-index _ c.loop-header.found _ w.of.result
+          found_first (codes "content-length") at headers c.loop-header.header-index _ c.loop-header.found
           c.loop-header.invariant (sym w.if-is_some.ensures) c.loop-header-test.true (sym w.if-is_named.ensures) w.of.ensures w.found-is
       | else-is_named w ↦
           found_still (codes "content-length") at headers c.loop-header.header-index _ c.loop-header.found _
@@ -30,11 +32,13 @@ loop-header-preserved c =
 pub returns-in-Some : goal.returns-in-Some
 returns-in-Some c =
     rw c.length_of.ensures (
-    found_one (codes "content-length") (header_bytes c.self.inside.bytes.now) c.self.inside.headers.now c.loop-header.header-index c.loop-header.found c.in-Some.value _
+    found_one (codes "content-length") (header_bytes c.self.inside.bytes.now) c.self.inside.headers.now c.loop-header.header-index
+    c.loop-header.found c.in-Some.value _
     c.loop-header.invariant c.in-Some.is c.loop-header-test.false (ap (λ (request : Request). request.head.headers) c.self.view_is)
     )
 
 pub returns-in-None : goal.returns-in-None
 returns-in-None c =
-    found_none (codes "content-length") (header_bytes c.self.inside.bytes.now) c.self.inside.headers.now c.loop-header.header-index c.loop-header.found _
+    found_none (codes "content-length") (header_bytes c.self.inside.bytes.now) c.self.inside.headers.now c.loop-header.header-index
+    c.loop-header.found _
     c.loop-header.invariant c.in-None.is c.loop-header-test.false (ap (λ (request : Request). request.head.headers) c.self.view_is)

@@ -6,4 +6,5 @@ use Rattle.http_request.proofs.request.Request.announced_length.Given as goal
 
 abbrev pub invariant-loop-header : goal.invariant-loop-header
 invariant-loop-header l =
-    IsFound l.found (values_in (codes "content-length") (map (header_bytes l.self-inside.bytes.now) (take l.header-index l.self-inside.headers.now)))
+    IsFound l.found (values_in (codes "content-length")
+    (map (header_bytes l.self-inside.bytes.now) (take l.header-index l.self-inside.headers.now)))

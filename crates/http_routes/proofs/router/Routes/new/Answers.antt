@@ -11,8 +11,12 @@ pub insert-requires : goal.insert-requires
 insert-requires c = (next_route routes _ c.loop-route.route-index c.loop-route.router c.loop-route-test.true c.loop-route.invariant).0
 
 pub loop-route-preserved : goal.loop-route-preserved
-loop-route-preserved c = inserted routes _ c.loop-route.route-index c.loop-route.router _ c.loop-route-test.true c.loop-route.invariant c.in_ok-insert.ensures
+loop-route-preserved c = inserted routes _ c.loop-route.route-index c.loop-route.router _ c.loop-route-test.true c.loop-route.invariant
+    c.in_ok-insert.ensures
 
 pub invariant_of-result : goal.invariant_of-result
 invariant_of-result c =
-    record { finds = subst FindsRoutes (sym (all_inserted routes c.loop-route.route-index c.loop-route.router c.loop-route-test.false c.loop-route.invariant)) table_finds }
+    record {
+      finds = subst FindsRoutes (sym (all_inserted routes c.loop-route.route-index c.loop-route.router c.loop-route-test.false
+          c.loop-route.invariant)) table_finds;
+    }
