@@ -1,48 +1,55 @@
-//! One connection, from its accept to its close.
-ghost use Rattle.std.specs.Prelude.{◌≡◌, OnOk, OnErr};
+//! One connection after the other, each from its accept to its close.
+ghost use Rattle.std.specs.Prelude.{◌≡◌};
+ghost use Rattle.server.specs.Rounds.{IsNext, ServesUntilFailure};
 ghost use Rattle.server.specs.Service.{ServesSome};
+ghost use Rattle.server.specs.Tally.{ServesTallied, TurnsTallied};
 
+use crate::acceptor::Acceptor;
 use crate::ends::{ClientReader, ClientWriter};
 use crate::limits::Limits;
 use crate::service::{Close, Service};
+use crate::tally::Tally;
 use std::io;
-use std::io::{ErrorKind, Read};
+use std::io::Read;
 use std::net::{OpenListener, Shutdown, TcpStream};
 use std::time::{Clock, Duration};
 use tl_fields::Counting;
 
-/// Takes one connection, has it served, closes it, and gives the service a turn. Only an accept that failed is a fault: what went wrong with the
+/// Serves one connection after the other until an accept fails, and returns its error. Each connection is served once, and then the service makes one
+/// turn.
+pub fn serve_all<L: OpenListener<Stream = TcpStream>, C: Clock, S: Service>(
+    acceptor: &mut Acceptor<'_, L>,
+    clock: &C,
+    limits: &Limits,
+    service: &mut Tally<S>,
+) -> io::Error
+    ensures { ServesUntilFailure (ServesTallied S.serves) (TurnsTallied S.turns) result
+        (record { accepts = acceptor.old; service = service.old })
+        (record { accepts = acceptor.new; service = service.new }) }
+{
+    loop {
+        if let Err(error) = serve_next(acceptor, clock, limits, service) {
+            return error;
+        }
+    }
+}
+
+/// Takes one connection, has it served, closes it, and gives the service a turn. Only an accept that failed is a fault: what goes wrong with the
 /// connection is passed over.
 pub fn serve_next<L: OpenListener<Stream = TcpStream>, C: Clock, S: Service>(
-    listener: &L,
+    acceptor: &mut Acceptor<'_, L>,
     clock: &C,
     limits: &Limits,
     service: &mut S,
 ) -> io::Result<()>
-    ensures served { OnOk result ((served : S) × ServesSome S.serves service.old served × S.turns served service.new) }
-    ensures unserved { OnErr result (service.new ≡ service.old) }
+    ensures { IsNext S.serves S.turns result
+        (record { accepts = acceptor.old; service = service.old })
+        (record { accepts = acceptor.new; service = service.new }) }
 {
-    let stream = accept(listener)?;
+    let stream = acceptor.accept()?;
     serve_client(stream, clock, limits, service);
     service.turn();
     Ok(())
-}
-
-/// Takes the next connection. One that its client took back before is no fault.
-fn accept<L: OpenListener>(listener: &L) -> io::Result<L::Stream> {
-    for _ in 0..u64::MAX {
-        match listener.accept() {
-            Ok((stream, _)) => return Ok(stream),
-            Err(error) if is_of_connection(error.kind()) => {}
-            Err(error) => return Err(error),
-        }
-    }
-    Err(io::Error::from(ErrorKind::ConnectionAborted))
-}
-
-/// Whether such an error is of the one connection, and the next one can be taken.
-fn is_of_connection(kind: ErrorKind) -> bool {
-    matches!(kind, ErrorKind::ConnectionAborted | ErrorKind::Interrupted)
 }
 
 /// Has a client served, and closes its connection.

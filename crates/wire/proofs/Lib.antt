@@ -6,3 +6,4 @@ mod RowsLemmas
 mod ServingLemmas
 mod QueryLemmas
 mod VerdictLemmas
+mod ReplyLemmas

@@ -2,7 +2,6 @@
 use Rattle.std.specs.Prelude.{◌≡◌, ◌<◌, ◌⊎◌, ℕ, List, [], ◌∷◌, ◌++◌, codes, decimal, Option, Some, None}
 use Rattle.bpf_insn.specs.Code.{IsFirstFault}
 use Rattle.bpf_insn.specs.CodeFault as code_fault
-use Rattle.bpf_insn.specs.Refusal.{memory_name, refusal_line}
 use Rattle.bpf_insn.specs.declared.fault.CodeFault.{CodeFault}
 use Rattle.bpf_insn.specs.declared.instruction.Insn.{Insn}
 use Rattle.bpf_meaning.specs.Extract.{IsExtract}
@@ -10,13 +9,10 @@ use Rattle.bpf_text.specs.Conversion.{IsAssembled, IsDisassembled}
 use Rattle.bpf_text.specs.SourceFault.{IsSourceFault}
 use Rattle.bpf_text.specs.TextFault as text_fault
 use Rattle.bpf_text.specs.declared.fault.SourceFault.{SourceFault}
-use Rattle.bpf_text.specs.declared.fault.SourceFault.TheVariants as source_fault
+use Rattle.bpf_text.specs.declared.fault.SourceFault.TheVariants.{NotUtf8, Text}
 use Rattle.extract.specs.Program.{IsProgramFault, IsSafeProgram}
 use Rattle.extract.specs.ProgramFault as program_fault
-use Rattle.extract.specs.Refusal.{class_of}
 use Rattle.extract.specs.declared.program.ProgramFault.{ProgramFault}
-use Rattle.extract.specs.declared.refusal.Class.{Class}
-use Rattle.extract.specs.declared.refusal.Class.TheVariants as class
 use Rattle.geocode.specs.HitLine.{hit_lines}
 use Rattle.geocode.specs.Query.{QueryParts, hits_of}
 use Rattle.http_reply.specs.Reply.{ReplyParts}
@@ -37,7 +33,10 @@ use Rattle.jobs.specs.declared.event.Event.TheVariants as event
 use Rattle.jobs.specs.declared.event.Reply.{Reply}
 use Rattle.jobs.specs.declared.event.Reply.TheVariants.{Submitted, Turned, Rows, Dropped, Refused}
 use Rattle.jobs.specs.declared.fault.JobFault.{JobFault}
-use Rattle.jobs.specs.declared.fault.JobFault.TheVariants.{Full, NoJob}
+use Rattle.jobs.specs.declared.fault.JobFault.TheVariants.{Full, NoJob, Program, Memory}
+use Rattle.refusals.specs.Refusal.{RefusalParts, line, memory}
+use Rattle.refusals.specs.declared.refusal.Class.{Class}
+use Rattle.refusals.specs.declared.refusal.Class.TheVariants as class
 use Rattle.tl_segments.specs.County.{CountyParts}
 use Rattle.wire.specs.Decision.{AnnouncesBody, AskedParts, DecisionParts, IsDecided, Refuses, Disallows, Asks, extent_of}
 use Rattle.wire.specs.Query.{asked_place}
@@ -69,24 +68,22 @@ class_status class.Memory = status.ServiceUnavailable
 abbrev pub line_reply : Status → List ℕ → ReplyParts
 line_reply status line = plain status (line ++ 10 ∷ [])
 
--- a refusal with this number, if it has one, and with this line
-abbrev pub refusal_reply : Option ℕ → List ℕ → ReplyParts
-refusal_reply number line = line_reply (class_status (class_of number)) line
+abbrev pub refusal_reply : RefusalParts → ReplyParts
+refusal_reply refusal = line_reply (class_status refusal.class) (line refusal)
 
 abbrev pub memory_reply : ReplyParts
-memory_reply = refusal_reply None (refusal_line None memory_name)
+memory_reply = refusal_reply memory
 
 -- a program is accepted, or refused for its fault
 abbrev pub IsVerified : List ℕ → ReplyParts → Type 0
 IsVerified program reply =
     ((code : List Insn) × IsSafeProgram program code × (reply ≡ plain status.Ok (codes "accepted\n")))
-    ⊎ ((fault : ProgramFault) × IsProgramFault program fault × (reply ≡ refusal_reply (program_fault.number fault) (program_fault.line fault)))
+    ⊎ ((fault : ProgramFault) × IsProgramFault program fault × (reply ≡ refusal_reply (program_fault.refusal fault)))
 
 -- the words of a source, or why it has none
 abbrev pub source_reply : SourceFault → ReplyParts
-source_reply source_fault.NotUtf8 = status_reply status.BadRequest
-source_reply (source_fault.Text fault) = refusal_reply (text_fault.number fault) (text_fault.line fault)
-source_reply source_fault.Memory = memory_reply
+source_reply NotUtf8 = status_reply status.BadRequest
+source_reply (Text fault) = refusal_reply (text_fault.refusal fault)
 
 abbrev pub AssemblesTo : List ℕ → ReplyParts → Type 0
 AssemblesTo source reply =
@@ -97,14 +94,14 @@ AssemblesTo source reply =
 abbrev pub DisassemblesTo : List ℕ → ReplyParts → Type 0
 DisassemblesTo program reply =
     ((source : List ℕ) × IsDisassembled program source × (reply ≡ plain status.Ok source))
-    ⊎ ((fault : CodeFault) × IsFirstFault program fault × (reply ≡ refusal_reply (code_fault.number fault) (code_fault.line fault)))
+    ⊎ ((fault : CodeFault) × IsFirstFault program fault × (reply ≡ refusal_reply (code_fault.refusal fault)))
 
 -- the rows of a program over all counties, or its fault
 abbrev pub ExtractsTo : List CountyParts → List ℕ → ReplyParts → Type 0
 ExtractsTo counties program reply =
     ((code : List Insn) × IsSafeProgram program code × (rows : List ℕ) × (chosen : ℕ) × IsExtract code (segments_of counties) rows chosen
     × (reply ≡ octets rows))
-    ⊎ ((fault : ProgramFault) × IsProgramFault program fault × (reply ≡ refusal_reply (program_fault.number fault) (program_fault.line fault)))
+    ⊎ ((fault : ProgramFault) × IsProgramFault program fault × (reply ≡ refusal_reply (program_fault.refusal fault)))
 
 -- the lines of the hits
 abbrev pub place_reply : List CountyParts → Option QueryParts → ReplyParts
@@ -117,7 +114,8 @@ GeocodesTo counties query reply = (reply ≡ place_reply counties (asked_place q
 abbrev pub job_fault_reply : JobFault → ReplyParts
 job_fault_reply NoJob = status_reply status.NotFound
 job_fault_reply Full = line_reply status.ServiceUnavailable (job_fault.line Full)
-job_fault_reply fault = refusal_reply (job_fault.number fault) (job_fault.line fault)
+job_fault_reply (Program fault) = refusal_reply (program_fault.refusal fault)
+job_fault_reply Memory = memory_reply
 
 -- how many of the segments are done, of how many, and the rows behind that
 abbrev pub rows_reply : ℕ → ℕ → List ℕ → ReplyParts

@@ -1,7 +1,7 @@
 -- What an input decides: whether it is a request, and what that asks for. It is of the whole input, however that was read.
 use Rattle.std.specs.Prelude.{◌≡◌, ◌⊎◌, ◌<◌, ◌≤◌, ℕ, nat_le, Bool, true, false, if◌then◌else◌, List, [], length, take, Option, Some, None, Result, Ok, Err, IsTrue}
 use Rattle.std.specs.Option.{option_and_then}
-use Rattle.http_request.specs.Head.{Head, HasHead, HasNoHead}
+use Rattle.http_request.specs.Head.{Head, HasHead, HasNoHead, MayBecomeHead}
 use Rattle.http_request.specs.Length.{body_length}
 use Rattle.http_request.specs.declared.head.TheConstants.{HEAD_LIMIT}
 use Rattle.http_request.specs.declared.length.LengthFault.{LengthFault}
@@ -94,10 +94,11 @@ pub record AnnouncesBody (input : List ℕ) : Type 0 where
   pub count : ℕ
   pub announces : body_length head ≡ Ok count
 
--- What was read of an input doesn't decide: it has no head yet, or not all of the body that its head announces.
+-- What was read of an input doesn't decide: it has no head yet, though more bytes may make it one, or not all of the body that its
+-- head announces.
 abbrev pub IsUndecided : List ℕ → Type 0
 IsUndecided taken =
-    (HasNoHead taken × (length taken < HEAD_LIMIT))
+    (HasNoHead taken × MayBecomeHead taken × (length taken < HEAD_LIMIT))
     ⊎ ((announced : AnnouncesBody taken) × (length announced.rest < announced.count))
 
 -- No more was read than decides: what may hold a head, or no more than that has and the body that it announces.

@@ -11,6 +11,6 @@ reply_of (Status status) = status_reply status
 reply_of (Disallowed route) = disallowed route
 reply_of (Text text) = plain status.Ok text.now
 reply_of (Made media body) = record { status = status.Ok; media = media; allow = None; body = body.items }
-reply_of (Refused refusal) = refusal_reply refusal.number refusal.line.bytes
+reply_of (Refused refusal) = refusal_reply refusal
 reply_of (Line status line) = line_reply status line.bytes
 reply_of (Rows done total rows) = rows_reply done total rows.now

@@ -8,10 +8,10 @@ ghost use Rattle.wire.specs.Answer.{class_status, plain};
 ghost use Rattle.wire.specs.Reply.{reply_of};
 
 use arrayvec::{ArrayString, ArrayVec};
-use extract::{Class, Refusal};
 use http_reply::{LEAD_LIMIT, MediaType, Reply, Status};
 use http_routes::Route;
 use itoa::Buffer;
+use refusals::{Class, Refusal};
 use std::alloc::Allocator;
 use tl_fields::{CountedWrite, WriteFault};
 
@@ -61,7 +61,7 @@ impl<'a, A: Allocator> Answer<'a, A> {
             },
             Answer::Refused(refusal) => Reply {
                 status: class_status(refusal.class()),
-                ..plain(with_line_end(refusal.line), &[])
+                ..plain(with_line_end(refusal.line()), &[])
             },
             Answer::Line { status, line } => Reply {
                 status: *status,

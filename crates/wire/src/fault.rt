@@ -1,7 +1,8 @@
 //! Why a connection wasn't served.
 ghost use Rattle.std.specs.Prelude.{◌≡◌};
-ghost use Rattle.wire.specs.WireFault.{name, number, of_write};
+ghost use Rattle.wire.specs.WireFault.{of_write};
 
+use refusals::{Fault, Refusal};
 use thiserror::Error;
 use tl_fields::WriteFault;
 
@@ -18,28 +19,17 @@ pub enum WireFault {
     WriteZero,
 }
 
-impl WireFault {
-    /// The number that the fault has among the refusals.
-    pub fn number(self) -> u8
-        ensures { result ≡ number self }
-    {
-        match self {
-            WireFault::Closed => 80,
-            WireFault::Read => 81,
-            WireFault::Write => 82,
-            WireFault::WriteZero => 83,
-        }
-    }
+impl Fault for WireFault {
+    ghost use Rattle.wire.specs.WireFault.{refusal};
 
-    /// The name that the fault has among the refusals.
-    pub fn name(self) -> &'static str
-        ensures { result.now ≡ name self }
-    {
+    ghost refusal_of = { refusal };
+
+    fn refusal(&self) -> Refusal {
         match self {
-            WireFault::Closed => "Closed",
-            WireFault::Read => "Read",
-            WireFault::Write => "Write",
-            WireFault::WriteZero => "WriteZero",
+            WireFault::Closed => Refusal::refused(80, "Closed"),
+            WireFault::Read => Refusal::device(81, "Read"),
+            WireFault::Write => Refusal::device(82, "Write"),
+            WireFault::WriteZero => Refusal::device(83, "WriteZero"),
         }
     }
 }

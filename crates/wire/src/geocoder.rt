@@ -6,10 +6,10 @@ ghost use Rattle.wire.specs.Query.{asked_place, first_value};
 ghost use Rattle.wire.specs.Reply.{reply_of};
 
 use crate::answer::Answer;
-use extract::Refusal;
 use form_urlencoded::{decode, raw_pairs};
 use geocode::{Query, hit_lines};
 use http_reply::{MediaType, Status};
+use refusals::Refusal;
 use std::alloc::{AllocError, Allocator};
 use std::borrow::CowStr;
 use tl_segments::County;

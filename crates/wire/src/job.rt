@@ -12,11 +12,11 @@ ghost use Rattle.wire.specs.Reply.{reply_of};
 
 use crate::answer::Answer;
 use arrayvec::ArrayString;
-use extract::Refusal;
 use http_reply::Status;
 use http_routes::job_id;
 use itoa::Buffer;
 use jobs::{Event, JobFault, Jobs, Reply};
+use refusals::{Fault, Refusal};
 use std::alloc::Allocator;
 use tl_fields::{CountedWrite, WriteFault};
 
@@ -126,10 +126,8 @@ fn job_fault_answer<A: Allocator>(fault: JobFault) -> Answer<'static, A>
             status: Status::ServiceUnavailable,
             line: fault.line(),
         },
-        _ => Answer::Refused(Refusal {
-            number: fault.number(),
-            line: fault.line(),
-        }),
+        JobFault::Program(fault) => Answer::Refused(fault.refusal()),
+        JobFault::Memory => Answer::Refused(Refusal::memory()),
     }
 }
 

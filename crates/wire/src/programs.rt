@@ -9,9 +9,10 @@ ghost use Rattle.wire.specs.Reply.{reply_of};
 use crate::answer::Answer;
 use bpf_text::{SourceFault, assemble_source, disassemble_program};
 use bpf_verify::Verified;
-use extract::{Refusal, accept};
+use extract::accept;
 use http_reply::{MediaType, Status};
 use jobs::{SEGMENTS_PER_TURN, advance};
+use refusals::{Fault, Refusal};
 use std::alloc::{AllocError, Allocator};
 use tl_segments::County;
 
@@ -21,7 +22,7 @@ pub(crate) fn verify<A: Allocator + Copy>(alloc: A, program: &[u8]) -> Answer<'s
 {
     match accept(alloc, program) {
         Ok(_verified) => Answer::Text("accepted\n"),
-        Err(fault) => Answer::Refused(fault.into()),
+        Err(fault) => Answer::Refused(fault.refusal()),
     }
 }
 
@@ -35,11 +36,7 @@ pub(crate) fn assemble<A: Allocator + Copy>(alloc: A, source: &[u8]) -> Answer<'
             body: words,
         },
         Err(SourceFault::NotUtf8) => Answer::Status(Status::BadRequest),
-        Err(SourceFault::Text(fault)) => Answer::Refused(Refusal {
-            number: fault.number(),
-            line: fault.line(),
-        }),
-        Err(SourceFault::Memory) => Answer::Refused(Refusal::memory()),
+        Err(SourceFault::Text(fault)) => Answer::Refused(fault.refusal()),
     }
 }
 
@@ -52,7 +49,7 @@ pub(crate) fn disassemble<A: Allocator + Copy>(alloc: A, program: &[u8]) -> Answ
             media: MediaType::Plain,
             body: text.into_bytes(),
         },
-        Err(fault) => Answer::Refused(fault.into()),
+        Err(fault) => Answer::Refused(fault.refusal()),
     }
 }
 
@@ -67,7 +64,7 @@ pub(crate) fn extract<A: Allocator + Copy>(
 {
     let verified = match accept(alloc, program) {
         Ok(verified) => verified,
-        Err(fault) => return Answer::Refused(fault.into()),
+        Err(fault) => return Answer::Refused(fault.refusal()),
     };
     match all_rows(alloc, counties, &verified) {
         Ok(rows) => Answer::Made {

@@ -14,10 +14,10 @@ use crate::geocoder::geocode;
 use crate::job::{fetch, remove, tell};
 use crate::programs::{assemble, disassemble, extract, verify};
 use crate::state::State;
-use extract::Refusal;
 use http_request::HeadBuffer;
 use http_routes::Action;
 use jobs::Event;
+use refusals::Refusal;
 use std::alloc::Allocator;
 use tl_fields::{CountedRead, CountedWrite, WriteFault};
 

@@ -20,6 +20,8 @@ returns-in_default-action-clause-ok g c =
 pub returns-then-not-takes_body-clause-ok : goal.returns-then-not-takes_body-clause-ok
 returns-then-not-takes_body-clause-ok g c =
     renamed _ _ _ _ (asked_bare c.in-Some.request.head _ _ _ c.new.ensures.items (sym c.of-then-not-takes_body.ensures))
-    (decides_without_body c.in-Some.request c.in-Some-action.action _ _ (reads_head _ c.in-Some.request _ _ c.in-Some.is c.in_ok-request.ensures)
-    (asked c.in-Some.request.head c.in-Some-find.route _ (found_route _ _ _ _ c.of.ensures.path c.target.ensures c.in-Some-find.ensures) (found_action _ _ _ _ c.method.ensures c.in-Some-action.ensures))
+    (decides_without_body c.in-Some.request c.in-Some-action.action _ _
+    (reads_head _ c.in-Some.request _ _ c.in-Some.is c.in_ok-request.ensures)
+    (asked c.in-Some.request.head c.in-Some-find.route _ (found_route _ _ _ _ c.of.ensures.path c.target.ensures c.in-Some-find.ensures)
+    (found_action _ _ _ _ c.method.ensures c.in-Some-action.ensures))
     (sym c.takes_body.ensures ∙ c.if-not-takes_body.true))

@@ -5,5 +5,5 @@ use Rattle.wire.proofs.laws.requests.Goals as goal
 pub returns : goal.returns
 returns c = record {
   one_event = one_event_lem;
-  runs = λ counties acts state are. let leads = acts_lead (new_state counties) acts state are in (leads.exchanges, leads.run);
+  runs = λ counties acts state are. let leads = acts_lead (new_state counties) acts state are in (leads.exchanges, leads.are, leads.run);
 }

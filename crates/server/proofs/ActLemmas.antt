@@ -1,0 +1,60 @@
+-- The rounds of a server over the program's state are replies and turns.
+use Rattle.std.proofs.Common.{ℕ, zero, suc, List, [], ◌∷◌, Option, Some, None, ap, subst}
+use Rattle.std.specs.Prelude.{Result, Ok, Err}
+use Rattle.jobs.specs.Table.{Table}
+use Rattle.jobs.specs.declared.event.Reply.{Reply}
+use Rattle.server.specs.Rounds.{AreRounds, Serving}
+use Rattle.server.specs.Service.{HasServed, HasTurned}
+use Rattle.server.specs.Tally.{ServesTallied, Tallied, TurnsTallied}
+use Rattle.tl_fields.specs.declared.writing.WriteFault.{WriteFault}
+use Rattle.wire.specs.Event.{Act, AreActs, Replied, Rested, Turned}
+use Rattle.wire.specs.Serving.{Connection, IsReplied, IsServed}
+use Rattle.wire.specs.State.{StateParts}
+use Rattle.wire.specs.Turn.{IsTurn}
+use Rattle.wire.specs.declared.fault.WireFault.{WireFault}
+use Rattle.wire.specs.declared.fault.WireFault.TheVariants.{Closed, Read, Write, WriteZero}
+use Rattle.wire.specs.declared.serving.Extent.{Extent}
+
+-- the acts from one state to the other
+record LeadsTo (old new : StateParts) : Type 0 where
+  pub acts : List Act
+  pub are : AreActs old acts new
+
+after_turn : (old now new : StateParts) (said : Option Reply) → IsTurn old.table said now.table → LeadsTo now new → LeadsTo old new
+after_turn old now new None turn leads = record {
+  acts = Rested ∷ leads.acts;
+  are = (now, (turn.0, ap (λ (table : Table). record { table = table }) turn.1), leads.are);
+}
+after_turn old now new (Some said) turn leads = record {
+  acts = Turned turn.0 said ∷ leads.acts;
+  are = (now, (turn.1, turn.2), leads.are);
+}
+
+module _ (old now : Connection) (new : StateParts) (leads : LeadsTo now.state new) where
+  after_reply : (extent : Extent) (written : Result (Unit {0}) WriteFault) → IsReplied extent written old now → LeadsTo old.state new
+  after_reply extent written is = record {
+    acts = Replied is.input is.reply ∷ leads.acts;
+    are = (now.state, (extent, is.replies), leads.are);
+  }
+
+  after_serving : (result : Result Extent WireFault) → IsServed result old now → LeadsTo old.state new
+  after_serving (Ok done) is = after_reply is.0 _ is.1
+  after_serving (Err Write) is = after_reply is.0 _ is.1
+  after_serving (Err WriteZero) is = after_reply is.0 _ is.1
+  after_serving (Err Closed) is = subst (λ state. LeadsTo state new) is.0.state leads
+  after_serving (Err Read) is = subst (λ state. LeadsTo state new) is.0.state leads
+
+rounds_lead : (count : ℕ) (old new : Serving (Tallied StateParts))
+    → AreRounds (ServesTallied HasServed) (TurnsTallied HasTurned) count old new → LeadsTo old.service.service new.service.service
+rounds_lead zero old new same = record { acts = []; are = ap (λ (serving : Serving (Tallied StateParts)). serving.service.service) same }
+rounds_lead (suc count) old new (now, round, rounds) =
+    let turn = round.makes_turn.makes_turn in
+    let served = round.serves_client.serves_client.serves_client in
+    after_serving _ _ new.service.service
+    (after_turn round.served.service now.service.service new.service.service turn.0 turn.1 (rounds_lead count now new rounds))
+    served.result served.is_served
+
+pub rounds_are_acts : (count : ℕ) (old new : Serving (Tallied StateParts))
+    → AreRounds (ServesTallied HasServed) (TurnsTallied HasTurned) count old new
+    → (acts : List Act) × AreActs old.service.service acts new.service.service
+rounds_are_acts count old new rounds = let leads = rounds_lead count old new rounds in (leads.acts, leads.are)

@@ -1,0 +1,2 @@
+mod RoundsLemmas
+mod ActLemmas

@@ -1,0 +1,5 @@
+use Rattle.server.proofs.ActLemmas.{rounds_are_acts}
+use Rattle.server.proofs.laws.acts.Goals as goal
+
+pub returns : goal.returns
+returns c = rounds_are_acts

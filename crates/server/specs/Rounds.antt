@@ -1,0 +1,46 @@
+-- What a server does, connection by connection.
+use Rattle.std.specs.Prelude.{◌≡◌, ℕ, zero, suc, Result, Ok, Err}
+use Rattle.std.specs.declared.io.Error.{Error}
+use Rattle.tl_fields.specs.Device.{Reader, Writer}
+use Rattle.server.specs.Acceptor.{Accepts, FailsOne, TakesOne}
+use Rattle.server.specs.Service.{ServesSome}
+use Rattle.server.specs.declared.service.Close.{Close}
+
+-- what serving a client does to a service and to both ends, with how the connection is to be closed
+abbrev pub Serves : Type 0 → Type 1
+Serves S = S → Reader → Writer → Close → S → Reader → Writer → Type 0
+
+-- a service, with the counts of the accepts
+pub record Serving (S : Type 0) : Type 0 where
+  pub accepts : Accepts
+  pub service : S
+
+-- a connection was taken and served once, and then one turn was made
+pub record IsRound {S : Type 0} (serves : Serves S) (turns : S → S → Type 0) (old new : Serving S) : Type 0 where
+  pub takes : TakesOne old.accepts new.accepts
+  pub served : S
+  pub serves_client : ServesSome serves old.service served
+  pub makes_turn : turns served new.service
+
+-- an accept failed, and nothing was served
+pub record HasEnded {S : Type 0} (error : Error) (old new : Serving S) : Type 0 where
+  pub fails : FailsOne error old.accepts new.accepts
+  pub service : new.service ≡ old.service
+
+-- one round, or the end
+abbrev pub IsNext : {S : Type 0} → Serves S → (S → S → Type 0) → {T : Type 0} → Result T Error → Serving S → Serving S → Type 0
+IsNext serves turns (Ok done) old new = IsRound serves turns old new
+IsNext serves turns (Err error) old new = HasEnded error old new
+
+-- so many rounds, one after the other
+abbrev pub AreRounds : {S : Type 0} → Serves S → (S → S → Type 0) → ℕ → Serving S → Serving S → Type 0
+AreRounds serves turns zero old new = new ≡ old
+AreRounds {S} serves turns (suc count) old new =
+    (now : Serving S) × IsRound serves turns old now × AreRounds serves turns count now new
+
+-- rounds, until an accept failed
+pub record ServesUntilFailure {S : Type 0} (serves : Serves S) (turns : S → S → Type 0) (error : Error) (old new : Serving S) : Type 0 where
+  pub count : ℕ
+  pub now : Serving S
+  pub rounds : AreRounds serves turns count old now
+  pub ended : HasEnded error now new

@@ -1,0 +1,82 @@
+//! Connections, taken one after the other.
+ghost use Rattle.std.specs.Prelude.{◌≡◌, IfErr, false};
+ghost use Rattle.std.specs.IoError.{error_kind};
+ghost use Rattle.server.specs.Acceptor.{CountsAccept, is_passed_over};
+
+use std::io;
+use std::io::ErrorKind;
+use std::marker::Model;
+use std::net::OpenListener;
+use tl_fields::count_one;
+
+/// Takes connections at a listener, and counts them and the accepts that failed. Contracts see it as a record with the fields `taken` and `failed`.
+#[derive(Drop)]
+pub struct Acceptor<'a, L> {
+    listener: &'a L,
+    taken: u64,
+    failed: u64,
+}
+
+impl<'a, L> Model for Acceptor<'a, L> {
+    ghost use Rattle.server.specs.Acceptor.{Accepts};
+
+    ghost Value = { Accepts };
+
+    ghost view = { λ a. record { taken = a.taken; failed = a.failed } };
+}
+
+impl<'a, L: OpenListener> Acceptor<'a, L> {
+    /// Returns an acceptor that has taken no connection yet.
+    pub fn new(listener: &'a L) -> Self
+        ensures { result ≡ record { taken = 0; failed = 0 } }
+    {
+        Acceptor {
+            listener,
+            taken: 0,
+            failed: 0,
+        }
+    }
+
+    /// Takes the next connection. Passes over an accept that failed for one connection alone, or for a signal. After 2^64 - 1 connections it fails.
+    pub(crate) fn accept(&mut self) -> io::Result<L::Stream>
+        ensures { CountsAccept result self.old self.new }
+    {
+        let Some(taken) = self.taken.checked_add(1) else {
+            count_one(&mut self.failed);
+            return Err(io::Error::from(ErrorKind::Other));
+        };
+        let stream = match next_stream(self.listener) {
+            Ok(stream) => stream,
+            Err(error) => {
+                count_one(&mut self.failed);
+                return Err(error);
+            }
+        };
+        self.taken = taken;
+        Ok(stream)
+    }
+}
+
+/// Takes the next connection that its client hasn't taken back.
+fn next_stream<L: OpenListener>(listener: &L) -> io::Result<L::Stream>
+    ensures { IfErr result (λ error. is_passed_over (error_kind error) ≡ false) }
+{
+    for _ in 0..u64::MAX {
+        match listener.accept() {
+            Ok((stream, _)) => return Ok(stream),
+            Err(error) => {
+                if !is_passed_over(error.kind()) {
+                    return Err(error);
+                }
+            }
+        }
+    }
+    Err(io::Error::from(ErrorKind::Other))
+}
+
+/// Whether the next connection can be taken after an accept that failed so.
+fn is_passed_over(kind: ErrorKind) -> bool
+    ensures { result ≡ is_passed_over kind }
+{
+    matches!(kind, ErrorKind::ConnectionAborted | ErrorKind::Interrupted)
+}

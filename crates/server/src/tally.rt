@@ -1,0 +1,72 @@
+//! A count of what a service does.
+ghost use Rattle.std.specs.Prelude.{◌≡◌};
+
+use crate::service::{Close, Service};
+use std::marker::Model;
+use tl_fields::{CountedRead, CountedWrite, count_one};
+
+/// Any service, with how many connections it served and how many turns it made.
+///
+/// Nothing else changes the counts, which begin at 0 and wrap at 2^64. So a contract that names them says that a service did its work, also of one whose
+/// work may leave it as it was.
+#[derive(Drop)]
+pub struct Tally<S> {
+    service: S,
+    served: u64,
+    turns: u64,
+}
+
+impl<S> Model for Tally<S> {
+    ghost use Rattle.server.specs.Tally.{Tallied, tallied_code};
+
+    ghost Value = { Tallied S };
+
+    ghost coded = { tallied_code S.code };
+
+    ghost view = { λ t. record { service = t.service; served = t.served; turns = t.turns } };
+}
+
+impl<S> Tally<S> {
+    /// Takes the service as it is, with both counts at 0.
+    pub fn new(service: S) -> Self
+        ensures { result ≡ record { service = service; served = 0; turns = 0 } }
+    {
+        Tally {
+            service,
+            served: 0,
+            turns: 0,
+        }
+    }
+
+    /// Returns how many connections were served, modulo 2^64.
+    pub fn served(&self) -> u64
+        ensures { result ≡ self.now.served }
+    {
+        self.served
+    }
+
+    /// Returns how many turns were made, modulo 2^64.
+    pub fn turns(&self) -> u64
+        ensures { result ≡ self.now.turns }
+    {
+        self.turns
+    }
+}
+
+impl<S: Service> Service for Tally<S> {
+    ghost use Rattle.server.specs.Tally.{ServesTallied, TurnsTallied};
+
+    ghost serves = { ServesTallied S.serves };
+
+    ghost turns = { TurnsTallied S.turns };
+
+    fn serve<R: CountedRead, W: CountedWrite>(&mut self, input: &mut R, out: &mut W) -> Close {
+        count_one(&mut self.served);
+        self.service.serve(input, out)
+    }
+
+    fn turn(&mut self) {
+        count_one(&mut self.turns);
+        self.service.turn();
+    }
+}
