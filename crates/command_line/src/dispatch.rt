@@ -1,7 +1,7 @@
 //! A command, from its arguments to its exit status.
-ghost use Rattle.std.specs.Prelude.{◌≡◌, ◌≢◌, ◌≤◌};
+ghost use Rattle.std.specs.Prelude.{◌≡◌, ◌≢◌, ◌≤◌, ◌⊎◌};
 ghost use Rattle.tl_fields.specs.Device.{writer};
-ghost use Rattle.commands.specs.Command.{IsDone, IsRefusal};
+ghost use Rattle.commands.specs.Command.{IsDone, IsOutOfMemory, IsRefusal};
 ghost use Rattle.commands.specs.Files.{disk};
 ghost use Rattle.commands.specs.Unusable.{IsUnusable};
 ghost use Rattle.commands.specs.declared.request.Request.{Request};
@@ -30,12 +30,17 @@ pub fn command<F: Files, W: CountedWrite, E: CountedWrite>(
         (writer W.contents W.counts out.old) (writer W.contents W.counts out.new)
         (writer E.contents E.counts errors.old) (writer E.contents E.counts errors.new) }
     ensures usage { result ≡ 2 → out.new ≡ out.old }
-    ensures unusable { result ≡ 3 → (request : Request) × IsUnusable F.Reader.failed_reads request
-        (disk F.bytes F.failed_opens files.old) (disk F.bytes F.failed_opens files.new)
+    ensures unusable { result ≡ 3 → (request : Request) × IsUnusable request
+        (disk F.bytes F.failed_opens F.failed_reads files.old) (disk F.bytes F.failed_opens F.failed_reads files.new)
         (writer W.contents W.counts out.old) (writer W.contents W.counts out.new)
         (writer E.contents E.counts errors.old) (writer E.contents E.counts errors.new) }
-    // An open that failed is never passed over.
+    // Nothing is written where memory is wanting for the arguments.
+    ensures memory { result ≡ 4 → (out.new ≡ out.old) ⊎ ((request : Request) × IsOutOfMemory request (F.bytes files.old)
+        (writer W.contents W.counts out.old) (writer W.contents W.counts out.new)
+        (writer E.contents E.counts errors.old) (writer E.contents E.counts errors.new)) }
+    // An open that failed is never passed over, nor a read.
     ensures opens { result ≢ 3 → F.failed_opens files.new ≡ F.failed_opens files.old }
+    ensures reads { result ≢ 3 → F.failed_reads files.new ≡ F.failed_reads files.old }
 {
     match read_arguments(alloc, arguments) {
         Ok(request) => request.answer(alloc, files, out, errors),

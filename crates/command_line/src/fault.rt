@@ -59,7 +59,7 @@ impl ArgumentsFault<'_> {
     /// Says what is wrong. A write that fails, or takes no byte, isn't tried again.
     pub fn report<E: CountedWrite>(&self, errors: &mut E) {
         if let ArgumentsFault::Memory = self {
-            Failure::memory().report(errors);
+            Failure::Memory.report(errors);
             return;
         }
         let _ = self.say(&mut Line::new(errors));

@@ -2,7 +2,7 @@
 use Rattle.std.proofs.Common.{◌≡◌, ℕ, List, Option, Some, None, subst, ◌∙◌}
 use Rattle.std.specs.Io.KnownBytes.{Keeps}
 use Rattle.tl_segments.specs.County.{CountyReaders}
-use Rattle.commands.specs.County.{HoldCounty}
+use Rattle.commands.specs.County.{ClosesCounty, HoldCounty}
 
 -- what is known stays over two calls
 pub keeps_both : (a b c : Option (List ℕ)) → Keeps a b → Keeps b c → Keeps a c
@@ -20,3 +20,7 @@ hold_as known known' folder code readers same hold = record {
   rt5 = subst (λ (bytes : Option (List ℕ)). Keeps bytes readers.joined.rt5.left) (same _) hold.rt5;
   rt6 = subst (λ (bytes : Option (List ℕ)). Keeps bytes readers.joined.rt6.left) (same _) hold.rt6;
 }
+
+-- closing a county's readers counts the same between equal counts
+pub closes_as : (readers : CountyReaders) (a b a' : ℕ) → a ≡ a' → ClosesCounty readers a b → ClosesCounty readers a' b
+closes_as readers a b a' same closes = subst (λ (failed : ℕ). ClosesCounty readers failed b) same closes

@@ -1,10 +1,13 @@
 -- What a command promises by its exit status.
-use Rattle.std.specs.Prelude.{◌≡◌, ◌≢◌, ℕ, List, Option, ⊤, Result, Ok, Err}
+use Rattle.std.specs.Prelude.{◌≡◌, ◌≢◌, ℕ, List, [], ◌∷◌, ◌++◌, codes, decimal, Option, Some, None, Result, Ok, Err, IsUtf8}
 use Rattle.std.specs.Io.KnownBytes.{Keeps}
+use Rattle.refusals.specs.Refusal.{RefusalParts, line, memory}
 use Rattle.tl_fields.specs.Device.{Writer}
+use Rattle.tl_fields.specs.declared.writing.WriteFault.{WriteFault}
 use Rattle.commands.specs.Assemble as assemble
 use Rattle.commands.specs.Disassemble as disassemble
-use Rattle.commands.specs.Failure.{SaysLine, refusal_status}
+use Rattle.commands.specs.Failure.{SaysLine, SaysText, TellsCounts, refusal_status}
+use Rattle.commands.specs.Files.{Disk, IsFailed}
 use Rattle.commands.specs.Geocode as geocode
 use Rattle.commands.specs.Run as run
 use Rattle.commands.specs.Trace as trace
@@ -12,39 +15,68 @@ use Rattle.commands.specs.Verify as verify
 use Rattle.commands.specs.declared.request.Request.{Request}
 use Rattle.commands.specs.declared.request.Request.TheVariants.{Run, Trace, Geocode, Verify, Assemble, Disassemble}
 use Rattle.commands.specs.declared.failure.Failure.{Failure}
-use Rattle.commands.specs.declared.failure.Failure.TheVariants.{Refusal, NoLine}
+use Rattle.commands.specs.declared.failure.Failure.TheVariants.{Refusal, Memory, Write, File, CountyFile, NotUtf8, NoLine, Output}
+
+-- what was asked for was written, whole or a beginning of it up to the fault of the output
+abbrev pub Writes : Request → (List ℕ → Option (List ℕ)) → Result (Unit {0}) WriteFault → Writer → Writer → Type 0
+Writes (Run asked) known result out out' = run.Writes asked known result out out'
+Writes (Trace asked) known result out out' = trace.Writes asked known result out out'
+Writes (Geocode asked) known result out out' = geocode.Writes asked known result out out'
+Writes (Verify asked) known result out out' = verify.Writes asked known result out out'
+Writes (Assemble asked) known result out out' = assemble.Writes asked known result out out'
+Writes (Disassemble asked) known result out out' = disassemble.Writes asked known result out out'
 
 -- what was asked for was written, whole
 abbrev pub IsWritten : Request → (List ℕ → Option (List ℕ)) → Writer → Writer → Type 0
-IsWritten (Run asked) known out out' = run.IsWritten asked known out out'
-IsWritten (Trace asked) known out out' = trace.IsWritten asked known out out'
-IsWritten (Geocode asked) known out out' = geocode.IsWritten asked known out out'
-IsWritten (Verify asked) known out out' = verify.IsWritten asked known out out'
-IsWritten (Assemble asked) known out out' = assemble.IsWritten asked known out out'
-IsWritten (Disassemble asked) known out out' = disassemble.IsWritten asked known out out'
+IsWritten request known out out' = Writes request known (Ok tt) out out'
 
--- what was asked for was refused by a library, with this number and line
-abbrev pub IsRefused : Request → (List ℕ → Option (List ℕ)) → Option ℕ → List ℕ → Writer → Writer → Type 0
-IsRefused (Run asked) known number line out out' = run.IsRefused asked known number line out out'
-IsRefused (Trace asked) known number line out out' = trace.IsRefused asked known number line out out'
-IsRefused (Geocode asked) known number line out out' = geocode.IsRefused asked known number line out out'
-IsRefused (Verify asked) known number line out out' = verify.IsRefused asked known number line out out'
-IsRefused (Assemble asked) known number line out out' = assemble.IsRefused asked known number line out out'
-IsRefused (Disassemble asked) known number line out out' = disassemble.IsRefused asked known number line out out'
+-- what was asked for was refused so by a library
+abbrev pub IsRefused : Request → (List ℕ → Option (List ℕ)) → RefusalParts → Writer → Writer → Type 0
+IsRefused (Run asked) known refusal out out' = run.IsRefused asked known refusal out out'
+IsRefused (Trace asked) known refusal out out' = trace.IsRefused asked known refusal out out'
+IsRefused (Geocode asked) known refusal out out' = geocode.IsRefused asked known refusal out out'
+IsRefused (Verify asked) known refusal out out' = verify.IsRefused asked known refusal out out'
+IsRefused (Assemble asked) known refusal out out' = assemble.IsRefused asked known refusal out out'
+IsRefused (Disassemble asked) known refusal out out' = disassemble.IsRefused asked known refusal out out'
 
--- the line that was asked for isn't in the file of type 1; no other command asks for a line
-abbrev pub LacksLine : Request → (List ℕ → Option (List ℕ)) → Type 0
-LacksLine (Trace asked) known = trace.LacksLine asked known
-LacksLine request known = ⊥
+-- this line, which was asked for, isn't in the file of type 1; no other command asks for a line
+abbrev pub LacksLine : Request → (List ℕ → Option (List ℕ)) → ℕ → Type 0
+LacksLine (Trace asked) known number = trace.LacksLine asked known number
+LacksLine request known number = ⊥
 
--- How a request is carried out: it is written; or refused by a library; or the line that was asked for isn't there. Where a file or the
--- output can't be used, or memory is wanting, nothing is promised.
-abbrev pub IsCarriedOut : Request → (List ℕ → Option (List ℕ)) → Result (Unit {0}) Failure → Writer → Writer → Type 0
-IsCarriedOut request known (Ok done) out out' = IsWritten request known out out'
-IsCarriedOut request known (Err (Refusal refusal)) out out' =
-    refusal_status refusal.number ≡ 1 → IsRefused request known refusal.number refusal.line.bytes out out'
-IsCarriedOut request known (Err (NoLine line)) out out' = LacksLine request known
-IsCarriedOut request known (Err failure) out out' = ⊤
+-- the source that is asked for, by its name; only `asm` has one
+abbrev pub source_of : Request → Option (List ℕ)
+source_of (Assemble asked) = Some asked.source.now
+source_of request = None
+
+-- the source of this name, which was asked for, isn't UTF-8
+pub record IsNotUtf8 (request : Request) (known : List ℕ → Option (List ℕ)) (name : List ℕ) : Type 0 where
+  pub is_source : source_of request ≡ Some name
+  pub source : List ℕ
+  pub holds : Keeps (known name) (Some source)
+  pub no_text : ¬ IsUtf8 source
+
+-- How a request is carried out. It is written, whole or up to a fault of the output. Or a library refuses it, and where the status is 3 a
+-- read
+-- failed. Or nothing was written, since a file can't be used, or memory is wanting, or what was asked for isn't there. The output isn't
+-- flushed.
+abbrev pub IsCarriedOut : Request → Result (Unit {0}) Failure → Disk → Disk → Writer → Writer → Type 0
+IsCarriedOut request (Ok done) disk disk' out out' = Writes request disk.known (Ok done) out out'
+IsCarriedOut request (Err (Write fault)) disk disk' out out' = Writes request disk.known (Err fault) out out'
+IsCarriedOut request (Err (Refusal refusal)) disk disk' out out' =
+    IsRefused request disk.known refusal out out' × (refusal_status refusal ≡ 3 → disk'.failed_reads ≢ disk.failed_reads)
+IsCarriedOut request (Err (File name error)) disk disk' out out' = (out' ≡ out) × IsFailed disk disk'
+IsCarriedOut request (Err (CountyFile folder code file error)) disk disk' out out' = (out' ≡ out) × (disk'.failed_opens ≢ disk.failed_opens)
+IsCarriedOut request (Err (NotUtf8 name)) disk disk' out out' = (out' ≡ out) × IsNotUtf8 request disk.known name.now
+IsCarriedOut request (Err (NoLine number)) disk disk' out out' = (out' ≡ out) × LacksLine request disk.known number
+IsCarriedOut request (Err Memory) disk disk' out out' = out' ≡ out
+IsCarriedOut request (Err (Output error)) disk disk' out out' = ⊥
+
+-- the same, and that no open failed and no read, but where the status is 3, and that the output wasn't flushed
+pub record CarriesOut (request : Request) (result : Result (Unit {0}) Failure) (disk disk' : Disk) (out out' : Writer) : Type 0 where
+  pub outcome : IsCarriedOut request result disk disk' out out'
+  pub counts : TellsCounts result disk disk'
+  pub unflushed : out'.counts.flushes ≡ out.counts.flushes
 
 -- the output was flushed, and holds what it held; no other count of it has changed
 pub record IsFlushed (out out' : Writer) : Type 0 where
@@ -59,13 +91,26 @@ pub record IsDone (request : Request) (known : List ℕ → Option (List ℕ)) (
   pub written : IsWritten request known out unflushed
   pub flushed : IsFlushed unflushed out'
 
--- What was asked for was refused by a library, neither for a device's failure nor for want of memory, and the refusal's line was said. The
--- output keeps what it then held.
-pub record IsRefusal (request : Request) (known : List ℕ → Option (List ℕ)) (out out' errors errors' : Writer) : Type 0 where
-  pub number : Option ℕ
-  pub is_number : refusal_status number ≡ 1
-  pub line : List ℕ
+-- What was asked for was refused by a library, with this exit status, and the refusal's line was said. The output keeps what it then held.
+pub record IsRefusalOf (status : ℕ) (request : Request) (known : List ℕ → Option (List ℕ)) (out out' errors errors' : Writer) : Type 0 where
+  pub refusal : RefusalParts
+  pub is_status : refusal_status refusal ≡ status
   pub unflushed : Writer
-  pub refused : IsRefused request known number line out unflushed
+  pub refused : IsRefused request known refusal out unflushed
   pub kept : Keeps unflushed.held out'.held
-  pub said : SaysLine line errors errors'
+  pub said : SaysLine (line refusal) errors errors'
+
+-- what was asked for was refused, neither for a device's failure nor for want of memory
+abbrev pub IsRefusal : Request → (List ℕ → Option (List ℕ)) → Writer → Writer → Writer → Writer → Type 0
+IsRefusal request known out out' errors errors' = IsRefusalOf 1 request known out out' errors errors'
+
+-- the line that was asked for isn't there, which was said
+abbrev pub IsLackOfLine : Request → (List ℕ → Option (List ℕ)) → Writer → Writer → Type 0
+IsLackOfLine request known errors errors' = (number : ℕ) × LacksLine request known number
+    × SaysText (codes "error: the type 1 file has no line " ++ decimal number ++ 10 ∷ []) errors errors'
+
+-- Memory is wanting, which was said: for a library, which refused what was asked for so; or for something else, and nothing was written.
+pub data IsOutOfMemory (request : Request) (known : List ℕ → Option (List ℕ)) (out out' errors errors' : Writer) : Type 0 where
+  of_library : IsRefusalOf 4 request known out out' errors errors' → IsOutOfMemory request known out out' errors errors'
+  of_other : Keeps out.held out'.held → SaysLine (line memory) errors errors'
+      → IsOutOfMemory request known out out' errors errors'

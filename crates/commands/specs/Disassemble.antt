@@ -1,29 +1,33 @@
 -- What `dis` writes, and what it is refused for.
-use Rattle.std.specs.Prelude.{◌≡◌, ℕ, List, Option, Some}
-use Rattle.std.specs.Io.KnownBytes.{Appends, Keeps}
+use Rattle.std.specs.Prelude.{◌≡◌, ℕ, List, Option, Some, Result}
+use Rattle.std.specs.Io.KnownBytes.{Keeps}
 use Rattle.bpf_insn.specs.Code.{IsCodeOf, IsFirstFault}
 use Rattle.bpf_insn.specs.CodeFault as code_fault
 use Rattle.bpf_insn.specs.declared.fault.CodeFault.{CodeFault}
 use Rattle.bpf_insn.specs.declared.instruction.Insn.{Insn}
 use Rattle.bpf_text.specs.Spelled.{text_of}
+use Rattle.refusals.specs.Refusal.{RefusalParts}
 use Rattle.tl_fields.specs.Device.{Writer}
+use Rattle.tl_fields.specs.Writing.{WritesText}
+use Rattle.tl_fields.specs.declared.writing.WriteFault.{WriteFault}
 use Rattle.commands.specs.declared.disassemble.Disassemble.{Disassemble}
 
--- The program, which holds the bytes that are known of it, has a code, whose text was written.
-pub record IsWritten (disassemble : Disassemble) (known : List ℕ → Option (List ℕ)) (out out' : Writer) : Type 0 where
+-- The program, which holds the bytes that are known of it, has a code, whose text was written, or a beginning of it up to the fault of the
+-- output.
+pub record Writes (disassemble : Disassemble) (known : List ℕ → Option (List ℕ)) (result : Result (Unit {0}) WriteFault)
+    (out out' : Writer) : Type 0 where
   pub program : List ℕ
   pub is_program : Keeps (known disassemble.program.now) (Some program)
   pub code : List Insn
   pub is_code : IsCodeOf program code
-  pub written : Appends out.held out'.held (text_of code)
-  pub counts : out'.counts ≡ out.counts
+  pub written : WritesText (text_of code) result out out'
 
 -- The program has no code: it is refused for its first fault, and nothing was written.
-pub record IsRefused (disassemble : Disassemble) (known : List ℕ → Option (List ℕ)) (number : Option ℕ) (line : List ℕ) (out out' : Writer) : Type 0 where
+pub record IsRefused (disassemble : Disassemble) (known : List ℕ → Option (List ℕ)) (refusal : RefusalParts)
+    (out out' : Writer) : Type 0 where
   pub program : List ℕ
   pub is_program : Keeps (known disassemble.program.now) (Some program)
   pub fault : CodeFault
   pub first : IsFirstFault program fault
-  pub is_number : number ≡ code_fault.number fault
-  pub is_line : line ≡ code_fault.line fault
+  pub is_refusal : refusal ≡ code_fault.refusal fault
   pub unwritten : out' ≡ out

@@ -1,21 +1,30 @@
 -- Why a command isn't done: its exit status, and what is said of it.
-use Rattle.std.specs.Prelude.{◌≡◌, ◌≢◌, ℕ, List, [], ◌∷◌, ◌++◌, Option, ⊤, Result, Ok, Err}
-use Rattle.extract.specs.ExtractFault as extract_fault
-use Rattle.extract.specs.Refusal.{IsRefusalWith, class_of}
-use Rattle.extract.specs.declared.fault.ExtractFault.TheVariants.{Write}
-use Rattle.extract.specs.declared.refusal.Refusal as of_library
-use Rattle.extract.specs.declared.refusal.Class.{Class}
-use Rattle.extract.specs.declared.refusal.Class.TheVariants as class
+use Rattle.std.specs.Prelude.{◌≡◌, ◌≢◌, ℕ, List, [], ◌∷◌, ◌++◌, codes, decimal, ⊤, Result, Ok, Err}
 use Rattle.std.specs.Borrow.{Bor}
-use Rattle.tl_fields.specs.Counted.{CountsFault}
-use Rattle.tl_fields.specs.Device.{WriteCounts, Writer}
+use Rattle.bpf_insn.specs.CodeFault as code_fault
+use Rattle.extract.specs.ExtractFault as extract_fault
+use Rattle.bpf_text.specs.TextFault as text_fault
+use Rattle.bpf_text.specs.declared.fault.SourceFault.{SourceFault}
+use Rattle.bpf_text.specs.declared.fault.SourceFault.TheVariants as source
+use Rattle.bpf_text.specs.declared.fault.TextFault.TheVariants as text
+use Rattle.extract.specs.declared.fault.ExtractFault.{ExtractFault}
+use Rattle.extract.specs.declared.fault.ExtractFault.TheVariants as extract
+use Rattle.refusals.specs.Refusal.{RefusalParts, line, memory}
+use Rattle.refusals.specs.declared.refusal.Class.{Class}
+use Rattle.refusals.specs.declared.refusal.Class.TheVariants as class
+use Rattle.tl_fields.specs.Device.{Writer}
+use Rattle.tl_fields.specs.Writing as write_fault
 use Rattle.tl_fields.specs.Writing.{WritesText}
 use Rattle.tl_fields.specs.declared.writing.WriteFault.{WriteFault}
 use Rattle.tl_segments.specs.declared.fault.CountyFile as county_file
+use Rattle.commands.specs.County.{file_name}
+use Rattle.commands.specs.Files.{Disk, IsUnfailed}
 use Rattle.commands.specs.declared.files.FileFault.{FileFault}
-use Rattle.commands.specs.declared.files.FileFault.TheVariants.{Unusable, Memory}
+use Rattle.commands.specs.declared.files.FileFault.TheVariants as fault
+use Rattle.commands.specs.declared.files.ProgramInputFault.{ProgramInputFault}
+use Rattle.commands.specs.declared.files.ProgramInputFault.TheVariants as program_input
 use Rattle.commands.specs.declared.failure.Failure.{Failure}
-use Rattle.commands.specs.declared.failure.Failure.TheVariants.{Refusal, File, CountyFile, NoLine}
+use Rattle.commands.specs.declared.failure.Failure.TheVariants.{Refusal, Memory, Write, File, CountyFile, NotUtf8, NoLine, Output}
 
 -- the exit status of the refusals of a class
 abbrev pub class_status : Class → ℕ
@@ -23,52 +32,76 @@ class_status class.Refused = 1
 class_status class.Device = 3
 class_status class.Memory = 4
 
--- the exit status of a refusal with this number, which want of memory hasn't
-abbrev pub refusal_status : Option ℕ → ℕ
-refusal_status number = class_status (class_of number)
+abbrev pub refusal_status : RefusalParts → ℕ
+refusal_status refusal = class_status refusal.class
 
 -- a line that the file doesn't have is a fault of usage, 2; a file or an output that can't be used is 3
 abbrev pub status : Failure → ℕ
-status (Refusal refusal) = refusal_status refusal.number
-status (NoLine line) = 2
+status (Refusal refusal) = refusal_status refusal
+status Memory = 4
+status (NoLine number) = 2
 status failure = 3
 
-abbrev pub file_status : FileFault → ℕ
-file_status (Unusable error) = 3
-file_status Memory = 4
-
 -- what is wrong with the file of this name, and with a county's file
-abbrev pub IsOfFile : Bor (List ℕ) → FileFault → Failure → Type 0
-IsOfFile name (Unusable error) failure = failure ≡ File name error
-IsOfFile name Memory failure = status failure ≡ 4
+abbrev pub of_file : Bor (List ℕ) → FileFault → Failure
+of_file name (fault.Unusable error) = File name error
+of_file name fault.Memory = Memory
 
-abbrev pub IsOfCountyFile : Bor (List ℕ) → Bor (List ℕ) → county_file.CountyFile → FileFault → Failure → Type 0
-IsOfCountyFile folder code file (Unusable error) failure = failure ≡ CountyFile folder code file error
-IsOfCountyFile folder code file Memory failure = status failure ≡ 4
+abbrev pub of_county_file : Bor (List ℕ) → Bor (List ℕ) → county_file.CountyFile → FileFault → Failure
+of_county_file folder code file (fault.Unusable error) = CountyFile folder code file error
+of_county_file folder code file fault.Memory = Memory
 
--- the line was written, with its end of line, unless a write failed or took no byte
+-- what is wrong with the program in the file of this name
+abbrev pub of_program : Bor (List ℕ) → ProgramInputFault → Failure
+of_program name (program_input.File fault) = of_file name fault
+of_program name (program_input.Code fault) = Refusal (code_fault.refusal fault)
+
+-- what is wrong with the source in the file of this name
+abbrev pub of_source : Bor (List ℕ) → SourceFault → Failure
+of_source name source.NotUtf8 = NotUtf8 name
+of_source name (source.Text text.Memory) = Memory
+of_source name (source.Text fault) = Refusal (text_fault.refusal fault)
+
+-- why an extract isn't written whole
+abbrev pub of_extract : ExtractFault → Failure
+of_extract (extract.Write fault) = Write fault
+of_extract fault = Refusal (extract_fault.refusal fault)
+
+-- the text was written, unless a write failed or took no byte
+abbrev pub SaysText : List ℕ → Writer → Writer → Type 0
+SaysText text errors errors' = (written : Result (Unit {0}) WriteFault) × WritesText text written errors errors'
+
+-- the same of a line, with its end of line
 abbrev pub SaysLine : List ℕ → Writer → Writer → Type 0
-SaysLine line errors errors' = (written : Result (Unit {0}) WriteFault) × WritesText (line ++ 10 ∷ []) written errors errors'
+SaysLine text errors errors' = SaysText (text ++ 10 ∷ []) errors errors'
 
--- a refusal's line is said
+-- it is said of the file of this name why it can't be used
+abbrev pub SaysFile : List ℕ → Writer → Writer → Type 0
+SaysFile name errors errors' = (reason : List ℕ) × SaysText (codes "error: " ++ name ++ codes ": " ++ reason ++ 10 ∷ []) errors errors'
+
+-- what is said of a failure: a refusal's line, and else a line that begins with `error: `
 abbrev pub Says : Failure → Writer → Writer → Type 0
-Says (Refusal refusal) errors errors' = SaysLine refusal.line.bytes errors errors'
-Says failure errors errors' = ⊤
+Says (Refusal refusal) errors errors' = SaysLine (line refusal) errors errors'
+Says Memory errors errors' = SaysLine (line memory) errors errors'
+Says (Write fault) errors errors' = SaysLine (line (write_fault.refusal fault)) errors errors'
+Says (File name error) errors errors' = SaysFile name.now errors errors'
+Says (CountyFile folder code file error) errors errors' = SaysFile (file_name folder.now code.now file) errors errors'
+Says (NotUtf8 name) errors errors' = SaysText (codes "error: " ++ name.now ++ codes ": not UTF-8" ++ 10 ∷ []) errors errors'
+Says (NoLine number) errors errors' = SaysText (codes "error: the type 1 file has no line " ++ decimal number ++ 10 ∷ []) errors errors'
+Says (Output error) errors errors' = (reason : List ℕ) × SaysText (codes "error: the output can't be written: " ++ reason ++ 10 ∷ []) errors
+    errors'
 
--- no file's open has failed, but where the status is 3
-abbrev pub TellsOpens : {T : Type 0} → Result T Failure → ℕ → ℕ → Type 0
-TellsOpens (Ok value) failed failed' = failed' ≡ failed
-TellsOpens (Err failure) failed failed' = status failure ≢ 3 → failed' ≡ failed
+-- no open failed and no read, but where the status is 3
+abbrev pub TellsCounts : {T : Type 0} → Result T Failure → Disk → Disk → Type 0
+TellsCounts (Ok value) disk disk' = IsUnfailed disk disk'
+TellsCounts (Err failure) disk disk' = status failure ≢ 3 → IsUnfailed disk disk'
 
 -- what stands where the failure is a fault of usage
 abbrev pub KeepsOnUsage : {T W : Type 0} → Result T Failure → W → W → Type 0
 KeepsOnUsage (Ok value) out out' = ⊤
 KeepsOnUsage (Err failure) out out' = status failure ≡ 2 → out' ≡ out
 
--- a text wasn't written whole: the failure is the refusal for the fault, which its own count shows
-pub record TellsWrite (old new : WriteCounts) (failure : Failure) : Type 0 where
-  pub fault : WriteFault
-  pub refusal : of_library.Refusal
-  pub is_refusal : failure ≡ Refusal refusal
-  pub is_of : IsRefusalWith (extract_fault.number (Write fault)) (extract_fault.line (Write fault)) refusal
-  pub counts : CountsFault fault old new
+-- the text was written whole, or a beginning of it up to the fault of the output
+abbrev pub WritesAs : List ℕ → Result (Unit {0}) Failure → Writer → Writer → Type 0
+WritesAs text (Ok done) out out' = WritesText text (Ok done) out out'
+WritesAs text (Err failure) out out' = (fault : WriteFault) × (failure ≡ Write fault) × WritesText text (Err fault) out out'

@@ -1,14 +1,18 @@
--- The files that a command reads: what opening one counts, and what an input has left.
-use Rattle.std.specs.Prelude.{◌≡◌, ◌≢◌, ◌⊎◌, ◌<◌, ◌≤◌, ◌+◌, ◌*◌, ◌%◌, ℕ, List, [], length, Option, Some, Result, Ok, Err}
+-- The files that a command reads: what opening, reading and closing one counts, and what an input has left.
+use Rattle.std.specs.Prelude.{◌≡◌, ◌≢◌, ◌⊎◌, ◌<◌, ◌*◌, ℕ, List, [], length, Option, Some, None, ⊤, Result, Ok, Err}
 use Rattle.std.specs.Io.KnownBytes.{Keeps}
 use Rattle.std.specs.Option.{option_map_or}
 use Rattle.std.specs.IoError.{error_kind}
 use Rattle.std.specs.declared.io.Error.{Error}
-use Rattle.std.specs.declared.io.ErrorKind.TheVariants.{OutOfMemory}
-use Rattle.tl_fields.specs.Device.{Reader}
+use Rattle.std.specs.declared.io.ErrorKind.TheVariants.{NotFound, OutOfMemory}
+use Rattle.bpf_insn.specs.Code.{IsFirstFault}
+use Rattle.bpf_insn.specs.declared.fault.CodeFault.{CodeFault}
+use Rattle.bpf_insn.specs.declared.fault.CodeFault.TheVariants as code_fault
 use Rattle.bpf_insn.specs.declared.code.TheConstants.{WORD_LIMIT}
 use Rattle.commands.specs.declared.files.FileFault.{FileFault}
 use Rattle.commands.specs.declared.files.FileFault.TheVariants.{Unusable, Memory}
+use Rattle.commands.specs.declared.files.ProgramInputFault.{ProgramInputFault}
+use Rattle.commands.specs.declared.files.ProgramInputFault.TheVariants.{File, Code}
 use Rattle.commands.specs.declared.files.Input.{Input}
 use Rattle.commands.specs.declared.files.Input.TheVariants as input
 
@@ -18,9 +22,22 @@ CountsOpen (Ok reader) failed failed' = failed' ≡ failed
 CountsOpen (Err error) failed failed' =
     (error_kind error ≡ OutOfMemory → failed' ≡ failed) × (error_kind error ≢ OutOfMemory → failed' ≢ failed)
 
+-- closing a reader changes the count where so many of its reads failed, and leaves it where none did
+abbrev pub CountsClose : ℕ → ℕ → ℕ → Type 0
+CountsClose reads failed failed' = (reads ≡ 0 → failed' ≡ failed) × (reads ≢ 0 → failed' ≢ failed)
+
+-- an open that failed since there is no such file opened nothing; any other error stays one
+abbrev pub IsIfThere : {T : Type 0} → Result T Error → Result (Option T) Error → Type 0
+IsIfThere (Ok value) opened = opened ≡ Ok (Some value)
+IsIfThere (Err error) opened = (error_kind error ≡ NotFound → opened ≡ Ok None) × (error_kind error ≢ NotFound → opened ≡ Err error)
+
 -- the bytes that an opened reader has left, where they are known: none where there is no file
 abbrev pub remaining_if_there : {R : Type 0} → (R → Option (List ℕ)) → Option R → Option (List ℕ)
 remaining_if_there remaining opened = option_map_or remaining opened (Some [])
+
+-- how many of its reads failed: none where there is no file
+abbrev pub failed_if_there : {R : Type 0} → (R → ℕ) → Option R → ℕ
+failed_if_there failed_reads opened = option_map_or failed_reads opened 0
 
 -- a file can't be used exactly where a call on it failed, which its count shows
 abbrev pub CountsFileFault : FileFault → ℕ → ℕ → Type 0
@@ -41,37 +58,54 @@ abbrev pub input_failed_reads : {R : Type 0} → (R → ℕ) → Input R → ℕ
 input_failed_reads failed_reads (input.Opened reader) = failed_reads reader
 input_failed_reads failed_reads input.Nothing = 0
 
--- a read of some input failed
-abbrev pub HasFailedRead : {R : Type 0} → (R → ℕ) → Type 0
-HasFailedRead {R} failed_reads = (before : Input R) × (after : Input R) × (input_failed_reads failed_reads after ≢ input_failed_reads failed_reads before)
-
--- a file can't be used where its open failed, or a read of it; else no open failed
-abbrev pub TellsUse : {R T : Type 0} → (R → ℕ) → Result T FileFault → ℕ → ℕ → Type 0
-TellsUse failed_reads (Err (Unusable error)) failed failed' = (failed' ≢ failed) ⊎ HasFailedRead failed_reads
-TellsUse failed_reads result failed failed' = failed' ≡ failed
-
--- the files: what is known of their bytes by name, and the count of opens that failed
+-- the files: what is known of their bytes by name, and the counts of opens that failed and of readers with a failed read
 pub record Disk : Type 0 where
   pub known : List ℕ → Option (List ℕ)
   pub failed_opens : ℕ
+  pub failed_reads : ℕ
 
 -- their value, by the members of their trait
-abbrev pub disk : {F : Type 0} → (F → List ℕ → Option (List ℕ)) → (F → ℕ) → F → Disk
-disk bytes failed_opens files = record { known = bytes files; failed_opens = failed_opens files }
+abbrev pub disk : {F : Type 0} → (F → List ℕ → Option (List ℕ)) → (F → ℕ) → (F → ℕ) → F → Disk
+disk bytes failed_opens failed_reads files =
+    record { known = bytes files; failed_opens = failed_opens files; failed_reads = failed_reads files }
 
--- The bytes that are kept of a program: all of them, or of one that is too long no more than tells that, and whether its words are whole.
-pub data KeepsProgram (program kept : List ℕ) : Type 0 where
-  whole : kept ≡ program → KeepsProgram program kept
-  cut : 8 * WORD_LIMIT < length program → 8 * WORD_LIMIT < length kept → length kept % 8 ≡ length program % 8 → KeepsProgram program kept
+-- no open failed, and no read
+pub record IsUnfailed (disk disk' : Disk) : Type 0 where
+  pub opens : disk'.failed_opens ≡ disk.failed_opens
+  pub reads : disk'.failed_reads ≡ disk.failed_reads
 
--- What was read of a reader is a program, of which these bytes are kept, and never more than the limit of bytes and one word; no read failed.
-pub record ReadsProgram (kept : List ℕ) (old new : Reader) : Type 0 where
+-- an open failed, or a read
+abbrev pub IsFailed : Disk → Disk → Type 0
+IsFailed disk disk' = (disk'.failed_opens ≢ disk.failed_opens) ⊎ (disk'.failed_reads ≢ disk.failed_reads)
+
+-- a file can't be used where its open failed, or a read of it
+abbrev pub CountsUse : FileFault → Disk → Disk → Type 0
+CountsUse (Unusable error) disk disk' = IsFailed disk disk'
+CountsUse Memory disk disk' = IsUnfailed disk disk'
+
+abbrev pub TellsUse : {T : Type 0} → Result T FileFault → Disk → Disk → Type 0
+TellsUse (Ok value) disk disk' = IsUnfailed disk disk'
+TellsUse (Err fault) disk disk' = CountsUse fault disk disk'
+
+-- The program is longer than the limit of words, and so refused for its length alone.
+pub record IsTooLong (known : Option (List ℕ)) (fault : CodeFault) : Type 0 where
   pub program : List ℕ
-  pub is_program : Keeps old.left (Some program)
-  pub keeps : KeepsProgram program kept
-  pub few : length kept ≤ 8 * (WORD_LIMIT + 1)
-  pub reads : new.failed ≡ old.failed
+  pub is_program : Keeps known (Some program)
+  pub long : 8 * WORD_LIMIT < length program
+  pub first : IsFirstFault program fault
+  pub has_number : fault ≢ code_fault.Memory
 
--- the file of this name holds a program, where its bytes are known, of which these are kept
-abbrev pub IsProgramIn : (List ℕ → Option (List ℕ)) → List ℕ → List ℕ → Type 0
-IsProgramIn known name kept = (program : List ℕ) × Keeps (known name) (Some program) × KeepsProgram program kept
+-- what a fault says of a program, of whose bytes so much is known
+abbrev pub TellsProgram : Option (List ℕ) → ProgramInputFault → Type 0
+TellsProgram known (Code fault) = IsTooLong known fault
+TellsProgram known (File fault) = ⊤
+
+-- a program that is refused was read to its end, and no read failed
+abbrev pub CountsProgramFault : ProgramInputFault → ℕ → ℕ → Type 0
+CountsProgramFault (File fault) failed failed' = CountsFileFault fault failed failed'
+CountsProgramFault (Code fault) failed failed' = failed' ≡ failed
+
+abbrev pub TellsProgramUse : {T : Type 0} → Result T ProgramInputFault → Disk → Disk → Type 0
+TellsProgramUse (Ok program) disk disk' = IsUnfailed disk disk'
+TellsProgramUse (Err (File fault)) disk disk' = CountsUse fault disk disk'
+TellsProgramUse (Err (Code fault)) disk disk' = IsUnfailed disk disk'

@@ -1,9 +1,11 @@
 -- What `geocode` writes, and what it is refused for.
-use Rattle.std.specs.Prelude.{◌≡◌, ℕ, List, map, Option}
-use Rattle.std.specs.Io.KnownBytes.{Appends}
+use Rattle.std.specs.Prelude.{◌≡◌, ℕ, List, map, Option, Result}
 use Rattle.geocode.specs.HitLine.{hit_lines}
 use Rattle.geocode.specs.Query.{hits_of, parts_of}
+use Rattle.refusals.specs.Refusal.{RefusalParts}
 use Rattle.tl_fields.specs.Device.{Writer}
+use Rattle.tl_fields.specs.Writing.{WritesText}
+use Rattle.tl_fields.specs.declared.writing.WriteFault.{WriteFault}
 use Rattle.tl_segments.specs.County.{CountyParts}
 use Rattle.commands.specs.Counties.{AreCountiesOf, HaveRefusedCounty}
 use Rattle.commands.specs.declared.geocoder.Geocode.{Geocode}
@@ -12,14 +14,14 @@ use Rattle.commands.specs.declared.geocoder.Geocode.{Geocode}
 abbrev pub codes_of : Geocode → List (List ℕ)
 codes_of geocode = map (λ code. code.now) geocode.codes.items
 
--- The lines of the hits over the counties that are asked for were written.
-pub record IsWritten (geocode : Geocode) (known : List ℕ → Option (List ℕ)) (out out' : Writer) : Type 0 where
+-- The lines of the hits over the counties that are asked for were written, or a beginning of them up to the fault of the output.
+pub record Writes (geocode : Geocode) (known : List ℕ → Option (List ℕ)) (result : Result (Unit {0}) WriteFault)
+    (out out' : Writer) : Type 0 where
   pub counties : List CountyParts
   pub are_counties : AreCountiesOf known geocode.«data».now (codes_of geocode) counties
-  pub written : Appends out.held out'.held (hit_lines (hits_of (parts_of geocode.query) counties))
-  pub counts : out'.counts ≡ out.counts
+  pub written : WritesText (hit_lines (hits_of (parts_of geocode.query) counties)) result out out'
 
 -- One of the counties is refused, and nothing was written.
-pub record IsRefused (geocode : Geocode) (known : List ℕ → Option (List ℕ)) (number : Option ℕ) (line : List ℕ) (out out' : Writer) : Type 0 where
-  pub refused : HaveRefusedCounty known geocode.«data».now (codes_of geocode) number line
+pub record IsRefused (geocode : Geocode) (known : List ℕ → Option (List ℕ)) (refusal : RefusalParts) (out out' : Writer) : Type 0 where
+  pub refused : HaveRefusedCounty known geocode.«data».now (codes_of geocode) refusal
   pub unwritten : out' ≡ out

@@ -2,6 +2,7 @@ pub mod Files
 pub mod Failure
 pub mod County
 pub mod Counties
+pub mod Inputs
 pub mod Run
 pub mod Trace
 pub mod Geocode

@@ -1,11 +1,14 @@
 -- What `run` writes, and what it is refused for.
 use Rattle.std.specs.Prelude.{◌≡◌, ℕ, List, Option, Some, Result, Ok, Err}
 use Rattle.std.specs.Io.KnownBytes.{Keeps}
+use Rattle.refusals.specs.Refusal.{RefusalParts}
 use Rattle.tl_fields.specs.Device.{Writer}
+use Rattle.tl_fields.specs.declared.writing.WriteFault.{WriteFault}
 use Rattle.tl_segments.specs.County.{CountyReaders}
 use Rattle.extract.specs.ExtractFault as extract_fault
 use Rattle.extract.specs.Extracting.{IsOutcome}
 use Rattle.extract.specs.declared.fault.ExtractFault.{ExtractFault}
+use Rattle.extract.specs.declared.fault.ExtractFault.TheVariants as extract
 use Rattle.commands.specs.County.{HoldCounty}
 use Rattle.commands.specs.declared.run.Run.{Run}
 
@@ -18,11 +21,12 @@ pub record IsOutcomeOf (run : Run) (known : List ℕ → Option (List ℕ)) (res
   pub new : CountyReaders
   pub outcome : IsOutcome program result old new out out'
 
--- the extract was written
-abbrev pub IsWritten : Run → (List ℕ → Option (List ℕ)) → Writer → Writer → Type 0
-IsWritten run known out out' = (rows : ℕ) × IsOutcomeOf run known (Ok rows) out out'
+-- the extract was written, or a beginning of it up to the fault of the output
+abbrev pub Writes : Run → (List ℕ → Option (List ℕ)) → Result (Unit {0}) WriteFault → Writer → Writer → Type 0
+Writes run known (Ok done) out out' = (rows : ℕ) × IsOutcomeOf run known (Ok rows) out out'
+Writes run known (Err fault) out out' = IsOutcomeOf run known (Err (extract.Write fault)) out out'
 
--- the extract was refused, with this number and line
-abbrev pub IsRefused : Run → (List ℕ → Option (List ℕ)) → Option ℕ → List ℕ → Writer → Writer → Type 0
-IsRefused run known number line out out' =
-    (fault : ExtractFault) × (number ≡ extract_fault.number fault) × (line ≡ extract_fault.line fault) × IsOutcomeOf run known (Err fault) out out'
+-- the extract was refused so
+abbrev pub IsRefused : Run → (List ℕ → Option (List ℕ)) → RefusalParts → Writer → Writer → Type 0
+IsRefused run known refusal out out' =
+    (fault : ExtractFault) × (refusal ≡ extract_fault.refusal fault) × IsOutcomeOf run known (Err fault) out out'

@@ -1,7 +1,8 @@
 -- What `trace` writes, and what it is refused for.
-use Rattle.std.specs.Prelude.{◌≡◌, ◌<◌, ◌⊎◌, ℕ, suc, List, [], ◌∷◌, ◌++◌, length, codes, decimal, Option, Some, ⊤, Result, Ok, Err}
-use Rattle.std.specs.Io.KnownBytes.{Appends, Keeps}
+use Rattle.std.specs.Prelude.{◌≡◌, ◌<◌, ◌⊎◌, ℕ, suc, List, [], ◌∷◌, ◌++◌, length, codes, decimal, Option, Some, Result, Ok, Err}
+use Rattle.std.specs.Io.KnownBytes.{Keeps}
 use Rattle.std.specs.List.{slice_get}
+use Rattle.std.specs.Option.{unwrap_or}
 use Rattle.bpf_insn.specs.Code.{IsCodeOf, IsFirstFault}
 use Rattle.bpf_insn.specs.CodeFault as code_fault
 use Rattle.bpf_insn.specs.declared.fault.CodeFault.{CodeFault}
@@ -10,7 +11,10 @@ use Rattle.bpf_meaning.specs.Cause as cause
 use Rattle.bpf_meaning.specs.Run.{IsTraced}
 use Rattle.bpf_meaning.specs.declared.outcome.Outcome.{Outcome}
 use Rattle.bpf_meaning.specs.declared.outcome.Outcome.TheVariants.{Running, Exit, Stuck}
+use Rattle.refusals.specs.Refusal.{RefusalParts}
 use Rattle.tl_fields.specs.Device.{Writer}
+use Rattle.tl_fields.specs.Writing.{WritesText}
+use Rattle.tl_fields.specs.declared.writing.WriteFault.{WriteFault}
 use Rattle.tl_segments.specs.County.{CountyParts, CountyReaders, IsCountyFault, LoadsCounty}
 use Rattle.tl_segments.specs.LoadFault as load_fault
 use Rattle.tl_segments.specs.Segment.{Contents}
@@ -24,7 +28,8 @@ use Rattle.commands.specs.declared.failure.Failure.TheVariants.{Refusal, NoLine}
 abbrev pub outcome_text : Outcome → List ℕ
 outcome_text Running = codes "running"
 outcome_text (Exit answer score) = codes "exit " ++ decimal answer ++ codes " score " ++ decimal score
-outcome_text (Stuck place stuck) = codes "stuck place " ++ decimal place ++ codes " cause " ++ decimal (cause.number stuck)
+outcome_text (Stuck place stuck) = codes "stuck place " ++ decimal place ++ codes " cause " ++ decimal
+    (unwrap_or (cause.refusal stuck).number 0)
 
 -- with its end of line
 abbrev pub outcome_line : Outcome → List ℕ
@@ -59,46 +64,47 @@ pub record IsWithoutLine (trace : Trace) (program : List ℕ) (old new : CountyR
   pub no_line : HasNoLine county trace.line
 
 -- why there is no outcome: the first fault of the program's bytes; or of the county's files, where the program has a code
-pub data IsTraceFault (program : List ℕ) (old new : CountyReaders) (number : Option ℕ) (line : List ℕ) : Type 0 where
-  of_code : (fault : CodeFault) → IsFirstFault program fault → number ≡ code_fault.number fault → line ≡ code_fault.line fault
-      → new ≡ old → IsTraceFault program old new number line
+pub data IsTraceFault (program : List ℕ) (old new : CountyReaders) (refusal : RefusalParts) : Type 0 where
+  of_code : (fault : CodeFault) → IsFirstFault program fault → refusal ≡ code_fault.refusal fault
+      → new ≡ old → IsTraceFault program old new refusal
   of_county : (code : List Insn) → IsCodeOf program code → (fault : LoadFault) → IsCountyFault fault old new
-      → number ≡ load_fault.number fault → line ≡ load_fault.line fault → IsTraceFault program old new number line
+      → refusal ≡ load_fault.refusal fault → IsTraceFault program old new refusal
 
--- how it ends: with an outcome, or with a refusal of this number and line, or where there is no such line
+-- how it ends: with an outcome, or with a refusal, or where there is no such line
 abbrev pub EndsAs : Trace → List ℕ → CountyReaders → CountyReaders → Result Outcome Failure → Type 0
 EndsAs trace program old new (Ok outcome) = IsOutcomeOn trace program old new outcome
-EndsAs trace program old new (Err (Refusal refusal)) = IsTraceFault program old new refusal.number refusal.line.bytes
-EndsAs trace program old new (Err (NoLine line)) = IsWithoutLine trace program old new
-EndsAs trace program old new (Err failure) = ⊤
+EndsAs trace program old new (Err (Refusal refusal)) = IsTraceFault program old new refusal
+EndsAs trace program old new (Err (NoLine line)) = (line ≡ trace.line) × IsWithoutLine trace program old new
+EndsAs trace program old new (Err failure) = ⊥
 
 -- the bytes that are known of the program and of the county's files are these
 pub record HoldInputs (trace : Trace) (known : List ℕ → Option (List ℕ)) (program : List ℕ) (readers : CountyReaders) : Type 0 where
   pub is_program : Keeps (known trace.program.now) (Some program)
   pub county : HoldCounty known trace.«data».now trace.code.now readers
 
--- The outcome was written.
-pub record IsWritten (trace : Trace) (known : List ℕ → Option (List ℕ)) (out out' : Writer) : Type 0 where
+-- The outcome was written, or a beginning of it up to the fault of the output.
+pub record Writes (trace : Trace) (known : List ℕ → Option (List ℕ)) (result : Result (Unit {0}) WriteFault)
+    (out out' : Writer) : Type 0 where
   pub program : List ℕ
   pub old : CountyReaders
   pub hold : HoldInputs trace known program old
   pub new : CountyReaders
   pub outcome : Outcome
   pub is_outcome : IsOutcomeOn trace program old new outcome
-  pub written : Appends out.held out'.held (outcome_line outcome)
-  pub counts : out'.counts ≡ out.counts
+  pub written : WritesText (outcome_line outcome) result out out'
 
 -- The program or the county is refused, and nothing was written.
-pub record IsRefused (trace : Trace) (known : List ℕ → Option (List ℕ)) (number : Option ℕ) (line : List ℕ) (out out' : Writer) : Type 0 where
+pub record IsRefused (trace : Trace) (known : List ℕ → Option (List ℕ)) (refusal : RefusalParts) (out out' : Writer) : Type 0 where
   pub program : List ℕ
   pub old : CountyReaders
   pub hold : HoldInputs trace known program old
   pub new : CountyReaders
-  pub fault : IsTraceFault program old new number line
+  pub fault : IsTraceFault program old new refusal
   pub unwritten : out' ≡ out
 
 -- The line that was asked for isn't there.
-pub record LacksLine (trace : Trace) (known : List ℕ → Option (List ℕ)) : Type 0 where
+pub record LacksLine (trace : Trace) (known : List ℕ → Option (List ℕ)) (line : ℕ) : Type 0 where
+  pub is_line : line ≡ trace.line
   pub program : List ℕ
   pub old : CountyReaders
   pub hold : HoldInputs trace known program old

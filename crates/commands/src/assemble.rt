@@ -1,16 +1,13 @@
 //! `asm`: the instruction words that a program text means.
-ghost use Rattle.std.specs.Prelude.{◌≢◌, ◌≡◌, IfErr};
 ghost use Rattle.tl_fields.specs.Device.{writer};
-ghost use Rattle.commands.specs.Command.{IsCarriedOut};
-ghost use Rattle.commands.specs.Failure.{TellsOpens, status};
-ghost use Rattle.commands.specs.declared.request.Request.{Request};
+ghost use Rattle.commands.specs.Command.{CarriesOut};
+ghost use Rattle.commands.specs.Failure.{KeepsOnUsage};
 ghost use Rattle.commands.specs.Files.{disk};
-ghost use Rattle.commands.specs.Unusable.{TellsCause, source_of};
+ghost use Rattle.commands.specs.declared.request.Request.{Request};
 
 use crate::failure::{Failure, write};
 use crate::files::{Files, read_file};
-use bpf_text::{SourceFault, assemble_source};
-use extract::Refusal;
+use bpf_text::assemble_source;
 use std::alloc::Allocator;
 use tl_fields::CountedWrite;
 
@@ -29,13 +26,10 @@ impl<'a> Assemble<'a> {
         files: &mut F,
         out: &mut W,
     ) -> Result<(), Failure<'a>>
-        ensures outcome { IsCarriedOut (Request.Assemble self.entry) (F.bytes files.old) result
+        ensures carried { CarriesOut (Request.Assemble self.entry) result
+            (disk F.bytes F.failed_opens F.failed_reads files.old) (disk F.bytes F.failed_opens F.failed_reads files.new)
             (writer W.contents W.counts out.old) (writer W.contents W.counts out.new) }
-        ensures usage { IfErr result (λ failure. status failure ≢ 2) }
-        ensures opens { TellsOpens result (F.failed_opens files.old) (F.failed_opens files.new) }
-        ensures cause { IfErr result (TellsCause F.Reader.failed_reads (source_of (Request.Assemble self.entry)) (disk F.bytes F.failed_opens files.old) (disk F.bytes F.failed_opens files.new)
-            (W.counts out.old) (W.counts out.new)) }
-        ensures unflushed { (W.counts out.new).flushes ≡ (W.counts out.old).flushes }
+        ensures usage { KeepsOnUsage result out.old out.new }
     {
         let source = match read_file(alloc, files, self.source) {
             Ok(source) => source,
@@ -43,14 +37,7 @@ impl<'a> Assemble<'a> {
         };
         match assemble_source(alloc, source.as_slice()) {
             Ok(words) => write(out, words.as_slice()),
-            Err(SourceFault::NotUtf8) => Err(Failure::NotUtf8 { name: self.source }),
-            Err(SourceFault::Text(fault)) => {
-                Err(Failure::Refusal(Refusal {
-                    number: fault.number(),
-                    line: fault.line(),
-                }))
-            }
-            Err(SourceFault::Memory) => Err(Failure::memory()),
+            Err(fault) => Err(Failure::of_source(self.source, fault)),
         }
     }
 }

@@ -1,15 +1,13 @@
 //! Counties, loaded one after the other.
-ghost use Rattle.std.specs.Prelude.{◌≡◌, ◌≢◌, ℕ, List, map, IfErr, IfOk, Option};
-ghost use Rattle.commands.specs.Counties.{AreCountiesOf, IsCountyOf, TellsCounties, TellsCounty};
-ghost use Rattle.tl_fields.specs.Device.{WriteCounts};
-ghost use Rattle.commands.specs.Failure.{TellsOpens, status};
+ghost use Rattle.std.specs.Prelude.{◌≡◌, ◌≢◌, ℕ, List, map, IfErr, IfOk};
+ghost use Rattle.commands.specs.Counties.{AreCountiesOf, HaveRefusedCounty, IsCountyOf, IsRefusedCounty, TellsLoad};
+ghost use Rattle.commands.specs.Failure.{TellsCounts, status};
 ghost use Rattle.commands.specs.Files.{disk};
-ghost use Rattle.commands.specs.Unusable.{TellsCause};
 
-use crate::county::open_county;
+use crate::county::{close_county, open_county};
 use crate::failure::Failure;
 use crate::files::Files;
-use extract::Refusal;
+use refusals::Fault;
 use std::alloc::Allocator;
 use tl_segments::County;
 
@@ -22,11 +20,11 @@ pub fn load_counties<'a, A: Allocator + Copy, F: Files>(
 ) -> Result<Vec<County<A>, A>, Failure<'a>>
     ensures ok { IfOk result (λ counties.
         AreCountiesOf (F.bytes files.old) folder.now (map (λ code. code.now) codes.now) counties.items) }
-    ensures err { IfErr result (TellsCounties (F.bytes files.old) folder.now (map (λ code. code.now) codes.now)) }
+    ensures err { IfErr result (TellsLoad (HaveRefusedCounty (F.bytes files.old) folder.now (map (λ code. code.now) codes.now))
+        (disk F.bytes F.failed_opens F.failed_reads files.old) (disk F.bytes F.failed_opens F.failed_reads files.new)) }
     ensures usage { IfErr result (λ failure. status failure ≢ 2) }
-    ensures opens { TellsOpens result (F.failed_opens files.old) (F.failed_opens files.new) }
-    ensures cause { (source : Option (List ℕ)) (counts : WriteCounts) → IfErr result (TellsCause F.Reader.failed_reads source
-        (disk F.bytes F.failed_opens files.old) (disk F.bytes F.failed_opens files.new) counts counts) }
+    ensures counts { TellsCounts result (disk F.bytes F.failed_opens F.failed_reads files.old)
+        (disk F.bytes F.failed_opens F.failed_reads files.new) }
 {
     let mut counties = Vec::new(alloc);
     for code in codes {
@@ -46,19 +44,20 @@ fn load_county<'a, A: Allocator + Copy, F: Files>(
     code: &'a str,
 ) -> Result<County<A>, Failure<'a>>
     ensures ok { IfOk result (IsCountyOf (F.bytes files.old) folder.now code.now) }
-    ensures err { IfErr result (TellsCounty (F.bytes files.old) folder.now code.now) }
+    ensures err { IfErr result (TellsLoad (IsRefusedCounty (F.bytes files.old) folder.now code.now)
+        (disk F.bytes F.failed_opens F.failed_reads files.old) (disk F.bytes F.failed_opens F.failed_reads files.new)) }
     ensures stay { (other : List ℕ) → F.bytes files.new other ≡ F.bytes files.old other }
-    ensures usage { IfErr result (λ failure. status failure ≢ 2) }
-    ensures opens { TellsOpens result (F.failed_opens files.old) (F.failed_opens files.new) }
-    ensures cause { (source : Option (List ℕ)) (counts : WriteCounts) → IfErr result (TellsCause F.Reader.failed_reads source
-        (disk F.bytes F.failed_opens files.old) (disk F.bytes F.failed_opens files.new) counts counts) }
+    ensures counts { TellsCounts result (disk F.bytes F.failed_opens F.failed_reads files.old)
+        (disk F.bytes F.failed_opens F.failed_reads files.new) }
 {
     let mut inputs = match open_county(alloc, files, folder, code) {
         Ok(inputs) => inputs,
-        Err(failure) => return Err(failure),
+        Err(fault) => return Err(Failure::of_county_file(folder, code, fault)),
     };
-    match inputs.load(alloc) {
+    let loaded = inputs.load(alloc);
+    close_county(files, inputs);
+    match loaded {
         Ok(county) => Ok(county),
-        Err(fault) => Err(Failure::Refusal(Refusal::from(fault))),
+        Err(fault) => Err(Failure::Refusal(fault.refusal())),
     }
 }

@@ -1,28 +1,37 @@
 //! The files of a county (TIGER/Line 2006, record types 1, 4, 5 and 6), opened by name.
-ghost use Rattle.std.specs.Prelude.{◌≡◌, ◌≢◌, ℕ, List, IfErr, IfOk, string_bytes, Option};
+ghost use Rattle.std.specs.Prelude.{◌≡◌, ℕ, List, IfErr, IfOk, MatchResult, string_bytes};
 ghost use Rattle.std.specs.Io.KnownBytes.{Keeps};
-ghost use Rattle.tl_fields.specs.Device.{WriteCounts, writer};
+ghost use Rattle.tl_fields.specs.Device.{writer};
 ghost use Rattle.extract.specs.Extracting.{IsOutcome};
 ghost use Rattle.tl_segments.specs.County.{IsCountyFault, LoadsCounty};
-ghost use Rattle.commands.specs.County.{HoldCounty, county_readers, file_name, name_end};
-ghost use Rattle.commands.specs.Failure.{TellsOpens, status};
-ghost use Rattle.commands.specs.Files.{disk, input_remaining};
-ghost use Rattle.commands.specs.Unusable.{TellsCause};
+ghost use Rattle.commands.specs.County.{ClosesCounty, HaveNoFailure, HoldCounty, IsOpened, county_readers, file_name, name_end};
+ghost use Rattle.commands.specs.Files.{CountsFileFault, TellsFailure, input_failed_reads, input_remaining};
+ghost use Rattle.commands.specs.declared.files.FileFault.TheVariants.{Memory};
 
-use crate::failure::Failure;
-use crate::files::{Files, Input, open, open_if_there};
+use crate::files::{FileFault, Files, Input, close, open, open_if_there};
 use extract::{ExtractFault, extract};
 use std::alloc::{AllocError, Allocator};
 use tl_fields::{CountedRead, CountedWrite};
 use tl_segments::{County, CountyFile, LoadFault};
 
 /// The inputs of a county's four files.
-#[derive(Drop)]
 pub struct CountyInputs<R> {
     pub rt1: Input<R>,
+    pub joined: JoinedInputs<R>,
+}
+
+/// The inputs of the files whose lines are joined to those of type 1.
+pub struct JoinedInputs<R> {
     pub rt4: Input<R>,
     pub rt5: Input<R>,
     pub rt6: Input<R>,
+}
+
+/// Why a county's file isn't open.
+#[derive(Clone, Copy)]
+pub struct CountyFileFault {
+    pub file: CountyFile,
+    pub fault: FileFault,
 }
 
 impl<R: CountedRead> CountyInputs<R> {
@@ -36,9 +45,9 @@ impl<R: CountedRead> CountyInputs<R> {
         County::load(
             alloc,
             &mut self.rt1,
-            &mut self.rt4,
-            &mut self.rt5,
-            &mut self.rt6,
+            &mut self.joined.rt4,
+            &mut self.joined.rt5,
+            &mut self.joined.rt6,
         )
     }
 
@@ -57,9 +66,9 @@ impl<R: CountedRead> CountyInputs<R> {
             alloc,
             program,
             &mut self.rt1,
-            &mut self.rt4,
-            &mut self.rt5,
-            &mut self.rt6,
+            &mut self.joined.rt4,
+            &mut self.joined.rt5,
+            &mut self.joined.rt6,
             out,
         )
     }
@@ -67,82 +76,141 @@ impl<R: CountedRead> CountyInputs<R> {
 
 /// Opens the files of a county in the folder of the data: those of types 1, 4, 5 and 6, in this order. There has to be a type 1 file; each
 /// of the others is an empty input where there is none.
-pub fn open_county<'a, A: Allocator + Copy, F: Files>(
+pub fn open_county<A: Allocator + Copy, F: Files>(
     alloc: A,
     files: &mut F,
-    folder: &'a str,
-    code: &'a str,
-) -> Result<CountyInputs<F::Reader>, Failure<'a>>
+    folder: &str,
+    code: &str,
+) -> Result<CountyInputs<F::Reader>, CountyFileFault>
     ensures hold { IfOk result (λ inputs. HoldCounty (F.bytes files.old) folder.now code.now
         (county_readers F.Reader.remaining F.Reader.failed_reads inputs)) }
+    ensures unread { IfOk result (λ inputs. HaveNoFailure (county_readers F.Reader.remaining F.Reader.failed_reads inputs)) }
+    ensures there { IfOk result (λ inputs. IsOpened inputs.rt1) }
     ensures stay { (other : List ℕ) → F.bytes files.new other ≡ F.bytes files.old other }
-    ensures unusable { IfErr result (λ failure. (status failure ≢ 1) × (status failure ≢ 2)) }
-    ensures opens { TellsOpens result (F.failed_opens files.old) (F.failed_opens files.new) }
-    ensures cause { (source : Option (List ℕ)) (counts : WriteCounts) → IfErr result (TellsCause F.Reader.failed_reads source
-        (disk F.bytes F.failed_opens files.old) (disk F.bytes F.failed_opens files.new) counts counts) }
+    ensures opens { MatchResult result (λ _. F.failed_opens files.new ≡ F.failed_opens files.old)
+        (λ fault. CountsFileFault fault.fault (F.failed_opens files.old) (F.failed_opens files.new)) }
+    ensures reads { F.failed_reads files.new ≡ F.failed_reads files.old }
 {
     let rt1 = match open_rt1(alloc, files, folder, code) {
         Ok(input) => input,
-        Err(failure) => return Err(failure),
+        Err(fault) => {
+            return Err(CountyFileFault {
+                file: CountyFile::Rt1,
+                fault,
+            });
+        }
     };
-    let rt4 = match open_joined(alloc, files, folder, code, CountyFile::Rt4) {
-        Ok(input) => input,
-        Err(failure) => return Err(failure),
-    };
-    let rt5 = match open_joined(alloc, files, folder, code, CountyFile::Rt5) {
-        Ok(input) => input,
-        Err(failure) => return Err(failure),
-    };
-    let rt6 = match open_joined(alloc, files, folder, code, CountyFile::Rt6) {
-        Ok(input) => input,
-        Err(failure) => return Err(failure),
-    };
-    Ok(CountyInputs { rt1, rt4, rt5, rt6 })
+    match open_joined(alloc, files, folder, code) {
+        Ok(joined) => Ok(CountyInputs { rt1, joined }),
+        Err(fault) => {
+            close(files, rt1);
+            Err(fault)
+        }
+    }
 }
 
 /// Opens the type 1 file, which has to be there.
-fn open_rt1<'a, A: Allocator + Copy, F: Files>(
+fn open_rt1<A: Allocator + Copy, F: Files>(
     alloc: A,
     files: &mut F,
-    folder: &'a str,
-    code: &'a str,
-) -> Result<Input<F::Reader>, Failure<'a>>
+    folder: &str,
+    code: &str,
+) -> Result<Input<F::Reader>, FileFault>
     ensures known { IfOk result (λ input. Keeps (F.bytes files.old (file_name folder.now code.now CountyFile.Rt1))
         (input_remaining F.Reader.remaining input)) }
+    ensures unread { IfOk result (λ input. input_failed_reads F.Reader.failed_reads input ≡ 0) }
+    ensures there { IfOk result IsOpened }
     ensures stay { (other : List ℕ) → F.bytes files.new other ≡ F.bytes files.old other }
-    ensures unusable { IfErr result (λ failure. (status failure ≢ 1) × (status failure ≢ 2)) }
-    ensures opens { TellsOpens result (F.failed_opens files.old) (F.failed_opens files.new) }
-    ensures cause { (source : Option (List ℕ)) (counts : WriteCounts) → IfErr result (TellsCause F.Reader.failed_reads source
-        (disk F.bytes F.failed_opens files.old) (disk F.bytes F.failed_opens files.new) counts counts) }
+    ensures opens { TellsFailure result (F.failed_opens files.old) (F.failed_opens files.new) }
+    ensures reads { F.failed_reads files.new ≡ F.failed_reads files.old }
 {
     let name = file_name(alloc, folder, code, CountyFile::Rt1)?;
     match open(files, name.as_str()) {
         Ok(reader) => Ok(Input::Opened(reader)),
-        Err(fault) => Err(Failure::of_county_file(folder, code, CountyFile::Rt1, fault)),
+        Err(fault) => Err(fault),
+    }
+}
+
+/// Opens the files whose lines are joined to those of type 1. What is open is closed again where one of them can't be opened.
+fn open_joined<A: Allocator + Copy, F: Files>(
+    alloc: A,
+    files: &mut F,
+    folder: &str,
+    code: &str,
+) -> Result<JoinedInputs<F::Reader>, CountyFileFault>
+    ensures rt4 { IfOk result (λ inputs. Keeps (F.bytes files.old (file_name folder.now code.now CountyFile.Rt4))
+        (input_remaining F.Reader.remaining inputs.rt4)) }
+    ensures rt5 { IfOk result (λ inputs. Keeps (F.bytes files.old (file_name folder.now code.now CountyFile.Rt5))
+        (input_remaining F.Reader.remaining inputs.rt5)) }
+    ensures rt6 { IfOk result (λ inputs. Keeps (F.bytes files.old (file_name folder.now code.now CountyFile.Rt6))
+        (input_remaining F.Reader.remaining inputs.rt6)) }
+    ensures unread { IfOk result (λ inputs. (input_failed_reads F.Reader.failed_reads inputs.rt4 ≡ 0)
+        × (input_failed_reads F.Reader.failed_reads inputs.rt5 ≡ 0) × (input_failed_reads F.Reader.failed_reads inputs.rt6 ≡ 0)) }
+    ensures stay { (other : List ℕ) → F.bytes files.new other ≡ F.bytes files.old other }
+    ensures opens { MatchResult result (λ _. F.failed_opens files.new ≡ F.failed_opens files.old)
+        (λ fault. CountsFileFault fault.fault (F.failed_opens files.old) (F.failed_opens files.new)) }
+    ensures reads { F.failed_reads files.new ≡ F.failed_reads files.old }
+{
+    let rt4 = match open_file(alloc, files, folder, code, CountyFile::Rt4) {
+        Ok(input) => input,
+        Err(fault) => return Err(fault),
+    };
+    let rt5 = match open_file(alloc, files, folder, code, CountyFile::Rt5) {
+        Ok(input) => input,
+        Err(fault) => {
+            close(files, rt4);
+            return Err(fault);
+        }
+    };
+    match open_file(alloc, files, folder, code, CountyFile::Rt6) {
+        Ok(rt6) => Ok(JoinedInputs { rt4, rt5, rt6 }),
+        Err(fault) => {
+            close(files, rt4);
+            close(files, rt5);
+            Err(fault)
+        }
     }
 }
 
 /// Opens a file whose lines are joined to those of type 1, where it is there.
-fn open_joined<'a, A: Allocator + Copy, F: Files>(
+fn open_file<A: Allocator + Copy, F: Files>(
     alloc: A,
     files: &mut F,
-    folder: &'a str,
-    code: &'a str,
+    folder: &str,
+    code: &str,
     file: CountyFile,
-) -> Result<Input<F::Reader>, Failure<'a>>
+) -> Result<Input<F::Reader>, CountyFileFault>
     ensures known { IfOk result (λ input. Keeps (F.bytes files.old (file_name folder.now code.now file))
         (input_remaining F.Reader.remaining input)) }
+    ensures unread { IfOk result (λ input. input_failed_reads F.Reader.failed_reads input ≡ 0) }
     ensures stay { (other : List ℕ) → F.bytes files.new other ≡ F.bytes files.old other }
-    ensures unusable { IfErr result (λ failure. (status failure ≢ 1) × (status failure ≢ 2)) }
-    ensures opens { TellsOpens result (F.failed_opens files.old) (F.failed_opens files.new) }
-    ensures cause { (source : Option (List ℕ)) (counts : WriteCounts) → IfErr result (TellsCause F.Reader.failed_reads source
-        (disk F.bytes F.failed_opens files.old) (disk F.bytes F.failed_opens files.new) counts counts) }
+    ensures opens { MatchResult result (λ _. F.failed_opens files.new ≡ F.failed_opens files.old)
+        (λ fault. CountsFileFault fault.fault (F.failed_opens files.old) (F.failed_opens files.new)) }
+    ensures reads { F.failed_reads files.new ≡ F.failed_reads files.old }
 {
-    let name = file_name(alloc, folder, code, file)?;
+    let Ok(name) = file_name(alloc, folder, code, file) else {
+        let fault = FileFault::Memory;
+        return Err(CountyFileFault { file, fault });
+    };
     match open_if_there(files, name.as_str()) {
         Ok(input) => Ok(input),
-        Err(fault) => Err(Failure::of_county_file(folder, code, file, fault)),
+        Err(fault) => Err(CountyFileFault { file, fault }),
     }
+}
+
+/// Closes the inputs of a county.
+pub fn close_county<F: Files>(files: &mut F, inputs: CountyInputs<F::Reader>)
+    ensures stay { (other : List ℕ) → F.bytes files.new other ≡ F.bytes files.old other }
+    ensures opens { F.failed_opens files.new ≡ F.failed_opens files.old }
+    ensures reads { ClosesCounty (county_readers F.Reader.remaining F.Reader.failed_reads inputs)
+        (F.failed_reads files.old) (F.failed_reads files.new) }
+{
+    let CountyInputs { rt1, joined } = inputs;
+    let JoinedInputs { rt4, rt5, rt6 } = joined;
+    close(files, rt1);
+    close(files, rt4);
+    close(files, rt5);
+    close(files, rt6);
 }
 
 /// The name of a county's file, in the folder of the data.

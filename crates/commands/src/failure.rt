@@ -1,19 +1,22 @@
 //! Why a command isn't done: what is said of it, and its exit status.
-ghost use Rattle.std.specs.Prelude.{◌≡◌, ◌≢◌, ◌∷◌, [], ◌++◌, IfErr, IfOk};
-ghost use Rattle.std.specs.Io.KnownBytes.{Appends};
+ghost use Rattle.std.specs.Prelude.{◌≡◌, ◌++◌, codes};
+ghost use Rattle.std.specs.List.{flat_map};
 ghost use Rattle.tl_fields.specs.Device.{writer};
-ghost use Rattle.commands.specs.Failure.{IsOfCountyFile, IsOfFile, Says, TellsWrite, class_status, file_status, status};
+ghost use Rattle.commands.specs.Failure.{Says, SaysFile, SaysText, WritesAs, class_status, of_county_file, of_extract, of_file, of_program, of_source, status};
+ghost use Rattle.commands.specs.declared.failure.Failure.TheVariants.{Memory};
 
-use crate::county::name_end;
-use crate::files::FileFault;
-use crate::line::Line;
-use arrayvec::{ArrayString, ArrayVec};
-use extract::{Class, Refusal};
+use crate::county::{CountyFileFault, name_end};
+use crate::files::{FileFault, ProgramInputFault};
+use arrayvec::ArrayString;
+use bpf_text::{SourceFault, TextFault};
+use extract::ExtractFault;
+use itoa::Buffer;
+use refusals::{Class, Fault, Refusal};
 use std::alloc::{AllocError, AllocFailed};
-use std::fmt::Write;
+use std::fmt::Write as WriteText;
+use std::io;
 use std::io::ErrorKind;
-use std::{fmt, io};
-use tl_fields::{CountedWrite, write_whole};
+use tl_fields::{CountedWrite, WriteFault, write_whole};
 use tl_segments::CountyFile;
 
 pub const DONE: u8 = 0;
@@ -27,10 +30,14 @@ pub const UNUSABLE: u8 = 3;
 pub const OUT_OF_MEMORY: u8 = 4;
 
 /// Why a command isn't done.
-#[derive(Clone, Copy)]
+#[derive(Drop)]
 pub enum Failure<'a> {
-    /// A library refuses, or memory is wanting.
+    /// A library refuses, or memory is wanting for it.
     Refusal(Refusal),
+    /// Memory is wanting for something else, before anything is written.
+    Memory,
+    /// The output isn't written whole.
+    Write(WriteFault),
     /// The file of this name can't be opened or read.
     File {
         name: &'a str,
@@ -56,37 +63,60 @@ pub enum Failure<'a> {
 }
 
 impl<'a> Failure<'a> {
-    /// Want of memory.
-    pub fn memory() -> Self
-        ensures { status result ≡ 4 }
-    {
-        Failure::Refusal(Refusal::memory())
-    }
-
     /// What is wrong with the file of this name.
     pub fn of_file(name: &'a str, fault: FileFault) -> Self
-        ensures status { status result ≡ file_status fault }
-        ensures file { IsOfFile name.entry fault result }
+        ensures { result ≡ of_file name.entry fault }
     {
         match fault {
             FileFault::Unusable(error) => Failure::File { name, error },
-            FileFault::Memory => Failure::memory(),
+            FileFault::Memory => Failure::Memory,
+        }
+    }
+
+    /// What is wrong with the program in the file of this name.
+    pub fn of_program(name: &'a str, fault: ProgramInputFault) -> Self
+        ensures { result ≡ of_program name.entry fault }
+    {
+        match fault {
+            ProgramInputFault::File(fault) => Failure::of_file(name, fault),
+            ProgramInputFault::Code(fault) => Failure::Refusal(fault.refusal()),
         }
     }
 
     /// What is wrong with a county's file, in the folder of the data.
-    pub fn of_county_file(data: &'a str, code: &'a str, file: CountyFile, fault: FileFault) -> Self
-        ensures status { status result ≡ file_status fault }
-        ensures file { IsOfCountyFile «data».entry code.entry file fault result }
+    pub fn of_county_file(data: &'a str, code: &'a str, fault: CountyFileFault) -> Self
+        ensures { result ≡ of_county_file «data».entry code.entry fault.file fault.fault }
     {
-        match fault {
+        let file = fault.file;
+        match fault.fault {
             FileFault::Unusable(error) => Failure::CountyFile {
                 data,
                 code,
                 file,
                 error,
             },
-            FileFault::Memory => Failure::memory(),
+            FileFault::Memory => Failure::Memory,
+        }
+    }
+
+    /// What is wrong with the source in the file of this name.
+    pub fn of_source(name: &'a str, fault: SourceFault) -> Self
+        ensures { result ≡ of_source name.entry fault }
+    {
+        match fault {
+            SourceFault::NotUtf8 => Failure::NotUtf8 { name },
+            SourceFault::Text(TextFault::Memory) => Failure::Memory,
+            SourceFault::Text(fault) => Failure::Refusal(fault.refusal()),
+        }
+    }
+
+    /// Why an extract isn't written whole.
+    pub fn of_extract(fault: ExtractFault) -> Self
+        ensures { result ≡ of_extract fault }
+    {
+        match fault {
+            ExtractFault::Write(fault) => Failure::Write(fault),
+            fault => Failure::Refusal(fault.refusal()),
         }
     }
 
@@ -96,6 +126,7 @@ impl<'a> Failure<'a> {
     {
         match self {
             Failure::Refusal(refusal) => class_status(refusal.class()),
+            Failure::Memory => OUT_OF_MEMORY,
             Failure::NoLine { .. } => USAGE,
             _ => UNUSABLE,
         }
@@ -105,55 +136,60 @@ impl<'a> Failure<'a> {
     pub fn report<E: CountedWrite>(&self, errors: &mut E)
         ensures { Says self.now (writer E.contents E.counts errors.old) (writer E.contents E.counts errors.new) }
     {
-        if let Failure::Refusal(refusal) = self {
-            let _ = write_whole(errors, with_line_end(refusal.line).as_slice());
-            return;
-        }
-        let _ = self.say(&mut Line::new(errors));
-    }
-
-    /// Says what is wrong with a file, with the output or with the line that is asked for.
-    fn say<E: CountedWrite>(&self, line: &mut Line<'_, E>) -> fmt::Result {
         match self {
-            Failure::Refusal(_) => Ok(()),
-            Failure::File { name, error } => write!(line, "error: {name}: {}\n", Reason(*error)),
+            Failure::Refusal(refusal) => say(errors, &[refusal.line().as_str(), "\n"]),
+            Failure::Memory => say(errors, &[Refusal::memory().line().as_str(), "\n"]),
+            Failure::Write(fault) => say(errors, &[fault.line().as_str(), "\n"]),
+            Failure::File { name, error } => {
+                let reason = reason(*error);
+                say_of_file(errors, name, reason.as_str());
+            }
             Failure::CountyFile {
                 data,
                 code,
                 file,
                 error,
             } => {
-                let end = name_end(*file);
-                write!(line, "error: {data}/TGR{code}{end}: {}\n", Reason(*error))
+                let (end, reason) = (name_end(*file), reason(*error));
+                say_of_county_file(errors, data, code, end, reason.as_str());
             }
-            Failure::NotUtf8 { name } => write!(line, "error: {name}: not UTF-8\n"),
-            Failure::NoLine { line: number } => {
-                write!(line, "error: the type 1 file has no line {number}\n")
+            Failure::NotUtf8 { name } => say(errors, &["error: ", name, ": not UTF-8\n"]),
+            Failure::NoLine { line } => {
+                let mut number = Buffer::new();
+                let number = number.format(*line);
+                say(
+                    errors,
+                    &["error: the type 1 file has no line ", number, "\n"],
+                );
             }
             Failure::Output(error) => {
-                write!(
-                    line,
-                    "error: the output can't be written: {}\n",
-                    Reason(*error)
-                )
+                let reason = reason(*error);
+                say(
+                    errors,
+                    &[
+                        "error: the output can't be written: ",
+                        reason.as_str(),
+                        "\n",
+                    ],
+                );
             }
         }
     }
 }
 
 impl From<AllocError> for Failure<'_> {
-    ghost from_gives = { λ _ failure. status failure ≡ 4 };
+    ghost from_gives = { λ _ failure. failure ≡ Memory };
 
     fn from(_error: AllocError) -> Self {
-        Failure::memory()
+        Failure::Memory
     }
 }
 
 impl<T: Drop> From<AllocFailed<T>> for Failure<'_> {
-    ghost from_gives = { λ _ failure. status failure ≡ 4 };
+    ghost from_gives = { λ _ failure. failure ≡ Memory };
 
     fn from(_error: AllocFailed<T>) -> Self {
-        Failure::memory()
+        Failure::Memory
     }
 }
 
@@ -168,44 +204,68 @@ fn class_status(class: Class) -> u8
     }
 }
 
-/// The line, with its end of line.
-fn with_line_end(line: ArrayString<64>) -> ArrayVec<u8, 65>
-    ensures { result.items ≡ line.bytes ++ 10 ∷ [] }
-{
-    let mut text = ArrayVec::new();
-    text.try_extend_from_slice(line.as_bytes()).unwrap();
-    text.push(b'\n');
-    text
-}
-
-/// Writes the text whole, or refuses by what the output did.
+/// Writes the text whole, or up to the fault of the output.
 pub fn write<'a, W: CountedWrite>(out: &mut W, text: &[u8]) -> Result<(), Failure<'a>>
-    ensures ok { IfOk result (λ _. Appends (W.contents out.old) (W.contents out.new) text.now × (W.counts out.new ≡ W.counts out.old)) }
-    ensures err { IfErr result (λ failure. (status failure ≢ 1) × (status failure ≢ 2)) }
-    ensures fault { IfErr result (TellsWrite (W.counts out.old) (W.counts out.new)) }
-    ensures unflushed { (W.counts out.new).flushes ≡ (W.counts out.old).flushes }
+    ensures { WritesAs text.now result (writer W.contents W.counts out.old) (writer W.contents W.counts out.new) }
 {
     match write_whole(out, text) {
         Ok(()) => Ok(()),
-        Err(fault) => Err(Failure::Refusal(Refusal::from(fault))),
+        Err(fault) => Err(Failure::Write(fault)),
     }
 }
 
-/// What an error of the system is called.
-#[derive(Clone, Copy)]
-struct Reason(io::Error);
-
-impl fmt::Display for Reason {
-    fn fmt<W: fmt::Write>(&self, f: &mut fmt::Formatter<W>) -> fmt::Result {
-        let Reason(error) = self;
-        match error.kind() {
-            ErrorKind::NotFound => f.write_str("not found"),
-            ErrorKind::PermissionDenied => f.write_str("permission denied"),
-            ErrorKind::IsADirectory => f.write_str("is a directory"),
-            ErrorKind::NotADirectory => f.write_str("not a directory"),
-            ErrorKind::StorageFull => f.write_str("no space left"),
-            ErrorKind::BrokenPipe => f.write_str("broken pipe"),
-            _ => fmt::Display::fmt(error, f),
+/// Says the pieces, one after the other, up to the first that can't be written whole.
+fn say<E: CountedWrite>(errors: &mut E, pieces: &[&str])
+    ensures { SaysText (flat_map (λ piece. piece.now) pieces.now)
+        (writer E.contents E.counts errors.old) (writer E.contents E.counts errors.new) }
+{
+    for piece in pieces {
+        match write_whole(errors, piece.as_bytes()) {
+            Ok(()) => {}
+            Err(_) => return,
         }
     }
+}
+
+/// Says why the file of this name can't be used.
+fn say_of_file<'p, E: CountedWrite>(errors: &mut E, name: &'p str, reason: &'p str)
+    ensures { SaysFile name.now (writer E.contents E.counts errors.old) (writer E.contents E.counts errors.new) }
+{
+    say(errors, &["error: ", name, ": ", reason, "\n"]);
+}
+
+/// Says why a county's file, whose name ends so, can't be used.
+fn say_of_county_file<'p, E: CountedWrite>(
+    errors: &mut E,
+    data: &'p str,
+    code: &'p str,
+    end: &'p str,
+    reason: &'p str,
+)
+    ensures { SaysFile («data».now ++ codes "/TGR" ++ code.now ++ end.now)
+        (writer E.contents E.counts errors.old) (writer E.contents E.counts errors.new) }
+{
+    say(
+        errors,
+        &["error: ", data, "/TGR", code, end, ": ", reason, "\n"],
+    );
+}
+
+/// What an error of the system is called.
+fn reason(error: io::Error) -> ArrayString<320> {
+    let mut text = ArrayString::new();
+    let name = match error.kind() {
+        ErrorKind::NotFound => "not found",
+        ErrorKind::PermissionDenied => "permission denied",
+        ErrorKind::IsADirectory => "is a directory",
+        ErrorKind::NotADirectory => "not a directory",
+        ErrorKind::StorageFull => "no space left",
+        ErrorKind::BrokenPipe => "broken pipe",
+        _ => {
+            let _ = write!(text, "{error}");
+            return text;
+        }
+    };
+    let _ = text.try_push_str(name);
+    text
 }

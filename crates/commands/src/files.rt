@@ -1,15 +1,16 @@
 //! The files that a command reads, by name.
-ghost use Rattle.std.specs.Prelude.{◌≡◌, ◌≤◌, ◌<◌, ◌%◌, ℕ, List, ◌++◌, length, take, Option, IfOk, None, Ok, Some};
+ghost use Rattle.std.specs.Prelude.{◌≡◌, ◌≤◌, ◌*◌, ◌%◌, ℕ, List, ◌++◌, length, take, Option, IfOk, IfErr, MatchResult, None, Ok, Err, Some};
 ghost use Rattle.std.specs.Io.{ReadsAtMost};
 ghost use Rattle.std.specs.Io.KnownBytes.{Keeps, ReadConsumes};
 ghost use Rattle.tl_fields.specs.Counted.{CountsFailure};
-ghost use Rattle.tl_fields.specs.Device.{reader};
-ghost use Rattle.commands.specs.Files.{IsProgramIn, KeepsProgram, ReadsProgram, TellsFailure, TellsUse, input_remaining};
+ghost use Rattle.commands.specs.Files.{CountsClose, CountsOpen, CountsProgramFault, IsIfThere, IsTooLong, TellsFailure, TellsProgram, TellsProgramUse, TellsUse, disk, input_failed_reads, input_remaining};
 ghost use Rattle.commands.specs.declared.files.FileFault.TheVariants.{Memory};
+ghost use Rattle.commands.specs.declared.files.ProgramInputFault.TheVariants.{File};
 ghost use Rattle.commands.specs.declared.files.TheConstants.{MOST_KEPT};
+ghost use Rattle.bpf_insn.specs.declared.code.TheConstants.{WORD_LIMIT};
 
 use arrayvec::ArrayVec;
-use bpf_insn::WORD_LIMIT;
+use bpf_insn::{CodeFault, WORD_LIMIT};
 use std::alloc::{AllocError, Allocator};
 use std::fs::File;
 use std::io::{BufReader, ErrorKind, Read};
@@ -32,11 +33,29 @@ impl From<AllocError> for FileFault {
     }
 }
 
+/// Why a program's bytes aren't there.
+#[derive(Clone, Copy)]
+pub enum ProgramInputFault {
+    /// Its file can't be opened or read, or memory is wanting.
+    File(FileFault),
+    /// It is longer than the limit, and this is its first fault: it has too many words, or its last one isn't whole.
+    Code(CodeFault),
+}
+
+impl From<AllocError> for ProgramInputFault {
+    ghost from_gives = { λ _ fault. fault ≡ File Memory };
+
+    fn from(_error: AllocError) -> ProgramInputFault {
+        ProgramInputFault::File(FileFault::Memory)
+    }
+}
+
 /// The files, by name.
 pub trait Files {
-    ghost use Rattle.commands.specs.Files.{CountsOpen, remaining_if_there};
+    ghost use Rattle.commands.specs.Files.{CountsClose, CountsOpen, failed_if_there, remaining_if_there};
 
-    type Reader: CountedRead + Drop;
+    // It can't be dropped: each reader that was opened is closed, so no failed read is forgotten.
+    type Reader: CountedRead;
 
     // The bytes of the file of a name, where they are known: none of a file that isn't there.
     ghost bytes: { Self → List ℕ → Option (List ℕ) } = { λ _ _. None };
@@ -44,17 +63,30 @@ pub trait Files {
     // How many opens failed, but for want of memory, modulo 2^64.
     ghost failed_opens: { Self → ℕ };
 
+    // How many of the readers that were closed had a failed read, modulo 2^64.
+    ghost failed_reads: { Self → ℕ };
+
     /// Opens a file for reading. The reader that it gives has a buffer of its own.
     fn open(&mut self, name: &str) -> io::Result<Self::Reader>
         ensures known { IfOk result (λ reader. Keeps (bytes self.old name.now) (Self.Reader.remaining reader)) }
+        ensures unread { IfOk result (λ reader. Self.Reader.failed_reads reader ≡ 0) }
         ensures stay { (other : List ℕ) → bytes self.new other ≡ bytes self.old other }
-        ensures failures { CountsOpen result (failed_opens self.old) (failed_opens self.new) };
+        ensures failures { CountsOpen result (failed_opens self.old) (failed_opens self.new) }
+        ensures reads { failed_reads self.new ≡ failed_reads self.old };
 
     /// Opens a file for reading, where there is one of the name. Any other open that fails is an error.
     fn open_if_there(&mut self, name: &str) -> io::Result<Option<Self::Reader>>
         ensures known { IfOk result (λ opened. Keeps (bytes self.old name.now) (remaining_if_there Self.Reader.remaining opened)) }
+        ensures unread { IfOk result (λ opened. failed_if_there Self.Reader.failed_reads opened ≡ 0) }
         ensures stay { (other : List ℕ) → bytes self.new other ≡ bytes self.old other }
-        ensures failures { CountsOpen result (failed_opens self.old) (failed_opens self.new) };
+        ensures failures { CountsOpen result (failed_opens self.old) (failed_opens self.new) }
+        ensures reads { failed_reads self.new ≡ failed_reads self.old };
+
+    /// Closes a file's reader.
+    fn close(&mut self, reader: Self::Reader)
+        ensures stay { (other : List ℕ) → bytes self.new other ≡ bytes self.old other }
+        ensures opens { failed_opens self.new ≡ failed_opens self.old }
+        ensures reads { CountsClose (Self.Reader.failed_reads reader) (failed_reads self.old) (failed_reads self.new) };
 }
 
 /// The files of the system.
@@ -62,6 +94,7 @@ pub trait Files {
 pub struct SystemFiles<'a, R> {
     runtime: &'a R,
     failed_opens: u64,
+    failed_reads: u64,
 }
 
 // A reader fetches as many bytes at once.
@@ -69,11 +102,22 @@ pub const INPUT_BUFFER: usize = 65536;
 
 impl<'a, R> SystemFiles<'a, R> {
     pub fn new(runtime: &'a R) -> Self
-        ensures { result.failed_opens ≡ 0 }
+        ensures opens { result.failed_opens ≡ 0 }
+        ensures reads { result.failed_reads ≡ 0 }
     {
         SystemFiles {
             runtime,
             failed_opens: 0,
+            failed_reads: 0,
+        }
+    }
+
+    fn count_open(&mut self, error: io::Error)
+        ensures opens { CountsOpen {R = ℕ} (Err error) self.old.failed_opens self.new.failed_opens }
+        ensures reads { self.new.failed_reads ≡ self.old.failed_reads }
+    {
+        if error.kind() != ErrorKind::OutOfMemory {
+            count_one(&mut self.failed_opens);
         }
     }
 }
@@ -83,28 +127,31 @@ impl<R: rt::Files + AllocGlobal> Files for SystemFiles<'_, R> {
 
     ghost failed_opens = { λ files. files.failed_opens };
 
+    ghost failed_reads = { λ files. files.failed_reads };
+
     fn open(&mut self, name: &str) -> io::Result<Buffered<BufReader<R::File>>> {
         match open_buffered(self.runtime, name) {
             Ok(reader) => Ok(reader),
             Err(error) => {
-                if error.kind() != ErrorKind::OutOfMemory {
-                    count_one(&mut self.failed_opens);
-                }
+                self.count_open(error);
                 Err(error)
             }
         }
     }
 
     fn open_if_there(&mut self, name: &str) -> io::Result<Option<Buffered<BufReader<R::File>>>> {
-        match open_buffered(self.runtime, name) {
-            Ok(reader) => Ok(Some(reader)),
-            Err(error) if error.kind() == ErrorKind::NotFound => Ok(None),
+        match if_there(open_buffered(self.runtime, name)) {
+            Ok(opened) => Ok(opened),
             Err(error) => {
-                if error.kind() != ErrorKind::OutOfMemory {
-                    count_one(&mut self.failed_opens);
-                }
+                self.count_open(error);
                 Err(error)
             }
+        }
+    }
+
+    fn close(&mut self, reader: Buffered<BufReader<R::File>>) {
+        if reader.failed_reads() != 0 {
+            count_one(&mut self.failed_reads);
         }
     }
 }
@@ -112,17 +159,32 @@ impl<R: rt::Files + AllocGlobal> Files for SystemFiles<'_, R> {
 fn open_buffered<R: rt::Files + AllocGlobal>(
     runtime: &R,
     name: &str,
-) -> io::Result<Buffered<BufReader<R::File>>> {
+) -> io::Result<Buffered<BufReader<R::File>>>
+    ensures { IfOk result (λ reader. reader.failed_reads ≡ 0) }
+{
     let file = File::open(runtime, name)?;
     let reader = BufReader::with_capacity(runtime.alloc(), INPUT_BUFFER, file)?;
     Ok(Buffered::new(reader))
 }
 
+/// Returns what was opened, and nothing where there is no such file. Any other open that failed is an error.
+fn if_there<T>(opened: io::Result<T>) -> io::Result<Option<T>>
+    ensures { IsIfThere opened result }
+{
+    match opened {
+        Ok(reader) => Ok(Some(reader)),
+        Err(error) if error.kind() == ErrorKind::NotFound => Ok(None),
+        Err(error) => Err(error),
+    }
+}
+
 /// Opens a file.
 pub fn open<F: Files>(files: &mut F, name: &str) -> Result<F::Reader, FileFault>
     ensures known { IfOk result (λ reader. Keeps (F.bytes files.old name.now) (F.Reader.remaining reader)) }
+    ensures unread { IfOk result (λ reader. F.Reader.failed_reads reader ≡ 0) }
     ensures stay { (other : List ℕ) → F.bytes files.new other ≡ F.bytes files.old other }
     ensures opens { TellsFailure result (F.failed_opens files.old) (F.failed_opens files.new) }
+    ensures reads { F.failed_reads files.new ≡ F.failed_reads files.old }
 {
     match files.open(name) {
         Ok(reader) => Ok(reader),
@@ -134,14 +196,29 @@ pub fn open<F: Files>(files: &mut F, name: &str) -> Result<F::Reader, FileFault>
 /// Opens a file where there is one of the name. Where there is none the input is empty.
 pub fn open_if_there<F: Files>(files: &mut F, name: &str) -> Result<Input<F::Reader>, FileFault>
     ensures known { IfOk result (λ input. Keeps (F.bytes files.old name.now) (input_remaining F.Reader.remaining input)) }
+    ensures unread { IfOk result (λ input. input_failed_reads F.Reader.failed_reads input ≡ 0) }
     ensures stay { (other : List ℕ) → F.bytes files.new other ≡ F.bytes files.old other }
     ensures opens { TellsFailure result (F.failed_opens files.old) (F.failed_opens files.new) }
+    ensures reads { F.failed_reads files.new ≡ F.failed_reads files.old }
 {
     match files.open_if_there(name) {
         Ok(Some(reader)) => Ok(Input::Opened(reader)),
         Ok(None) => Ok(Input::Nothing),
         Err(error) if error.kind() == ErrorKind::OutOfMemory => Err(FileFault::Memory),
         Err(error) => Err(FileFault::Unusable(error)),
+    }
+}
+
+/// Closes an input's reader.
+pub fn close<F: Files>(files: &mut F, input: Input<F::Reader>)
+    ensures stay { (other : List ℕ) → F.bytes files.new other ≡ F.bytes files.old other }
+    ensures opens { F.failed_opens files.new ≡ F.failed_opens files.old }
+    ensures reads { CountsClose (input_failed_reads F.Reader.failed_reads input)
+        (F.failed_reads files.old) (F.failed_reads files.new) }
+{
+    match input {
+        Input::Opened(reader) => files.close(reader),
+        Input::Nothing => {}
     }
 }
 
@@ -176,15 +253,20 @@ pub fn read_file<A: Allocator, F: Files>(
     name: &str,
 ) -> Result<Vec<u8, A>, FileFault>
     ensures known { IfOk result (λ bytes. Keeps (F.bytes files.old name.now) (Some bytes.items)) }
-    ensures uses { TellsUse F.Reader.failed_reads result (F.failed_opens files.old) (F.failed_opens files.new) }
+    ensures uses { TellsUse result (disk F.bytes F.failed_opens F.failed_reads files.old)
+        (disk F.bytes F.failed_opens F.failed_reads files.new) }
 {
     match open(files, name) {
-        Ok(mut reader) => read_to_end(alloc, &mut reader),
+        Ok(mut reader) => {
+            let read = read_to_end(alloc, &mut reader);
+            files.close(reader);
+            read
+        }
         Err(fault) => Err(fault),
     }
 }
 
-// So many bytes of a program are kept at most: it is refused where it has more than the limit of words.
+// So many bytes of a program are kept at most: one word more shows that it has more than the limit.
 pub const MOST_KEPT: usize = 8 * (WORD_LIMIT + 1);
 
 /// Appends as much of what was read as is kept.
@@ -196,32 +278,35 @@ fn keep<A: Allocator>(kept: &mut Vec<u8, A>, read: &[u8]) -> Result<(), AllocErr
     kept.extend_from_slice(&read[..room.min(read.len())])
 }
 
-/// Cuts the front of a program that is too long, whose last word has so many bytes where it isn't whole, to the least that tells so.
-fn cut_behind<A: Allocator>(front: &mut Vec<u8, A>, remainder: usize)
-    requires small { remainder < 8 }
-    ensures { (program : List ℕ) → front.old.items ≡ take MOST_KEPT program → remainder ≡ length program % 8
-        → KeepsProgram program front.new.items × (length front.new.items ≤ MOST_KEPT) }
+/// Returns what was kept of a program, with its length modulo 8, or its first fault if it is too long.
+fn complete<A: Allocator>(kept: Vec<u8, A>, remainder: usize) -> Result<Vec<u8, A>, CodeFault>
+    ensures ok { (program : List ℕ) → kept.items ≡ take MOST_KEPT program
+        → IfOk result (λ whole. (whole.items ≡ program) × (length whole.items ≤ 8 * WORD_LIMIT)) }
+    ensures err { (program : List ℕ) → kept.items ≡ take MOST_KEPT program → remainder ≡ length program % 8
+        → IfErr result (IsTooLong (Some program)) }
 {
-    if front.len() <= 8 * WORD_LIMIT {
-        return;
+    if kept.len() <= 8 * WORD_LIMIT {
+        return Ok(kept);
     }
     if remainder == 0 {
-        return;
+        return Err(CodeFault::TooLong);
     }
-    front.truncate(8 * WORD_LIMIT + remainder);
+    Err(CodeFault::NotWhole)
 }
 
-/// The program from where the reader stands to its end. No read is tried again.
+/// Reads a program from where the reader stands to its end. No read is tried again.
 ///
-/// Of a program that is too long a front is kept, of which its refusal is told as of the whole: that it has too many words, or that its last one
-/// isn't whole. So a file of any length takes no more memory than the limit of words.
+/// A program that is too long is refused by its length: its bytes past the limit are read and not kept, so a file of any length takes no more
+/// memory than the limit of words and one more.
 pub fn read_program<A: Allocator, R: CountedRead>(
     alloc: A,
     input: &mut R,
-) -> Result<Vec<u8, A>, FileFault>
-    ensures program { IfOk result (λ kept. ReadsProgram kept.items
-        (reader R.remaining R.failed_reads input.old) (reader R.remaining R.failed_reads input.new)) }
-    ensures reads { TellsFailure result (R.failed_reads input.old) (R.failed_reads input.new) }
+) -> Result<Vec<u8, A>, ProgramInputFault>
+    ensures program { IfOk result (λ program. Keeps (R.remaining input.old) (Some program.items)
+        × (length program.items ≤ 8 * WORD_LIMIT)) }
+    ensures refused { IfErr result (TellsProgram (R.remaining input.old)) }
+    ensures reads { MatchResult result (λ _. R.failed_reads input.new ≡ R.failed_reads input.old)
+        (λ fault. CountsProgramFault fault (R.failed_reads input.old) (R.failed_reads input.new)) }
 {
     let mut kept = Vec::with_capacity(alloc, MOST_KEPT)?;
     let mut remainder = 0;
@@ -229,18 +314,20 @@ pub fn read_program<A: Allocator, R: CountedRead>(
         let mut piece = [0; PIECE];
         match input.read_counted(&mut piece) {
             Ok(0) => {
-                cut_behind(&mut kept, remainder);
-                return Ok(kept);
+                return match complete(kept, remainder) {
+                    Ok(program) => Ok(program),
+                    Err(fault) => Err(ProgramInputFault::Code(fault)),
+                };
             }
             Ok(count) => {
                 keep(&mut kept, &piece[..count])?;
                 remainder = (remainder + count) % 8;
             }
-            Err(error) => return Err(FileFault::Unusable(error)),
+            Err(error) => return Err(ProgramInputFault::File(FileFault::Unusable(error))),
         }
     }
     // More bytes than a file has.
-    Err(FileFault::Memory)
+    Err(ProgramInputFault::File(FileFault::Memory))
 }
 
 /// Opens a program's file and reads it to its end.
@@ -248,18 +335,23 @@ pub fn read_program_file<A: Allocator, F: Files>(
     alloc: A,
     files: &mut F,
     name: &str,
-) -> Result<Vec<u8, A>, FileFault>
-    ensures known { IfOk result (λ kept. IsProgramIn (F.bytes files.old) name.now kept.items) }
-    ensures uses { TellsUse F.Reader.failed_reads result (F.failed_opens files.old) (F.failed_opens files.new) }
+) -> Result<Vec<u8, A>, ProgramInputFault>
+    ensures known { IfOk result (λ program. Keeps (F.bytes files.old name.now) (Some program.items)) }
+    ensures refused { IfErr result (TellsProgram (F.bytes files.old name.now)) }
+    ensures uses { TellsProgramUse result (disk F.bytes F.failed_opens F.failed_reads files.old)
+        (disk F.bytes F.failed_opens F.failed_reads files.new) }
 {
     match open(files, name) {
-        Ok(mut reader) => read_program(alloc, &mut reader),
-        Err(fault) => Err(fault),
+        Ok(mut reader) => {
+            let read = read_program(alloc, &mut reader);
+            files.close(reader);
+            read
+        }
+        Err(fault) => Err(ProgramInputFault::File(fault)),
     }
 }
 
 /// An opened reader, or an empty input.
-#[derive(Drop)]
 pub enum Input<R> {
     Opened(R),
     Nothing,

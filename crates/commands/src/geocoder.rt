@@ -1,13 +1,11 @@
 //! `geocode`: where a house number is, over counties.
-ghost use Rattle.std.specs.Prelude.{◌≡◌, ◌≢◌, IfErr, IfOk};
-ghost use Rattle.std.specs.Io.KnownBytes.{Appends};
-ghost use Rattle.geocode.specs.HitLine.{hit_lines};
 ghost use Rattle.tl_fields.specs.Device.{writer};
-ghost use Rattle.commands.specs.Command.{IsCarriedOut};
-ghost use Rattle.commands.specs.Failure.{TellsOpens, TellsWrite, status};
-ghost use Rattle.commands.specs.declared.request.Request.{Request};
+ghost use Rattle.commands.specs.Command.{CarriesOut};
+ghost use Rattle.commands.specs.Failure.{KeepsOnUsage};
 ghost use Rattle.commands.specs.Files.{disk};
-ghost use Rattle.commands.specs.Unusable.{TellsCause, source_of};
+ghost use Rattle.commands.specs.declared.request.Request.{Request};
+ghost use Rattle.commands.specs.Failure.{WritesAs};
+ghost use Rattle.geocode.specs.HitLine.{hit_lines};
 
 use crate::counties::load_counties;
 use crate::failure::{Failure, write};
@@ -34,13 +32,10 @@ impl<'a> Geocode<'a> {
         files: &mut F,
         out: &mut W,
     ) -> Result<(), Failure<'a>>
-        ensures outcome { IsCarriedOut (Request.Geocode self.entry) (F.bytes files.old) result
+        ensures carried { CarriesOut (Request.Geocode self.entry) result
+            (disk F.bytes F.failed_opens F.failed_reads files.old) (disk F.bytes F.failed_opens F.failed_reads files.new)
             (writer W.contents W.counts out.old) (writer W.contents W.counts out.new) }
-        ensures usage { IfErr result (λ failure. status failure ≢ 2) }
-        ensures opens { TellsOpens result (F.failed_opens files.old) (F.failed_opens files.new) }
-        ensures cause { IfErr result (TellsCause F.Reader.failed_reads (source_of (Request.Geocode self.entry)) (disk F.bytes F.failed_opens files.old) (disk F.bytes F.failed_opens files.new)
-            (W.counts out.old) (W.counts out.new)) }
-        ensures unflushed { (W.counts out.new).flushes ≡ (W.counts out.old).flushes }
+        ensures usage { KeepsOnUsage result out.old out.new }
     {
         let counties = match load_counties(alloc, files, self.data, self.codes.as_slice()) {
             Ok(counties) => counties,
@@ -53,11 +48,7 @@ impl<'a> Geocode<'a> {
 
 /// Writes the lines of hits, one after the other, up to the first that can't be written whole.
 fn write_lines<'a, W: CountedWrite>(out: &mut W, hits: &[Hit]) -> Result<(), Failure<'a>>
-    ensures written { IfOk result (λ _. Appends (W.contents out.old) (W.contents out.new) (hit_lines hits.now)) }
-    ensures counts { IfOk result (λ _. W.counts out.new ≡ W.counts out.old) }
-    ensures err { IfErr result (λ failure. (status failure ≢ 1) × (status failure ≢ 2)) }
-    ensures fault { IfErr result (TellsWrite (W.counts out.old) (W.counts out.new)) }
-    ensures unflushed { (W.counts out.new).flushes ≡ (W.counts out.old).flushes }
+    ensures { WritesAs (hit_lines hits.now) result (writer W.contents W.counts out.old) (writer W.contents W.counts out.new) }
 {
     for hit in hits {
         let line = hit.line();

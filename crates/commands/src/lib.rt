@@ -8,6 +8,7 @@ mod disassemble;
 mod failure;
 mod files;
 mod geocoder;
+mod inputs;
 mod line;
 mod request;
 mod run;
@@ -18,7 +19,9 @@ pub use assemble::Assemble;
 pub use counties::load_counties;
 pub use disassemble::Disassemble;
 pub use failure::{Failure, OUT_OF_MEMORY, UNUSABLE, USAGE};
-pub use files::{FileFault, Files, INPUT_BUFFER, SystemFiles, read_program, read_to_end};
+pub use files::{
+    FileFault, Files, INPUT_BUFFER, ProgramInputFault, SystemFiles, read_program, read_to_end,
+};
 pub use geocoder::Geocode;
 pub use line::Line;
 pub use request::Request;

@@ -1,10 +1,10 @@
 //! What a command is asked for, done, and its exit status.
-ghost use Rattle.std.specs.Prelude.{◌≡◌, ◌≢◌, ◌≤◌, ◌⊎◌, IfErr};
+ghost use Rattle.std.specs.Prelude.{◌≡◌, ◌≢◌, ◌≤◌, ◌⊎◌};
 ghost use Rattle.tl_fields.specs.Device.{writer};
-ghost use Rattle.commands.specs.Command.{IsCarriedOut, IsDone, IsFlushed, IsRefusal, LacksLine};
-ghost use Rattle.commands.specs.Failure.{KeepsOnUsage, TellsOpens};
+ghost use Rattle.commands.specs.Command.{CarriesOut, IsDone, IsFlushed, IsLackOfLine, IsOutOfMemory, IsRefusal};
+ghost use Rattle.commands.specs.Failure.{KeepsOnUsage};
 ghost use Rattle.commands.specs.Files.{disk};
-ghost use Rattle.commands.specs.Unusable.{IsUnusable, TellsCause, source_of};
+ghost use Rattle.commands.specs.Unusable.{IsUnusable};
 
 use crate::assemble::Assemble;
 use crate::disassemble::Disassemble;
@@ -47,15 +47,20 @@ impl<'a> Request<'a> {
         ensures refused { result ≡ 1 → IsRefusal self.entry (F.bytes files.old)
             (writer W.contents W.counts out.old) (writer W.contents W.counts out.new)
             (writer E.contents E.counts errors.old) (writer E.contents E.counts errors.new) }
-        ensures usage { result ≡ 2 → LacksLine self.entry (F.bytes files.old) }
+        ensures usage { result ≡ 2 → IsLackOfLine self.entry (F.bytes files.old)
+            (writer E.contents E.counts errors.old) (writer E.contents E.counts errors.new) }
         ensures untouched { result ≡ 2 → out.new ≡ out.old }
-        ensures unusable { result ≡ 3 → IsUnusable F.Reader.failed_reads self.entry
-            (disk F.bytes F.failed_opens files.old) (disk F.bytes F.failed_opens files.new)
+        ensures unusable { result ≡ 3 → IsUnusable self.entry
+            (disk F.bytes F.failed_opens F.failed_reads files.old) (disk F.bytes F.failed_opens F.failed_reads files.new)
+            (writer W.contents W.counts out.old) (writer W.contents W.counts out.new)
+            (writer E.contents E.counts errors.old) (writer E.contents E.counts errors.new) }
+        ensures memory { result ≡ 4 → IsOutOfMemory self.entry (F.bytes files.old)
             (writer W.contents W.counts out.old) (writer W.contents W.counts out.new)
             (writer E.contents E.counts errors.old) (writer E.contents E.counts errors.new) }
         ensures flushed { result ≢ 2 → (W.counts out.new).flushes ≢ (W.counts out.old).flushes }
-        // An open that failed is never passed over.
+        // An open that failed is never passed over, nor a read.
         ensures opens { result ≢ 3 → F.failed_opens files.new ≡ F.failed_opens files.old }
+        ensures reads { result ≢ 3 → F.failed_reads files.new ≡ F.failed_reads files.old }
     {
         match self.carry_out(alloc, files, out) {
             Ok(()) => flush(out, errors),
@@ -79,13 +84,10 @@ impl<'a> Request<'a> {
         files: &mut F,
         out: &mut W,
     ) -> Result<(), Failure<'a>>
-        ensures outcome { IsCarriedOut self.entry (F.bytes files.old) result
+        ensures carried { CarriesOut self.entry result
+            (disk F.bytes F.failed_opens F.failed_reads files.old) (disk F.bytes F.failed_opens F.failed_reads files.new)
             (writer W.contents W.counts out.old) (writer W.contents W.counts out.new) }
         ensures usage { KeepsOnUsage result out.old out.new }
-        ensures opens { TellsOpens result (F.failed_opens files.old) (F.failed_opens files.new) }
-        ensures cause { IfErr result (TellsCause F.Reader.failed_reads (source_of self.entry) (disk F.bytes F.failed_opens files.old) (disk F.bytes F.failed_opens files.new)
-            (W.counts out.old) (W.counts out.new)) }
-        ensures unflushed { (W.counts out.new).flushes ≡ (W.counts out.old).flushes }
     {
         match self {
             Request::Run(run) => run.carry_out(alloc, files, out),

@@ -1,16 +1,14 @@
 //! `run`: the rows of the segments that a program chooses in a county's files.
-ghost use Rattle.std.specs.Prelude.{◌≢◌, ◌≡◌, IfErr};
 ghost use Rattle.tl_fields.specs.Device.{writer};
-ghost use Rattle.commands.specs.Command.{IsCarriedOut};
-ghost use Rattle.commands.specs.Failure.{TellsOpens, status};
-ghost use Rattle.commands.specs.declared.request.Request.{Request};
+ghost use Rattle.commands.specs.Command.{CarriesOut};
+ghost use Rattle.commands.specs.Failure.{KeepsOnUsage};
 ghost use Rattle.commands.specs.Files.{disk};
-ghost use Rattle.commands.specs.Unusable.{TellsCause, source_of};
+ghost use Rattle.commands.specs.declared.request.Request.{Request};
 
-use crate::county::open_county;
+use crate::county::close_county;
 use crate::failure::Failure;
-use crate::files::{Files, open, read_program};
-use extract::Refusal;
+use crate::files::Files;
+use crate::inputs::{Inputs, open_inputs};
 use std::alloc::Allocator;
 use tl_fields::CountedWrite;
 
@@ -33,29 +31,24 @@ impl<'a> Run<'a> {
         files: &mut F,
         out: &mut W,
     ) -> Result<(), Failure<'a>>
-        ensures outcome { IsCarriedOut (Request.Run self.entry) (F.bytes files.old) result
+        ensures carried { CarriesOut (Request.Run self.entry) result
+            (disk F.bytes F.failed_opens F.failed_reads files.old) (disk F.bytes F.failed_opens F.failed_reads files.new)
             (writer W.contents W.counts out.old) (writer W.contents W.counts out.new) }
-        ensures usage { IfErr result (λ failure. status failure ≢ 2) }
-        ensures opens { TellsOpens result (F.failed_opens files.old) (F.failed_opens files.new) }
-        ensures cause { IfErr result (TellsCause F.Reader.failed_reads (source_of (Request.Run self.entry)) (disk F.bytes F.failed_opens files.old) (disk F.bytes F.failed_opens files.new)
-            (W.counts out.old) (W.counts out.new)) }
-        ensures unflushed { (W.counts out.new).flushes ≡ (W.counts out.old).flushes }
+        ensures usage { KeepsOnUsage result out.old out.new }
     {
-        let mut program = match open(files, self.program) {
-            Ok(program) => program,
-            Err(fault) => return Err(Failure::of_file(self.program, fault)),
-        };
-        let mut inputs = match open_county(alloc, files, self.data, self.code) {
+        let inputs = match open_inputs(alloc, files, self.program, self.data, self.code) {
             Ok(inputs) => inputs,
             Err(failure) => return Err(failure),
         };
-        let program = match read_program(alloc, &mut program) {
-            Ok(program) => program,
-            Err(fault) => return Err(Failure::of_file(self.program, fault)),
-        };
-        match inputs.extract(alloc, program.as_slice(), out) {
+        let Inputs {
+            program,
+            mut county,
+        } = inputs;
+        let extracted = county.extract(alloc, program.as_slice(), out);
+        close_county(files, county);
+        match extracted {
             Ok(_) => Ok(()),
-            Err(fault) => Err(Failure::Refusal(Refusal::from(fault))),
+            Err(fault) => Err(Failure::of_extract(fault)),
         }
     }
 }

@@ -1,22 +1,22 @@
 //! `trace`: what a program comes to on one segment of a county.
-ghost use Rattle.std.specs.Prelude.{◌≡◌, ◌≤◌, ◌+◌, ◌∷◌, ◌++◌, [], decimal, length, MatchOption, IfErr, List, Option, ℕ};
-ghost use Rattle.tl_fields.specs.Device.{WriteCounts, writer};
-ghost use Rattle.commands.specs.Command.{IsCarriedOut};
-ghost use Rattle.commands.specs.County.{county_readers};
-ghost use Rattle.commands.specs.Failure.{KeepsOnUsage, TellsOpens};
-ghost use Rattle.commands.specs.Trace.{EndsAs, HasNoLine, IsSegmentOfLine, outcome_line};
+ghost use Rattle.tl_fields.specs.Device.{writer};
+ghost use Rattle.commands.specs.Command.{CarriesOut};
+ghost use Rattle.commands.specs.Failure.{KeepsOnUsage};
+ghost use Rattle.commands.specs.Files.{disk};
 ghost use Rattle.commands.specs.declared.request.Request.{Request};
-ghost use Rattle.commands.specs.Files.{Disk, disk};
-ghost use Rattle.commands.specs.Unusable.{TellsCause, source_of};
+ghost use Rattle.std.specs.Prelude.{◌≡◌, ◌≤◌, ◌+◌, ◌∷◌, ◌++◌, [], decimal, length, MatchOption};
+ghost use Rattle.commands.specs.County.{county_readers};
+ghost use Rattle.commands.specs.Trace.{EndsAs, HasNoLine, IsSegmentOfLine, outcome_line};
 
-use crate::county::{CountyInputs, open_county};
+use crate::county::{CountyInputs, close_county};
 use crate::failure::{Failure, write};
-use crate::files::{Files, open, read_program};
+use crate::files::Files;
+use crate::inputs::{Inputs, open_inputs};
 use arrayvec::ArrayString;
 use bpf_insn::decode;
 use bpf_meaning::{Outcome, trace};
-use extract::Refusal;
 use itoa::Buffer;
+use refusals::Fault;
 use std::alloc::Allocator;
 use tl_fields::{CountedRead, CountedWrite};
 use tl_segments::{County, Segment};
@@ -44,27 +44,22 @@ impl<'a> Trace<'a> {
         files: &mut F,
         out: &mut W,
     ) -> Result<(), Failure<'a>>
-        ensures outcome { IsCarriedOut (Request.Trace self.entry) (F.bytes files.old) result
+        ensures carried { CarriesOut (Request.Trace self.entry) result
+            (disk F.bytes F.failed_opens F.failed_reads files.old) (disk F.bytes F.failed_opens F.failed_reads files.new)
             (writer W.contents W.counts out.old) (writer W.contents W.counts out.new) }
         ensures usage { KeepsOnUsage result out.old out.new }
-        ensures opens { TellsOpens result (F.failed_opens files.old) (F.failed_opens files.new) }
-        ensures cause { IfErr result (TellsCause F.Reader.failed_reads (source_of (Request.Trace self.entry)) (disk F.bytes F.failed_opens files.old) (disk F.bytes F.failed_opens files.new)
-            (W.counts out.old) (W.counts out.new)) }
-        ensures unflushed { (W.counts out.new).flushes ≡ (W.counts out.old).flushes }
     {
-        let mut program = match open(files, self.program) {
-            Ok(program) => program,
-            Err(fault) => return Err(Failure::of_file(self.program, fault)),
-        };
-        let mut inputs = match open_county(alloc, files, self.data, self.code) {
+        let inputs = match open_inputs(alloc, files, self.program, self.data, self.code) {
             Ok(inputs) => inputs,
             Err(failure) => return Err(failure),
         };
-        let program = match read_program(alloc, &mut program) {
-            Ok(program) => program,
-            Err(fault) => return Err(Failure::of_file(self.program, fault)),
-        };
-        match self.outcome(alloc, program.as_slice(), &mut inputs) {
+        let Inputs {
+            program,
+            mut county,
+        } = inputs;
+        let traced = self.outcome(alloc, program.as_slice(), &mut county);
+        close_county(files, county);
+        match traced {
             Ok(outcome) => write(out, outcome_line(outcome).as_bytes()),
             Err(failure) => Err(failure),
         }
@@ -79,16 +74,14 @@ impl<'a> Trace<'a> {
     ) -> Result<Outcome, Failure<'a>>
         ensures ends { EndsAs self.entry program.now (county_readers R.remaining R.failed_reads inputs.old)
             (county_readers R.remaining R.failed_reads inputs.new) result }
-        ensures cause { (source : Option (List ℕ)) (disk disk' : Disk) (counts counts' : WriteCounts)
-            → IfErr result (TellsCause R.failed_reads source disk disk' counts counts') }
     {
         let code = match decode(alloc, program) {
             Ok(code) => code,
-            Err(fault) => return Err(Failure::Refusal(Refusal::from(fault))),
+            Err(fault) => return Err(Failure::Refusal(fault.refusal())),
         };
         let county = match inputs.load(alloc) {
             Ok(county) => county,
-            Err(fault) => return Err(Failure::Refusal(Refusal::from(fault))),
+            Err(fault) => return Err(Failure::Refusal(fault.refusal())),
         };
         match segment_of_line(&county, self.line) {
             Some(segment) => Ok(trace(&code, segment, self.limit)),
@@ -121,7 +114,7 @@ fn outcome_line(outcome: Outcome) -> ArrayString<64>
                 "stuck place ",
                 place as u64,
                 " cause ",
-                u64::from(cause.number()),
+                u64::from(cause.refusal().number().unwrap_or(0)),
             )
         }
     }

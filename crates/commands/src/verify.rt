@@ -1,18 +1,18 @@
 //! `verify`: whether a program is accepted.
-ghost use Rattle.std.specs.Prelude.{◌≢◌, ◌≡◌, IfOk, IfErr};
-ghost use Rattle.extract.specs.Program.{IsSafeProgram, IsProgramFault};
 ghost use Rattle.tl_fields.specs.Device.{writer};
-ghost use Rattle.commands.specs.Command.{IsCarriedOut};
-ghost use Rattle.commands.specs.Failure.{TellsOpens, status};
-ghost use Rattle.commands.specs.declared.request.Request.{Request};
+ghost use Rattle.commands.specs.Command.{CarriesOut};
+ghost use Rattle.commands.specs.Failure.{KeepsOnUsage};
 ghost use Rattle.commands.specs.Files.{disk};
-ghost use Rattle.commands.specs.Unusable.{TellsCause, source_of};
+ghost use Rattle.commands.specs.declared.request.Request.{Request};
+ghost use Rattle.std.specs.Prelude.{IfOk, IfErr};
+ghost use Rattle.extract.specs.Program.{IsSafeProgram, IsProgramFault};
 
 use crate::failure::{Failure, write};
 use crate::files::{Files, read_program_file};
 use bpf_insn::decode;
 use bpf_verify::Verified;
-use extract::{ProgramFault, Refusal, accept_code};
+use extract::{ProgramFault, accept_code};
+use refusals::Fault;
 use std::alloc::Allocator;
 use tl_fields::CountedWrite;
 
@@ -31,21 +31,18 @@ impl<'a> Verify<'a> {
         files: &mut F,
         out: &mut W,
     ) -> Result<(), Failure<'a>>
-        ensures outcome { IsCarriedOut (Request.Verify self.entry) (F.bytes files.old) result
+        ensures carried { CarriesOut (Request.Verify self.entry) result
+            (disk F.bytes F.failed_opens F.failed_reads files.old) (disk F.bytes F.failed_opens F.failed_reads files.new)
             (writer W.contents W.counts out.old) (writer W.contents W.counts out.new) }
-        ensures usage { IfErr result (λ failure. status failure ≢ 2) }
-        ensures opens { TellsOpens result (F.failed_opens files.old) (F.failed_opens files.new) }
-        ensures cause { IfErr result (TellsCause F.Reader.failed_reads (source_of (Request.Verify self.entry)) (disk F.bytes F.failed_opens files.old) (disk F.bytes F.failed_opens files.new)
-            (W.counts out.old) (W.counts out.new)) }
-        ensures unflushed { (W.counts out.new).flushes ≡ (W.counts out.old).flushes }
+        ensures usage { KeepsOnUsage result out.old out.new }
     {
         let program = match read_program_file(alloc, files, self.program) {
             Ok(program) => program,
-            Err(fault) => return Err(Failure::of_file(self.program, fault)),
+            Err(fault) => return Err(Failure::of_program(self.program, fault)),
         };
         match accept_owned(alloc, program) {
             Ok(_verified) => write(out, b"accepted\n"),
-            Err(fault) => Err(Failure::Refusal(Refusal::from(fault))),
+            Err(fault) => Err(Failure::Refusal(fault.refusal())),
         }
     }
 }

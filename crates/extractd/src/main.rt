@@ -1,10 +1,13 @@
 //! Extracts of the street segments that a BPF program chooses, places of house numbers, and programs verified and as text: the program.
 #![tactic(auto)]
 
+ghost use Rattle.std.specs.Prelude.{◌≡◌, ◌≢◌, IfErr, IfOk};
+ghost use Rattle.command_line.specs.declared.fault.ArgumentsFault.TheVariants.{Memory};
+
 mod serving;
 
 use command_line::{ArgumentsFault, command};
-use commands::{Failure, OUT_OF_MEMORY, SystemFiles};
+use commands::SystemFiles;
 use serving::serve;
 use std::io::BufWriter;
 use std::process::ExitCode;
@@ -20,29 +23,31 @@ fn main(rt: HostRuntime) -> ExitCode {
 
 fn start(rt: &HostRuntime) -> u8 {
     let mut errors = Counting::new(rt.stderr());
-    let given = match given_arguments(rt) {
-        Ok(given) => given,
-        Err(fault) => {
-            fault.report(&mut errors);
-            return fault.status();
-        }
-    };
-    match answer(rt, given.as_slice(), &mut errors) {
-        Ok(status) => status,
-        Err(_) => {
-            Failure::memory().report(&mut errors);
-            OUT_OF_MEMORY
-        }
+    let answered = answer(rt, &mut errors);
+    if let Err(fault) = &answered {
+        fault.report(&mut errors);
+    }
+    status_of(&answered)
+}
+
+/// Returns the exit status: that of the command, or that of what is wrong with the arguments.
+fn status_of(answered: &Result<u8, ArgumentsFault<'_>>) -> u8
+    ensures ok { IfOk answered.now (λ status. result ≡ status) }
+    ensures usage { IfErr answered.now (λ fault. fault ≢ Memory → result ≡ 2) }
+    ensures memory { IfErr answered.now (λ fault. fault ≡ Memory → result ≡ 4) }
+{
+    match answered {
+        Ok(status) => *status,
+        Err(fault) => fault.status(),
     }
 }
 
-/// The arguments after the program's name.
-fn given_arguments<'a>(rt: &HostRuntime) -> Result<Vec<String>, ArgumentsFault<'a>> {
-    Ok(env::args(rt)?.skip(1).collect(rt.alloc())?)
-}
-
-/// Opens the output, and does what the arguments ask for.
-fn answer<E: CountedWrite>(rt: &HostRuntime, given: &[String], errors: &mut E) -> io::Result<u8> {
+/// Reads the arguments after the program's name, opens the output, and does what they ask for.
+fn answer<E: CountedWrite>(
+    rt: &HostRuntime,
+    errors: &mut E,
+) -> Result<u8, ArgumentsFault<'static>> {
+    let given: Vec<String> = env::args(rt)?.skip(1).collect(rt.alloc())?;
     let arguments: Vec<&str> = given
         .iter()
         .map(|argument| argument.as_str())
@@ -50,7 +55,9 @@ fn answer<E: CountedWrite>(rt: &HostRuntime, given: &[String], errors: &mut E) -
     if let Some(&"serve") = arguments.first() {
         return Ok(serve(rt, arguments.as_slice(), errors));
     }
-    let out = BufWriter::with_capacity(rt.alloc(), OUTPUT_BUFFER, io::writer(rt))?;
+    let out = BufWriter::with_capacity(rt.alloc(), OUTPUT_BUFFER, io::writer(rt)).map_err(
+        |_wanting| ArgumentsFault::Memory,
+    )?;
     Ok(command(
         rt.alloc(),
         arguments.as_slice(),

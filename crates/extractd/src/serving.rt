@@ -1,9 +1,12 @@
 //! `serve`: counties served over HTTP.
-ghost use Rattle.std.specs.Prelude.{◌≤◌, vec_len};
+ghost use Rattle.std.specs.Prelude.{◌≡◌, ◌≤◌, IfErr, IfOk, map, vec_len};
+ghost use Rattle.commands.specs.Counties.{AreCountiesOf, HaveRefusedCounty, TellsLoad};
+ghost use Rattle.commands.specs.Files.{disk};
+ghost use Rattle.wire.specs.State.{counties_of, new_state};
 
 use command_line::{Serve, read_serve};
-use commands::{Failure, Line, SystemFiles, UNUSABLE, load_counties};
-use server::{Limits, serve_next};
+use commands::{Failure, Files, Line, SystemFiles, UNUSABLE, load_counties};
+use server::{Acceptor, Limits, Tally, serve_all};
 use std::alloc::Global;
 use std::fmt::Write as WriteText;
 use std::io;
@@ -77,7 +80,7 @@ fn serve_asked<E: CountedWrite>(rt: &HostRuntime, asked: Serve<'_>, errors: &mut
 fn serve_counties<'a>(rt: &HostRuntime, asked: &Serve<'a>) -> ServeFault<'a>
     requires { vec_len asked.now.codes ≤ 100_000 }
 {
-    let mut state = match load_state(rt, asked) {
+    let state = match load_state(rt.alloc(), &mut SystemFiles::new(rt), asked) {
         Ok(state) => state,
         Err(failure) => return ServeFault::Counties(failure),
     };
@@ -89,15 +92,26 @@ fn serve_counties<'a>(rt: &HostRuntime, asked: &Serve<'a>) -> ServeFault<'a>
     if let Err(error) = announce(rt, port) {
         return ServeFault::Output(error);
     }
-    ServeFault::Accept(serve_all(rt, &listener, &mut state))
+    ServeFault::Accept(serve_all(
+        &mut Acceptor::new(&listener),
+        rt,
+        &Limits::standard(),
+        &mut Tally::new(state),
+    ))
 }
 
-/// Loads the counties.
-fn load_state<'a>(rt: &HostRuntime, asked: &Serve<'a>) -> Result<State<Global>, Failure<'a>>
+/// Loads the counties of all codes, in their order, into a state without jobs, or returns what is wrong with the first that can't be loaded.
+fn load_state<'a, F: Files>(
+    alloc: Global,
+    files: &mut F,
+    asked: &Serve<'a>,
+) -> Result<State<Global>, Failure<'a>>
     requires { vec_len asked.now.codes ≤ 100_000 }
+    ensures ok { IfOk result (λ state. (state ≡ new_state (counties_of state)) × AreCountiesOf (F.bytes files.old)
+        asked.now.«data».now (map (λ code. code.now) asked.now.codes.items) (counties_of state)) }
+    ensures err { IfErr result (TellsLoad (HaveRefusedCounty (F.bytes files.old) asked.now.«data».now (map (λ code. code.now) asked.now.codes.items))
+        (disk F.bytes F.failed_opens F.failed_reads files.old) (disk F.bytes F.failed_opens F.failed_reads files.new)) }
 {
-    let alloc = rt.alloc();
-    let files = &mut SystemFiles::new(rt);
     match load_counties(alloc, files, asked.data, asked.codes.as_slice()) {
         Ok(counties) => Ok(State::new(alloc, alloc, counties)?),
         Err(failure) => Err(failure),
@@ -109,15 +123,4 @@ fn announce(rt: &HostRuntime, port: u16) -> io::Result<()> {
     let mut out = io::writer(rt);
     write!(out, "listening 127.0.0.1:{port}\n")?;
     out.flush()
-}
-
-/// Serves one connection after the other, until an accept fails.
-fn serve_all(rt: &HostRuntime, listener: &TcpListener, state: &mut State<Global>) -> io::Error {
-    let limits = Limits::standard();
-    for _ in 0..u64::MAX {
-        if let Err(error) = serve_next(listener, rt, &limits, state) {
-            return error;
-        }
-    }
-    io::Error::from(io::ErrorKind::Other)
 }

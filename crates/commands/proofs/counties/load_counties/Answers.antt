@@ -1,32 +1,35 @@
-use Rattle.std.proofs.Common.{◌≡◌, ◌∙◌, subst, sym}
-use Rattle.commands.proofs.CountiesLemmas.{counties_more, counties_wanting, tells_counties}
-use Rattle.commands.specs.Counties.{AreCountiesOf}
-use Rattle.commands.specs.Failure.{status}
+use Rattle.std.proofs.Common.{◌∙◌, Bor, List, ℕ, map, subst, sym}
+use Rattle.commands.specs.Counties.{AreCountiesOf, HaveRefusedCounty}
 use Rattle.commands.specs.Files.{disk}
-use Rattle.commands.proofs.UnusableLemmas.{if_err, memory_told, told_as}
+use Rattle.commands.proofs.CarriedLemmas.{counts_both, unfailed_both}
+use Rattle.commands.proofs.CountiesLemmas.{counties_more, load_usage, memory_told, tells_counties}
 use Rattle.commands.proofs.counties.load_counties.Goals as goal
 
 pub returns-in-Err-clause-err : goal.returns-in-Err-clause-err
 returns-in-Err-clause-err g c =
-    tells_counties _ _ c.args.folder.now c.args.codes.now c.loop-code.code-index _ c.loop-code.counties.items c.in-Err.failure
-    c.loop-code.invariant.stay c.loop-code-test.true c.loop-code.invariant.loaded c.in-Err.ensures.err
+    tells_counties (disk g.F.Files.bytes g.F.Files.failed_opens g.F.Files.failed_reads c.args.files.now)
+    (disk g.F.Files.bytes g.F.Files.failed_opens g.F.Files.failed_reads c.loop-code.files)
+    (disk g.F.Files.bytes g.F.Files.failed_opens g.F.Files.failed_reads c.load_county.new.files) c.args.folder.now c.args.codes.now
+    c.loop-code.code-index _ c.loop-code.counties.items c.in-Err.failure c.loop-code.invariant.stay c.loop-code.invariant.counts
+    c.loop-code-test.true c.loop-code.invariant.loaded c.in-Err.ensures.err
 
-pub returns-in-Err-clause-cause : goal.returns-in-Err-clause-cause
-returns-in-Err-clause-cause g c = λ source counts.
-    told_as g.F.Reader.CountedRead.failed_reads source (disk g.F.Files.bytes g.F.Files.failed_opens c.args.files.now)
-    (disk g.F.Files.bytes g.F.Files.failed_opens c.loop-code.files) (disk g.F.Files.bytes g.F.Files.failed_opens c.load_county.new.files)
-    counts counts c.in-Err.failure c.loop-code.invariant.stay c.loop-code.invariant.opens (c.in-Err.ensures.cause source counts)
+pub returns-in-Err-clause-usage : goal.returns-in-Err-clause-usage
+returns-in-Err-clause-usage g c = load_usage _ (disk g.F.Files.bytes g.F.Files.failed_opens g.F.Files.failed_reads c.loop-code.files)
+    (disk g.F.Files.bytes g.F.Files.failed_opens g.F.Files.failed_reads c.load_county.new.files) c.in-Err.failure c.in-Err.ensures.err
 
-pub returns-in_err-push-in-Ok-clause-cause : goal.returns-in_err-push-in-Ok-clause-cause
-returns-in_err-push-in-Ok-clause-cause g c = λ source counts.
-    if_err c.from_residual.result (λ failure. status failure ≡ 4) _ c.from_residual.ensures.1
-    (memory_told g.F.Reader.CountedRead.failed_reads source (disk g.F.Files.bytes g.F.Files.failed_opens c.args.files.now)
-    (disk g.F.Files.bytes g.F.Files.failed_opens c.load_county.new.files) counts counts)
+pub returns-in-Err-clause-counts : goal.returns-in-Err-clause-counts
+returns-in-Err-clause-counts g c =
+    counts_both (disk g.F.Files.bytes g.F.Files.failed_opens g.F.Files.failed_reads c.args.files.now)
+    (disk g.F.Files.bytes g.F.Files.failed_opens g.F.Files.failed_reads c.loop-code.files)
+    (disk g.F.Files.bytes g.F.Files.failed_opens g.F.Files.failed_reads c.load_county.new.files) c.in-Err.failure
+    c.loop-code.invariant.counts c.in-Err.ensures.counts
 
 pub returns-in_err-push-in-Ok-clause-err : goal.returns-in_err-push-in-Ok-clause-err
 returns-in_err-push-in-Ok-clause-err g c =
-    if_err c.from_residual.result (λ failure. status failure ≡ 4) _ c.from_residual.ensures.1
-    (counties_wanting (g.F.Files.bytes c.args.files.now) c.args.folder.now _)
+    memory_told c.from_residual.result
+    (HaveRefusedCounty (g.F.Files.bytes c.args.files.now) c.args.folder.now (map (λ (code : Bor (List ℕ)). code.now) c.args.codes.now))
+    (disk g.F.Files.bytes g.F.Files.failed_opens g.F.Files.failed_reads c.args.files.now)
+    (disk g.F.Files.bytes g.F.Files.failed_opens g.F.Files.failed_reads c.load_county.new.files) c.from_residual.ensures.1
 
 pub loop-code-preserved : goal.loop-code-preserved
 loop-code-preserved g c = record {
@@ -34,5 +37,8 @@ loop-code-preserved g c = record {
       (counties_more _ _ c.args.folder.now c.args.codes.now c.loop-code.code-index _ c.loop-code.counties.items c.in-Ok.county
       c.loop-code.invariant.stay c.loop-code-test.true c.loop-code.invariant.loaded c.in-Ok.ensures.ok);
   stay = λ other. c.in-Ok.ensures.stay other ∙ c.loop-code.invariant.stay other;
-  opens = c.in-Ok.ensures.opens ∙ c.loop-code.invariant.opens;
+  counts = unfailed_both (disk g.F.Files.bytes g.F.Files.failed_opens g.F.Files.failed_reads c.args.files.now)
+      (disk g.F.Files.bytes g.F.Files.failed_opens g.F.Files.failed_reads c.loop-code.files)
+      (disk g.F.Files.bytes g.F.Files.failed_opens g.F.Files.failed_reads c.load_county.new.files) c.loop-code.invariant.counts
+      c.in-Ok.ensures.counts;
 }

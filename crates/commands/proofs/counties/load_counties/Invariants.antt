@@ -1,11 +1,13 @@
 use Rattle.std.proofs.Common.{◌≡◌, ℕ, List, map, take}
 use Rattle.commands.specs.Counties.{AreCountiesOf}
+use Rattle.commands.specs.Files.{IsUnfailed, disk}
 use Rattle.commands.proofs.counties.load_counties.Given as goal
 
--- the counties of the codes so far; what is known of the files stays, and no open has failed
+-- the counties of the codes so far; what is known of the files stays, and no open has failed and no read
 abbrev pub invariant-loop-code : goal.invariant-loop-code
 invariant-loop-code g l = record {
   loaded : AreCountiesOf (g.F.Files.bytes l.initial.files) l.folder (map (λ code. code.now) (take l.code-index l.codes)) l.counties.items;
   stay : (other : List ℕ) → g.F.Files.bytes l.files other ≡ g.F.Files.bytes l.initial.files other;
-  opens : g.F.Files.failed_opens l.files ≡ g.F.Files.failed_opens l.initial.files;
+  counts : IsUnfailed (disk g.F.Files.bytes g.F.Files.failed_opens g.F.Files.failed_reads l.initial.files)
+      (disk g.F.Files.bytes g.F.Files.failed_opens g.F.Files.failed_reads l.files);
 }

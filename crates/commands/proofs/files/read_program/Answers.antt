@@ -1,17 +1,24 @@
-use Rattle.std.proofs.Common.{◌∙◌, rules}
+use Rattle.std.proofs.Common.{◌∙◌, List, ℕ, Some, rules, subst, sym}
+use Rattle.std.specs.Io.KnownBytes.{Keeps}
 use Rattle.tl_fields.proofs.KnownBytesLemmas.{Consumes-append}
-use Rattle.commands.proofs.ProgramLemmas.{read_whole, rest_more}
+use Rattle.commands.proofs.ProgramLemmas.{read_whole, rest_more, too_long_as}
 use Rattle.commands.proofs.files.read_program.Goals as goal
 
-pub returns-in-Ok-eq0-clause-program : goal.returns-in-Ok-eq0-clause-program
-returns-in-Ok-eq0-clause-program g c =
-    let kept = c.cut_behind.ensures c.loop.invariant.0 c.loop.invariant.2 c.loop.invariant.3 in record {
-      program = c.loop.invariant.0;
-      is_program = read_whole _ _ _ c.loop.invariant.0 c.read_counted.new.buf _ c.loop.invariant.1 c.in-Ok-eq0.ensures.bytes c.in-Ok-eq0.field-0-test (search rules);
-      keeps = kept.0;
-      few = kept.1;
-      reads = c.in-Ok-eq0.ensures.failures ∙ c.loop.invariant.4;
-    }
+pub returns-in-Ok-complete-clause-program : goal.returns-in-Ok-complete-clause-program
+returns-in-Ok-complete-clause-program g c =
+    let all = c.in-Ok-complete.ensures.ok c.loop.invariant.0 c.loop.invariant.2 in (
+      subst (λ (bytes : List ℕ). Keeps (g.R.Read.remaining c.args.input.now) (Some bytes)) (sym all.0)
+          (read_whole c.loop.invariant.0 c.read_counted.new.buf _ _ _ _ c.loop.invariant.1 c.in-Ok-eq0.ensures.bytes
+          c.in-Ok-eq0.field-0-test (search rules)),
+      all.1,
+    )
+
+pub returns-in-Err-complete-clause-refused : goal.returns-in-Err-complete-clause-refused
+returns-in-Err-complete-clause-refused g c =
+    too_long_as _ (Some c.loop.invariant.0) c.in-Err-complete.fault
+    (read_whole c.loop.invariant.0 c.read_counted.new.buf _ _ _ _ c.loop.invariant.1 c.in-Ok-eq0.ensures.bytes c.in-Ok-eq0.field-0-test
+    (search rules))
+    (c.in-Err-complete.ensures.err c.loop.invariant.0 c.loop.invariant.2 c.loop.invariant.3)
 
 pub loop-preserved : goal.loop-preserved
 loop-preserved g c = (

@@ -6,7 +6,8 @@ use Rattle.commands.proofs.files.read_to_end.Goals as goal
 
 pub returns-in-Ok-eq0-clause-bytes : goal.returns-in-Ok-eq0-clause-bytes
 returns-in-Ok-eq0-clause-bytes g c =
-    read_whole _ _ _ c.loop.bytes.items c.read_counted.new.buf _ c.loop.invariant.read c.in-Ok-eq0.ensures.bytes c.in-Ok-eq0.field-0-test (search rules)
+    read_whole c.loop.bytes.items c.read_counted.new.buf _ _ _ _ c.loop.invariant.read c.in-Ok-eq0.ensures.bytes c.in-Ok-eq0.field-0-test
+    (search rules)
 
 pub loop-preserved : goal.loop-preserved
 loop-preserved g c = record {

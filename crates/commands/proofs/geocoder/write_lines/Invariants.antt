@@ -1,11 +1,11 @@
-use Rattle.std.proofs.Common.{◌≡◌, take}
-use Rattle.std.specs.Io.KnownBytes.{Appends}
+use Rattle.std.proofs.Common.{Ok, take}
 use Rattle.geocode.specs.HitLine.{hit_lines}
+use Rattle.tl_fields.specs.Device.{writer}
+use Rattle.tl_fields.specs.Writing.{WritesText}
 use Rattle.commands.proofs.geocoder.write_lines.Given as goal
 
 -- the lines of the hits so far are written
 abbrev pub invariant-loop-hit : goal.invariant-loop-hit
-invariant-loop-hit g l = record {
-  written : Appends (g.W.Write.contents l.initial.out) (g.W.Write.contents l.out) (hit_lines (take l.hit-index l.hits));
-  counts : g.W.CountedWrite.counts l.out ≡ g.W.CountedWrite.counts l.initial.out;
-}
+invariant-loop-hit g l =
+    WritesText (hit_lines (take l.hit-index l.hits)) (Ok tt)
+    (writer g.W.Write.contents g.W.CountedWrite.counts l.initial.out) (writer g.W.Write.contents g.W.CountedWrite.counts l.out)

@@ -1,0 +1,62 @@
+-- Texts that are written piece by piece, up to the first fault.
+use Rattle.std.proofs.Common.{◌≡◌, ◌⊎◌, ℕ, suc, ◌+◌, ◌<◌, ◌≤◌, List, [], ◌∷◌, ◌++◌, length, get_or, take, drop, Option, Result, Ok, Err}
+use Rattle.std.proofs.Common.{inl, inr, ap, sym, subst, ◌∙◌, arith}
+use Rattle.std.specs.List.{flat_map}
+use Rattle.std.proofs.Math.Seq.{drop-cons}
+use Rattle.std.proofs.lemmas.Bool.{cases_lt}
+use Rattle.std.proofs.lemmas.Grind.{flat_map-append, take_at_read}
+use Rattle.std.proofs.lemmas.List.{flat_map_more, take-append-drop, take-append-le, take_all}
+use Rattle.std.specs.Io.KnownBytes.{Appends}
+use Rattle.tl_fields.specs.Counted.{CountsFault}
+use Rattle.tl_fields.specs.Device.{WriteCounts, Writer}
+use Rattle.tl_fields.specs.Writing.{AppendsBeginning, WritesText}
+use Rattle.tl_fields.specs.declared.writing.WriteFault.{WriteFault}
+use Rattle.tl_fields.proofs.KnownBytesLemmas.{Appends-append, AppendsBeginning-further}
+
+-- a beginning of a text is one of a longer text
+beginning_longer : (a b : Option (List ℕ)) (text more : List ℕ) → AppendsBeginning a b text → AppendsBeginning a b (text ++ more)
+beginning_longer a b text more is = by_length (cases_lt (length text) is.count)
+  where
+    by_length : (length text < is.count) ⊎ (is.count ≤ length text) → AppendsBeginning a b (text ++ more)
+    by_length (inl past) = record {
+      count = length text;
+      appends = subst (λ (bytes : List ℕ). Appends a b bytes)
+          (take_all is.count text (omega (arith, past)) ∙ sym (take_all (length text) text (omega arith))
+          ∙ sym (take-append-le (length text) text more (omega arith))) is.appends;
+    }
+    by_length (inr within) = record {
+      count = is.count;
+      appends = subst (λ (bytes : List ℕ). Appends a b bytes) (sym (take-append-le is.count text more within)) is.appends;
+    }
+
+module _ {A : Type 0} (f : A → List ℕ) (xs : List A) (i : ℕ) (d : A) (inside : i < length xs) where
+  all_pieces : flat_map f (take i xs) ++ (f (get_or xs i d) ++ flat_map f (drop (suc i) xs)) ≡ flat_map f xs
+  all_pieces =
+      ap (λ (behind : List A). flat_map f (take i xs) ++ flat_map f behind) (sym (drop-cons xs i d inside))
+      ∙ sym (flat_map-append f (take i xs) (drop i xs)) ∙ ap (flat_map f) (take-append-drop i xs)
+
+  -- one more piece is written
+  pub piece_written : (a b c : Writer) (text : List ℕ) → text ≡ f (get_or xs i d) → WritesText (flat_map f (take i xs)) (Ok tt) a b
+      → WritesText text (Ok tt) b c → WritesText (flat_map f (take (i + 1) xs)) (Ok tt) a c
+  piece_written a b c text is so_far written = (
+    subst (Appends a.held c.held) (flat_map_more f [] (take i xs) (get_or xs i d) ∙ ap (flat_map f) (sym (take_at_read xs i d inside).1))
+        (Appends-append a.held b.held c.held (flat_map f (take i xs)) (f (get_or xs i d)) so_far.0
+        (subst (Appends b.held c.held) is written.0)),
+    written.1 ∙ so_far.1,
+  )
+
+  -- it isn't written whole
+  pub piece_stopped : (a b c : Writer) (text : List ℕ) (fault : WriteFault) → text ≡ f (get_or xs i d)
+      → WritesText (flat_map f (take i xs)) (Ok tt) a b → WritesText text (Err fault) b c → WritesText (flat_map f xs) (Err fault) a c
+  piece_stopped a b c text fault is so_far written = (
+    subst (AppendsBeginning a.held c.held) all_pieces
+        (AppendsBeginning-further a.held b.held c.held (flat_map f (take i xs)) (f (get_or xs i d) ++ flat_map f (drop (suc i) xs)) so_far.0
+        (beginning_longer b.held c.held (f (get_or xs i d)) (flat_map f (drop (suc i) xs))
+        (subst (AppendsBeginning b.held c.held) is written.0))),
+    subst (λ (counts : WriteCounts). CountsFault fault counts c.counts) so_far.1 written.1,
+  )
+
+-- all are written
+pub pieces_done : {A : Type 0} (f : A → List ℕ) (xs : List A) (i : ℕ) (result : Result (Unit {0}) WriteFault) (a b : Writer) → length xs ≤ i
+    → WritesText (flat_map f (take i xs)) result a b → WritesText (flat_map f xs) result a b
+pieces_done {A} f xs i result a b past wrote = subst (λ (xs : List A). WritesText (flat_map f xs) result a b) (take_all i xs past) wrote

@@ -1,0 +1,26 @@
+-- What `run` and `trace` read, and why they can't.
+use Rattle.std.specs.Prelude.{◌≡◌, ◌≢◌, ℕ, List, Option, ⊤}
+use Rattle.bpf_insn.specs.CodeFault as code_fault
+use Rattle.bpf_insn.specs.declared.fault.CodeFault.{CodeFault}
+use Rattle.refusals.specs.Refusal.{RefusalParts}
+use Rattle.tl_segments.specs.County.{CountyReaders}
+use Rattle.commands.specs.County.{HoldCounty}
+use Rattle.commands.specs.Files.{Disk, IsFailed, IsTooLong}
+use Rattle.commands.specs.declared.failure.Failure.{Failure}
+use Rattle.commands.specs.declared.failure.Failure.TheVariants.{Refusal, Memory, File, CountyFile}
+
+-- The program of this name is too long, and refused so. The county's files hold the bytes that are known of them.
+pub record HoldTooLong (name folder code : List ℕ) (known : List ℕ → Option (List ℕ)) (refusal : RefusalParts) : Type 0 where
+  pub fault : CodeFault
+  pub long : IsTooLong (known name) fault
+  pub is_refusal : refusal ≡ code_fault.refusal fault
+  pub readers : CountyReaders
+  pub hold : HoldCounty known folder code readers
+
+-- why a program and a county can't be read: the program is too long, or a file can't be used, or memory is wanting
+abbrev pub TellsInputs : List ℕ → List ℕ → List ℕ → Disk → Disk → Failure → Type 0
+TellsInputs name folder code disk disk' (Refusal refusal) = HoldTooLong name folder code disk.known refusal
+TellsInputs name folder code disk disk' (File of error) = IsFailed disk disk'
+TellsInputs name folder code disk disk' (CountyFile of_folder of_code file error) = disk'.failed_opens ≢ disk.failed_opens
+TellsInputs name folder code disk disk' Memory = ⊤
+TellsInputs name folder code disk disk' failure = ⊥

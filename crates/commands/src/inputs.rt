@@ -1,0 +1,58 @@
+//! What `run` and `trace` read: a program and a county.
+ghost use Rattle.std.specs.Prelude.{◌≡◌, IfErr, IfOk, Some};
+ghost use Rattle.std.specs.Io.KnownBytes.{Keeps};
+ghost use Rattle.commands.specs.County.{HaveNoFailure, HoldCounty, IsOpened, county_readers};
+ghost use Rattle.commands.specs.Failure.{TellsCounts};
+ghost use Rattle.commands.specs.Files.{disk};
+ghost use Rattle.commands.specs.Inputs.{TellsInputs};
+
+use crate::county::{CountyInputs, close_county, open_county};
+use crate::failure::Failure;
+use crate::files::{Files, open, read_program};
+use std::alloc::Allocator;
+
+/// A program's bytes, and the inputs of a county.
+pub struct Inputs<A: Allocator, R> {
+    pub program: Vec<u8, A>,
+    pub county: CountyInputs<R>,
+}
+
+/// Opens the program and then the county's files, and reads the program to its end.
+pub fn open_inputs<'a, A: Allocator + Copy, F: Files>(
+    alloc: A,
+    files: &mut F,
+    name: &'a str,
+    folder: &'a str,
+    code: &'a str,
+) -> Result<Inputs<A, F::Reader>, Failure<'a>>
+    ensures program { IfOk result (λ inputs. Keeps (F.bytes files.old name.now) (Some inputs.program.items)) }
+    ensures hold { IfOk result (λ inputs. HoldCounty (F.bytes files.old) folder.now code.now
+        (county_readers F.Reader.remaining F.Reader.failed_reads inputs.county)) }
+    ensures unread { IfOk result (λ inputs. HaveNoFailure (county_readers F.Reader.remaining F.Reader.failed_reads inputs.county)) }
+    ensures there { IfOk result (λ inputs. IsOpened inputs.county.rt1) }
+    ensures err { IfErr result (TellsInputs name.now folder.now code.now
+        (disk F.bytes F.failed_opens F.failed_reads files.old) (disk F.bytes F.failed_opens F.failed_reads files.new)) }
+    ensures counts { TellsCounts result (disk F.bytes F.failed_opens F.failed_reads files.old)
+        (disk F.bytes F.failed_opens F.failed_reads files.new) }
+{
+    let mut reader = match open(files, name) {
+        Ok(reader) => reader,
+        Err(fault) => return Err(Failure::of_file(name, fault)),
+    };
+    let county = match open_county(alloc, files, folder, code) {
+        Ok(county) => county,
+        Err(fault) => {
+            files.close(reader);
+            return Err(Failure::of_county_file(folder, code, fault));
+        }
+    };
+    let read = read_program(alloc, &mut reader);
+    files.close(reader);
+    match read {
+        Ok(program) => Ok(Inputs { program, county }),
+        Err(fault) => {
+            close_county(files, county);
+            Err(Failure::of_program(name, fault))
+        }
+    }
+}
