@@ -1,11 +1,13 @@
 -- Which frames are possible, where bytes are marked or touched and slots are set.
-use Rattle.std.proofs.Common.{◌≡◌, ◌≢◌, ℕ, zero, suc, ◌+◌, ◌-◌, ◌*◌, ◌/◌, ◌<◌, ◌≤◌, false, List, [], ◌∷◌, drop, length, get_or, Some, None, Option, inl, inr, refl, ◌∙◌, sym, subst, arith}
+use Rattle.std.proofs.Common.{◌≡◌, ◌≢◌, ℕ, zero, suc, ◌+◌, ◌-◌, ◌*◌, ◌/◌, ◌<◌, ◌≤◌, false, List, [], ◌∷◌, drop, length, get_or, Some, None}
+use Rattle.std.proofs.Common.{Option, inl, inr, refl, ◌∙◌, sym, subst, arith}
 use Rattle.std.specs.Prelude.{IsTrue}
 use Rattle.std.specs.Option.{option_map}
 use Rattle.std.proofs.lemmas.Bool.{both_ways, cases_eq, cases_lt}
 use Rattle.std.proofs.lemmas.List.{length-take, length-drop, get_or-take, get_or-drop}
 use Rattle.bpf_frame.specs.FrameMap.{Contents, IsProper, IsMarked, slot_kind, touch, mark, set_slot, fit_marks, unwritten, Admits}
-use Rattle.bpf_insn.specs.Frame.{IsApart, FrameByte, Unwritten, Byte, FrameContents, is_byte, is_written, number_of, slot_bytes, slot_pointer, value_of, slot_value}
+use Rattle.bpf_insn.specs.Frame.{IsApart, FrameByte, Unwritten, Byte, FrameContents, is_byte, is_written, number_of, slot_bytes}
+use Rattle.bpf_insn.specs.Frame.{slot_pointer, value_of, slot_value}
 use Rattle.bpf_frame.proofs.MarkLemmas.{marked_before_or_inside, get_or-with_marks, get_or-unfit_marks}
 use Rattle.bpf_frame.proofs.SlotLemmas.{slot_kind_past, touch_each, mark_each, set_kind_each}
 use Rattle.bpf_frame.proofs.ProperLemmas.{in_frame, slot_in_frame, get_or-alike}
@@ -16,49 +18,14 @@ use Rattle.bpf_kinds.specs.declared.interval.Interval.{Interval}
 use Rattle.bpf_kinds.specs.declared.kind.Kind.{Kind}
 use Rattle.bpf_kinds.specs.declared.kind.Kind.TheVariants.{Number, Record, Frame, Nothing}
 
--- a slot that holds what it held, or that isn't there, still holds something of its kind
-still_admits : (map : Contents) (before after : FrameContents) (slot : ℕ) → IsProper map → Admits map before
-    → (slot < SLOTS → slot_value after slot ≡ slot_value before slot) → kind.Admits (slot_kind map slot) (slot_value after slot)
-still_admits map before after slot proper admitted same =
-    elim (cases_lt slot SLOTS) [
-      | inl within ↦ subst (kind.Admits (slot_kind map slot)) (sym (same within)) (admitted.slots slot)
-      | inr past ↦ subst (λ (k : Kind). kind.Admits k (slot_value after slot)) (sym (slot_kind_past map slot proper past)) tt
-    ]
-
--- where a frame is possible, so it is once bytes were touched, if none was taken back
-pub touch_admits : (map : Contents) (from to : ℕ) (before after : FrameContents) → IsProper map → from ≤ to → to < FRAME_LENGTH → Admits map before
-    → ((at : ℕ) → IsTrue (is_written before.bytes at) → IsTrue (is_written after.bytes at))
-    → ((slot : ℕ) → slot < SLOTS → IsApart slot from (to + 1 - from) → slot_value after slot ≡ slot_value before slot)
-    → Admits (touch map from to) after
-touch_admits map from to before after proper ordered within admitted stay kept = record {
-  written = λ at marked. stay at (admitted.written at marked);
-  slots = touch_each map from to proper ordered within (λ slot k. kind.Admits k (slot_value after slot)) (λ slot at above below same. tt)
-      (λ slot apart. still_admits map before after slot proper admitted (λ inside. kept slot inside apart));
-}
-
--- and once bytes are marked that were written
-pub mark_admits : (map : Contents) (from len : ℕ) (before after : FrameContents) → IsProper map → from + len ≤ FRAME_LENGTH → Admits map before
-    → ((at : ℕ) → IsTrue (is_written before.bytes at) → IsTrue (is_written after.bytes at))
-    → ((at : ℕ) → from ≤ at → at < from + len → IsTrue (is_written after.bytes at))
-    → ((slot : ℕ) → slot < SLOTS → IsApart slot from len → slot_value after slot ≡ slot_value before slot)
-    → Admits (mark map from len) after
-mark_admits map from len before after proper within admitted stay new kept = record {
-  written = λ at marked.
-      elim (marked_before_or_inside map.marks from len at (in_frame map (from + len) proper within) marked) [
-        | inl old ↦ stay at (admitted.written at old)
-        | inr inside ↦ new at inside.0 inside.1
-      ];
-  slots = mark_each map from len proper within (λ slot k. kind.Admits k (slot_value after slot)) (λ slot at above below same. tt)
-      (λ slot apart. still_admits map before after slot proper admitted (λ inside. kept slot inside apart));
-}
-
 -- bytes that have a number are all written
 
 some_of_map : (f : ℕ → ℕ) (found : Option ℕ) (n : ℕ) → option_map f found ≡ Some n → (m : ℕ) × (found ≡ Some m)
 some_of_map f None n is = absurd (let other : Option ℕ = None in let none : other ≡ Some n = is in cc)
 some_of_map f (Some m) n is = (m, refl)
 
-numbered_are_written : (bytes : List FrameByte) (n : ℕ) → number_of bytes ≡ Some n → (at : ℕ) → at < length bytes → IsTrue (is_byte (get_or bytes at Unwritten))
+numbered_are_written : (bytes : List FrameByte) (n : ℕ) → number_of bytes ≡ Some n → (at : ℕ) → at < length bytes
+    → IsTrue (is_byte (get_or bytes at Unwritten))
 numbered_are_written [] n is at within = absurd (omega arith)
 numbered_are_written (Unwritten ∷ bytes) n is at within = absurd (cc)
 numbered_are_written (Byte byte ∷ bytes) n is zero within = refl
@@ -67,12 +34,14 @@ numbered_are_written (Byte byte ∷ bytes) n is (suc at) within =
     numbered_are_written bytes rest.0 rest.1 at (omega arith)
 
 -- a slot that holds a number of an interval has all its bytes written
-number_of_slot : (x : Interval) (number : Option ℕ) (pointer : Option PointerParts) → kind.Admits (Number x) (value_of number pointer) → (n : ℕ) × (number ≡ Some n)
+number_of_slot : (x : Interval) (number : Option ℕ) (pointer : Option PointerParts) → kind.Admits (Number x) (value_of number pointer)
+    → (n : ℕ) × (number ≡ Some n)
 number_of_slot x (Some n) pointer admits = (n, refl)
 number_of_slot x None (Some pointer) admits = absurd admits
 number_of_slot x None None admits = absurd admits
 
-number_is_written : (x : Interval) (frame : FrameContents) (slot at : ℕ) → FRAME_LENGTH ≤ length frame.bytes → slot < SLOTS → kind.Admits (Number x) (slot_value frame slot) → at / SLOT_LENGTH ≡ slot
+number_is_written : (x : Interval) (frame : FrameContents) (slot at : ℕ) → FRAME_LENGTH ≤ length frame.bytes → slot < SLOTS
+    → kind.Admits (Number x) (slot_value frame slot) → at / SLOT_LENGTH ≡ slot
     → IsTrue (is_written frame.bytes at)
 number_is_written x frame slot at whole within admits same =
     let bytes : List FrameByte = slot_bytes frame.bytes slot in
@@ -82,48 +51,96 @@ number_is_written x frame slot at whole within admits same =
     let long : length bytes ≡ SLOT_LENGTH = length_of_slot in
     let there : SLOT_LENGTH * slot + place ≡ at = omega arith in
     subst (λ (n : ℕ). IsTrue (is_written frame.bytes n)) there
-    (subst (λ (byte : FrameByte). IsTrue (is_byte byte)) (get_or-take SLOT_LENGTH (drop (SLOT_LENGTH * slot) frame.bytes) place Unwritten short ∙ get_or-drop (SLOT_LENGTH * slot) frame.bytes place Unwritten)
+    (subst (λ (byte : FrameByte). IsTrue (is_byte byte))
+    (get_or-take SLOT_LENGTH (drop (SLOT_LENGTH * slot) frame.bytes) place Unwritten short
+    ∙ get_or-drop (SLOT_LENGTH * slot) frame.bytes place Unwritten)
     (numbered_are_written bytes number.0 number.1 place (omega arith)))
   where
     length_of_slot : length (slot_bytes frame.bytes slot) ≡ SLOT_LENGTH
-    length_of_slot = omega (arith, length-take SLOT_LENGTH (drop (SLOT_LENGTH * slot) frame.bytes), length-drop (SLOT_LENGTH * slot) frame.bytes)
+    length_of_slot = omega (
+      arith,
+      length-take SLOT_LENGTH (drop (SLOT_LENGTH * slot) frame.bytes),
+      length-drop (SLOT_LENGTH * slot) frame.bytes,
+    )
 
--- a byte of a slot that has its mark once the slot holds something of a kind, is written
-written_here : (map : Contents) (slot : ℕ) (k : Kind) (frame : FrameContents) (at : ℕ) → IsProper map → slot < SLOTS → FRAME_LENGTH ≤ length frame.bytes → k ≢ Nothing
-    → kind.Admits k (slot_value frame slot) → at / SLOT_LENGTH ≡ slot → IsMarked (fit_marks k map.marks slot) at → IsTrue (is_written frame.bytes at)
-written_here map slot (Number x) frame at proper within whole known admits same marked = number_is_written x frame slot at whole within admits same
-written_here map slot (Record x) frame at proper within whole known admits same marked =
-    absurd (both_ways _ (get_or-with_marks false map.marks (SLOT_LENGTH * slot) SLOT_LENGTH at (slot_in_frame map slot proper within) (omega arith) (omega arith)) marked)
-written_here map slot (Frame x) frame at proper within whole known admits same marked =
-    absurd (both_ways _ (get_or-with_marks false map.marks (SLOT_LENGTH * slot) SLOT_LENGTH at (slot_in_frame map slot proper within) (omega arith) (omega arith)) marked)
-written_here map slot Nothing frame at proper within whole known admits same marked = absurd (known refl)
+-- a frame that was possible, and what became of it
+module _ {map : Contents} {before : FrameContents} (after : FrameContents) (proper : IsProper map) (admitted : Admits map before) where
+  -- a slot that holds what it held, or that isn't there, still holds something of its kind
+  still_admits : (slot : ℕ) → (slot < SLOTS → slot_value after slot ≡ slot_value before slot)
+      → kind.Admits (slot_kind map slot) (slot_value after slot)
+  still_admits slot same =
+      elim (cases_lt slot SLOTS) [
+        | inl within ↦ subst (kind.Admits (slot_kind map slot)) (sym (same within)) (admitted.slots slot)
+        | inr past ↦ subst (λ (k : Kind). kind.Admits k (slot_value after slot)) (sym (slot_kind_past map slot proper past)) tt
+      ]
 
--- where a frame is possible, so it is once a slot holds something of a kind, if it does
-pub set_slot_admits : (map : Contents) (slot : ℕ) (k : Kind) (before after : FrameContents) → IsProper map → slot < SLOTS → FRAME_LENGTH ≤ length after.bytes → k ≢ Nothing → Admits map before
-    → ((at : ℕ) → at / SLOT_LENGTH ≢ slot → IsTrue (is_written before.bytes at) → IsTrue (is_written after.bytes at))
-    → ((other : ℕ) → other < SLOTS → other ≢ slot → slot_value after other ≡ slot_value before other)
-    → kind.Admits k (slot_value after slot) → Admits (set_slot map slot k) after
-set_slot_admits map slot k before after proper within whole known admitted others kept holds = record {
-  written = λ at marked.
-      elim (cases_eq (at / SLOT_LENGTH) slot) [
-        | inl same ↦ written_here map slot k after at proper within whole known holds same marked
-        | inr other ↦ others at other (admitted.written at (sym (get_or-unfit_marks k map.marks slot at (slot_in_frame map slot proper within) other) ∙ marked))
-      ];
-  slots = set_kind_each map.kinds slot k (omega (arith, proper.slots)) (λ other l. kind.Admits l (slot_value after other)) holds
-      (λ other apart. still_admits map before after other proper admitted (λ inside. kept other inside apart));
-}
+  -- it's possible still where no written byte is taken back and each slot holds what it held
+  pub admits_stays : ((at : ℕ) → IsTrue (is_written before.bytes at) → IsTrue (is_written after.bytes at))
+      → ((slot : ℕ) → slot < SLOTS → slot_value after slot ≡ slot_value before slot) → Admits map after
+  admits_stays stay kept = record {
+    written = λ at marked. stay at (admitted.written at marked);
+    slots = λ slot. still_admits slot (kept slot);
+  }
+
+  -- so it is once bytes were touched, if none was taken back
+  pub touch_admits : (from to : ℕ) → from ≤ to → to < FRAME_LENGTH
+      → ((at : ℕ) → IsTrue (is_written before.bytes at) → IsTrue (is_written after.bytes at))
+      → ((slot : ℕ) → slot < SLOTS → IsApart slot from (to + 1 - from) → slot_value after slot ≡ slot_value before slot)
+      → Admits (touch map from to) after
+  touch_admits from to ordered within stay kept = record {
+    written = λ at marked. stay at (admitted.written at marked);
+    slots = touch_each from to proper ordered within (λ slot k. kind.Admits k (slot_value after slot)) (λ slot at above below same. tt)
+        (λ slot apart. still_admits slot (λ inside. kept slot inside apart));
+  }
+
+  -- and once bytes are marked that were written
+  pub mark_admits : (from len : ℕ) → from + len ≤ FRAME_LENGTH
+      → ((at : ℕ) → IsTrue (is_written before.bytes at) → IsTrue (is_written after.bytes at))
+      → ((at : ℕ) → from ≤ at → at < from + len → IsTrue (is_written after.bytes at))
+      → ((slot : ℕ) → slot < SLOTS → IsApart slot from len → slot_value after slot ≡ slot_value before slot)
+      → Admits (mark map from len) after
+  mark_admits from len within stay new kept = record {
+    written = λ at marked.
+        elim (marked_before_or_inside map.marks from len at (in_frame map (from + len) proper within) marked) [
+          | inl old ↦ stay at (admitted.written at old)
+          | inr inside ↦ new at inside.0 inside.1
+        ];
+    slots = mark_each from len proper within (λ slot k. kind.Admits k (slot_value after slot)) (λ slot at above below same. tt)
+        (λ slot apart. still_admits slot (λ inside. kept slot inside apart));
+  }
+
+  -- a byte of a slot that has its mark once the slot holds something of a kind, is written
+  written_here : (k : Kind) {slot : ℕ} (at : ℕ) → slot < SLOTS → FRAME_LENGTH ≤ length after.bytes → k ≢ Nothing
+      → kind.Admits k (slot_value after slot) → at / SLOT_LENGTH ≡ slot → IsMarked (fit_marks k map.marks slot) at
+      → IsTrue (is_written after.bytes at)
+  written_here (Number x) {slot} at within whole known admits same marked = number_is_written x after slot at whole within admits same
+  written_here (Record x) {slot} at within whole known admits same marked =
+      let fits = slot_in_frame map slot proper within in
+      absurd (both_ways _ (get_or-with_marks false map.marks (SLOT_LENGTH * slot) SLOT_LENGTH at fits (omega arith) (omega arith)) marked)
+  written_here (Frame x) {slot} at within whole known admits same marked =
+      let fits = slot_in_frame map slot proper within in
+      absurd (both_ways _ (get_or-with_marks false map.marks (SLOT_LENGTH * slot) SLOT_LENGTH at fits (omega arith) (omega arith)) marked)
+  written_here Nothing at within whole known admits same marked = absurd (known refl)
+
+  -- and once a slot holds something of a kind, if it does
+  pub set_slot_admits : (slot : ℕ) (k : Kind) → slot < SLOTS → FRAME_LENGTH ≤ length after.bytes → k ≢ Nothing
+      → ((at : ℕ) → at / SLOT_LENGTH ≢ slot → IsTrue (is_written before.bytes at) → IsTrue (is_written after.bytes at))
+      → ((other : ℕ) → other < SLOTS → other ≢ slot → slot_value after other ≡ slot_value before other)
+      → kind.Admits k (slot_value after slot) → Admits (set_slot map slot k) after
+  set_slot_admits slot k within whole known others kept holds = record {
+    written = λ at marked.
+        elim (cases_eq (at / SLOT_LENGTH) slot) [
+          | inl same ↦ written_here k at within whole known holds same marked
+          | inr other ↦
+              others at other
+              (admitted.written at (sym (get_or-unfit_marks k map.marks slot at (slot_in_frame map slot proper within) other) ∙ marked))
+        ];
+    slots = set_kind_each map.kinds slot k (omega (arith, proper.slots)) (λ other l. kind.Admits l (slot_value after other)) holds
+        (λ other apart. still_admits other (λ inside. kept other inside apart));
+  }
 
 pub unwritten_admits : (frame : FrameContents) → Admits unwritten frame
 unwritten_admits frame = record {
   written = λ at marked. absurd (both_ways _ (get_or-alike FRAME_LENGTH at false) marked);
   slots = λ slot. subst (λ (k : Kind). kind.Admits k (slot_value frame slot)) (sym (get_or-alike SLOTS slot Nothing)) tt;
-}
-
--- what is possible stays so where no written byte is taken back and each slot holds what it held
-pub admits_stays : (map : Contents) (before after : FrameContents) → IsProper map → Admits map before
-    → ((at : ℕ) → IsTrue (is_written before.bytes at) → IsTrue (is_written after.bytes at))
-    → ((slot : ℕ) → slot < SLOTS → slot_value after slot ≡ slot_value before slot) → Admits map after
-admits_stays map before after proper admitted stay kept = record {
-  written = λ at marked. stay at (admitted.written at marked);
-  slots = λ slot. still_admits map before after slot proper admitted (kept slot);
 }

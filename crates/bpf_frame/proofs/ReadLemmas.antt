@@ -1,5 +1,6 @@
 -- The test of a run of marks tells whether each of its bytes has its mark.
-use Rattle.std.proofs.Common.{◌≡◌, ◌↔◌, ℕ, zero, suc, ◌+◌, ◌-◌, ◌<◌, ◌≤◌, min, Bool, true, false, List, [], ◌∷◌, length, get_or, take, drop, refl, ◌∙◌, sym, ap, arith}
+use Rattle.std.proofs.Common.{◌≡◌, ◌↔◌, ℕ, zero, suc, ◌+◌, ◌-◌, ◌<◌, ◌≤◌, min, Bool, true, false, List, [], ◌∷◌, length, get_or, take, drop}
+use Rattle.std.proofs.Common.{refl, ◌∙◌, sym, ap, arith}
 use Rattle.std.specs.Prelude.{IsTrue}
 use Rattle.std.specs.List.{list_all}
 use Rattle.std.proofs.lemmas.Bool.{and_parts, and_from}
@@ -23,7 +24,8 @@ get_or-part : (marks : List Bool) (from k at : ℕ) → at < k → get_or (take 
 get_or-part marks from k at within = get_or-take k (drop from marks) at false within ∙ get_or-drop from marks at false
 
 -- the test of the bytes from one to another tells of each that is in the frame, and looks at no others
-pub written_at : (marks : List Bool) (from to at : ℕ) → from ≤ at → at ≤ to → at < length marks → IsTrue (all_written marks from to) → IsMarked marks at
+pub written_at : (marks : List Bool) (from to at : ℕ) → from ≤ at → at ≤ to → at < length marks → IsTrue (all_written marks from to)
+    → IsMarked marks at
 written_at marks from to at above below within all =
     let k : ℕ = to + 1 - from in
     let same : at ≡ from + (at - from) = omega arith in
@@ -31,7 +33,8 @@ written_at marks from to at above below within all =
     ∙ sym (get_or-part marks from k (at - from) (omega arith))
     ∙ each_from_all (take k (drop from marks)) all (at - from) (omega (arith, length-part marks from k))
 
-pub written_from : (marks : List Bool) (from to : ℕ) → ((at : ℕ) → from ≤ at → at ≤ to → at < length marks → IsMarked marks at) → IsTrue (all_written marks from to)
+pub written_from : (marks : List Bool) (from to : ℕ) → ((at : ℕ) → from ≤ at → at ≤ to → at < length marks → IsMarked marks at)
+    → IsTrue (all_written marks from to)
 written_from marks from to each =
     let k : ℕ = to + 1 - from in
     let long = length-part marks from k in
@@ -39,7 +42,8 @@ written_from marks from to each =
     (λ at short. get_or-part marks from k at (omega arith) ∙ each (from + at) (omega arith) (omega arith) (omega arith))
 
 -- the test of the bytes from one to another tells whether each has its mark
-pub all_written_is : (marks : List Bool) (from to : ℕ) → from ≤ to → to < length marks → IsTrue (all_written marks from to) ↔ AllWritten marks from to
+pub all_written_is : (marks : List Bool) (from to : ℕ) → from ≤ to → to < length marks → IsTrue (all_written marks from to)
+    ↔ AllWritten marks from to
 all_written_is marks from to ordered within = (
   (λ all at above below. written_at marks from to at above below (omega arith) all),
   (λ all. written_from marks from to (λ at above below _. all at above below)),

@@ -1,5 +1,6 @@
 -- Marks and kinds one by one, where a part of them is filled or one is set.
-use Rattle.std.proofs.Common.{◌≡◌, ◌≢◌, ℕ, zero, suc, ◌+◌, ◌-◌, ◌*◌, ◌/◌, ◌<◌, ◌≤◌, List, ◌++◌, take, drop, length, get_or, set, replicate, inl, inr, refl, sym, ap, ◌∙◌, subst, arith}
+use Rattle.std.proofs.Common.{◌≡◌, ◌≢◌, ℕ, zero, suc, ◌+◌, ◌-◌, ◌*◌, ◌/◌, ◌<◌, ◌≤◌, List, ◌++◌, take, drop, length, get_or, set, replicate}
+use Rattle.std.proofs.Common.{inl, inr, refl, sym, ap, ◌∙◌, subst, arith}
 use Rattle.std.proofs.lemmas.Bool.{cases_lt, cases_eq}
 use Rattle.std.proofs.lemmas.List.{places, get_or_past, get_or-set_same, get_or-set_other}
 use Rattle.bpf_frame.specs.FrameMap.{Contents, IsProper, slot_kind, touch, mark}
@@ -10,22 +11,27 @@ use Rattle.bpf_kinds.specs.declared.kind.Kind.TheVariants.{Nothing}
 
 -- a list of which a part is filled with one element
 
-pub length-filled : {X : Type 0} (x : X) (xs : List X) (first count end : ℕ) → first + count ≡ end → end ≤ length xs → length (take first xs ++ replicate count x ++ drop end xs) ≡ length xs
+pub length-filled : {X : Type 0} (x : X) (xs : List X) (first count end : ℕ) → first + count ≡ end → end ≤ length xs
+    → length (take first xs ++ replicate count x ++ drop end xs) ≡ length xs
 length-filled x xs first count end same within = grind (arith, places)
 
-pub get_or-filled_before : {X : Type 0} (x : X) (xs : List X) (first count end : ℕ) (d : X) (at : ℕ) → first + count ≡ end → end ≤ length xs → at < first → get_or (take first xs ++ replicate count x ++ drop end xs) at d ≡ get_or xs at d
-get_or-filled_before x xs first count end d at same within before = grind (arith, places)
+module _ {X : Type 0} (x : X) (xs : List X) (first count end : ℕ) (d : X) (at : ℕ) (same : first + count ≡ end)
+    (within : end ≤ length xs) where
+  pub get_or-filled_before : at < first → get_or (take first xs ++ replicate count x ++ drop end xs) at d ≡ get_or xs at d
+  get_or-filled_before before = grind (arith, places)
 
-pub get_or-filled_inside : {X : Type 0} (x : X) (xs : List X) (first count end : ℕ) (d : X) (at : ℕ) → first + count ≡ end → end ≤ length xs → first ≤ at → at < end → get_or (take first xs ++ replicate count x ++ drop end xs) at d ≡ x
-get_or-filled_inside x xs first count end d at same within above below = grind (arith, places)
+  pub get_or-filled_inside : first ≤ at → at < end → get_or (take first xs ++ replicate count x ++ drop end xs) at d ≡ x
+  get_or-filled_inside above below = grind (arith, places)
 
-pub get_or-filled_behind : {X : Type 0} (x : X) (xs : List X) (first count end : ℕ) (d : X) (at : ℕ) → first + count ≡ end → end ≤ length xs → end ≤ at → get_or (take first xs ++ replicate count x ++ drop end xs) at d ≡ get_or xs at d
-get_or-filled_behind x xs first count end d at same within behind = grind (arith, places)
+  pub get_or-filled_behind : end ≤ at → get_or (take first xs ++ replicate count x ++ drop end xs) at d ≡ get_or xs at d
+  get_or-filled_behind behind = grind (arith, places)
 
 -- slots of some bytes, at least one
-pub overwrite_some : {X : Type 0} (nothing : X) (slots : List X) (from len : ℕ) → 0 < len → clear_slots nothing slots from (from + len - 1) ≡ overwrite_slots nothing slots from len
+pub overwrite_some : {X : Type 0} (nothing : X) (slots : List X) (from len : ℕ) → 0 < len
+    → clear_slots nothing slots from (from + len - 1) ≡ overwrite_slots nothing slots from len
 overwrite_some nothing slots from zero some = absurd (omega arith)
-overwrite_some nothing slots from (suc more) some = let last : from + suc more - 1 ≡ from + more = omega arith in ap (λ (to : ℕ). clear_slots nothing slots from to) last
+overwrite_some nothing slots from (suc more) some = let last : from + suc more - 1 ≡ from + more = omega arith in
+    ap (λ (to : ℕ). clear_slots nothing slots from to) last
 
 -- outside of the frame there are no slots
 pub slot_kind_past : (map : Contents) (slot : ℕ) → IsProper map → SLOTS ≤ slot → slot_kind map slot ≡ Nothing
@@ -33,79 +39,94 @@ slot_kind_past map slot proper past = get_or_past map.kinds slot Nothing (omega 
 
 -- slots that are touched, one by one
 
-pub slot_kind-touched : (map : Contents) (from to slot : ℕ) → IsProper map → from ≤ to → to < FRAME_LENGTH → from / SLOT_LENGTH ≤ slot → slot ≤ to / SLOT_LENGTH → slot_kind (touch map from to) slot ≡ Nothing
-slot_kind-touched map from to slot proper ordered within above below =
-    get_or-filled_inside Nothing map.kinds (from / SLOT_LENGTH) (to / SLOT_LENGTH + 1 - from / SLOT_LENGTH) (to / SLOT_LENGTH + 1) Nothing slot (omega arith) (omega (arith, proper.slots)) above (omega arith)
+module _ {map : Contents} (from to : ℕ) (proper : IsProper map) (ordered : from ≤ to) (within : to < FRAME_LENGTH) where
+  pub slot_kind-touched : (slot : ℕ) → from / SLOT_LENGTH ≤ slot → slot ≤ to / SLOT_LENGTH → slot_kind (touch map from to) slot ≡ Nothing
+  slot_kind-touched slot above below =
+      get_or-filled_inside Nothing map.kinds (from / SLOT_LENGTH) (to / SLOT_LENGTH + 1 - from / SLOT_LENGTH)
+      (to / SLOT_LENGTH + 1) Nothing slot
+      (omega arith) (omega (arith, proper.slots)) above (omega arith)
 
-pub slot_kind-before_touched : (map : Contents) (from to slot : ℕ) → IsProper map → from ≤ to → to < FRAME_LENGTH → slot < from / SLOT_LENGTH → slot_kind (touch map from to) slot ≡ slot_kind map slot
-slot_kind-before_touched map from to slot proper ordered within before =
-    get_or-filled_before Nothing map.kinds (from / SLOT_LENGTH) (to / SLOT_LENGTH + 1 - from / SLOT_LENGTH) (to / SLOT_LENGTH + 1) Nothing slot (omega arith) (omega (arith, proper.slots)) before
+  pub slot_kind-before_touched : (slot : ℕ) → slot < from / SLOT_LENGTH → slot_kind (touch map from to) slot ≡ slot_kind map slot
+  slot_kind-before_touched slot before =
+      get_or-filled_before Nothing map.kinds (from / SLOT_LENGTH) (to / SLOT_LENGTH + 1 - from / SLOT_LENGTH)
+      (to / SLOT_LENGTH + 1) Nothing slot
+      (omega arith) (omega (arith, proper.slots)) before
 
-pub slot_kind-behind_touched : (map : Contents) (from to slot : ℕ) → IsProper map → from ≤ to → to < FRAME_LENGTH → to / SLOT_LENGTH < slot → slot_kind (touch map from to) slot ≡ slot_kind map slot
-slot_kind-behind_touched map from to slot proper ordered within behind =
-    get_or-filled_behind Nothing map.kinds (from / SLOT_LENGTH) (to / SLOT_LENGTH + 1 - from / SLOT_LENGTH) (to / SLOT_LENGTH + 1) Nothing slot (omega arith) (omega (arith, proper.slots)) (omega arith)
+  pub slot_kind-behind_touched : (slot : ℕ) → to / SLOT_LENGTH < slot → slot_kind (touch map from to) slot ≡ slot_kind map slot
+  slot_kind-behind_touched slot behind =
+      get_or-filled_behind Nothing map.kinds (from / SLOT_LENGTH) (to / SLOT_LENGTH + 1 - from / SLOT_LENGTH)
+      (to / SLOT_LENGTH + 1) Nothing slot
+      (omega arith) (omega (arith, proper.slots)) (omega arith)
 
--- what is so of Nothing where bytes are touched, and of the kinds of all other slots, is so of each kind then
-pub touch_each : (map : Contents) (from to : ℕ) → IsProper map → from ≤ to → to < FRAME_LENGTH → (Such : ℕ → Kind → Type 0)
-    → ((slot at : ℕ) → from ≤ at → at ≤ to → at / SLOT_LENGTH ≡ slot → Such slot Nothing)
-    → ((slot : ℕ) → IsApart slot from (to + 1 - from) → Such slot (slot_kind map slot))
-    → (slot : ℕ) → Such slot (slot_kind (touch map from to) slot)
-touch_each map from to proper ordered within Such inside outside slot =
-    elim (cases_lt slot (from / SLOT_LENGTH)) [
-      | inl before ↦ subst (Such slot) (sym (slot_kind-before_touched map from to slot proper ordered within before)) (outside slot (λ at first last same. absurd (omega arith)))
-      | inr above ↦
-          elim (cases_lt (to / SLOT_LENGTH) slot) [
-            | inl behind ↦ subst (Such slot) (sym (slot_kind-behind_touched map from to slot proper ordered within behind)) (outside slot (λ at first last same. absurd (omega arith)))
-            | inr below ↦
-                subst (Such slot) (sym (slot_kind-touched map from to slot proper ordered within above below))
-                (elim (cases_lt (SLOT_LENGTH * slot) from) [
-                  | inl early ↦ inside slot from (omega arith) ordered (omega arith)
-                  | inr late ↦ inside slot (SLOT_LENGTH * slot) late (omega arith) (omega arith)
-                ])
-          ]
-    ]
+  -- what is so of Nothing where bytes are touched, and of the kinds of all other slots, is so of each kind then
+  pub touch_each : (Such : ℕ → Kind → Type 0) → ((slot at : ℕ) → from ≤ at → at ≤ to → at / SLOT_LENGTH ≡ slot → Such slot Nothing)
+      → ((slot : ℕ) → IsApart slot from (to + 1 - from) → Such slot (slot_kind map slot))
+      → (slot : ℕ) → Such slot (slot_kind (touch map from to) slot)
+  touch_each Such inside outside slot =
+      elim (cases_lt slot (from / SLOT_LENGTH)) [
+        | inl before ↦
+            subst (Such slot) (sym (slot_kind-before_touched slot before)) (outside slot (λ at first last same. absurd (omega arith)))
+        | inr above ↦
+            elim (cases_lt (to / SLOT_LENGTH) slot) [
+              | inl behind ↦
+                  subst (Such slot) (sym (slot_kind-behind_touched slot behind)) (outside slot (λ at first last same. absurd (omega arith)))
+              | inr below ↦
+                  subst (Such slot) (sym (slot_kind-touched slot above below))
+                  (elim (cases_lt (SLOT_LENGTH * slot) from) [
+                    | inl early ↦ inside slot from (omega arith) ordered (omega arith)
+                    | inr late ↦ inside slot (SLOT_LENGTH * slot) late (omega arith) (omega arith)
+                  ])
+            ]
+      ]
 
 -- the same where bytes are marked
-pub mark_each : (map : Contents) (from len : ℕ) → IsProper map → from + len ≤ FRAME_LENGTH → (Such : ℕ → Kind → Type 0)
+pub mark_each : {map : Contents} (from len : ℕ) → IsProper map → from + len ≤ FRAME_LENGTH → (Such : ℕ → Kind → Type 0)
     → ((slot at : ℕ) → from ≤ at → at < from + len → at / SLOT_LENGTH ≡ slot → Such slot Nothing)
-    → ((slot : ℕ) → IsApart slot from len → Such slot (slot_kind map slot))
-    → (slot : ℕ) → Such slot (slot_kind (mark map from len) slot)
-mark_each map from zero proper within Such inside outside slot = outside slot (λ at first last same. absurd (omega arith))
-mark_each map from (suc more) proper within Such inside outside slot =
-    touch_each map from (from + more) proper (omega arith) (omega arith) Such
+    → ((slot : ℕ) → IsApart slot from len → Such slot (slot_kind map slot)) → (slot : ℕ) → Such slot (slot_kind (mark map from len) slot)
+mark_each from zero proper within Such inside outside slot = outside slot (λ at first last same. absurd (omega arith))
+mark_each from (suc more) proper within Such inside outside slot =
+    touch_each from (from + more) proper (omega arith) (omega arith) Such
     (λ touched at first last same. inside touched at first (omega arith) same)
     (λ other apart. outside other (λ at first last same. apart at first (omega arith) same))
     slot
 
 -- of the slots of bytes that are touched or marked nothing is known, and the others hold what they held
 
-pub touch_forgets : (map : Contents) (from to at : ℕ) → IsProper map → to < FRAME_LENGTH → from ≤ at → at ≤ to → slot_kind (touch map from to) (at / SLOT_LENGTH) ≡ Nothing
-touch_forgets map from to at proper within above below = slot_kind-touched map from to (at / SLOT_LENGTH) proper (omega arith) within (omega arith) (omega arith)
+pub touch_forgets : (map : Contents) (from to at : ℕ) → IsProper map → to < FRAME_LENGTH → from ≤ at → at ≤ to
+    → slot_kind (touch map from to) (at / SLOT_LENGTH) ≡ Nothing
+touch_forgets map from to at proper within above below =
+    slot_kind-touched from to proper (omega arith) within (at / SLOT_LENGTH) (omega arith) (omega arith)
 
-pub touch_leaves : (map : Contents) (from to slot : ℕ) → IsProper map → from ≤ to → to < FRAME_LENGTH → IsApart slot from (to + 1 - from) → slot_kind (touch map from to) slot ≡ slot_kind map slot
+pub touch_leaves : (map : Contents) (from to slot : ℕ) → IsProper map → from ≤ to → to < FRAME_LENGTH → IsApart slot from (to + 1 - from)
+    → slot_kind (touch map from to) slot ≡ slot_kind map slot
 touch_leaves map from to slot proper ordered within apart =
-    touch_each map from to proper ordered within (λ other k. other ≡ slot → k ≡ slot_kind map slot)
+    touch_each from to proper ordered within (λ other k. other ≡ slot → k ≡ slot_kind map slot)
     (λ other at first last same is. absurd (apart at first (omega arith) (same ∙ is)))
     (λ other free is. ap (λ (n : ℕ). slot_kind map n) is)
     slot refl
 
-pub mark_forgets : (map : Contents) (from len at : ℕ) → IsProper map → from + len ≤ FRAME_LENGTH → from ≤ at → at < from + len → slot_kind (mark map from len) (at / SLOT_LENGTH) ≡ Nothing
+pub mark_forgets : (map : Contents) (from len at : ℕ) → IsProper map → from + len ≤ FRAME_LENGTH → from ≤ at → at < from + len
+    → slot_kind (mark map from len) (at / SLOT_LENGTH) ≡ Nothing
 mark_forgets map from len at proper within above below =
-    mark_each map from len proper within (λ slot k. slot ≡ at / SLOT_LENGTH → k ≡ Nothing) (λ slot other first last same is. refl) (λ slot apart is. absurd (apart at above below (sym is)))
+    mark_each from len proper within (λ slot k. slot ≡ at / SLOT_LENGTH → k ≡ Nothing) (λ slot other first last same is. refl)
+    (λ slot apart is. absurd (apart at above below (sym is)))
     (at / SLOT_LENGTH) refl
 
-pub mark_leaves : (map : Contents) (from len slot : ℕ) → IsProper map → from + len ≤ FRAME_LENGTH → IsApart slot from len → slot_kind (mark map from len) slot ≡ slot_kind map slot
+pub mark_leaves : (map : Contents) (from len slot : ℕ) → IsProper map → from + len ≤ FRAME_LENGTH → IsApart slot from len
+    → slot_kind (mark map from len) slot ≡ slot_kind map slot
 mark_leaves map from len slot proper within apart =
-    mark_each map from len proper within (λ other k. other ≡ slot → k ≡ slot_kind map slot)
+    mark_each from len proper within (λ other k. other ≡ slot → k ≡ slot_kind map slot)
     (λ other at first last same is. absurd (apart at first last (same ∙ is)))
     (λ other free is. ap (λ (n : ℕ). slot_kind map n) is)
     slot refl
 
 -- what is so of a kind that is set, and of the kinds of all other slots, is so of each kind then
 pub set_kind_each : (kinds : List Kind) (slot : ℕ) (k : Kind) → slot < length kinds → (Such : ℕ → Kind → Type 0) → Such slot k
-    → ((other : ℕ) → other ≢ slot → Such other (get_or kinds other Nothing)) → (other : ℕ) → Such other (get_or (set kinds slot k) other Nothing)
+    → ((other : ℕ) → other ≢ slot → Such other (get_or kinds other Nothing)) → (other : ℕ)
+    → Such other (get_or (set kinds slot k) other Nothing)
 set_kind_each kinds slot k within Such here others other =
     elim (cases_eq other slot) [
-      | inl same ↦ subst (λ (n : ℕ). Such n (get_or (set kinds slot k) n Nothing)) (sym same) (subst (Such slot) (sym (get_or-set_same kinds slot k Nothing within)) here)
+      | inl same ↦ subst (λ (n : ℕ). Such n (get_or (set kinds slot k) n Nothing)) (sym same)
+          (subst (Such slot) (sym (get_or-set_same kinds slot k Nothing within)) here)
       | inr apart ↦ subst (Such other) (sym (get_or-set_other kinds slot other k Nothing apart)) (others other apart)
     ]

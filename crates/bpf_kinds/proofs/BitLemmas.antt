@@ -30,7 +30,8 @@ shift_by zeros most =
     let shift : (2 ^ 64 - 1) / 2 ^ zeros ≡ 2 ^ digits - 1 = ap (λ n. (2 ^ n - 1) / 2 ^ zeros) (sym all) ∙ greatest-shift digits zeros in
     grind (arith, nat_tests)
 
-pub greatest_of_length-shift : (n : ℕ) → (if nat_lt (leading_zeros w64 n) 64 then (2 ^ 64 - 1) / 2 ^ leading_zeros w64 n else 0) ≡ greatest_of_length n
+pub greatest_of_length-shift : (n : ℕ) → (if nat_lt (leading_zeros w64 n) 64 then
+    (2 ^ 64 - 1) / 2 ^ leading_zeros w64 n else 0) ≡ greatest_of_length n
 greatest_of_length-shift n = shift_by (leading_zeros w64 n) (leading_le 64 n)
 
 -- how a number stands to the greatest one of its length, which has no more digits than a limit that it's below

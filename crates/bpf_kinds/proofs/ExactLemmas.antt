@@ -9,7 +9,9 @@ use mir.Val.{bits}
 use Rattle.bpf_insn.specs.Arithmetic as arithmetic
 use Rattle.bpf_insn.specs.Arithmetic.{operand_bits, low_bits}
 use Rattle.bpf_insn.specs.declared.instruction.Operation.{Operation}
-use Rattle.bpf_insn.specs.declared.instruction.Operation.TheVariants.{Add, Subtract, Multiply, Divide, SignedDivide, Or, And, ShiftLeft, ShiftRight, Modulo, SignedModulo, ExclusiveOr, Move, ArithmeticShiftRight}
+use Rattle.bpf_insn.specs.declared.instruction.Operation.TheVariants.{Add, Subtract, Multiply, Divide, SignedDivide, Or, And, ShiftLeft}
+use Rattle.bpf_insn.specs.declared.instruction.Operation.TheVariants.{ShiftRight, Modulo, SignedModulo, ExclusiveOr, Move}
+use Rattle.bpf_insn.specs.declared.instruction.Operation.TheVariants.{ArithmeticShiftRight}
 use Rattle.bpf_insn.specs.declared.instruction.Width.{Width}
 use Rattle.bpf_insn.proofs.ArithmeticLemmas.{quotient_bits, remainder_bits}
 use Rattle.bpf_kinds.proofs.OperationLemmas.{zero_or_quotient, remainder_le}
@@ -21,7 +23,9 @@ low-same w n below = mod-eq_of_lt below
 low-fits : (w : Bits) (n : ℕ) → low_bits w n < 2 ^ bits w
 low-fits w n = mod-lt n (pow_pos (bits w))
 
-signed_quotient-fits : (width : Width) (m n : ℕ) → m < 2 ^ bits (operand_bits width) → cast_unsigned (operand_bits width) (int_div (cast_signed (operand_bits width) m) (cast_signed (operand_bits width) n)) < 2 ^ bits (operand_bits width)
+signed_quotient-fits : (width : Width) (m n : ℕ) → m < 2 ^ bits (operand_bits width)
+    → cast_unsigned (operand_bits width) (int_div (cast_signed (operand_bits width) m) (cast_signed (operand_bits width) n)) < 2 ^ bits
+    (operand_bits width)
 signed_quotient-fits width m n below =
     let w = operand_bits width in
     let d = cast_signed w n in
@@ -29,7 +33,9 @@ signed_quotient-fits width m n below =
     let Q : ℕ → Type 0 = λ k. k < 2 ^ bits w in
     subst P (low-same w m below) (subst Q (quotient_bits width m d) (low-fits w _))
 
-signed_remainder-fits : (width : Width) (m n : ℕ) → m < 2 ^ bits (operand_bits width) → cast_unsigned (operand_bits width) (int_rem (cast_signed (operand_bits width) m) (cast_signed (operand_bits width) n)) < 2 ^ bits (operand_bits width)
+signed_remainder-fits : (width : Width) (m n : ℕ) → m < 2 ^ bits (operand_bits width)
+    → cast_unsigned (operand_bits width) (int_rem (cast_signed (operand_bits width) m) (cast_signed (operand_bits width) n)) < 2 ^ bits
+    (operand_bits width)
 signed_remainder-fits width m n below =
     let w = operand_bits width in
     let d = cast_signed w n in
@@ -37,13 +43,15 @@ signed_remainder-fits width m n below =
     let Q : ℕ → Type 0 = λ k. k < 2 ^ bits w in
     subst P (low-same w m below) (subst Q (remainder_bits width m d) (low-fits w _))
 
-pub operation-fits : (operation : Operation) (width : Width) (m n : ℕ) → m < 2 ^ bits (operand_bits width) → n < 2 ^ bits (operand_bits width) → arithmetic.operation_on operation (operand_bits width) m n < 2 ^ bits (operand_bits width)
+pub operation-fits : (operation : Operation) (width : Width) (m n : ℕ) → m < 2 ^ bits (operand_bits width)
+    → n < 2 ^ bits (operand_bits width) → arithmetic.operation_on operation (operand_bits width) m n < 2 ^ bits (operand_bits width)
 operation-fits Add width m n left right = low-fits (operand_bits width) _
 operation-fits Subtract width m n left right = low-fits (operand_bits width) _
 operation-fits Multiply width m n left right = low-fits (operand_bits width) _
 operation-fits Divide width m n left right = let less = zero_or_quotient m n in omega arith
 operation-fits SignedDivide width m n left right =
-    cond_both (n == 0) 0 _ (λ z. z < 2 ^ bits (operand_bits width)) (λ none. pow_pos (bits (operand_bits width))) (λ some. signed_quotient-fits width m n left)
+    cond_both (n == 0) 0 _ (λ z. z < 2 ^ bits (operand_bits width)) (λ none. pow_pos (bits (operand_bits width)))
+    (λ some. signed_quotient-fits width m n left)
 operation-fits Or width m n left right = or_lt (bits (operand_bits width)) m n left right
 operation-fits And width m n left right = let less = and_le_l m n in omega arith
 operation-fits ShiftLeft width m n left right = low-fits (operand_bits width) _

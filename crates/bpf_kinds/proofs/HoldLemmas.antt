@@ -22,14 +22,19 @@ pub single-holds : (limit n : ℕ) → n < limit → Holds limit (single n) n
 single-holds limit n below = record { above = omega arith; below = omega arith; fits = omega arith }
 
 -- a choice between two intervals, each of which holds the number where it's chosen
-pub if_lt-holds : (a b : ℕ) (x y : Interval) (limit n : ℕ) → (a < b → Holds limit x n) → (b ≤ a → Holds limit y n) → Holds limit (if nat_lt a b then x else y) n
-if_lt-holds a b x y limit n first second = cond_both (nat_lt a b) x y (λ z. Holds limit z n) (λ is. first (ltb-true a b is)) (λ not. second (ltb-false a b not))
+pub if_lt-holds : (a b : ℕ) (x y : Interval) (limit n : ℕ) → (a < b → Holds limit x n) → (b ≤ a → Holds limit y n)
+    → Holds limit (if nat_lt a b then x else y) n
+if_lt-holds a b x y limit n first second = cond_both (nat_lt a b) x y (λ z. Holds limit z n) (λ is. first (ltb-true a b is))
+    (λ not. second (ltb-false a b not))
 
-pub if_le-holds : (a b : ℕ) (x y : Interval) (limit n : ℕ) → (a ≤ b → Holds limit x n) → (b < a → Holds limit y n) → Holds limit (if nat_le a b then x else y) n
-if_le-holds a b x y limit n first second = cond_both (nat_le a b) x y (λ z. Holds limit z n) (λ is. first (leb-true a b is)) (λ not. second (leb-false a b not))
+pub if_le-holds : (a b : ℕ) (x y : Interval) (limit n : ℕ) → (a ≤ b → Holds limit x n) → (b < a → Holds limit y n)
+    → Holds limit (if nat_le a b then x else y) n
+if_le-holds a b x y limit n first second = cond_both (nat_le a b) x y (λ z. Holds limit z n) (λ is. first (leb-true a b is))
+    (λ not. second (leb-false a b not))
 
-pub if_single-holds : {bound : ℕ} (operand x y : Interval) (m limit n : ℕ) → Holds bound operand m → (m ≡ operand.low → Holds limit x n) → Holds limit y n → Holds limit (if is_single operand then x else y) n
-if_single-holds operand x y m limit n held first second =
+pub if_single-holds : {bound : ℕ} {operand y : Interval} (x : Interval) {m limit n : ℕ} → Holds bound operand m
+    → (m ≡ operand.low → Holds limit x n) → Holds limit y n → Holds limit (if is_single operand then x else y) n
+if_single-holds {operand} {y} x {limit} {n} held first second =
     cond_both (is_single operand) x y (λ z. Holds limit z n)
     (λ is. let one : operand.low ≡ operand.high = eqb-true _ _ is in first (omega arith))
     (λ not. second)
@@ -49,7 +54,8 @@ low_le a b k more same =
     let right = mod-add-div' b k in
     omega arith
 
-cut-between : (w : Bits) (x : Interval) (n : ℕ) → x.low ≤ n → n ≤ x.high → x.low / 2 ^ bits w ≡ x.high / 2 ^ bits w → Holds (2 ^ bits w) (between (low_bits w x.low) (low_bits w x.high)) (low_bits w n)
+cut-between : (w : Bits) (x : Interval) (n : ℕ) → x.low ≤ n → n ≤ x.high → x.low / 2 ^ bits w ≡ x.high / 2 ^ bits w
+    → Holds (2 ^ bits w) (between (low_bits w x.low) (low_bits w x.high)) (low_bits w n)
 cut-between w x n above below same =
     let limit = 2 ^ bits w in
     let some : 0 < limit = pow_pos (bits w) in
@@ -64,6 +70,7 @@ cut-between w x n above below same =
 pub cut-holds : (w : Bits) (x : Interval) (n : ℕ) → Admits x n → Holds (2 ^ bits w) (cut w x) (low_bits w n)
 cut-holds w x n held =
     let limit = 2 ^ bits w in
-    cond_both (x.low / limit == x.high / limit) (between (low_bits w x.low) (low_bits w x.high)) (full w) (λ z. Holds limit z (low_bits w n))
+    cond_both (x.low / limit == x.high / limit) (between (low_bits w x.low) (low_bits w x.high)) (full w)
+    (λ z. Holds limit z (low_bits w n))
     (λ is. cut-between w x n held.above held.below (eqb-true _ _ is))
     (λ not. full-holds w (low_bits w n) (mod-lt n (pow_pos (bits w))))

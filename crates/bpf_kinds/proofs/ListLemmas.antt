@@ -30,19 +30,26 @@ is_join_kinds xs ys joined count length-xs length-ys length-joined same =
     (λ place below. same place (omega arith) ∙ sym (get_or-join_kinds xs ys place same-length))
 
 -- what is so of a list's elements is so of them once one is written, if it's so of that one
-pub set_each : {X : Type 0} (Such : ℕ → X → Type 0) (none : X) (xs : List X) (at : ℕ) (x : X) → Such at x → ((n : ℕ) → Such n (get_or xs n none)) → (n : ℕ) → Such n (get_or (slice_set xs at x) n none)
+pub set_each : {X : Type 0} (Such : ℕ → X → Type 0) (none : X) (xs : List X) (at : ℕ) (x : X) → Such at x
+    → ((n : ℕ) → Such n (get_or xs n none)) → (n : ℕ) → Such n (get_or (slice_set xs at x) n none)
 set_each Such none [] at x here all n = all n
 set_each Such none (y ∷ xs) zero x here all zero = here
 set_each Such none (y ∷ xs) zero x here all (suc n) = all (suc n)
 set_each Such none (y ∷ xs) (suc at) x here all zero = all zero
 set_each Such none (y ∷ xs) (suc at) x here all (suc n) = set_each (λ k. Such (suc k)) none xs at x here (λ k. all (suc k)) n
 
--- what is so of two lists' elements, one by one, is so of them once one of each is written, if it's so of those
-pub set_both : {X : Type 0} (Such : X → X → Type 0) (none : X) (xs ys : List X) (at : ℕ) (x y : X) → length xs ≡ length ys → Such x y → ((n : ℕ) → Such (get_or xs n none) (get_or ys n none)) → (n : ℕ) → Such (get_or (slice_set xs at x) n none) (get_or (slice_set ys at y) n none)
-set_both Such none [] [] at x y same here all n = all n
-set_both Such none [] (b ∷ ys) at x y same here all n = absurd (omega arith)
-set_both Such none (a ∷ xs) [] at x y same here all n = absurd (omega arith)
-set_both Such none (a ∷ xs) (b ∷ ys) zero x y same here all zero = here
-set_both Such none (a ∷ xs) (b ∷ ys) zero x y same here all (suc n) = all (suc n)
-set_both Such none (a ∷ xs) (b ∷ ys) (suc at) x y same here all zero = all zero
-set_both Such none (a ∷ xs) (b ∷ ys) (suc at) x y same here all (suc n) = set_both Such none xs ys at x y (omega arith) here (λ k. all (suc k)) n
+module _ {X Y : Type 0} (Such : X → Y → Type 0) (none : X) (nothing : Y) where
+  -- it's so of the elements of two lists, one by one
+  abbrev pub EachTwo : List X → List Y → Type 0
+  EachTwo xs ys = (n : ℕ) → Such (get_or xs n none) (get_or ys n nothing)
+
+  -- what is so of two lists' elements, one by one, is so of them once one of each is written, if it's so of those
+  pub set_both : (xs : List X) (ys : List Y) (at : ℕ) (x : X) (y : Y) → length xs ≡ length ys → Such x y → EachTwo xs ys
+      → EachTwo (slice_set xs at x) (slice_set ys at y)
+  set_both [] [] at x y same here all n = all n
+  set_both [] (b ∷ ys) at x y same here all n = absurd (omega arith)
+  set_both (a ∷ xs) [] at x y same here all n = absurd (omega arith)
+  set_both (a ∷ xs) (b ∷ ys) zero x y same here all zero = here
+  set_both (a ∷ xs) (b ∷ ys) zero x y same here all (suc n) = all (suc n)
+  set_both (a ∷ xs) (b ∷ ys) (suc at) x y same here all zero = all zero
+  set_both (a ∷ xs) (b ∷ ys) (suc at) x y same here all (suc n) = set_both xs ys at x y (omega arith) here (λ k. all (suc k)) n

@@ -50,7 +50,8 @@ near_backward low n high above below fits near =
     let e-high = cast_signed-negative high (omega arith) in
     record { above = omega (arith, ints); below = omega (arith, ints); least = omega (arith, ints); greatest = omega (arith, ints) }
 
-near : (x : Interval) (n : ℕ) → interval.IsProper x → interval.Admits x n → (nat_lt x.high (2 ^ 15) || nat_le (2 ^ 64 - 2 ^ 15) x.low) ≡ true → IsNear x.low n x.high
+near : (x : Interval) (n : ℕ) → interval.IsProper x → interval.Admits x n
+    → (nat_lt x.high (2 ^ 15) || nat_le (2 ^ 64 - 2 ^ 15) x.low) ≡ true → IsNear x.low n x.high
 near x n proper admits test =
     elim (either (nat_lt x.high (2 ^ 15)) (nat_le (2 ^ 64 - 2 ^ 15) x.low) test) [
       | inl small ↦ near_forward x.low n x.high admits.above admits.below (grind (arith, nat_tests))
@@ -66,7 +67,8 @@ near-proper x distances proper is =
     record { ordered = low.below; low = fits_between _ low.least low.greatest; high = fits_between _ high.least high.greatest } in
     subst IsProper parts.1 fits
 
-pub near-admits : (x : Interval) (distances : Offsets) (n : ℕ) → interval.IsProper x → near_distances x ≡ Some distances → interval.Admits x n → IsTrue (is_offset (cast_signed w64 n)) × Admits distances (cast_signed w64 n)
+pub near-admits : (x : Interval) (distances : Offsets) (n : ℕ) → interval.IsProper x → near_distances x ≡ Some distances
+    → interval.Admits x n → IsTrue (is_offset (cast_signed w64 n)) × Admits distances (cast_signed w64 n)
 near-admits x distances n proper is admits =
     let parts = some_if _ _ _ is in
     let here = near x n proper admits parts.0 in
@@ -75,10 +77,12 @@ near-admits x distances n proper is admits =
     (is_offset-between _ here.least here.greatest, subst (λ (d : Offsets). Admits d (cast_signed w64 n)) parts.1 within)
 
 -- Near distances have the numbers' order. An immediate is any number in definitions, so these laws ask for no bound.
-pub near_above : (low n high : ℕ) → low ≤ n → n ≤ high → (nat_lt high (2 ^ 15) || nat_le (2 ^ 64 - 2 ^ 15) low) ≡ true → cast_signed w64 low ≤ℤ cast_signed w64 n
+pub near_above : (low n high : ℕ) → low ≤ n → n ≤ high → (nat_lt high (2 ^ 15) || nat_le (2 ^ 64 - 2 ^ 15) low) ≡ true
+    → cast_signed w64 low ≤ℤ cast_signed w64 n
 near_above low n high above below near = grind (arith, ints, nat_tests)
 
-pub near_below : (low n high : ℕ) → low ≤ n → n ≤ high → (nat_lt high (2 ^ 15) || nat_le (2 ^ 64 - 2 ^ 15) low) ≡ true → cast_signed w64 n ≤ℤ cast_signed w64 high
+pub near_below : (low n high : ℕ) → low ≤ n → n ≤ high → (nat_lt high (2 ^ 15) || nat_le (2 ^ 64 - 2 ^ 15) low) ≡ true
+    → cast_signed w64 n ≤ℤ cast_signed w64 high
 near_below low n high above below near = grind (arith, ints, nat_tests)
 
 -- moves
@@ -92,7 +96,8 @@ between_offsets there moved is ordered =
     let proper : IsProper there = record { ordered = ordered; low = fits_between _ low.0 low.1; high = fits_between _ high.0 high.1 } in
     subst IsProper parts.1 proper
 
-admitted : (there moved : Offsets) (z : ℤ) → if_offsets there ≡ Some moved → there.low ≤ℤ z → z ≤ℤ there.high → IsTrue (is_offset z) × Admits moved z
+admitted : (there moved : Offsets) (z : ℤ) → if_offsets there ≡ Some moved → there.low ≤ℤ z → z ≤ℤ there.high → IsTrue (is_offset z)
+    × Admits moved z
 admitted there moved z is above below =
     let parts = some_if _ _ _ is in
     let ends = both _ _ parts.0 in
@@ -106,18 +111,23 @@ move_by-proper x distances moved proper-x proper-distances is =
     between_offsets (between (x.low +ℤ distances.low) (x.high +ℤ distances.high)) moved is
     (let ordered = proper-x.ordered in let also = proper-distances.ordered in omega (arith, ints))
 
-pub move_by-admits : (x distances moved : Offsets) (offset distance : ℤ) → move_by x distances ≡ Some moved → Admits x offset → Admits distances distance → IsTrue (is_offset (offset +ℤ distance)) × Admits moved (offset +ℤ distance)
+pub move_by-admits : (x distances moved : Offsets) (offset distance : ℤ) → move_by x distances ≡ Some moved → Admits x offset
+    → Admits distances distance → IsTrue (is_offset (offset +ℤ distance)) × Admits moved (offset +ℤ distance)
 move_by-admits x distances moved offset distance is here by =
-    admitted (between (x.low +ℤ distances.low) (x.high +ℤ distances.high)) moved (offset +ℤ distance) is (omega (arith, ints)) (omega (arith, ints))
+    admitted (between (x.low +ℤ distances.low) (x.high +ℤ distances.high)) moved (offset +ℤ distance) is (omega (arith, ints))
+    (omega (arith, ints))
 
-pub move_back_by-proper : (x distances moved : Offsets) → IsProper x → IsProper distances → move_back_by x distances ≡ Some moved → IsProper moved
+pub move_back_by-proper : (x distances moved : Offsets) → IsProper x → IsProper distances → move_back_by x distances ≡ Some moved
+    → IsProper moved
 move_back_by-proper x distances moved proper-x proper-distances is =
     between_offsets (between (x.low -ℤ distances.high) (x.high -ℤ distances.low)) moved is
     (let ordered = proper-x.ordered in let also = proper-distances.ordered in omega (arith, ints))
 
-pub move_back_by-admits : (x distances moved : Offsets) (offset distance : ℤ) → move_back_by x distances ≡ Some moved → Admits x offset → Admits distances distance → IsTrue (is_offset (offset -ℤ distance)) × Admits moved (offset -ℤ distance)
+pub move_back_by-admits : (x distances moved : Offsets) (offset distance : ℤ) → move_back_by x distances ≡ Some moved → Admits x offset
+    → Admits distances distance → IsTrue (is_offset (offset -ℤ distance)) × Admits moved (offset -ℤ distance)
 move_back_by-admits x distances moved offset distance is here by =
-    admitted (between (x.low -ℤ distances.high) (x.high -ℤ distances.low)) moved (offset -ℤ distance) is (omega (arith, ints)) (omega (arith, ints))
+    admitted (between (x.low -ℤ distances.high) (x.high -ℤ distances.low)) moved (offset -ℤ distance) is (omega (arith, ints))
+    (omega (arith, ints))
 
 -- what holds of each value that may be there
 pub if_some : (found : Option Offsets) (P : Offsets → Type 0) → ((offsets : Offsets) → found ≡ Some offsets → P offsets) → IfSome found P

@@ -19,8 +19,14 @@ passed a x fits is =
     let same : a ≡ x = is ∙ to_z-of_z w16 x fits in
     rw same (to_z-of_z w32 x (wide x fits))
 
-pub sum_end : (a b x y : ℤ) → FitsSigned w16 x → FitsSigned w16 y → a ≡ cast_signed w16 (cast_unsigned w16 x) → b ≡ cast_signed w16 (cast_unsigned w16 y) → cast_signed w32 (cast_unsigned w32 (cast_signed w32 (cast_unsigned w32 a) +ℤ cast_signed w32 (cast_unsigned w32 b))) ≡ x +ℤ y
-sum_end a b x y fits-x fits-y is-a is-b = rw (passed a x fits-x is-a, passed b y fits-y is-b) (to_z-of_z w32 (x +ℤ y) (sum_fits x y fits-x fits-y))
+pub sum_end : (a b x y : ℤ) → FitsSigned w16 x → FitsSigned w16 y → a ≡ cast_signed w16 (cast_unsigned w16 x)
+    → b ≡ cast_signed w16 (cast_unsigned w16 y) → cast_signed w32
+    (cast_unsigned w32 (cast_signed w32 (cast_unsigned w32 a) +ℤ cast_signed w32 (cast_unsigned w32 b))) ≡ x +ℤ y
+sum_end a b x y fits-x fits-y is-a is-b = rw (passed a x fits-x is-a, passed b y fits-y is-b)
+    (to_z-of_z w32 (x +ℤ y) (sum_fits x y fits-x fits-y))
 
-pub difference_end : (a b x y : ℤ) → FitsSigned w16 x → FitsSigned w16 y → a ≡ cast_signed w16 (cast_unsigned w16 x) → b ≡ cast_signed w16 (cast_unsigned w16 y) → cast_signed w32 (cast_unsigned w32 (cast_signed w32 (cast_unsigned w32 a) -ℤ cast_signed w32 (cast_unsigned w32 b))) ≡ x -ℤ y
-difference_end a b x y fits-x fits-y is-a is-b = rw (passed a x fits-x is-a, passed b y fits-y is-b) (to_z-of_z w32 (x -ℤ y) (difference_fits x y fits-x fits-y))
+pub difference_end : (a b x y : ℤ) → FitsSigned w16 x → FitsSigned w16 y → a ≡ cast_signed w16 (cast_unsigned w16 x)
+    → b ≡ cast_signed w16 (cast_unsigned w16 y) → cast_signed w32
+    (cast_unsigned w32 (cast_signed w32 (cast_unsigned w32 a) -ℤ cast_signed w32 (cast_unsigned w32 b))) ≡ x -ℤ y
+difference_end a b x y fits-x fits-y is-a is-b = rw (passed a x fits-x is-a, passed b y fits-y is-b)
+    (to_z-of_z w32 (x -ℤ y) (difference_fits x y fits-x fits-y))

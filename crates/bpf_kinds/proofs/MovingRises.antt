@@ -14,13 +14,15 @@ use Rattle.bpf_kinds.specs.Offsets.{IsWithin, between}
 use Rattle.bpf_kinds.specs.declared.interval.Interval.{Interval}
 use Rattle.bpf_kinds.specs.declared.offsets.Offsets.{Offsets}
 
-near_test : (x a : Interval) → interval.IsWithin x a → (nat_lt a.high (2 ^ 15) || nat_le (2 ^ 64 - 2 ^ 15) a.low) ≡ true → (nat_lt x.high (2 ^ 15) || nat_le (2 ^ 64 - 2 ^ 15) x.low) ≡ true
+near_test : (x a : Interval) → interval.IsWithin x a → (nat_lt a.high (2 ^ 15) || nat_le (2 ^ 64 - 2 ^ 15) a.low) ≡ true
+    → (nat_lt x.high (2 ^ 15) || nat_le (2 ^ 64 - 2 ^ 15) x.low) ≡ true
 near_test x a within is = grind (arith, nat_tests, within.low, within.high)
 
 some_of : (test : Bool) (found : Offsets) → test ≡ true → (if test then Some found else None) ≡ Some found
 some_of test found is = rw is refl
 
-pub near_rises : (x a : Interval) (distances : Offsets) → x.low ≤ x.high → interval.IsWithin x a → near_distances a ≡ Some distances → (nearer : Offsets) × (near_distances x ≡ Some nearer) × offsets.IsWithin nearer distances × (nearer.low ≤ℤ nearer.high)
+pub near_rises : (x a : Interval) (distances : Offsets) → x.low ≤ x.high → interval.IsWithin x a → near_distances a ≡ Some distances
+    → (nearer : Offsets) × (near_distances x ≡ Some nearer) × offsets.IsWithin nearer distances × (nearer.low ≤ℤ nearer.high)
 near_rises x a distances ordered within is =
     let parts = some_if _ _ _ is in
     let near = near_test x a within parts.0 in
@@ -28,11 +30,16 @@ near_rises x a distances ordered within is =
     let inside : IsWithin nearer (between (cast_signed w64 a.low) (cast_signed w64 a.high)) = record {
       low = near_above a.low x.low a.high within.low (omega arith) parts.0;
       high = near_below a.low x.high a.high (omega arith) within.high parts.0;
-    } in
-    (nearer, some_of _ nearer near, subst (λ (d : Offsets). IsWithin nearer d) parts.1 inside, near_above x.low x.high x.high ordered (omega arith) near)
+    } in (
+      nearer,
+      some_of _ nearer near,
+      subst (λ (d : Offsets). IsWithin nearer d) parts.1 inside,
+      near_above x.low x.high x.high ordered (omega arith) near,
+    )
 
 -- offsets that lie within others leave the range of offsets at neither end
-offsets_rise : (here there moved : Offsets) → here.low ≤ℤ here.high → IsWithin here there → if_offsets there ≡ Some moved → (nearer : Offsets) × (if_offsets here ≡ Some nearer) × IsWithin nearer moved × (nearer.low ≤ℤ nearer.high)
+offsets_rise : (here there moved : Offsets) → here.low ≤ℤ here.high → IsWithin here there → if_offsets there ≡ Some moved
+    → (nearer : Offsets) × (if_offsets here ≡ Some nearer) × IsWithin nearer moved × (nearer.low ≤ℤ nearer.high)
 offsets_rise here there moved ordered within is =
     let parts = some_if _ _ _ is in
     let ends = both _ _ parts.0 in
@@ -43,12 +50,15 @@ offsets_rise here there moved ordered within is =
     let test : (is_offset here.low && is_offset here.high) ≡ true = rw (first, last) refl in
     (here, some_of _ here test, subst (IsWithin here) parts.1 within, ordered)
 
-pub move_by_rises : (x d a e moved : Offsets) → x.low ≤ℤ x.high → d.low ≤ℤ d.high → IsWithin x a → IsWithin d e → move_by a e ≡ Some moved → (nearer : Offsets) × (move_by x d ≡ Some nearer) × IsWithin nearer moved × (nearer.low ≤ℤ nearer.high)
-move_by_rises x d a e moved ordered-x ordered-d left right is =
+pub move_by_rises : {x d a e moved : Offsets} → x.low ≤ℤ x.high → d.low ≤ℤ d.high → IsWithin x a → IsWithin d e → move_by a e ≡ Some moved
+    → (nearer : Offsets) × (move_by x d ≡ Some nearer) × IsWithin nearer moved × (nearer.low ≤ℤ nearer.high)
+move_by_rises {x} {d} {a} {e} {moved} ordered-x ordered-d left right is =
     offsets_rise (between (x.low +ℤ d.low) (x.high +ℤ d.high)) (between (a.low +ℤ e.low) (a.high +ℤ e.high)) moved (omega (arith, ints))
     (record { low = omega (arith, ints); high = omega (arith, ints) }) is
 
-pub move_back_by_rises : (x d a e moved : Offsets) → x.low ≤ℤ x.high → d.low ≤ℤ d.high → IsWithin x a → IsWithin d e → move_back_by a e ≡ Some moved → (nearer : Offsets) × (move_back_by x d ≡ Some nearer) × IsWithin nearer moved × (nearer.low ≤ℤ nearer.high)
-move_back_by_rises x d a e moved ordered-x ordered-d left right is =
+pub move_back_by_rises : {x d a e moved : Offsets} → x.low ≤ℤ x.high → d.low ≤ℤ d.high → IsWithin x a → IsWithin d e
+    → move_back_by a e ≡ Some moved
+    → (nearer : Offsets) × (move_back_by x d ≡ Some nearer) × IsWithin nearer moved × (nearer.low ≤ℤ nearer.high)
+move_back_by_rises {x} {d} {a} {e} {moved} ordered-x ordered-d left right is =
     offsets_rise (between (x.low -ℤ d.high) (x.high -ℤ d.low)) (between (a.low -ℤ e.high) (a.high -ℤ e.low)) moved (omega (arith, ints))
     (record { low = omega (arith, ints); high = omega (arith, ints) }) is

@@ -9,12 +9,15 @@ use mathlib.Core.Bool.{beq}
 use mir.Val.{bits}
 use Rattle.bpf_insn.specs.Arithmetic.{operand_bits, low_bits, is_met, is_met_on}
 use Rattle.bpf_insn.specs.declared.instruction.Condition.{Condition}
-use Rattle.bpf_insn.specs.declared.instruction.Condition.TheVariants.{Equal, Greater, GreaterOrEqual, SharesBit, NotEqual, SignedGreater, SignedGreaterOrEqual, Less, LessOrEqual, SignedLess, SignedLessOrEqual}
+use Rattle.bpf_insn.specs.declared.instruction.Condition.TheVariants.{Equal, Greater, GreaterOrEqual, SharesBit, NotEqual, SignedGreater}
+use Rattle.bpf_insn.specs.declared.instruction.Condition.TheVariants.{SignedGreaterOrEqual, Less, LessOrEqual, SignedLess}
+use Rattle.bpf_insn.specs.declared.instruction.Condition.TheVariants.{SignedLessOrEqual}
 use Rattle.bpf_insn.specs.declared.instruction.Width.{Width}
 use Rattle.bpf_insn.specs.declared.instruction.Width.TheVariants.{Bits32, Bits64}
 use Rattle.bpf_kinds.proofs.TestLemmas as test
 use Rattle.bpf_kinds.specs.Interval.{IsProper, Admits, IsWithin, is_single}
-use Rattle.bpf_kinds.specs.Narrowing.{relation_of, is_signed, plain_limit, is_plain, at_least, at_most, common, without, narrowed, if_reached, narrow, decide, refine_by, refine}
+use Rattle.bpf_kinds.specs.Narrowing.{relation_of, is_signed, plain_limit, is_plain, at_least, at_most, common, without, narrowed}
+use Rattle.bpf_kinds.specs.Narrowing.{if_reached, narrow, decide, refine_by, refine}
 use Rattle.bpf_kinds.specs.declared.interval.Interval.{Interval}
 use Rattle.bpf_kinds.specs.declared.narrowing.Narrowed.{Narrowed}
 use Rattle.bpf_kinds.specs.declared.narrowing.Relation.{Relation}
@@ -40,7 +43,8 @@ signed_number : (width : Width) (n : ℕ) → n < 2 ^ (bits (operand_bits width)
 signed_number Bits32 n below = to_z_pos w32 n below
 signed_number Bits64 n below = to_z_pos w64 n below
 
-limit_fits : (signed : Bool) (width : Width) → (if signed then 2 ^ (bits (operand_bits width) - 1) else 2 ^ bits (operand_bits width)) ≤ 2 ^ bits (operand_bits width)
+limit_fits : (signed : Bool) (width : Width) → (if signed then 2 ^ (bits (operand_bits width) - 1) else 2 ^ bits (operand_bits width)) ≤ 2 ^
+    bits (operand_bits width)
 limit_fits true Bits32 = omega arith
 limit_fits true Bits64 = omega arith
 limit_fits false Bits32 = omega arith
@@ -52,13 +56,15 @@ under n high limit most is = let below = test.less high limit is in omega arith
 whole : (n limit bound : ℕ) → n < limit → limit ≤ bound → n < bound
 whole n limit bound below most = omega arith
 
-compared : (condition : Condition) (width : Width) (m n : ℕ) → m < 2 ^ bits (operand_bits width) → n < 2 ^ bits (operand_bits width) → is_met condition width m n ≡ is_met_on condition (operand_bits width) m n
+compared : (condition : Condition) (width : Width) (m n : ℕ) → m < 2 ^ bits (operand_bits width) → n < 2 ^ bits (operand_bits width)
+    → is_met condition width m n ≡ is_met_on condition (operand_bits width) m n
 compared condition width m n below-m below-n =
     let e-m : low_bits (operand_bits width) m ≡ m = mod-eq_of_lt below-m in
     let e-n : low_bits (operand_bits width) n ≡ n = mod-eq_of_lt below-n in
     rw (e-m, e-n) refl
 
-stand_where : (condition : Condition) (taken : Bool) (width : Width) (m n : ℕ) → m < plain_limit condition width → n < plain_limit condition width → is_met_on condition (operand_bits width) m n ≡ taken → StandIf (relation_of condition taken) m n
+stand_where : (condition : Condition) (taken : Bool) (width : Width) (m n : ℕ) → m < plain_limit condition width
+    → n < plain_limit condition width → is_met_on condition (operand_bits width) m n ≡ taken → StandIf (relation_of condition taken) m n
 stand_where Equal true width m n a b is = test.equal m n is
 stand_where Equal false width m n a b is = test.different m n is
 stand_where NotEqual true width m n a b is = test.different m n (test.not_true (m == n) is)
@@ -81,8 +87,9 @@ stand_where SignedLessOrEqual true width m n a b is = test.at_most m n (rw (sign
 stand_where SignedLessOrEqual false width m n a b is = test.more m n (rw (signed_number width m a, signed_number width n b) at is)
 stand_where SharesBit taken width m n a b is = tt
 
-stand_plain : (condition : Condition) (width : Width) (x y : Interval) (m n : ℕ) (taken : Bool) → Admits x m → Admits y n → is_met condition width m n ≡ taken → is_plain condition width x y ≡ true → StandIf (relation_of condition taken) m n
-stand_plain condition width x y m n taken left right answer plain =
+stand_plain : (condition : Condition) (width : Width) {x y : Interval} {m n : ℕ} {taken : Bool} → Admits x m → Admits y n
+    → is_met condition width m n ≡ taken → is_plain condition width x y ≡ true → StandIf (relation_of condition taken) m n
+stand_plain condition width {x} {y} {m} {n} {taken} left right answer plain =
     let limits = test.both _ _ plain in
     let below-m : m < plain_limit condition width = under m x.high _ left.below limits.0 in
     let below-n : n < plain_limit condition width = under n y.high _ right.below limits.1 in
@@ -102,7 +109,12 @@ le_test : (x : Interval) (n : ℕ) → Admits x n → nat_le x.low x.high ≡ tr
 le_test x n here = grind (arith, nat_tests, here.above, here.below)
 
 reached : (left right : Interval) (m n : ℕ) → Admits left m → Admits right n → Keeps (if_reached left right) m n
-reached left right m n here there = (narrowed left right, some_of _ _ (narrowed left right) (le_test left m here) (le_test right n there), here, there)
+reached left right m n here there = (
+  narrowed left right,
+  some_of _ _ (narrowed left right) (le_test left m here) (le_test right n there),
+  here,
+  there,
+)
 
 admits_if : (test : Bool) (a b : Interval) (m : ℕ) → (test ≡ true → Admits a m) → Admits b m → Admits (if test then a else b) m
 admits_if true a b m first second = first refl
@@ -126,19 +138,26 @@ without-admits x y m n here there other =
     record { above = low_above x.low m y.low here.above differs; below = high_below x.high m y.low here.below differs })
     here
 
-narrow-keeps : (relation : Relation) (x y : Interval) (m n : ℕ) → Admits x m → Admits y n → Stand relation m n → Keeps (narrow relation x y) m n
+narrow-keeps : (relation : Relation) (x y : Interval) (m n : ℕ) → Admits x m → Admits y n → Stand relation m n
+    → Keeps (narrow relation x y) m n
 narrow-keeps Same x y m n here there stand =
-    reached (common x y) (common x y) m n (record { above = omega arith; below = omega arith }) (record { above = omega arith; below = omega arith })
+    reached (common x y) (common x y) m n (record { above = omega arith; below = omega arith })
+    (record { above = omega arith; below = omega arith })
 narrow-keeps Different x y m n here there stand =
-    reached (without x y) (without y x) m n (without-admits x y m n here there stand) (without-admits y x n m there here (λ (same : n ≡ m). stand (sym same)))
+    reached (without x y) (without y x) m n (without-admits x y m n here there stand)
+    (without-admits y x n m there here (λ (same : n ≡ m). stand (sym same)))
 narrow-keeps Above x y m n here there stand =
-    reached (at_least x (y.low + 1)) (at_most y (x.high - 1)) m n (record { above = omega arith; below = omega arith }) (record { above = omega arith; below = omega arith })
+    reached (at_least x (y.low + 1)) (at_most y (x.high - 1)) m n (record { above = omega arith; below = omega arith })
+    (record { above = omega arith; below = omega arith })
 narrow-keeps AtLeast x y m n here there stand =
-    reached (at_least x y.low) (at_most y x.high) m n (record { above = omega arith; below = omega arith }) (record { above = omega arith; below = omega arith })
+    reached (at_least x y.low) (at_most y x.high) m n (record { above = omega arith; below = omega arith })
+    (record { above = omega arith; below = omega arith })
 narrow-keeps Below x y m n here there stand =
-    reached (at_most x (y.high - 1)) (at_least y (x.low + 1)) m n (record { above = omega arith; below = omega arith }) (record { above = omega arith; below = omega arith })
+    reached (at_most x (y.high - 1)) (at_least y (x.low + 1)) m n (record { above = omega arith; below = omega arith })
+    (record { above = omega arith; below = omega arith })
 narrow-keeps AtMost x y m n here there stand =
-    reached (at_most x y.high) (at_least y x.low) m n (record { above = omega arith; below = omega arith }) (record { above = omega arith; below = omega arith })
+    reached (at_most x y.high) (at_least y x.low) m n (record { above = omega arith; below = omega arith })
+    (record { above = omega arith; below = omega arith })
 
 edge_of : (answer taken : Bool) → answer ≡ taken → beq answer taken ≡ true
 edge_of true true is = refl
@@ -146,12 +165,14 @@ edge_of true false is = cc
 edge_of false true is = cc
 edge_of false false is = refl
 
-pub decided : (single edge : Bool) (both : Narrowed) → (single ≡ true → edge ≡ true) → (if single then (if edge then Some both else None) else Some both) ≡ Some both
+pub decided : (single edge : Bool) (both : Narrowed) → (single ≡ true → edge ≡ true)
+    → (if single then (if edge then Some both else None) else Some both) ≡ Some both
 decided true edge both met = rw (met refl) refl
 decided false edge both met = refl
 
-decide-keeps : (condition : Condition) (width : Width) (x y : Interval) (m n : ℕ) (taken : Bool) → Admits x m → Admits y n → is_met condition width m n ≡ taken → Keeps (decide condition width x y taken) m n
-decide-keeps condition width x y m n taken here there answer =
+decide-keeps : (condition : Condition) (width : Width) {x y : Interval} {m n : ℕ} {taken : Bool} → Admits x m → Admits y n
+    → is_met condition width m n ≡ taken → Keeps (decide condition width x y taken) m n
+decide-keeps condition width {x} {y} {m} {n} {taken} here there answer =
     let met : (is_single x && is_single y) ≡ true → beq (is_met condition width x.low y.low) taken ≡ true = λ single.
     let singles = test.both (is_single x) (is_single y) single in
     let e-m : x.low ≡ m = sym (only x m here singles.0) in
@@ -163,17 +184,21 @@ keeps_if : (test : Bool) (a b : Option Narrowed) (m n : ℕ) → (test ≡ true 
 keeps_if true a b m n first second = first refl
 keeps_if false a b m n first second = second
 
-refine_by-keeps : (relation : Option Relation) (condition : Condition) (width : Width) (x y : Interval) (m n : ℕ) (taken : Bool) → Admits x m → Admits y n → is_met condition width m n ≡ taken → (is_plain condition width x y ≡ true → StandIf relation m n) → Keeps (refine_by relation condition width x y taken) m n
-refine_by-keeps None condition width x y m n taken here there answer stand = decide-keeps condition width x y m n taken here there answer
-refine_by-keeps (Some relation) condition width x y m n taken here there answer stand =
+refine_by-keeps : (relation : Option Relation) (condition : Condition) (width : Width) {x y : Interval} {m n : ℕ} {taken : Bool}
+    → Admits x m → Admits y n → is_met condition width m n ≡ taken → (is_plain condition width x y ≡ true → StandIf relation m n)
+    → Keeps (refine_by relation condition width x y taken) m n
+refine_by-keeps None condition width here there answer stand = decide-keeps condition width here there answer
+refine_by-keeps (Some relation) condition width {x} {y} {m} {n} {taken} here there answer stand =
     keeps_if (is_plain condition width x y) (narrow relation x y) (decide condition width x y taken) m n
-    (λ plain. narrow-keeps relation x y m n here there (stand plain)) (decide-keeps condition width x y m n taken here there answer)
+    (λ plain. narrow-keeps relation x y m n here there (stand plain)) (decide-keeps condition width here there answer)
 
 -- two numbers that are compared stay admitted on the edge that their comparison takes
-pub refine-keeps : (condition : Condition) (width : Width) (x y : Interval) (m n : ℕ) (taken : Bool) → IsProper x → IsProper y → Admits x m → Admits y n → is_met condition width m n ≡ taken → (both : Narrowed) × (refine condition width x y taken ≡ Some both) × Admits both.left m × Admits both.right n
-refine-keeps condition width x y m n taken proper-x proper-y left right answer =
-    refine_by-keeps (relation_of condition taken) condition width x y m n taken left right answer
-    (λ plain. stand_plain condition width x y m n taken left right answer plain)
+pub refine-keeps : (condition : Condition) (width : Width) {x y : Interval} {m n : ℕ} {taken : Bool} → IsProper x → IsProper y → Admits x m
+    → Admits y n → is_met condition width m n ≡ taken
+    → (both : Narrowed) × (refine condition width x y taken ≡ Some both) × Admits both.left m × Admits both.right n
+refine-keeps condition width {taken} proper-x proper-y left right answer =
+    refine_by-keeps (relation_of condition taken) condition width left right answer
+    (λ plain. stand_plain condition width left right answer plain)
 
 -- narrowed intervals are proper, and lie within those that were there
 
@@ -181,7 +206,8 @@ record Narrows (both : Narrowed) (x y : Interval) : Type 0 where
   within : IsWithin both.left x × IsWithin both.right y
   proper : IsProper x → IsProper y → IsProper both.left × IsProper both.right
 
-reached-within : (left right x y : Interval) (both : Narrowed) → IsWithin left x → IsWithin right y → if_reached left right ≡ Some both → Narrows both x y
+reached-within : (left right x y : Interval) (both : Narrowed) → IsWithin left x → IsWithin right y → if_reached left right ≡ Some both
+    → Narrows both x y
 reached-within left right x y both within-x within-y is =
     let parts = test.some_if _ _ _ is in
     let ordered = test.both _ _ parts.0 in
@@ -214,19 +240,23 @@ at_most-within : (x : Interval) (n : ℕ) → IsWithin (at_most x n) x
 at_most-within x n = record { low = omega arith; high = omega arith }
 
 pub without-within : (x y : Interval) → IsWithin (without x y) x
-without-within x y = within_if (is_single y) _ x x (record { low = low_moved x.low y.low; high = high_moved x.high y.low }) (itself-within x)
+without-within x y = within_if (is_single y) _ x x (record { low = low_moved x.low y.low; high = high_moved x.high y.low })
+    (itself-within x)
 
 narrow-within : (relation : Relation) (x y : Interval) (both : Narrowed) → narrow relation x y ≡ Some both → Narrows both x y
 narrow-within Same x y both is =
-    reached-within (common x y) (common x y) x y both (record { low = omega arith; high = omega arith }) (record { low = omega arith; high = omega arith }) is
+    reached-within (common x y) (common x y) x y both (record { low = omega arith; high = omega arith })
+    (record { low = omega arith; high = omega arith }) is
 narrow-within Different x y both is =
     reached-within (without x y) (without y x) x y both (without-within x y) (without-within y x) is
 narrow-within Above x y both is =
-    reached-within (at_least x (y.low + 1)) (at_most y (x.high - 1)) x y both (at_least-within x (y.low + 1)) (at_most-within y (x.high - 1)) is
+    reached-within (at_least x (y.low + 1)) (at_most y (x.high - 1)) x y both (at_least-within x (y.low + 1))
+    (at_most-within y (x.high - 1)) is
 narrow-within AtLeast x y both is =
     reached-within (at_least x y.low) (at_most y x.high) x y both (at_least-within x y.low) (at_most-within y x.high) is
 narrow-within Below x y both is =
-    reached-within (at_most x (y.high - 1)) (at_least y (x.low + 1)) x y both (at_most-within x (y.high - 1)) (at_least-within y (x.low + 1)) is
+    reached-within (at_most x (y.high - 1)) (at_least y (x.low + 1)) x y both (at_most-within x (y.high - 1))
+    (at_least-within y (x.low + 1)) is
 narrow-within AtMost x y both is =
     reached-within (at_most x y.high) (at_least y x.low) x y both (at_most-within x y.high) (at_least-within y x.low) is
 
@@ -235,43 +265,51 @@ undecided true true z both is = cc
 undecided true false z both is = cc
 undecided false edge z both is = cc
 
-decide-within : (condition : Condition) (width : Width) (x y : Interval) (taken : Bool) (both : Narrowed) → decide condition width x y taken ≡ Some both → Narrows both x y
+decide-within : (condition : Condition) (width : Width) (x y : Interval) (taken : Bool) (both : Narrowed)
+    → decide condition width x y taken ≡ Some both → Narrows both x y
 decide-within condition width x y taken both is =
     subst (λ (z : Narrowed). Narrows z x y) (undecided (is_single x && is_single y) _ (narrowed x y) both is)
     (record { within = (itself-within x, itself-within y); proper = λ proper-x proper-y. (proper-x, proper-y) })
 
-narrows_if : (test : Bool) (a b : Option Narrowed) (x y : Interval) (both : Narrowed) → (a ≡ Some both → Narrows both x y) → (b ≡ Some both → Narrows both x y) → (if test then a else b) ≡ Some both → Narrows both x y
-narrows_if true a b x y both first second is = first is
-narrows_if false a b x y both first second is = second is
+narrows_if : (test : Bool) {a b : Option Narrowed} {x y : Interval} {both : Narrowed} → (a ≡ Some both → Narrows both x y)
+    → (b ≡ Some both → Narrows both x y) → (if test then a else b) ≡ Some both → Narrows both x y
+narrows_if true first second is = first is
+narrows_if false first second is = second is
 
-refine_by-within : (relation : Option Relation) (condition : Condition) (width : Width) (x y : Interval) (taken : Bool) (both : Narrowed) → refine_by relation condition width x y taken ≡ Some both → Narrows both x y
+refine_by-within : (relation : Option Relation) (condition : Condition) (width : Width) (x y : Interval) (taken : Bool) (both : Narrowed)
+    → refine_by relation condition width x y taken ≡ Some both → Narrows both x y
 refine_by-within None condition width x y taken both is = decide-within condition width x y taken both is
 refine_by-within (Some relation) condition width x y taken both is =
-    narrows_if (is_plain condition width x y) (narrow relation x y) (decide condition width x y taken) x y both
-    (narrow-within relation x y both) (decide-within condition width x y taken both) is
+    narrows_if (is_plain condition width x y) (narrow-within relation x y both) (decide-within condition width x y taken both) is
 
-pub refine-within : (condition : Condition) (width : Width) (x y : Interval) (taken : Bool) (both : Narrowed) → IsProper x → IsProper y → refine condition width x y taken ≡ Some both → IsProper both.left × IsProper both.right × IsWithin both.left x × IsWithin both.right y
-refine-within condition width x y taken both proper-x proper-y is =
+pub refine-within : (condition : Condition) (width : Width) {x y : Interval} (taken : Bool) {both : Narrowed} → IsProper x → IsProper y
+    → refine condition width x y taken ≡ Some both → IsProper both.left × IsProper both.right × IsWithin both.left x × IsWithin both.right y
+refine-within condition width {x} {y} taken {both} proper-x proper-y is =
     let narrows = refine_by-within (relation_of condition taken) condition width x y taken both is in
     let proper = narrows.proper proper-x proper-y in
     (proper.0, proper.1, narrows.within.0, narrows.within.1)
 
 -- the same of whatever comes of two intervals
 
-pub refined-keeps : (condition : Condition) (width : Width) (x y : Interval) (taken : Bool) (result : Option Narrowed) → result ≡ refine condition width x y taken → (m n : ℕ) → Admits x m → Admits y n → is_met condition width m n ≡ taken → IsSomeAnd result (λ both. Admits both.left m × Admits both.right n)
-refined-keeps condition width x y taken result is m n left right answer =
-    let kept = refine_by-keeps (relation_of condition taken) condition width x y m n taken left right answer
-    (λ plain. stand_plain condition width x y m n taken left right answer plain) in
+pub refined-keeps : (condition : Condition) (width : Width) {x y : Interval} {taken : Bool} {result : Option Narrowed}
+    → result ≡ refine condition width x y taken → (m n : ℕ) → Admits x m → Admits y n → is_met condition width m n ≡ taken
+    → IsSomeAnd result (λ both. Admits both.left m × Admits both.right n)
+refined-keeps condition width {taken} is m n left right answer =
+    let kept = refine_by-keeps (relation_of condition taken) condition width left right answer
+    (λ plain. stand_plain condition width left right answer plain) in
     subst (λ (o : Option Narrowed). IsSomeAnd o (λ both. Admits both.left m × Admits both.right n)) (sym (is ∙ kept.1)) (kept.2, kept.3)
 
 if_some : (result : Option Narrowed) (P : Narrowed → Type 0) → ((both : Narrowed) → result ≡ Some both → P both) → IfSome result P
 if_some None P holds = tt
 if_some (Some both) P holds = holds both refl
 
-pub refined-within : (condition : Condition) (width : Width) (x y : Interval) (taken : Bool) (result : Option Narrowed) → result ≡ refine condition width x y taken → IfSome result (λ both. IsWithin both.left x × IsWithin both.right y)
+pub refined-within : (condition : Condition) (width : Width) (x y : Interval) (taken : Bool) (result : Option Narrowed)
+    → result ≡ refine condition width x y taken → IfSome result (λ both. IsWithin both.left x × IsWithin both.right y)
 refined-within condition width x y taken result is =
     if_some result _ (λ both some. (refine_by-within (relation_of condition taken) condition width x y taken both (sym is ∙ some)).within)
 
-pub refined-proper : (condition : Condition) (width : Width) (x y : Interval) (taken : Bool) (result : Option Narrowed) → result ≡ refine condition width x y taken → IsProper x → IsProper y → IfSome result (λ both. IsProper both.left × IsProper both.right)
-refined-proper condition width x y taken result is proper-x proper-y =
-    if_some result _ (λ both some. (refine_by-within (relation_of condition taken) condition width x y taken both (sym is ∙ some)).proper proper-x proper-y)
+pub refined-proper : (condition : Condition) (width : Width) {x y : Interval} (taken : Bool) {result : Option Narrowed}
+    → result ≡ refine condition width x y taken → IsProper x → IsProper y → IfSome result (λ both. IsProper both.left × IsProper both.right)
+refined-proper condition width {x} {y} taken {result} is proper-x proper-y =
+    if_some result _ (λ both some. (refine_by-within (relation_of condition taken) condition width x y taken both (sym is ∙ some)).proper
+    proper-x proper-y)

@@ -9,7 +9,8 @@ use Rattle.bpf_insn.specs.declared.instruction.Width.{Width}
 use Rattle.bpf_kinds.proofs.NarrowingLaws.{some_of, decided, without-within, refined-within}
 use Rattle.bpf_kinds.proofs.TestLemmas as test
 use Rattle.bpf_kinds.specs.Interval.{IsWithin, is_single}
-use Rattle.bpf_kinds.specs.Narrowing.{relation_of, is_plain, at_least, at_most, common, without, narrowed, if_reached, narrow, decide, refine_by, refine}
+use Rattle.bpf_kinds.specs.Narrowing.{relation_of, is_plain, at_least, at_most, common, without, narrowed, if_reached, narrow, decide}
+use Rattle.bpf_kinds.specs.Narrowing.{refine_by, refine}
 use Rattle.bpf_kinds.specs.declared.interval.Interval.{Interval}
 use Rattle.bpf_kinds.specs.declared.narrowing.Narrowed.{Narrowed}
 use Rattle.bpf_kinds.specs.declared.narrowing.Relation.{Relation}
@@ -27,11 +28,13 @@ within_also x y z below above = record { low = omega arith; high = omega arith }
 wider_test : (x a : Interval) → IsWithin x a → nat_le x.low x.high ≡ true → nat_le a.low a.high ≡ true
 wider_test x a within is = grind (arith, nat_tests, within.low, within.high)
 
-reached-rises : (x y a b : Interval) (both : Narrowed) → IsWithin x a → IsWithin y b → if_reached x y ≡ Some both → Covers (if_reached a b) both
+reached-rises : (x y a b : Interval) (both : Narrowed) → IsWithin x a → IsWithin y b → if_reached x y ≡ Some both
+    → Covers (if_reached a b) both
 reached-rises x y a b both left right is =
     let parts = test.some_if _ _ _ is in
     let ordered = test.both _ _ parts.0 in
-    let wider : if_reached a b ≡ Some (narrowed a b) = some_of _ _ (narrowed a b) (wider_test x a left ordered.0) (wider_test y b right ordered.1) in
+    let wider : if_reached a b ≡ Some (narrowed a b) = some_of _ _ (narrowed a b) (wider_test x a left ordered.0)
+    (wider_test y b right ordered.1) in
     subst (λ (z : Narrowed). Covers (if_reached a b) z) parts.1 (narrowed a b, wider, left, right)
 
 -- each way of narrowing
@@ -67,47 +70,63 @@ without-rises x y a b ordered left right =
     within_if (is_single b) (without x y) _ a
     (λ single.
     let same = (single_within y b ordered right single).0 in
-    rw (is_single-within y b ordered right single, same) (record { low = low-rises x.low a.low b.low left.low; high = high-rises x.high a.high b.low left.high }))
+    rw (is_single-within y b ordered right single, same)
+    (record { low = low-rises x.low a.low b.low left.low; high = high-rises x.high a.high b.low left.high }))
     (within_also (without x y) x a (without-within x y) left)
 
-narrow-rises : (relation : Relation) (x y a b : Interval) (both : Narrowed) → x.low ≤ x.high → y.low ≤ y.high → IsWithin x a → IsWithin y b → narrow relation x y ≡ Some both → Covers (narrow relation a b) both
-narrow-rises Same x y a b both ordered-x ordered-y left right is =
-    reached-rises (common x y) (common x y) (common a b) (common a b) both (common-rises x y a b left right) (common-rises x y a b left right) is
-narrow-rises Different x y a b both ordered-x ordered-y left right is =
-    reached-rises (without x y) (without y x) (without a b) (without b a) both (without-rises x y a b ordered-y left right) (without-rises y x b a ordered-x right left) is
-narrow-rises Above x y a b both ordered-x ordered-y left right is =
-    reached-rises (at_least x (y.low + 1)) (at_most y (x.high - 1)) (at_least a (b.low + 1)) (at_most b (a.high - 1)) both (at_least-rises x a _ _ left (omega arith)) (at_most-rises y b _ _ right (omega arith)) is
-narrow-rises AtLeast x y a b both ordered-x ordered-y left right is =
-    reached-rises (at_least x y.low) (at_most y x.high) (at_least a b.low) (at_most b a.high) both (at_least-rises x a _ _ left right.low) (at_most-rises y b _ _ right left.high) is
-narrow-rises Below x y a b both ordered-x ordered-y left right is =
-    reached-rises (at_most x (y.high - 1)) (at_least y (x.low + 1)) (at_most a (b.high - 1)) (at_least b (a.low + 1)) both (at_most-rises x a _ _ left (omega arith)) (at_least-rises y b _ _ right (omega arith)) is
-narrow-rises AtMost x y a b both ordered-x ordered-y left right is =
-    reached-rises (at_most x y.high) (at_least y x.low) (at_most a b.high) (at_least b a.low) both (at_most-rises x a _ _ left right.high) (at_least-rises y b _ _ right left.low) is
+narrow-rises : (relation : Relation) {x y a b : Interval} {both : Narrowed} → x.low ≤ x.high → y.low ≤ y.high → IsWithin x a → IsWithin y b
+    → narrow relation x y ≡ Some both → Covers (narrow relation a b) both
+narrow-rises Same {x} {y} {a} {b} {both} ordered-x ordered-y left right is =
+    reached-rises (common x y) (common x y) (common a b) (common a b) both (common-rises x y a b left right)
+    (common-rises x y a b left right) is
+narrow-rises Different {x} {y} {a} {b} {both} ordered-x ordered-y left right is =
+    reached-rises (without x y) (without y x) (without a b) (without b a) both (without-rises x y a b ordered-y left right)
+    (without-rises y x b a ordered-x right left) is
+narrow-rises Above {x} {y} {a} {b} {both} ordered-x ordered-y left right is =
+    reached-rises (at_least x (y.low + 1)) (at_most y (x.high - 1)) (at_least a (b.low + 1)) (at_most b (a.high - 1)) both
+    (at_least-rises x a _ _ left (omega arith)) (at_most-rises y b _ _ right (omega arith)) is
+narrow-rises AtLeast {x} {y} {a} {b} {both} ordered-x ordered-y left right is =
+    reached-rises (at_least x y.low) (at_most y x.high) (at_least a b.low) (at_most b a.high) both (at_least-rises x a _ _ left right.low)
+    (at_most-rises y b _ _ right left.high) is
+narrow-rises Below {x} {y} {a} {b} {both} ordered-x ordered-y left right is =
+    reached-rises (at_most x (y.high - 1)) (at_least y (x.low + 1)) (at_most a (b.high - 1)) (at_least b (a.low + 1)) both
+    (at_most-rises x a _ _ left (omega arith)) (at_least-rises y b _ _ right (omega arith)) is
+narrow-rises AtMost {x} {y} {a} {b} {both} ordered-x ordered-y left right is =
+    reached-rises (at_most x y.high) (at_least y x.low) (at_most a b.high) (at_least b a.low) both (at_most-rises x a _ _ left right.high)
+    (at_least-rises y b _ _ right left.low) is
 
 -- where neither interval is narrowed
 
-answered : (single edge : Bool) (z both : Narrowed) → (if single then (if edge then Some z else None) else Some z) ≡ Some both → single ≡ true → edge ≡ true
+answered : (single edge : Bool) (z both : Narrowed) → (if single then (if edge then Some z else None) else Some z) ≡ Some both
+    → single ≡ true → edge ≡ true
 answered true true z both is single = refl
 answered true false z both is single = cc
 answered false edge z both is single = cc
 
--- both wider intervals are left, since one number each has the same answer
-decide-covers : (condition : Condition) (width : Width) (x y a b : Interval) (taken : Bool) (both : Narrowed) → IsWithin x a → IsWithin y b → IsWithin both.left x → IsWithin both.right y → ((is_single a && is_single b) ≡ true → beq (is_met condition width a.low b.low) taken ≡ true) → Covers (decide condition width a b taken) both
-decide-covers condition width x y a b taken both left right here there edge =
-    (narrowed a b, decided (is_single a && is_single b) _ (narrowed a b) edge, within_also both.left x a here left, within_also both.right y b there right)
-
 less_test : (m n limit : ℕ) → m ≤ n → nat_lt n limit ≡ true → nat_lt m limit ≡ true
 less_test m n limit most is = grind (arith, nat_tests)
 
-module _ (condition : Condition) (width : Width) (x y a b : Interval) (taken : Bool) (both : Narrowed) (ordered-x : x.low ≤ x.high) (ordered-y : y.low ≤ y.high) (left : IsWithin x a) (right : IsWithin y b) (here : IsWithin both.left x) (there : IsWithin both.right y) where
+module _ (condition : Condition) (width : Width) (x y a b : Interval) (taken : Bool) (both : Narrowed) (ordered-x : x.low ≤ x.high)
+    (ordered-y : y.low ≤ y.high) (left : IsWithin x a) (right : IsWithin y b) (here : IsWithin both.left x)
+    (there : IsWithin both.right y) where
+  -- both wider intervals are left, since one number each has the same answer
+  decide-covers : ((is_single a && is_single b) ≡ true → beq (is_met condition width a.low b.low) taken ≡ true)
+      → Covers (decide condition width a b taken) both
+  decide-covers edge = (
+    narrowed a b,
+    decided (is_single a && is_single b) _ (narrowed a b) edge,
+    within_also both.left x a here left,
+    within_also both.right y b there right,
+  )
+
   decide-rises : decide condition width x y taken ≡ Some both → Covers (decide condition width a b taken) both
   decide-rises is =
-      decide-covers condition width x y a b taken both left right here there
-      (λ single.
+      decide-covers (λ single.
       let singles = test.both (is_single a) (is_single b) single in
       let same-x = (single_within x a ordered-x left singles.0).0 in
       let same-y = (single_within y b ordered-y right singles.1).0 in
-      let small : (is_single x && is_single y) ≡ true = rw (is_single-within x a ordered-x left singles.0, is_single-within y b ordered-y right singles.1) refl in
+      let small : (is_single x && is_single y) ≡ true = rw
+      (is_single-within x a ordered-x left singles.0, is_single-within y b ordered-y right singles.1) refl in
       rw (← same-x, ← same-y) (answered (is_single x && is_single y) _ (narrowed x y) both is small))
 
   -- lower intervals are compared as they are where higher ones are
@@ -117,7 +136,8 @@ module _ (condition : Condition) (width : Width) (x y a b : Interval) (taken : B
       rw (less_test x.high a.high _ left.high limits.0, less_test y.high b.high _ right.high limits.1) refl
 
   -- one number each is compared as it is whether it's known as a lower or a higher interval
-  plain_single : is_plain condition width x y ≡ true → is_plain condition width a b ≡ false → (is_single a && is_single b) ≡ true → beq (is_met condition width a.low b.low) taken ≡ true
+  plain_single : is_plain condition width x y ≡ true → is_plain condition width a b ≡ false → (is_single a && is_single b) ≡ true
+      → beq (is_met condition width a.low b.low) taken ≡ true
   plain_single small large single =
       let singles = test.both (is_single a) (is_single b) single in
       let same-x = (single_within x a ordered-x left singles.0).1 in
@@ -125,24 +145,29 @@ module _ (condition : Condition) (width : Width) (x y a b : Interval) (taken : B
       let same : is_plain condition width x y ≡ is_plain condition width a b = rw (same-x, same-y) refl in
       cc
 
-  by_plain : (small large : Bool) (first second : Option Narrowed) (n d : Option Narrowed) → (large ≡ true → small ≡ true) → (first ≡ Some both → Covers n both) → (small ≡ true → large ≡ false → Covers d both) → (second ≡ Some both → Covers d both) → (if small then first else second) ≡ Some both → Covers (if large then n else d) both
-  by_plain true true first second n d falls narrower mixed undecided is = narrower is
-  by_plain true false first second n d falls narrower mixed undecided is = mixed refl refl
-  by_plain false true first second n d falls narrower mixed undecided is = let none = falls refl in cc
-  by_plain false false first second n d falls narrower mixed undecided is = undecided is
+  by_plain : (small large : Bool) {first second n d : Option Narrowed} → (large ≡ true → small ≡ true) → (first ≡ Some both → Covers n both)
+      → (small ≡ true → large ≡ false → Covers d both) → (second ≡ Some both → Covers d both)
+      → (if small then first else second) ≡ Some both → Covers (if large then n else d) both
+  by_plain true true falls narrower mixed undecided is = narrower is
+  by_plain true false falls narrower mixed undecided is = mixed refl refl
+  by_plain false true falls narrower mixed undecided is = let none = falls refl in cc
+  by_plain false false falls narrower mixed undecided is = undecided is
 
-  refine_by-rises : (relation : Option Relation) → refine_by relation condition width x y taken ≡ Some both → Covers (refine_by relation condition width a b taken) both
+  refine_by-rises : (relation : Option Relation) → refine_by relation condition width x y taken ≡ Some both
+      → Covers (refine_by relation condition width a b taken) both
   refine_by-rises None is = decide-rises is
   refine_by-rises (Some relation) is =
-      by_plain (is_plain condition width x y) (is_plain condition width a b) (narrow relation x y) (decide condition width x y taken) (narrow relation a b) (decide condition width a b taken)
-      plain_falls
-      (narrow-rises relation x y a b both ordered-x ordered-y left right)
-      (λ small large. decide-covers condition width x y a b taken both left right here there (plain_single small large))
+      by_plain _ _ plain_falls
+      (narrow-rises relation ordered-x ordered-y left right)
+      (λ small large. decide-covers (plain_single small large))
       decide-rises
       is
 
 -- what narrowing leaves of lower intervals lies within what it leaves of higher ones, which is then something
-pub refine_rises : (condition : Condition) (width : Width) (x y a b : Interval) (taken : Bool) (both : Narrowed) → x.low ≤ x.high → y.low ≤ y.high → IsWithin x a → IsWithin y b → refine condition width x y taken ≡ Some both → (wider : Narrowed) × (refine condition width a b taken ≡ Some wider) × IsWithin both.left wider.left × IsWithin both.right wider.right
-refine_rises condition width x y a b taken both ordered-x ordered-y left right is =
-    let narrower = subst (λ (o : Option Narrowed). IfSome o (λ z. IsWithin z.left x × IsWithin z.right y)) is (refined-within condition width x y taken (refine condition width x y taken) refl) in
+pub refine_rises : (condition : Condition) (width : Width) {x y a b : Interval} (taken : Bool) {both : Narrowed} → x.low ≤ x.high
+    → y.low ≤ y.high → IsWithin x a → IsWithin y b → refine condition width x y taken ≡ Some both
+    → (wider : Narrowed) × (refine condition width a b taken ≡ Some wider) × IsWithin both.left wider.left × IsWithin both.right wider.right
+refine_rises condition width {x} {y} {a} {b} taken {both} ordered-x ordered-y left right is =
+    let narrower = subst (λ (o : Option Narrowed). IfSome o (λ z. IsWithin z.left x × IsWithin z.right y)) is
+    (refined-within condition width x y taken (refine condition width x y taken) refl) in
     refine_by-rises condition width x y a b taken both ordered-x ordered-y left right narrower.0 narrower.1 (relation_of condition taken) is

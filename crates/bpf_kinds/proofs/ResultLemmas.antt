@@ -1,5 +1,6 @@
 -- What instructions give of numbers that intervals admit, the interval admits that they give of those. It's proper where those are.
-use Rattle.std.proofs.Common.{◌≡◌, ℕ, ℤ, pos, negsuc, suc, ◌-◌, ◌%◌, ◌^◌, ◌<◌, ◌≤◌, FitsSigned, w16, w32, w64, nat_lt, subst, sym, ◌∙◌, ap, refl, lit≤, lit<, inl, inr, arith}
+use Rattle.std.proofs.Common.{◌≡◌, ℕ, ℤ, pos, negsuc, suc, ◌-◌, ◌%◌, ◌^◌, ◌<◌, ◌≤◌, FitsSigned, w16, w32, w64, nat_lt, subst, sym, ◌∙◌, ap}
+use Rattle.std.proofs.Common.{refl, lit≤, lit<, inl, inr, arith}
 use Rattle.std.proofs.Math.Nat.{mod-lt, mod-mod}
 use Rattle.std.proofs.Math.Pow.{mod-mod-pow}
 use Rattle.std.proofs.lemmas.Nat.{pow_pos}
@@ -20,9 +21,11 @@ use Rattle.bpf_insn.specs.declared.instruction.ByteOrder.TheVariants.{LittleEndi
 use Rattle.bpf_insn.specs.declared.instruction.SwapWidth.{SwapWidth}
 use Rattle.bpf_insn.specs.declared.instruction.SwapWidth.TheVariants.{Bits16, Bits32, Bits64}
 use Rattle.bpf_insn.specs.declared.instruction.LoadFormat.{LoadFormat}
-use Rattle.bpf_insn.specs.declared.instruction.LoadFormat.TheVariants.{Byte, HalfWord, Word, DoubleWord, SignedByte, SignedHalfWord, SignedWord}
+use Rattle.bpf_insn.specs.declared.instruction.LoadFormat.TheVariants.{Byte, HalfWord, Word, DoubleWord, SignedByte, SignedHalfWord}
+use Rattle.bpf_insn.specs.declared.instruction.LoadFormat.TheVariants.{SignedWord}
 use Rattle.bpf_kinds.specs.Interval.{IsProper, Admits, single, full, cut}
-use Rattle.bpf_kinds.specs.Results.{alu, negate, source_bits, target_bits, extend_low, extend, reversal, byte_swap, load, wide_number, immediate_operand}
+use Rattle.bpf_kinds.specs.Results.{alu, negate, source_bits, target_bits, extend_low, extend, reversal, byte_swap, load, wide_number}
+use Rattle.bpf_kinds.specs.Results.{immediate_operand}
 use Rattle.bpf_kinds.specs.declared.interval.Interval.{Interval}
 use Rattle.bpf_kinds.proofs.AluLemmas.{result_on-holds}
 use Rattle.bpf_kinds.proofs.HoldLemmas.{Holds, full-holds, single-holds, if_lt-holds, if_single-holds, cut-holds}
@@ -52,13 +55,15 @@ operands_wide width.Bits64 = lit≤ tt
 
 -- operations
 
-pub alu-holds : (operation : Operation) (width : Width) (x y : Interval) (m n : ℕ) → Admits x m → Admits y n → Holds (2 ^ bits (operand_bits width)) (alu operation width x y) (result_of operation width m n)
+pub alu-holds : (operation : Operation) (width : Width) (x y : Interval) (m n : ℕ) → Admits x m → Admits y n
+    → Holds (2 ^ bits (operand_bits width)) (alu operation width x y) (result_of operation width m n)
 alu-holds operation width x y m n left right =
     let w = operand_bits width in
     result_on-holds operation width (cut w x) (cut w y) (low_bits w m) (low_bits w n) (cut-holds w x m left) (cut-holds w y n right)
 
-pub alu-admits : (operation : Operation) (width : Width) (x y : Interval) (m n : ℕ) → IsProper x → IsProper y → Admits x m → Admits y n → Admits (alu operation width x y) (result_of operation width m n)
-alu-admits operation width x y m n x_proper y_proper left right = admits_held _ _ (alu-holds operation width x y m n left right)
+pub alu-admits : (operation : Operation) (width : Width) {x y : Interval} {m n : ℕ} → IsProper x → IsProper y → Admits x m → Admits y n
+    → Admits (alu operation width x y) (result_of operation width m n)
+alu-admits operation width {x} {y} {m} {n} x_proper y_proper left right = admits_held _ _ (alu-holds operation width x y m n left right)
 
 pub alu-proper : (operation : Operation) (width : Width) (x y : Interval) → IsProper x → IsProper y → IsProper (alu operation width x y)
 alu-proper operation width x y x_proper y_proper =
@@ -66,13 +71,14 @@ alu-proper operation width x y x_proper y_proper =
 
 -- negation
 
-pub negate-holds : (width : Width) (x : Interval) (n : ℕ) → Admits x n → Holds (2 ^ bits (operand_bits width)) (negate width x) (arithmetic.negate width n)
+pub negate-holds : (width : Width) (x : Interval) (n : ℕ) → Admits x n
+    → Holds (2 ^ bits (operand_bits width)) (negate width x) (arithmetic.negate width n)
 negate-holds width x n held =
     let w = operand_bits width in
     let limit = 2 ^ bits w in
     let below : arithmetic.negate width n < limit = mod-lt _ (pow_pos (bits w)) in
     let P : ℕ → Type 0 = λ k. Holds limit (single ((limit - k) % limit)) (arithmetic.negate width n) in
-    if_single-holds (cut w x) _ _ (low_bits w n) limit (arithmetic.negate width n) (cut-holds w x n held)
+    if_single-holds _ (cut-holds w x n held)
     (λ same. subst P (sym (mod-mod n limit) ∙ ap (λ k. k % limit) same) (single-holds limit (arithmetic.negate width n) below))
     (full-holds w _ below)
 
@@ -84,14 +90,16 @@ negate-proper width x proper = proper_since _ _ (operands_wide width) (negate-ho
 
 -- sign extension
 
-pub extension-is : (extension : SignExtension) (n : ℕ) → extension_of extension n ≡ sign_extension (source_bits extension) (target_bits extension) n
+pub extension-is : (extension : SignExtension) (n : ℕ) → extension_of extension n ≡ sign_extension (source_bits extension)
+    (target_bits extension) n
 extension-is Bits8To32 n = refl
 extension-is Bits16To32 n = refl
 extension-is Bits8To64 n = refl
 extension-is Bits16To64 n = refl
 extension-is Bits32To64 n = refl
 
-low-again : (extension : SignExtension) (n : ℕ) → low_bits (source_bits extension) (low_bits (target_bits extension) n) ≡ low_bits (source_bits extension) n
+low-again : (extension : SignExtension) (n : ℕ) → low_bits (source_bits extension) (low_bits (target_bits extension) n) ≡ low_bits
+    (source_bits extension) n
 low-again Bits8To32 n = mod-mod-pow n 24 8
 low-again Bits16To32 n = mod-mod-pow n 16 16
 low-again Bits8To64 n = mod-mod-pow n 56 8
@@ -125,12 +133,15 @@ cast-fits from to n below wide =
     elim (cases_lt n (2 ^ hbits from)) [
       | inl small ↦ let same : cast_unsigned to (cast_signed from n) ≡ n = ap (cast_unsigned to) (to_z_pos from n small) in omega arith
       | inr large ↦
-          let signed : cast_signed from n ≡ negsuc (2 ^ bits from - suc n) = cond-false (nat_lt n (2 ^ hbits from)) _ _ (le-ltb n (2 ^ hbits from) large) in
+          let signed : cast_signed from n ≡ negsuc (2 ^ bits from - suc n) =
+          cond-false (nat_lt n (2 ^ hbits from)) _ _ (le-ltb n (2 ^ hbits from) large) in
           let same : cast_unsigned to (cast_signed from n) ≡ 2 ^ bits to - suc (2 ^ bits from - suc n) = ap (cast_unsigned to) signed in
           omega arith
     ]
 
-pub extend_low-holds : (extension : SignExtension) (low : Interval) (n : ℕ) → Holds (2 ^ bits (source_bits extension)) low n → Holds (2 ^ bits (target_bits extension)) (extend_low (source_bits extension) (target_bits extension) low) (cast_unsigned (target_bits extension) (cast_signed (source_bits extension) n))
+pub extend_low-holds : (extension : SignExtension) (low : Interval) (n : ℕ) → Holds (2 ^ bits (source_bits extension)) low n
+    → Holds (2 ^ bits (target_bits extension)) (extend_low (source_bits extension) (target_bits extension) low)
+    (cast_unsigned (target_bits extension) (cast_signed (source_bits extension) n))
 extend_low-holds extension low n held =
     let from = source_bits extension in
     let to = target_bits extension in
@@ -142,7 +153,8 @@ extend_low-holds extension low n held =
     record { above = omega arith; below = omega arith; fits = omega arith })
     (λ some_negative. full-holds to _ (cast-fits from to n (omega arith) wide))
 
-pub extend-holds : (extension : SignExtension) (x : Interval) (n : ℕ) → Admits x n → Holds (2 ^ bits (target_bits extension)) (extend extension x) (extension_of extension n)
+pub extend-holds : (extension : SignExtension) (x : Interval) (n : ℕ) → Admits x n
+    → Holds (2 ^ bits (target_bits extension)) (extend extension x) (extension_of extension n)
 extend-holds extension x n held =
     let from = source_bits extension in
     let to = target_bits extension in
@@ -153,16 +165,18 @@ extend-holds extension x n held =
     let within = cut-holds to x n held in
     let P : ℕ → Type 0 = λ k. Holds limit (extend extension x) k in
     subst P (sym (extension-is extension n))
-    (if_single-holds (cut to x) _ _ (low_bits to n) limit (value (low_bits from n)) within
+    (if_single-holds _ within
     (λ same.
     let one : value (low_bits from n) ≡ extension_of extension (cut to x).low =
     ap value (sym again ∙ ap (low_bits from) same) ∙ sym (extension-is extension (cut to x).low) in
     let Q : ℕ → Type 0 = λ k. Holds limit (single k) (value (low_bits from n)) in
     subst Q one (single-holds limit (value (low_bits from n)) below))
     (let R : ℕ → Type 0 = λ k. Holds limit (extend_low from to (cut from (cut to x))) (value k) in
-    subst R again (extend_low-holds extension (cut from (cut to x)) (low_bits from (low_bits to n)) (cut-holds from (cut to x) (low_bits to n) (admits_held _ _ within)))))
+    subst R again (extend_low-holds extension (cut from (cut to x)) (low_bits from (low_bits to n))
+    (cut-holds from (cut to x) (low_bits to n) (admits_held _ _ within)))))
 
-pub extend-admits : (extension : SignExtension) (x : Interval) (n : ℕ) → IsProper x → Admits x n → Admits (extend extension x) (extension_of extension n)
+pub extend-admits : (extension : SignExtension) (x : Interval) (n : ℕ) → IsProper x → Admits x n
+    → Admits (extend extension x) (extension_of extension n)
 extend-admits extension x n proper held = admits_held _ _ (extend-holds extension x n held)
 
 pub extend-proper : (extension : SignExtension) (x : Interval) → IsProper x → IsProper (extend extension x)
@@ -185,22 +199,25 @@ swap-fits LittleEndian width n = mod-lt n (pow_pos (bits (swap_bits width)))
 swap-fits BigEndian width n = swap_bytes-fits width _
 swap-fits Swapped width n = swap_bytes-fits width _
 
-reversal-holds : (order : ByteOrder) (width : SwapWidth) (x : Interval) (n : ℕ) → Admits x n → Holds (2 ^ bits (swap_bits width)) (reversal order width x) (arithmetic.byte_swap order width n)
+reversal-holds : (order : ByteOrder) (width : SwapWidth) (x : Interval) (n : ℕ) → Admits x n
+    → Holds (2 ^ bits (swap_bits width)) (reversal order width x) (arithmetic.byte_swap order width n)
 reversal-holds order width x n held =
     let limit = 2 ^ bits (swap_bits width) in
     let result = arithmetic.byte_swap order width n in
     let below = swap-fits order width n in
     let P : ℕ → Type 0 = λ k. Holds limit (single (arithmetic.byte_swap order width k)) result in
-    if_single-holds x _ _ n limit result (admitted-holds x n held)
+    if_single-holds _ (admitted-holds x n held)
     (λ same. subst P same (single-holds limit result below))
     (full-holds (swap_bits width) result below)
 
-pub byte_swap-holds : (order : ByteOrder) (width : SwapWidth) (x : Interval) (n : ℕ) → Admits x n → Holds (2 ^ bits (swap_bits width)) (byte_swap order width x) (arithmetic.byte_swap order width n)
+pub byte_swap-holds : (order : ByteOrder) (width : SwapWidth) (x : Interval) (n : ℕ) → Admits x n
+    → Holds (2 ^ bits (swap_bits width)) (byte_swap order width x) (arithmetic.byte_swap order width n)
 byte_swap-holds LittleEndian width x n held = cut-holds (swap_bits width) x n held
 byte_swap-holds BigEndian width x n held = reversal-holds BigEndian width x n held
 byte_swap-holds Swapped width x n held = reversal-holds Swapped width x n held
 
-pub byte_swap-admits : (order : ByteOrder) (width : SwapWidth) (x : Interval) (n : ℕ) → IsProper x → Admits x n → Admits (byte_swap order width x) (arithmetic.byte_swap order width n)
+pub byte_swap-admits : (order : ByteOrder) (width : SwapWidth) (x : Interval) (n : ℕ) → IsProper x → Admits x n
+    → Admits (byte_swap order width x) (arithmetic.byte_swap order width n)
 byte_swap-admits order width x n proper held = admits_held _ _ (byte_swap-holds order width x n held)
 
 pub byte_swap-proper : (order : ByteOrder) (width : SwapWidth) (x : Interval) → IsProper x → IsProper (byte_swap order width x)
@@ -240,14 +257,16 @@ single-admits n = record { above = omega arith; below = omega arith }
 single-proper : (n : ℕ) → n < 2 ^ 64 → IsProper (single n)
 single-proper n below = record { ordered = omega arith; fits = below }
 
-pub wide_number-admits : (immediate next_immediate : ℤ) → Admits (wide_number immediate next_immediate) (arithmetic.wide_number immediate next_immediate)
+pub wide_number-admits : (immediate next_immediate : ℤ) → Admits (wide_number immediate next_immediate)
+    (arithmetic.wide_number immediate next_immediate)
 wide_number-admits immediate next_immediate = single-admits _
 
 unsigned-fits : (w : Bits) (z : ℤ) → FitsSigned w z → 2 ^ hbits w ≤ 2 ^ bits w → cast_unsigned w z < 2 ^ bits w
 unsigned-fits w (pos n) fits wide = let below = fits.sfits in omega arith
 unsigned-fits w (negsuc n) fits wide = let some : 0 < 2 ^ bits w = pow_pos (bits w) in omega arith
 
-pub wide_number-proper : (immediate next_immediate : ℤ) → FitsSigned w32 immediate → FitsSigned w32 next_immediate → IsProper (wide_number immediate next_immediate)
+pub wide_number-proper : (immediate next_immediate : ℤ) → FitsSigned w32 immediate → FitsSigned w32 next_immediate
+    → IsProper (wide_number immediate next_immediate)
 wide_number-proper immediate next_immediate fits next_fits =
     let low = unsigned-fits w32 immediate fits (lit≤ tt) in
     let high = unsigned-fits w32 next_immediate next_fits (lit≤ tt) in

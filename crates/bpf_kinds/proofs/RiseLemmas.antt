@@ -1,5 +1,6 @@
 -- Operations on intervals of operands, row by row: what an operation gives lies within what it gives of wider operands.
-use Rattle.std.proofs.Common.{◌≡◌, ℕ, ◌-◌, ◌*◌, ◌/◌, ◌%◌, ◌^◌, ◌<◌, ◌≤◌, ◌&&◌, ◌||◌, nat_lt, nat_le, min, max, Bool, false, if◌then◌else◌, subst, sym, arith}
+use Rattle.std.proofs.Common.{◌≡◌, ℕ, ◌-◌, ◌*◌, ◌/◌, ◌%◌, ◌^◌, ◌<◌, ◌≤◌, ◌&&◌, ◌||◌, nat_lt, nat_le, min, max, Bool, false, if◌then◌else◌}
+use Rattle.std.proofs.Common.{subst, sym, arith}
 use Rattle.std.proofs.Math.Nat.{mod-lt, div-le_self, pow-le-pow_right}
 use Rattle.std.proofs.lemmas.Nat.{pow_pos, pow_below, mul-le}
 use Rattle.std.proofs.lemmas.Bool.{cond_both, cond-false, eqb-true}
@@ -10,7 +11,8 @@ use Rattle.bpf_insn.specs.Arithmetic.{operand_bits, operation_on}
 use Rattle.bpf_insn.specs.declared.instruction.Operation.TheVariants.{ArithmeticShiftRight}
 use Rattle.bpf_insn.specs.declared.instruction.Width.{Width}
 use Rattle.bpf_kinds.specs.Interval.{IsWithin, between, single, is_single, full}
-use Rattle.bpf_kinds.specs.Results.{sum_of, difference_of, product_of, quotient_of, remainder_of, left_shift_of, right_shift_of, arithmetic_shift_of, greatest_of_length}
+use Rattle.bpf_kinds.specs.Results.{sum_of, difference_of, product_of, quotient_of, remainder_of, left_shift_of, right_shift_of}
+use Rattle.bpf_kinds.specs.Results.{arithmetic_shift_of, greatest_of_length}
 use Rattle.bpf_kinds.specs.declared.interval.Interval.{Interval}
 use Rattle.bpf_kinds.proofs.BitLemmas.{length_of}
 use Rattle.bpf_kinds.proofs.HoldLemmas.{Holds, quotient_le}
@@ -44,36 +46,43 @@ pub full_within : (w : Bits) (test : Bool) (z : Interval) → test ≡ false →
 full_within w test z not = subst (IsWithin (full w)) (sym (cond-false test z (full w) not)) (within_same (full w))
 
 -- a choice by whether an operand is one number, which it is where a wider one is
-pub if_single-within : {limit : ℕ} (x a p q r s : Interval) → Covers limit a x → (a.low ≡ a.high → IsWithin p r) → (x.low ≡ x.high → IsWithin p s) → IsWithin q s → IsWithin (if is_single x then p else q) (if is_single a then r else s)
-if_single-within x a p q r s covers both one neither =
+pub if_single-within : {limit : ℕ} {x a q s : Interval} (p r : Interval) → Covers limit a x → (a.low ≡ a.high → IsWithin p r)
+    → (x.low ≡ x.high → IsWithin p s) → IsWithin q s → IsWithin (if is_single x then p else q) (if is_single a then r else s)
+if_single-within {x} {a} {q} {s} p r covers both one neither =
     cond_both (is_single x) p q (λ z. IsWithin z (if is_single a then r else s))
     (λ x_is. cond_both (is_single a) r s (λ z. IsWithin p z) (λ a_is. both (eqb-true _ _ a_is)) (λ not. one (eqb-true _ _ x_is)))
     (λ x_not. cond_both (is_single a) r s (λ z. IsWithin q z) (λ a_is. grind (arith, nat_tests)) (λ not. neither))
 
-pub sum_of-within : (w : Bits) (x y a b : Interval) → Covers (2 ^ bits w) a x → Covers (2 ^ bits w) b y → IsWithin (sum_of w x y) (sum_of w a b)
+pub sum_of-within : (w : Bits) (x y a b : Interval) → Covers (2 ^ bits w) a x → Covers (2 ^ bits w) b y
+    → IsWithin (sum_of w x y) (sum_of w a b)
 sum_of-within w x y a b left right = record { low = grind (arith, nat_tests); high = grind (arith, nat_tests) }
 
-pub difference_of-within : (w : Bits) (x y a b : Interval) → Covers (2 ^ bits w) a x → Covers (2 ^ bits w) b y → IsWithin (difference_of w x y) (difference_of w a b)
+pub difference_of-within : (w : Bits) (x y a b : Interval) → Covers (2 ^ bits w) a x → Covers (2 ^ bits w) b y
+    → IsWithin (difference_of w x y) (difference_of w a b)
 difference_of-within w x y a b left right = record { low = grind (arith, nat_tests); high = grind (arith, nat_tests) }
 
-pub product_of-within : (w : Bits) (x y a b : Interval) → Covers (2 ^ bits w) a x → Covers (2 ^ bits w) b y → IsWithin (product_of w x y) (product_of w a b)
+pub product_of-within : (w : Bits) (x y a b : Interval) → Covers (2 ^ bits w) a x → Covers (2 ^ bits w) b y
+    → IsWithin (product_of w x y) (product_of w a b)
 product_of-within w x y a b left right =
     let some : 0 < 2 ^ bits w = pow_pos (bits w) in
     let least : a.low * b.low ≤ x.low * y.low = mul-le a.low b.low x.low y.low left.low right.low in
     let most : x.high * y.high ≤ a.high * b.high = mul-le x.high y.high a.high b.high left.high right.high in
     record { low = grind (arith, nat_tests); high = grind (arith, nat_tests) }
 
-pub quotient_of-within : {limit : ℕ} (x y a b : Interval) → Covers limit a x → Covers limit b y → IsWithin (quotient_of x y) (quotient_of a b)
+pub quotient_of-within : {limit : ℕ} (x y a b : Interval) → Covers limit a x → Covers limit b y
+    → IsWithin (quotient_of x y) (quotient_of a b)
 quotient_of-within x y a b left right =
     let whole = div-le_self x.high y.low in
     let least = λ (some : 0 < b.low). quotient_le a.low x.low b.high y.high left.low (omega arith) right.high in
     let most = λ (some : 0 < b.low). quotient_le x.high a.high y.low b.low left.high some right.low in
     record { low = grind (arith, nat_tests); high = grind (arith, nat_tests) }
 
-pub remainder_of-within : {limit : ℕ} (x y a b : Interval) → Covers limit a x → Covers limit b y → IsWithin (remainder_of x y) (remainder_of a b)
+pub remainder_of-within : {limit : ℕ} (x y a b : Interval) → Covers limit a x → Covers limit b y
+    → IsWithin (remainder_of x y) (remainder_of a b)
 remainder_of-within x y a b left right = record { low = grind (arith, nat_tests); high = grind (arith, nat_tests) }
 
-pub and-within : {limit : ℕ} (x y a b : Interval) → Covers limit a x → Covers limit b y → IsWithin (between 0 (min x.high y.high)) (between 0 (min a.high b.high))
+pub and-within : {limit : ℕ} (x y a b : Interval) → Covers limit a x → Covers limit b y
+    → IsWithin (between 0 (min x.high y.high)) (between 0 (min a.high b.high))
 and-within x y a b left right = record { low = omega arith; high = omega arith }
 
 -- the greatest number of as many digits grows with the number
@@ -87,53 +96,63 @@ greatest_le m n less fits =
     let second = smaller.1.greatest in
     omega arith
 
-pub or-within : {limit : ℕ} (x y a b : Interval) → limit ≤ 2 ^ 64 → Covers limit a x → Covers limit b y → IsWithin (between (max x.low y.low) (greatest_of_length (max x.high y.high))) (between (max a.low b.low) (greatest_of_length (max a.high b.high)))
+pub or-within : {limit : ℕ} (x y a b : Interval) → limit ≤ 2 ^ 64 → Covers limit a x → Covers limit b y
+    → IsWithin (between (max x.low y.low) (greatest_of_length (max x.high y.high)))
+    (between (max a.low b.low) (greatest_of_length (max a.high b.high)))
 or-within x y a b wide left right =
     record { low = omega arith; high = greatest_le (max x.high y.high) (max a.high b.high) (omega arith) (omega arith) }
 
-pub exclusive_or-within : {limit : ℕ} (x y a b : Interval) → limit ≤ 2 ^ 64 → Covers limit a x → Covers limit b y → IsWithin (between 0 (greatest_of_length (max x.high y.high))) (between 0 (greatest_of_length (max a.high b.high)))
+pub exclusive_or-within : {limit : ℕ} (x y a b : Interval) → limit ≤ 2 ^ 64 → Covers limit a x → Covers limit b y
+    → IsWithin (between 0 (greatest_of_length (max x.high y.high))) (between 0 (greatest_of_length (max a.high b.high)))
 exclusive_or-within x y a b wide left right =
     record { low = omega arith; high = greatest_le (max x.high y.high) (max a.high b.high) (omega arith) (omega arith) }
 
 product_of-fits : (w : Bits) (x y : Interval) → (product_of w x y).high < 2 ^ bits w
 product_of-fits w x y = let some : 0 < 2 ^ bits w = pow_pos (bits w) in grind (arith, nat_tests)
 
-pub left_shift_of-within : (w : Bits) (x y a b : Interval) → 0 < bits w → Covers (2 ^ bits w) a x → Covers (2 ^ bits w) b y → IsWithin (left_shift_of w x y) (left_shift_of w a b)
+pub left_shift_of-within : (w : Bits) (x y a b : Interval) → 0 < bits w → Covers (2 ^ bits w) a x → Covers (2 ^ bits w) b y
+    → IsWithin (left_shift_of w x y) (left_shift_of w a b)
 left_shift_of-within w x y a b some left right =
     let limit = 2 ^ bits w in
     let by = λ (amount : ℕ). single (2 ^ (amount % bits w)) in
-    if_single-within y b _ _ _ _ right
+    if_single-within _ _ right
     (λ is.
     let same : b.low ≡ y.low = omega arith in
-    let power : Covers limit (by y.low) (by y.low) = record { ordered = omega arith; low = omega arith; high = omega arith; fits = pow_below (y.low % bits w) (bits w) (mod-lt y.low some) } in
+    let power : Covers limit (by y.low) (by y.low) = record
+    { ordered = omega arith; low = omega arith; high = omega arith; fits = pow_below (y.low % bits w) (bits w) (mod-lt y.low some) } in
     let P : ℕ → Type 0 = λ amount. IsWithin (product_of w x (by y.low)) (product_of w a (by amount)) in
     subst P (sym same) (product_of-within w x (by y.low) a (by y.low) left power))
     (λ is. within_full w _ (product_of-fits w x (by y.low)))
     (within_same (full w))
 
-pub right_shift_of-within : (w : Bits) (x y a b : Interval) → Covers (2 ^ bits w) a x → Covers (2 ^ bits w) b y → IsWithin (right_shift_of w x y) (right_shift_of w a b)
+pub right_shift_of-within : (w : Bits) (x y a b : Interval) → Covers (2 ^ bits w) a x → Covers (2 ^ bits w) b y
+    → IsWithin (right_shift_of w x y) (right_shift_of w a b)
 right_shift_of-within w x y a b left right =
     let power = 2 ^ (y.low % bits w) in
     let some : 0 < power = pow_pos (y.low % bits w) in
     let least = quotient_le a.low x.low power power left.low some (omega arith) in
     let most = quotient_le x.high a.high power power left.high some (omega arith) in
     let whole = div-le_self x.high power in
-    if_single-within y b _ _ _ _ right
+    if_single-within _ _ right
     (λ is.
     let same : b.low ≡ y.low = omega arith in
-    let P : ℕ → Type 0 = λ amount. IsWithin (between (x.low / power) (x.high / power)) (between (a.low / 2 ^ (amount % bits w)) (a.high / 2 ^ (amount % bits w))) in
+    let P : ℕ → Type 0 = λ amount. IsWithin (between (x.low / power) (x.high / power))
+    (between (a.low / 2 ^ (amount % bits w)) (a.high / 2 ^ (amount % bits w))) in
     subst P (sym same) (record { low = least; high = most }))
     (λ is. record { low = omega arith; high = omega arith })
     (record { low = omega arith; high = omega arith })
 
-pub arithmetic_shift_of-within : (width : Width) (x y a b : Interval) → Covers (2 ^ bits (operand_bits width)) a x → Covers (2 ^ bits (operand_bits width)) b y → IsWithin (arithmetic_shift_of (operand_bits width) x y) (arithmetic_shift_of (operand_bits width) a b)
+pub arithmetic_shift_of-within : (width : Width) (x y a b : Interval) → Covers (2 ^ bits (operand_bits width)) a x
+    → Covers (2 ^ bits (operand_bits width)) b y → IsWithin (arithmetic_shift_of (operand_bits width) x y)
+    (arithmetic_shift_of (operand_bits width) a b)
 arithmetic_shift_of-within width x y a b left right =
     let w = operand_bits width in
     let middle = 2 ^ (bits w - 1) in
     let shifted = λ (n : ℕ). operation_on ArithmeticShiftRight w n y.low in
     let result = arithmetic_shift_of w a b in
     let one = holds_low b y right in
-    cond_both (is_single y && (nat_lt x.high middle || nat_le middle x.low)) (between (shifted x.low) (shifted x.high)) (full w) (λ z. IsWithin z result)
+    cond_both (is_single y && (nat_lt x.high middle || nat_le middle x.low)) (between (shifted x.low) (shifted x.high)) (full w)
+    (λ z. IsWithin z result)
     (λ known.
     let least = arithmetic_shift_of-holds width a b x.low y.low (holds_low a x left) one in
     let most = arithmetic_shift_of-holds width a b x.high y.low (holds_high a x left) one in

@@ -1,5 +1,6 @@
 -- Shifts to the right that fill up with the sign.
-use Rattle.std.proofs.Common.{◌≡◌, ℕ, negsuc, suc, ◌-◌, ◌/◌, ◌%◌, ◌^◌, ◌<◌, ◌≤◌, nat_lt, nat_le, ◌&&◌, ◌||◌, refl, ap, subst, sym, inl, inr, arith}
+use Rattle.std.proofs.Common.{◌≡◌, ℕ, negsuc, suc, ◌-◌, ◌/◌, ◌%◌, ◌^◌, ◌<◌, ◌≤◌, nat_lt, nat_le, ◌&&◌, ◌||◌, refl, ap, subst, sym, inl, inr}
+use Rattle.std.proofs.Common.{arith}
 use Rattle.std.proofs.Math.Nat.{div-le_self}
 use Rattle.std.proofs.lemmas.Nat.{pow_pos}
 use Rattle.std.proofs.lemmas.Int.{to_z_pos}
@@ -40,7 +41,8 @@ shift-fits w n amount below =
       | inr large ↦ let same = negative w n amount large in omega arith
     ]
 
-positive-holds : (w : Bits) (x : Interval) (n amount : ℕ) → Holds (2 ^ bits w) x n → x.high < 2 ^ hbits w → Holds (2 ^ bits w) (between (shifted w x.low amount) (shifted w x.high amount)) (shifted w n amount)
+positive-holds : (w : Bits) (x : Interval) (n amount : ℕ) → Holds (2 ^ bits w) x n → x.high < 2 ^ hbits w
+    → Holds (2 ^ bits w) (between (shifted w x.low amount) (shifted w x.high amount)) (shifted w n amount)
 positive-holds w x n amount held small =
     let power = 2 ^ amount in
     let some : 0 < power = pow_pos amount in
@@ -51,7 +53,8 @@ positive-holds w x n amount held small =
     let most = quotient_le n x.high power power held.below some (omega arith) in
     record { above = omega arith; below = omega arith; fits = shift-fits w x.high amount held.fits }
 
-negative-holds : (w : Bits) (x : Interval) (n amount : ℕ) → Holds (2 ^ bits w) x n → 2 ^ hbits w ≤ x.low → Holds (2 ^ bits w) (between (shifted w x.low amount) (shifted w x.high amount)) (shifted w n amount)
+negative-holds : (w : Bits) (x : Interval) (n amount : ℕ) → Holds (2 ^ bits w) x n → 2 ^ hbits w ≤ x.low
+    → Holds (2 ^ bits w) (between (shifted w x.low amount) (shifted w x.high amount)) (shifted w n amount)
 negative-holds w x n amount held large =
     let limit = 2 ^ bits w in
     let power = 2 ^ amount in
@@ -63,7 +66,9 @@ negative-holds w x n amount held large =
     let most = quotient_le (limit - suc x.high) (limit - suc n) power power (omega arith) some (omega arith) in
     record { above = omega arith; below = omega arith; fits = shift-fits w x.high amount held.fits }
 
-pub arithmetic_shift_of-holds : (width : Width) (x y : Interval) (m n : ℕ) → Holds (2 ^ bits (operand_bits width)) x m → Holds (2 ^ bits (operand_bits width)) y n → Holds (2 ^ bits (operand_bits width)) (arithmetic_shift_of (operand_bits width) x y) (arithmetic.operation_on ArithmeticShiftRight (operand_bits width) m n)
+pub arithmetic_shift_of-holds : (width : Width) (x y : Interval) (m n : ℕ) → Holds (2 ^ bits (operand_bits width)) x m
+    → Holds (2 ^ bits (operand_bits width)) y n → Holds (2 ^ bits (operand_bits width)) (arithmetic_shift_of (operand_bits width) x y)
+    (arithmetic.operation_on ArithmeticShiftRight (operand_bits width) m n)
 arithmetic_shift_of-holds width x y m n left right =
     let w = operand_bits width in
     let limit = 2 ^ bits w in

@@ -1,5 +1,6 @@
 -- Calls of helper functions: what holds once their checks have passed, and what they leave of the frame.
-use Rattle.std.proofs.Common.{◌≡◌, ltb, ℕ, zero, suc, ◌+◌, ◌≤◌, ◌^◌, inl, inr, pos, Bool, true, false, ◌⊎◌, List, [], ◌∷◌, map, length, get_or, Option, Some, None, Result, Ok, Err, if◌then◌else◌, refl, sym, ◌∙◌, subst, arith}
+use Rattle.std.proofs.Common.{◌≡◌, ltb, ℕ, zero, suc, ◌+◌, ◌≤◌, ◌^◌, inl, inr, pos, Bool, true, false, ◌⊎◌, List, [], ◌∷◌, map, length}
+use Rattle.std.proofs.Common.{get_or, Option, Some, None, Result, Ok, Err, if◌then◌else◌, refl, sym, ◌∙◌, subst, arith}
 use Rattle.std.specs.Prelude.{IsTrue}
 use Rattle.std.specs.Int.{cast_signed, w64}
 use Rattle.std.proofs.lemmas.Bool.{false≢true, cases_lt}
@@ -27,7 +28,8 @@ use Rattle.bpf_helpers.specs.declared.signature.FrameUse.TheVariants as frame_us
 use Rattle.bpf_helpers.specs.declared.signature.Shape.{Shape}
 use Rattle.bpf_insn.specs.Frame.{FrameByte, FrameContents, Byte}
 use Rattle.bpf_meaning.specs.Memory.{all_written, write_bytes, written_bytes}
-use Rattle.bpf_meaning.specs.Effect.{read, argument_in, argument_word, arguments_in, is_allowed, lend_bytes, lend_frame, lend_written, lie_within, call_change, call_helper, CanBeMade, CanBeCalled, ◌>>=◌}
+use Rattle.bpf_meaning.specs.Effect.{read, argument_in, argument_word, arguments_in, is_allowed, lend_bytes, lend_frame, lend_written}
+use Rattle.bpf_meaning.specs.Effect.{lie_within, call_change, call_helper, CanBeMade, CanBeCalled, ◌>>=◌}
 use Rattle.bpf_meaning.specs.Step.{called, state_after}
 use Rattle.bpf_meaning.specs.declared.cause.Cause.{Cause}
 use Rattle.bpf_meaning.specs.declared.cause.Cause.TheVariants.{BadArgument, OutOfBounds, UnwrittenFrame}
@@ -41,12 +43,14 @@ abbrev pub IfPasses : {A : Type 0} → (A → Type 0) → Result A Cause → Typ
 IfPasses P (Ok x) = P x
 IfPasses P (Err cause) = Unit {0}
 
-pub then_passes : {A B : Type 0} (P : B → Type 0) (result : Result A Cause) (f : A → Result B Cause) → ((x : A) → IfPasses P (f x)) → IfPasses P (result >>= f)
+pub then_passes : {A B : Type 0} (P : B → Type 0) (result : Result A Cause) (f : A → Result B Cause) → ((x : A) → IfPasses P (f x))
+    → IfPasses P (result >>= f)
 then_passes P (Ok x) f all = all x
 then_passes P (Err cause) f all = tt
 
 -- the same where the first checks say something, too
-pub then_keeps : {A B : Type 0} (P : A → Type 0) (Q : B → Type 0) (result : Result A Cause) (f : A → Result B Cause) → IfPasses P result → ((x : A) → P x → IfPasses Q (f x)) → IfPasses Q (result >>= f)
+pub then_keeps : {A B : Type 0} (P : A → Type 0) (Q : B → Type 0) (result : Result A Cause) (f : A → Result B Cause) → IfPasses P result
+    → ((x : A) → P x → IfPasses Q (f x)) → IfPasses Q (result >>= f)
 then_keeps P Q (Ok x) f one all = all x one
 then_keeps P Q (Err cause) f one all = tt
 
@@ -66,22 +70,24 @@ word_meets number (argument.Number allowed) Empty = tt
 word_meets number (argument.Number allowed) (Pointer pointer) = tt
 word_meets number (argument.Number allowed) (Number n) = by_test (is_allowed allowed n) refl
   where
-    by_test : (inside : Bool) → is_allowed allowed n ≡ inside → IfPasses (Meets (argument.Number allowed)) (if inside then Ok n else Err (BadArgument number))
+    by_test : (inside : Bool) → is_allowed allowed n ≡ inside → IfPasses (Meets (argument.Number allowed))
+        (if inside then Ok n else Err (BadArgument number))
     by_test true is = allowed_admits allowed n is
     by_test false is = tt
 
 argument_meets : (state : State) (number : ℕ) (wanted : Argument) → IfPasses (Meets wanted) (argument_in state number wanted)
 argument_meets state number argument.Unused = tt
 argument_meets state number argument.Frame = then_passes (Meets argument.Frame) (read state number) _ (word_meets number argument.Frame)
-argument_meets state number (argument.Number allowed) = then_passes (Meets (argument.Number allowed)) (read state number) _ (word_meets number (argument.Number allowed))
+argument_meets state number (argument.Number allowed) = then_passes (Meets (argument.Number allowed)) (read state number) _
+    (word_meets number (argument.Number allowed))
 
 -- arguments are what is wanted of each
 pub record AreMet (wanted : List Argument) (arguments : List ℕ) : Type 0 where
   pub count : length arguments ≡ 3
   pub each : (at : ℕ) → Meets (get_or wanted at argument.Unused) (get_or arguments at 0)
 
-three_met : (a b c : Argument) (x y z : ℕ) → Meets a x → Meets b y → Meets c z → AreMet (a ∷ b ∷ c ∷ []) (x ∷ y ∷ z ∷ [])
-three_met a b c x y z one two three = record { count = refl; each = each }
+three_met : {a b c : Argument} {x y z : ℕ} → Meets a x → Meets b y → Meets c z → AreMet (a ∷ b ∷ c ∷ []) (x ∷ y ∷ z ∷ [])
+three_met {a} {b} {c} {x} {y} {z} one two three = record { count = refl; each = each }
   where
     each : (at : ℕ) → Meets (get_or (a ∷ b ∷ c ∷ []) at argument.Unused) (get_or (x ∷ y ∷ z ∷ []) at 0)
     each zero = one
@@ -94,7 +100,7 @@ arguments_met state a b c =
     then_keeps (Meets a) _ (argument_in state 1 a) _ (argument_meets state 1 a) (λ x one.
     then_keeps (Meets b) _ (argument_in state 2 b) _ (argument_meets state 2 b) (λ y two.
     then_keeps (Meets c) _ (argument_in state 3 c) _ (argument_meets state 3 c) (λ z three.
-    three_met a b c x y z one two three)))
+    three_met one two three)))
 
 -- bytes that are lent lie within the frame, and those that are read are written
 
@@ -117,38 +123,47 @@ pub record IsLent (state : State) (wanted : List Argument) (frame : FrameUse) (a
   pub within : LieWithin frame arguments
   pub written : IsTrue (all_written (bytes_read frame arguments state.frame.bytes))
 
-bytes_lent : (state : State) (wanted : List Argument) (arguments : List ℕ) → AreMet wanted arguments → IfPasses (IsLent state wanted frame_use.Writes) (lend_bytes arguments)
+bytes_lent : (state : State) (wanted : List Argument) (arguments : List ℕ) → AreMet wanted arguments
+    → IfPasses (IsLent state wanted frame_use.Writes) (lend_bytes arguments)
 bytes_lent state wanted arguments met = by_test (lie_within (cast_signed w64 (second arguments)) (third arguments) FRAME_LENGTH) refl
   where
-    by_test : (inside : Bool) → lie_within (cast_signed w64 (second arguments)) (third arguments) FRAME_LENGTH ≡ inside → IfPasses (IsLent state wanted frame_use.Writes) (if inside then Ok arguments else Err OutOfBounds)
+    by_test : (inside : Bool) → lie_within (cast_signed w64 (second arguments)) (third arguments) FRAME_LENGTH ≡ inside
+        → IfPasses (IsLent state wanted frame_use.Writes) (if inside then Ok arguments else Err OutOfBounds)
     by_test true is = record { met = met; within = word_inside (second arguments) (third arguments) FRAME_LENGTH is; written = refl }
     by_test false is = tt
 
-written_lent : (state : State) (wanted : List Argument) (arguments : List ℕ) → IsLent state wanted frame_use.Writes arguments → IfPasses (IsLent state wanted frame_use.Reads) (lend_written state arguments)
+written_lent : (state : State) (wanted : List Argument) (arguments : List ℕ) → IsLent state wanted frame_use.Writes arguments
+    → IfPasses (IsLent state wanted frame_use.Reads) (lend_written state arguments)
 written_lent state wanted arguments lent = by_test (all_written (bytes_read frame_use.Reads arguments state.frame.bytes)) refl
   where
-    by_test : (all : Bool) → all_written (bytes_read frame_use.Reads arguments state.frame.bytes) ≡ all → IfPasses (IsLent state wanted frame_use.Reads) (if all then Ok arguments else Err UnwrittenFrame)
+    by_test : (all : Bool) → all_written (bytes_read frame_use.Reads arguments state.frame.bytes) ≡ all
+        → IfPasses (IsLent state wanted frame_use.Reads) (if all then Ok arguments else Err UnwrittenFrame)
     by_test true is = record { met = lent.met; within = lent.within; written = is }
     by_test false is = tt
 
-frame_lent : (state : State) (wanted : List Argument) (frame : FrameUse) (arguments : List ℕ) → AreMet wanted arguments → IfPasses (IsLent state wanted frame) (lend_frame state frame arguments)
+frame_lent : (state : State) (wanted : List Argument) (frame : FrameUse) (arguments : List ℕ) → AreMet wanted arguments
+    → IfPasses (IsLent state wanted frame) (lend_frame state frame arguments)
 frame_lent state wanted frame_use.Nothing arguments met = record { met = met; within = tt; written = refl }
 frame_lent state wanted frame_use.Writes arguments met = bytes_lent state wanted arguments met
 frame_lent state wanted frame_use.Reads arguments met =
-    then_keeps (IsLent state wanted frame_use.Writes) _ (lend_bytes arguments) _ (bytes_lent state wanted arguments met) (written_lent state wanted)
+    then_keeps (IsLent state wanted frame_use.Writes) _ (lend_bytes arguments) _ (bytes_lent state wanted arguments met)
+    (written_lent state wanted)
 
 -- so a call whose checks have passed can be made
 
 abbrev wanted : Helper → ℕ → Argument
 wanted helper at = get_or (signature helper).arguments at argument.Unused
 
-prototype_met : (state : State) (helper : Helper) → IfPasses (AreMet (signature helper).arguments) (arguments_in state (signature helper).arguments)
+prototype_met : (state : State) (helper : Helper) → IfPasses (AreMet (signature helper).arguments)
+    (arguments_in state (signature helper).arguments)
 prototype_met state helper =
     subst (λ (all : List Argument). IfPasses (AreMet all) (arguments_in state all)) (three-wanted helper)
     (arguments_met state (wanted helper 0) (wanted helper 1) (wanted helper 2))
 
-can_be_called : (state : State) (helper : Helper) (arguments : List ℕ) → IsLent state (signature helper).arguments (frame_use (signature helper).shape) arguments → CanBeCalled state helper arguments
-can_be_called state helper arguments lent = record { meets = record { count = lent.met.count; each = lent.met.each; within = lent.within }; written = lent.written }
+can_be_called : (state : State) (helper : Helper) (arguments : List ℕ)
+    → IsLent state (signature helper).arguments (frame_use (signature helper).shape) arguments → CanBeCalled state helper arguments
+can_be_called state helper arguments lent = record
+    { meets = record { count = lent.met.count; each = lent.met.each; within = lent.within }; written = lent.written }
 
 call_can_be_made : (state : State) (helper : Helper) → IfPasses (CanBeMade state) (call_helper state helper)
 call_can_be_made state helper =
@@ -168,47 +183,66 @@ short_bytes : (count : ℕ) (name : Option (List ℕ)) → length (first_bytes c
 short_bytes count None = let long : length (first_bytes count None) ≡ count = length-replicate count 32 in omega arith
 short_bytes count (Some name) = omega (arith, length-take count name)
 
-does_inside : (m : Meaning) (segment : Contents) (arguments bytes : List ℕ) (score : ℕ) → LieWithin (frame_use (shape_of m)) arguments → ((does m segment arguments bytes score).written ≡ []) ⊎ (second arguments + length (does m segment arguments bytes score).written ≤ FRAME_LENGTH)
-does_inside (CopiesIntoFrame copied) segment arguments bytes score within = inr (let short = short_bytes (third arguments) (copied segment arguments) in omega arith)
+does_inside : (m : Meaning) (segment : Contents) (arguments bytes : List ℕ) (score : ℕ) → LieWithin (frame_use (shape_of m)) arguments
+    → ((does m segment arguments bytes score).written ≡ [])
+    ⊎ (second arguments + length (does m segment arguments bytes score).written ≤ FRAME_LENGTH)
+does_inside (CopiesIntoFrame copied) segment arguments bytes score within =
+    inr (let short = short_bytes (third arguments) (copied segment arguments) in omega arith)
 does_inside otherwise segment arguments bytes score within = inl refl
 
-written_inside : (segment : Contents) (helper : Helper) (arguments bytes : List ℕ) (score : ℕ) → LieWithin (frame_use (signature helper).shape) arguments → ((call helper segment arguments bytes score).written ≡ []) ⊎ (second arguments + length (call helper segment arguments bytes score).written ≤ FRAME_LENGTH)
+written_inside : (segment : Contents) (helper : Helper) (arguments bytes : List ℕ) (score : ℕ)
+    → LieWithin (frame_use (signature helper).shape) arguments → ((call helper segment arguments bytes score).written ≡ [])
+    ⊎ (second arguments + length (call helper segment arguments bytes score).written ≤ FRAME_LENGTH)
 written_inside segment helper arguments bytes score within =
-    does_inside (meaning helper) segment arguments bytes score (subst (λ (s : Shape). LieWithin (frame_use s) arguments) (sym (shape-is helper)) within)
+    does_inside (meaning helper) segment arguments bytes score
+    (subst (λ (s : Shape). LieWithin (frame_use s) arguments) (sym (shape-is helper)) within)
 
 -- the frame after a call
 abbrev pub frame_after : Contents → State → Helper → List ℕ → List FrameByte
-frame_after segment state helper arguments = write state.frame.bytes (second arguments) (map Byte (called segment state helper arguments).written)
+frame_after segment state helper arguments = write state.frame.bytes (second arguments)
+    (map Byte (called segment state helper arguments).written)
 
 -- a frame after a call has a fact that the one before has, if it keeps it where bytes are written within it
-after_call : (P : FrameContents → Type 0) (segment : Contents) (state : State) (helper : Helper) (arguments : List ℕ) → CanBeCalled state helper arguments → P state.frame → ((at : ℕ) (bytes : List ℕ) → at + length bytes ≤ FRAME_LENGTH → P (write_bytes state.frame at bytes)) → P (state_after state (second arguments) (called segment state helper arguments)).frame
+after_call : (P : FrameContents → Type 0) (segment : Contents) (state : State) (helper : Helper) (arguments : List ℕ)
+    → CanBeCalled state helper arguments → P state.frame
+    → ((at : ℕ) (bytes : List ℕ) → at + length bytes ≤ FRAME_LENGTH → P (write_bytes state.frame at bytes))
+    → P (state_after state (second arguments) (called segment state helper arguments)).frame
 after_call P segment state helper arguments can before within =
-    elim (written_inside segment helper arguments (written_bytes (bytes_read (frame_use (signature helper).shape) arguments state.frame.bytes)) state.score can.meets.within) [
+    elim (written_inside segment helper arguments (written_bytes
+    (bytes_read (frame_use (signature helper).shape) arguments state.frame.bytes)) state.score can.meets.within) [
       | inl none ↦
           subst (λ (bytes : List ℕ). P (write_bytes state.frame (second arguments) bytes)) (sym none)
-          (subst (λ (bytes : List FrameByte). P (record { bytes = bytes; slots = state.frame.slots })) (sym (write-nothing state.frame.bytes (second arguments))) before)
+          (subst (λ (bytes : List FrameByte). P (record { bytes = bytes; slots = state.frame.slots }))
+          (sym (write-nothing state.frame.bytes (second arguments))) before)
       | inr inside ↦ within (second arguments) (called segment state helper arguments).written inside
     ]
 
-pub length-frame_after : (segment : Contents) (state : State) (helper : Helper) (arguments : List ℕ) → CanBeCalled state helper arguments → length state.frame.bytes ≡ FRAME_LENGTH → length (frame_after segment state helper arguments) ≡ FRAME_LENGTH
+pub length-frame_after : (segment : Contents) (state : State) (helper : Helper) (arguments : List ℕ) → CanBeCalled state helper arguments
+    → length state.frame.bytes ≡ FRAME_LENGTH → length (frame_after segment state helper arguments) ≡ FRAME_LENGTH
 length-frame_after segment state helper arguments can long =
     after_call (λ frame. length frame.bytes ≡ FRAME_LENGTH) segment state helper arguments can long
     (λ at bytes within. let same = length-map bytes Byte in length-write state.frame.bytes (map Byte bytes) at (omega arith) ∙ long)
 
-pub length-slots_after : (segment : Contents) (state : State) (helper : Helper) (arguments : List ℕ) → CanBeCalled state helper arguments → length state.frame.slots ≡ SLOTS → length (state_after state (second arguments) (called segment state helper arguments)).frame.slots ≡ SLOTS
+pub length-slots_after : (segment : Contents) (state : State) (helper : Helper) (arguments : List ℕ) → CanBeCalled state helper arguments
+    → length state.frame.slots ≡ SLOTS → length (state_after state (second arguments)
+    (called segment state helper arguments)).frame.slots ≡ SLOTS
 length-slots_after segment state helper arguments can long =
     after_call (λ frame. length frame.slots ≡ SLOTS) segment state helper arguments can long
     (λ at bytes within. length-overwrite_slots None state.frame.slots at (length bytes) (omega arith) ∙ long)
 
 -- where pointers stood apart from written bytes, they do after a call
-pub apart-frame_after : (segment : Contents) (state : State) (helper : Helper) (arguments : List ℕ) → CanBeCalled state helper arguments → length state.frame.bytes ≡ FRAME_LENGTH → length state.frame.slots ≡ SLOTS → PointersApart state.frame → PointersApart (state_after state (second arguments) (called segment state helper arguments)).frame
+pub apart-frame_after : (segment : Contents) (state : State) (helper : Helper) (arguments : List ℕ) → CanBeCalled state helper arguments
+    → length state.frame.bytes ≡ FRAME_LENGTH → length state.frame.slots ≡ SLOTS → PointersApart state.frame
+    → PointersApart (state_after state (second arguments) (called segment state helper arguments)).frame
 apart-frame_after segment state helper arguments can whole long apart =
     after_call PointersApart segment state helper arguments can apart
     (λ at bytes within. apart-write_bytes state.frame at bytes (omega arith) (omega arith) apart)
 
 -- where it held bytes, it does after a call
-pub bytes-frame_after : (segment : Contents) (state : State) (helper : Helper) (arguments : List ℕ) → IsSegment segment → CanBeCalled state helper arguments → HoldBytes state.frame.bytes → HoldBytes (frame_after segment state helper arguments)
+pub bytes-frame_after : (segment : Contents) (state : State) (helper : Helper) (arguments : List ℕ) → IsSegment segment
+    → CanBeCalled state helper arguments → HoldBytes state.frame.bytes → HoldBytes (frame_after segment state helper arguments)
 bytes-frame_after segment state helper arguments is can all =
     let read = bytes_read (frame_use (signature helper).shape) arguments state.frame.bytes in
     bytes-write state.frame.bytes (second arguments) (map Byte (called segment state helper arguments).written) all
-    (bytes-map (called segment state helper arguments).written (written-bytes helper segment arguments (written_bytes read) state.score is can.meets).bytes)
+    (bytes-map (called segment state helper arguments).written
+    (written-bytes helper segment arguments (written_bytes read) state.score is can.meets).bytes)

@@ -1,5 +1,6 @@
 -- What is written into a frame: which of its bytes are written then, that they are bytes, and what number they are.
-use Rattle.std.proofs.Common.{◌≡◌, ℕ, zero, suc, ◌+◌, ◌-◌, ◌*◌, ◌<◌, ◌≤◌, ◌^◌, List, [], ◌∷◌, ◌++◌, length, map, take, drop, get_or, Some, refl, sym, ap, ◌∙◌, subst, inl, inr, arith}
+use Rattle.std.proofs.Common.{◌≡◌, ℕ, zero, suc, ◌+◌, ◌-◌, ◌*◌, ◌<◌, ◌≤◌, ◌^◌, List, [], ◌∷◌, ◌++◌, length, map, take, drop, get_or, Some}
+use Rattle.std.proofs.Common.{refl, sym, ap, ◌∙◌, subst, inl, inr, arith}
 use Rattle.std.specs.Prelude.{IsTrue, slice_index}
 use Rattle.std.specs.Option.{option_map}
 use Rattle.std.specs.Int.{byte_at, bytes_low_first}
@@ -13,22 +14,27 @@ use Rattle.bpf_meaning.proofs.MemoryLemmas.{length-bytes_low_first, fits_more, s
 
 -- bytes that were written are, and no byte is unwritten again
 
-pub is_written-write_inside : (memory : List FrameByte) (at : ℕ) (bytes : List ℕ) (i : ℕ) → at + length bytes ≤ length memory → at ≤ i → i < at + length bytes → IsTrue (is_written (write memory at (map Byte bytes)) i)
+pub is_written-write_inside : (memory : List FrameByte) (at : ℕ) (bytes : List ℕ) (i : ℕ) → at + length bytes ≤ length memory → at ≤ i
+    → i < at + length bytes → IsTrue (is_written (write memory at (map Byte bytes)) i)
 is_written-write_inside memory at bytes i within above below =
     let long = length-map bytes Byte in
     let place : at + (i - at) ≡ i = omega arith in
     subst (λ (n : ℕ). IsTrue (is_written (write memory at (map Byte bytes)) n)) place
-    (ap is_byte (get_or-write memory (map Byte bytes) at (i - at) Unwritten (omega arith) (omega arith) ∙ get_or-map Byte bytes (i - at) 0 Unwritten (omega arith)))
+    (ap is_byte (get_or-write memory (map Byte bytes) at (i - at) Unwritten (omega arith) (omega arith)
+    ∙ get_or-map Byte bytes (i - at) 0 Unwritten (omega arith)))
 
-pub is_written-write_before : (memory : List FrameByte) (at : ℕ) (bytes : List ℕ) (i : ℕ) → at + length bytes ≤ length memory → i < at → is_written (write memory at (map Byte bytes)) i ≡ is_written memory i
+pub is_written-write_before : (memory : List FrameByte) (at : ℕ) (bytes : List ℕ) (i : ℕ) → at + length bytes ≤ length memory → i < at
+    → is_written (write memory at (map Byte bytes)) i ≡ is_written memory i
 is_written-write_before memory at bytes i within before =
     let long = length-map bytes Byte in ap is_byte (get_or-write_before memory (map Byte bytes) at i Unwritten (omega arith) before)
 
-pub is_written-write_behind : (memory : List FrameByte) (at : ℕ) (bytes : List ℕ) (i : ℕ) → at + length bytes ≤ length memory → at + length bytes ≤ i → is_written (write memory at (map Byte bytes)) i ≡ is_written memory i
+pub is_written-write_behind : (memory : List FrameByte) (at : ℕ) (bytes : List ℕ) (i : ℕ) → at + length bytes ≤ length memory
+    → at + length bytes ≤ i → is_written (write memory at (map Byte bytes)) i ≡ is_written memory i
 is_written-write_behind memory at bytes i within behind =
     let long = length-map bytes Byte in ap is_byte (get_or-write_behind memory (map Byte bytes) at i Unwritten (omega arith) (omega arith))
 
-pub written_stays : (memory : List FrameByte) (at : ℕ) (bytes : List ℕ) (i : ℕ) → at + length bytes ≤ length memory → IsTrue (is_written memory i) → IsTrue (is_written (write memory at (map Byte bytes)) i)
+pub written_stays : (memory : List FrameByte) (at : ℕ) (bytes : List ℕ) (i : ℕ) → at + length bytes ≤ length memory
+    → IsTrue (is_written memory i) → IsTrue (is_written (write memory at (map Byte bytes)) i)
 written_stays memory at bytes i within written =
     elim (cases_lt i at) [
       | inl before ↦ is_written-write_before memory at bytes i within before ∙ written
@@ -41,16 +47,19 @@ written_stays memory at bytes i within written =
 
 -- the same of a number's low bytes
 
-stores_within : (memory : List FrameByte) (at count number : ℕ) → at + count ≤ length memory → at + length (bytes_low_first 0 count number) ≤ length memory
+stores_within : (memory : List FrameByte) (at count number : ℕ) → at + count ≤ length memory
+    → at + length (bytes_low_first 0 count number) ≤ length memory
 stores_within memory at count number within = let long = length-bytes_low_first 0 count number in omega arith
 
-pub is_written-store_inside : (memory : List FrameByte) (at count number i : ℕ) → at + count ≤ length memory → at ≤ i → i < at + count → IsTrue (is_written (store memory at count number) i)
+pub is_written-store_inside : (memory : List FrameByte) (at count number i : ℕ) → at + count ≤ length memory → at ≤ i → i < at + count
+    → IsTrue (is_written (store memory at count number) i)
 is_written-store_inside memory at count number i within above below =
     let long = length-bytes_low_first 0 count number in
     ap (λ (m : List FrameByte). is_written m i) (store_is_write memory at count number)
     ∙ is_written-write_inside memory at (bytes_low_first 0 count number) i (stores_within memory at count number within) above (omega arith)
 
-pub stored_stays : (memory : List FrameByte) (at count number i : ℕ) → at + count ≤ length memory → IsTrue (is_written memory i) → IsTrue (is_written (store memory at count number) i)
+pub stored_stays : (memory : List FrameByte) (at count number i : ℕ) → at + count ≤ length memory → IsTrue (is_written memory i)
+    → IsTrue (is_written (store memory at count number) i)
 stored_stays memory at count number i within written =
     ap (λ (m : List FrameByte). is_written m i) (store_is_write memory at count number)
     ∙ written_stays memory at (bytes_low_first 0 count number) i (stores_within memory at count number within) written
@@ -81,9 +90,11 @@ bytes-map [] small at = tt
 bytes-map (byte ∷ bytes) small zero = small zero
 bytes-map (byte ∷ bytes) small (suc at) = bytes-map bytes (λ i. small (suc i)) at
 
-pub bytes-write : (memory : List FrameByte) (at : ℕ) (bytes : List FrameByte) → HoldBytes memory → HoldBytes bytes → HoldBytes (write memory at bytes)
+pub bytes-write : (memory : List FrameByte) (at : ℕ) (bytes : List FrameByte) → HoldBytes memory → HoldBytes bytes
+    → HoldBytes (write memory at bytes)
 bytes-write memory at bytes all new =
-    bytes-append (take at memory ++ bytes) (drop (at + length bytes) memory) (bytes-append (take at memory) bytes (bytes-take at memory all) new)
+    bytes-append (take at memory ++ bytes) (drop (at + length bytes) memory)
+    (bytes-append (take at memory) bytes (bytes-take at memory all) new)
     (bytes-drop (at + length bytes) memory all)
 
 byte_below : (i number : ℕ) → byte_at i number < 2 ^ 8
@@ -98,18 +109,22 @@ low_bytes from (suc count) number (suc i) = low_bytes (suc from) count number i
 pub bytes-store : (memory : List FrameByte) (at count number : ℕ) → HoldBytes memory → HoldBytes (store memory at count number)
 bytes-store memory at count number all =
     subst HoldBytes (sym (store_is_write memory at count number))
-    (bytes-write memory at (map Byte (bytes_low_first 0 count number)) all (bytes-map (bytes_low_first 0 count number) (low_bytes 0 count number)))
+    (bytes-write memory at (map Byte (bytes_low_first 0 count number)) all
+    (bytes-map (bytes_low_first 0 count number) (low_bytes 0 count number)))
 
 -- bytes that are all written are a number
 
-pub all_written-part : (memory : List FrameByte) (at count : ℕ) → ((i : ℕ) → at ≤ i → i < at + count → IsTrue (is_written memory i)) → IsTrue (all_written (take count (drop at memory)))
+pub all_written-part : (memory : List FrameByte) (at count : ℕ) → ((i : ℕ) → at ≤ i → i < at + count → IsTrue (is_written memory i))
+    → IsTrue (all_written (take count (drop at memory)))
 all_written-part memory zero zero written = refl
 all_written-part [] zero (suc count) written = refl
 all_written-part (Unwritten ∷ memory) zero (suc count) written = absurd (false≢true (written 0 (omega arith) (omega arith)))
-all_written-part (Byte byte ∷ memory) zero (suc count) written = all_written-part memory zero count (λ i above below. written (suc i) (omega arith) (omega arith))
+all_written-part (Byte byte ∷ memory) zero (suc count) written =
+    all_written-part memory zero count (λ i above below. written (suc i) (omega arith) (omega arith))
 all_written-part [] (suc at) zero written = refl
 all_written-part [] (suc at) (suc count) written = refl
-all_written-part (byte ∷ memory) (suc at) count written = all_written-part memory at count (λ i above below. written (suc i) (omega arith) (omega arith))
+all_written-part (byte ∷ memory) (suc at) count written = all_written-part memory at count
+    (λ i above below. written (suc i) (omega arith) (omega arith))
 
 -- some bytes, so many, have a number of as many bytes
 pub record HaveNumber (bytes : List FrameByte) (count : ℕ) : Type 0 where
@@ -117,14 +132,17 @@ pub record HaveNumber (bytes : List FrameByte) (count : ℕ) : Type 0 where
   pub is : number_of bytes ≡ Some number
   pub below : number < 256 ^ count
 
-number_more : (byte : ℕ) (bytes : List FrameByte) (count : ℕ) → byte < 2 ^ 8 → HaveNumber bytes count → HaveNumber (Byte byte ∷ bytes) (suc count)
+number_more : (byte : ℕ) (bytes : List FrameByte) (count : ℕ) → byte < 2 ^ 8 → HaveNumber bytes count
+    → HaveNumber (Byte byte ∷ bytes) (suc count)
 number_more byte bytes count small rest = record {
   number = byte + 256 * rest.number;
   is = ap (option_map (λ rest. byte + 256 * rest)) rest.is;
-  below = let below = fits_more byte rest.number count small rest.below in subst (λ (n : ℕ). byte + 256 * rest.number < 256 ^ n) (omega arith) below;
+  below = let below = fits_more byte rest.number count small rest.below in
+      subst (λ (n : ℕ). byte + 256 * rest.number < 256 ^ n) (omega arith) below;
 }
 
-pub part_has_number : (memory : List FrameByte) (at count : ℕ) → HoldBytes memory → at + count ≤ length memory → ((i : ℕ) → at ≤ i → i < at + count → IsTrue (is_written memory i)) → HaveNumber (take count (drop at memory)) count
+pub part_has_number : (memory : List FrameByte) (at count : ℕ) → HoldBytes memory → at + count ≤ length memory
+    → ((i : ℕ) → at ≤ i → i < at + count → IsTrue (is_written memory i)) → HaveNumber (take count (drop at memory)) count
 part_has_number memory zero zero all within written = record { number = 0; is = refl; below = omega arith }
 part_has_number [] zero (suc count) all within written = absurd (omega arith)
 part_has_number (Unwritten ∷ memory) zero (suc count) all within written = absurd (false≢true (written 0 (omega arith) (omega arith)))

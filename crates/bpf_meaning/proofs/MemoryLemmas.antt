@@ -1,9 +1,12 @@
 -- Marks beside bytes, and what is read and written of them.
-use Rattle.std.proofs.Common.{◌≡◌, ℕ, zero, suc, ◌+◌, ◌-◌, ◌*◌, ◌/◌, ◌%◌, ◌<◌, ◌≤◌, ◌^◌, Bool, true, false, List, [], ◌∷◌, ◌++◌, length, map, take, drop, replicate, slice_set, Option, Some, None, refl, sym, ap, ◌∙◌, arith, lit<, min, append_assoc, length-append}
+use Rattle.std.proofs.Common.{◌≡◌, ℕ, zero, suc, ◌+◌, ◌-◌, ◌*◌, ◌/◌, ◌%◌, ◌<◌, ◌≤◌, ◌^◌, Bool, true, false, List, [], ◌∷◌, ◌++◌, length}
+use Rattle.std.proofs.Common.{map, take, drop, replicate, slice_set, Option, Some, None, refl, sym, ap, ◌∙◌, arith, lit<, min, append_assoc}
+use Rattle.std.proofs.Common.{length-append}
 use Rattle.std.specs.Prelude.{not}
 use Rattle.std.specs.List.{list_any}
 use Rattle.std.proofs.lemmas.Bool.{false≢true}
-use Rattle.std.proofs.lemmas.List.{length-take, length-take-le, length-drop, length-map, length-replicate, drop-drop, take_at, drop_at, take-append-drop}
+use Rattle.std.proofs.lemmas.List.{length-take, length-take-le, length-drop, length-map, length-replicate, drop-drop, take_at, drop_at}
+use Rattle.std.proofs.lemmas.List.{take-append-drop}
 use borrow.Rule.Slice.PartMut.{put_mid, mid_of}
 use Rattle.std.proofs.Math.Arith.{mod-mul}
 use Rattle.std.proofs.Math.Nat.{pow-le-pow_right, pow-suc, one-le-pow, div-one, mod-one, div-div-eq-div-mul}
@@ -25,45 +28,54 @@ pub frame_bytes-nil : (marks : List Bool) → frame_bytes marks [] ≡ []
 frame_bytes-nil [] = refl
 frame_bytes-nil (mark ∷ marks) = refl
 
-pub length-frame_bytes : (marks : List Bool) (bytes : List ℕ) → length marks ≡ length bytes → length (frame_bytes marks bytes) ≡ length bytes
+pub length-frame_bytes : (marks : List Bool) (bytes : List ℕ) → length marks ≡ length bytes
+    → length (frame_bytes marks bytes) ≡ length bytes
 length-frame_bytes [] [] same = refl
 length-frame_bytes [] (byte ∷ bytes) same = absurd (omega arith)
 length-frame_bytes (mark ∷ marks) [] same = absurd (omega arith)
 length-frame_bytes (true ∷ marks) (byte ∷ bytes) same = let more = length-frame_bytes marks bytes (omega arith) in omega arith
 length-frame_bytes (false ∷ marks) (byte ∷ bytes) same = let more = length-frame_bytes marks bytes (omega arith) in omega arith
 
-pub take-frame_bytes : (k : ℕ) (marks : List Bool) (bytes : List ℕ) → take k (frame_bytes marks bytes) ≡ frame_bytes (take k marks) (take k bytes)
+pub take-frame_bytes : (k : ℕ) (marks : List Bool) (bytes : List ℕ)
+    → take k (frame_bytes marks bytes) ≡ frame_bytes (take k marks) (take k bytes)
 take-frame_bytes zero marks bytes = refl
 take-frame_bytes (suc k) [] bytes = refl
 take-frame_bytes (suc k) (mark ∷ marks) [] = refl
 take-frame_bytes (suc k) (true ∷ marks) (byte ∷ bytes) = ap (λ (l : List FrameByte). Byte byte ∷ l) (take-frame_bytes k marks bytes)
 take-frame_bytes (suc k) (false ∷ marks) (byte ∷ bytes) = ap (λ (l : List FrameByte). Unwritten ∷ l) (take-frame_bytes k marks bytes)
 
-pub drop-frame_bytes : (k : ℕ) (marks : List Bool) (bytes : List ℕ) → drop k (frame_bytes marks bytes) ≡ frame_bytes (drop k marks) (drop k bytes)
+pub drop-frame_bytes : (k : ℕ) (marks : List Bool) (bytes : List ℕ)
+    → drop k (frame_bytes marks bytes) ≡ frame_bytes (drop k marks) (drop k bytes)
 drop-frame_bytes zero marks bytes = refl
 drop-frame_bytes (suc k) [] bytes = refl
 drop-frame_bytes (suc k) (mark ∷ marks) [] = sym (frame_bytes-nil (drop k marks))
 drop-frame_bytes (suc k) (true ∷ marks) (byte ∷ bytes) = drop-frame_bytes k marks bytes
 drop-frame_bytes (suc k) (false ∷ marks) (byte ∷ bytes) = drop-frame_bytes k marks bytes
 
-pub frame_bytes-append : (marks more : List Bool) (bytes others : List ℕ) → length marks ≡ length bytes → frame_bytes (marks ++ more) (bytes ++ others) ≡ frame_bytes marks bytes ++ frame_bytes more others
+pub frame_bytes-append : (marks more : List Bool) (bytes others : List ℕ) → length marks ≡ length bytes
+    → frame_bytes (marks ++ more) (bytes ++ others) ≡ frame_bytes marks bytes ++ frame_bytes more others
 frame_bytes-append [] more [] others same = refl
 frame_bytes-append [] more (byte ∷ bytes) others same = absurd (omega arith)
 frame_bytes-append (mark ∷ marks) more [] others same = absurd (omega arith)
-frame_bytes-append (true ∷ marks) more (byte ∷ bytes) others same = ap (λ (l : List FrameByte). Byte byte ∷ l) (frame_bytes-append marks more bytes others (omega arith))
-frame_bytes-append (false ∷ marks) more (byte ∷ bytes) others same = ap (λ (l : List FrameByte). Unwritten ∷ l) (frame_bytes-append marks more bytes others (omega arith))
+frame_bytes-append (true ∷ marks) more (byte ∷ bytes) others same =
+    ap (λ (l : List FrameByte). Byte byte ∷ l) (frame_bytes-append marks more bytes others (omega arith))
+frame_bytes-append (false ∷ marks) more (byte ∷ bytes) others same =
+    ap (λ (l : List FrameByte). Unwritten ∷ l) (frame_bytes-append marks more bytes others (omega arith))
 
 pub frame_bytes-replicate : (count : ℕ) (bytes : List ℕ) → length bytes ≡ count → frame_bytes (replicate count true) bytes ≡ map Byte bytes
 frame_bytes-replicate zero [] same = refl
 frame_bytes-replicate zero (byte ∷ bytes) same = absurd (omega arith)
 frame_bytes-replicate (suc count) [] same = absurd (omega arith)
-frame_bytes-replicate (suc count) (byte ∷ bytes) same = ap (λ (l : List FrameByte). Byte byte ∷ l) (frame_bytes-replicate count bytes (omega arith))
+frame_bytes-replicate (suc count) (byte ∷ bytes) same = ap (λ (l : List FrameByte). Byte byte ∷ l)
+    (frame_bytes-replicate count bytes (omega arith))
 
-pub frame_bytes-unmarked : (count : ℕ) (bytes : List ℕ) → length bytes ≡ count → frame_bytes (replicate count false) bytes ≡ replicate count Unwritten
+pub frame_bytes-unmarked : (count : ℕ) (bytes : List ℕ) → length bytes ≡ count
+    → frame_bytes (replicate count false) bytes ≡ replicate count Unwritten
 frame_bytes-unmarked zero [] same = refl
 frame_bytes-unmarked zero (byte ∷ bytes) same = absurd (omega arith)
 frame_bytes-unmarked (suc count) [] same = absurd (omega arith)
-frame_bytes-unmarked (suc count) (byte ∷ bytes) same = ap (λ (l : List FrameByte). Unwritten ∷ l) (frame_bytes-unmarked count bytes (omega arith))
+frame_bytes-unmarked (suc count) (byte ∷ bytes) same = ap (λ (l : List FrameByte). Unwritten ∷ l)
+    (frame_bytes-unmarked count bytes (omega arith))
 
 -- the little-endian number of at most eight bytes fits
 
@@ -78,7 +90,8 @@ fits_more byte number n small below = rw pow-add (omega (arith, below))
 
 -- what is read: a byte without a mark makes the number none, and with marks alone it's that of the bytes
 
-pub number_of-unmarked : (is_unmarked : Bool → Bool) (marks : List Bool) (bytes : List ℕ) → is_unmarked true ≡ false → length marks ≡ length bytes → list_any is_unmarked marks ≡ true → number_of (frame_bytes marks bytes) ≡ None
+pub number_of-unmarked : (is_unmarked : Bool → Bool) (marks : List Bool) (bytes : List ℕ) → is_unmarked true ≡ false
+    → length marks ≡ length bytes → list_any is_unmarked marks ≡ true → number_of (frame_bytes marks bytes) ≡ None
 number_of-unmarked is_unmarked [] bytes test same any = absurd (false≢true any)
 number_of-unmarked is_unmarked (mark ∷ marks) [] test same any = absurd (omega arith)
 number_of-unmarked is_unmarked (false ∷ marks) (byte ∷ bytes) test same any = refl
@@ -86,11 +99,13 @@ number_of-unmarked is_unmarked (true ∷ marks) (byte ∷ bytes) test same any =
     let later : list_any is_unmarked marks ≡ true = rw test at any in
     ap (option_map (λ rest. byte + 256 * rest)) (number_of-unmarked is_unmarked marks bytes test (omega arith) later)
 
-pub frame_bytes-all : (is_unmarked : Bool → Bool) (marks : List Bool) (bytes : List ℕ) → is_unmarked false ≡ true → is_unmarked true ≡ false → length marks ≡ length bytes → list_any is_unmarked marks ≡ false → frame_bytes marks bytes ≡ map Byte bytes
+pub frame_bytes-all : (is_unmarked : Bool → Bool) (marks : List Bool) (bytes : List ℕ) → is_unmarked false ≡ true → is_unmarked true ≡ false
+    → length marks ≡ length bytes → list_any is_unmarked marks ≡ false → frame_bytes marks bytes ≡ map Byte bytes
 frame_bytes-all is_unmarked [] [] test other same any = refl
 frame_bytes-all is_unmarked [] (byte ∷ bytes) test other same any = absurd (omega arith)
 frame_bytes-all is_unmarked (mark ∷ marks) [] test other same any = absurd (omega arith)
-frame_bytes-all is_unmarked (false ∷ marks) (byte ∷ bytes) test other same any = absurd (let e : true ≡ false = rw test at any in false≢true (sym e))
+frame_bytes-all is_unmarked (false ∷ marks) (byte ∷ bytes) test other same any =
+    absurd (let e : true ≡ false = rw test at any in false≢true (sym e))
 frame_bytes-all is_unmarked (true ∷ marks) (byte ∷ bytes) test other same any =
     let later : list_any is_unmarked marks ≡ false = rw other at any in
     ap (λ (l : List FrameByte). Byte byte ∷ l) (frame_bytes-all is_unmarked marks bytes test other (omega arith) later)
@@ -100,7 +115,8 @@ frame_bytes-all is_unmarked (true ∷ marks) (byte ∷ bytes) test other same an
 pub take-bytes_low_first : (i k n number : ℕ) → n ≤ k → take n (bytes_low_first i k number) ≡ bytes_low_first i n number
 take-bytes_low_first i k zero number less = refl
 take-bytes_low_first i zero (suc n) number less = absurd (omega arith)
-take-bytes_low_first i (suc k) (suc n) number less = ap (λ (l : List ℕ). byte_at i number ∷ l) (take-bytes_low_first (suc i) k n number (omega arith))
+take-bytes_low_first i (suc k) (suc n) number less = ap (λ (l : List ℕ). byte_at i number ∷ l)
+    (take-bytes_low_first (suc i) k n number (omega arith))
 
 pub length-bytes_low_first : (i n number : ℕ) → length (bytes_low_first i n number) ≡ n
 length-bytes_low_first i zero number = refl
@@ -113,124 +129,169 @@ put_mid_is_write memory new at k is =
     ∙ sym (append_assoc (take at memory) new (drop (at + length new) memory))
 
 -- what is stored is a number's low bytes, written from an offset on
-pub store_is_write : (memory : List FrameByte) (at count number : ℕ) → store memory at count number ≡ write memory at (map Byte (bytes_low_first 0 count number))
+pub store_is_write : (memory : List FrameByte) (at count number : ℕ)
+    → store memory at count number ≡ write memory at (map Byte (bytes_low_first 0 count number))
 store_is_write memory at count number =
     let low = bytes_low_first 0 count number in
     let long : count ≡ length (map Byte low) = sym (length-map low Byte ∙ length-bytes_low_first 0 count number) in
     ap (λ (n : ℕ). take at memory ++ map Byte low ++ drop (at + n) memory) long
 
--- marks and bytes put in place
-frame_bytes-put_mid : (marks : List Bool) (bytes : List ℕ) (middle : List Bool) (new : List ℕ) (at k : ℕ) → length marks ≡ length bytes → length middle ≡ length new → frame_bytes (put_mid at k marks middle) (put_mid at k bytes new) ≡ put_mid at k (frame_bytes marks bytes) (frame_bytes middle new)
-frame_bytes-put_mid marks bytes middle new at k same long =
-    let front : length (take at marks) ≡ length (take at bytes) = length-take at marks ∙ ap (λ (n : ℕ). min at n) same ∙ sym (length-take at bytes) in
-    frame_bytes-append (take at marks) (middle ++ drop k (drop at marks)) (take at bytes) (new ++ drop k (drop at bytes)) front
-    ∙ ap (λ (l : List FrameByte). l ++ frame_bytes (middle ++ drop k (drop at marks)) (new ++ drop k (drop at bytes))) (sym (take-frame_bytes at marks bytes))
-    ∙ ap (λ (l : List FrameByte). take at (frame_bytes marks bytes) ++ l)
-    (frame_bytes-append middle (drop k (drop at marks)) new (drop k (drop at bytes)) long
-    ∙ ap (λ (l : List FrameByte). frame_bytes middle new ++ l) (sym (drop-frame_bytes k (drop at marks) (drop at bytes)) ∙ ap (λ (l : List FrameByte). drop k l) (sym (drop-frame_bytes at marks bytes))))
-
--- the three at a frame's contents
-
-part_of : (marks : List Bool) (bytes : List ℕ) (memory : List FrameByte) (at count k : ℕ) → k ≡ count → frame_bytes marks bytes ≡ memory → take count (drop at memory) ≡ frame_bytes (mid_of at k marks) (mid_of at k bytes)
-part_of marks bytes memory at count k is same =
-    ap (λ (m : List FrameByte). take count (drop at m)) (sym same) ∙ ap (λ (n : ℕ). take n (drop at (frame_bytes marks bytes))) (sym is)
-    ∙ ap (λ (l : List FrameByte). take k l) (drop-frame_bytes at marks bytes) ∙ take-frame_bytes k (drop at marks) (drop at bytes)
-
-same_parts : (marks : List Bool) (bytes : List ℕ) (at k : ℕ) → length marks ≡ length bytes → length (mid_of at k marks) ≡ length (mid_of at k bytes)
-same_parts marks bytes at k same = simp (length-take, length-drop) (ap (λ (n : ℕ). min k (n - at)) same)
-
-pub unwritten_is_none : (is_unmarked : Bool → Bool) (marks : List Bool) (bytes : List ℕ) (memory : List FrameByte) (at count k : ℕ) → is_unmarked true ≡ false → k ≡ count → length marks ≡ length bytes → frame_bytes marks bytes ≡ memory → list_any is_unmarked (mid_of at k marks) ≡ true → number_of (take count (drop at memory)) ≡ None
-unwritten_is_none is_unmarked marks bytes memory at count k test is same view any =
-    ap number_of (part_of marks bytes memory at count k is view)
-    ∙ number_of-unmarked is_unmarked (mid_of at k marks) (mid_of at k bytes) test (same_parts marks bytes at k same) any
-
-pub written_is_number : (is_unmarked : Bool → Bool) (marks : List Bool) (bytes : List ℕ) (memory : List FrameByte) (at count k : ℕ) → is_unmarked false ≡ true → is_unmarked true ≡ false → k ≡ count → length marks ≡ length bytes → frame_bytes marks bytes ≡ memory → list_any is_unmarked (mid_of at k marks) ≡ false → number_of (take count (drop at memory)) ≡ number_of (map Byte (mid_of at k bytes))
-written_is_number is_unmarked marks bytes memory at count k test other is same view any =
-    ap number_of (part_of marks bytes memory at count k is view
-    ∙ frame_bytes-all is_unmarked (mid_of at k marks) (mid_of at k bytes) test other (same_parts marks bytes at k same) any)
-
 contents : List FrameByte → List (Option Pointer) → FrameContents
 contents bytes slots = record { bytes = bytes; slots = slots }
 
--- bytes written over those of a frame, and their marks
-pub call_writes : (marks : List Bool) (bytes : List ℕ) (slots : List (Option Pointer)) (frame : FrameContents) (at k : ℕ) (written new_bytes : List ℕ) (new_marks : List Bool) → length marks ≡ length bytes → k ≡ length written → length (mid_of at k marks) ≡ length written → record { bytes = frame_bytes marks bytes; slots = slots } ≡ frame → new_bytes ≡ write bytes at written → new_marks ≡ replicate (length (mid_of at k marks)) true → (let new : FrameContents = record { bytes = frame_bytes (put_mid at k marks new_marks) new_bytes; slots = slots } in new) ≡ record frame { bytes = write frame.bytes at (map Byte written) }
-unfolding contents
-call_writes marks bytes slots frame at k written new_bytes new_marks same is long view low all =
-    let all_are : new_marks ≡ replicate (length written) true = all ∙ ap (λ (n : ℕ). replicate n true) long in
-    let put : new_bytes ≡ put_mid at k bytes written = low ∙ sym (put_mid_is_write bytes written at k is) in
-    let many : k ≡ length (map Byte written) = is ∙ sym (length-map written Byte) in
-    ap (λ (l : List ℕ). contents (frame_bytes (put_mid at k marks new_marks) l) slots) put
-    ∙ ap (λ (l : List Bool). contents (frame_bytes (put_mid at k marks l) (put_mid at k bytes written)) slots) all_are
-    ∙ ap (λ (l : List FrameByte). contents l slots)
-    (frame_bytes-put_mid marks bytes (replicate (length written) true) written at k same (length-replicate (length written) true)
-    ∙ ap (put_mid at k (frame_bytes marks bytes)) (frame_bytes-replicate (length written) written refl)
-    ∙ put_mid_is_write (frame_bytes marks bytes) (map Byte written) at k many)
-    ∙ ap (λ (f : FrameContents). contents (write f.bytes at (map Byte written)) f.slots) view
-
--- a frame over which nothing is written
-pub call_writes_nothing : (marks : List Bool) (bytes : List ℕ) (slots : List (Option Pointer)) (frame : FrameContents) (at : ℕ) (written new_bytes : List ℕ) → record { bytes = frame_bytes marks bytes; slots = slots } ≡ frame → written ≡ [] → new_bytes ≡ write bytes at written → (let new : FrameContents = record { bytes = frame_bytes marks new_bytes; slots = slots } in new) ≡ write_bytes frame at written
-unfolding contents
-call_writes_nothing marks bytes slots frame at written new_bytes view none low =
-    ap (λ (l : List ℕ). contents (frame_bytes marks l) slots) (low ∙ ap (write bytes at) none ∙ write-nothing bytes at) ∙ view
-    ∙ ap (λ (l : List FrameByte). contents l frame.slots) (sym (write-nothing frame.bytes at)) ∙ ap (write_bytes frame at) (sym none)
-
--- the low bytes of a number, and their marks
-pub store_writes : (marks : List Bool) (bytes : List ℕ) (slots : List (Option Pointer)) (frame : FrameContents) (at count k number : ℕ) (new_bytes : List ℕ) (new_marks : List Bool) → length marks ≡ length bytes → k ≡ count → length (mid_of at k marks) ≡ count → count ≤ 8 → record { bytes = frame_bytes marks bytes; slots = slots } ≡ frame → new_bytes ≡ take count (bytes_low_first 0 8 number) → new_marks ≡ replicate (length (mid_of at k marks)) true → (let new : FrameContents = record { bytes = frame_bytes (put_mid at k marks new_marks) (put_mid at k bytes new_bytes); slots = slots } in new) ≡ record frame { bytes = store frame.bytes at count number }
-unfolding contents
-store_writes marks bytes slots frame at count k number new_bytes new_marks same is long short view low all =
-    let written = bytes_low_first 0 count number in
-    let number_long : length written ≡ count = length-bytes_low_first 0 count number in
-    let low_is : new_bytes ≡ written = low ∙ take-bytes_low_first 0 8 count number short in
-    call_writes marks bytes slots frame at k written (put_mid at k bytes new_bytes) new_marks same (is ∙ sym number_long) (long ∙ sym number_long) view
-    (ap (put_mid at k bytes) low_is ∙ put_mid_is_write bytes written at k (is ∙ sym number_long)) all
-    ∙ ap (λ (l : List FrameByte). contents l frame.slots) (sym (store_is_write frame.bytes at count number))
-
--- a pointer that is kept, and the marks of its slot
-pub keep_writes : (marks : List Bool) (bytes : List ℕ) (slots : List (Option Pointer)) (frame : FrameContents) (slot k : ℕ) (pointer : Pointer) (new_marks : List Bool) → length marks ≡ length bytes → k ≡ SLOT_LENGTH → length (mid_of (SLOT_LENGTH * slot) k marks) ≡ SLOT_LENGTH → record { bytes = frame_bytes marks bytes; slots = slots } ≡ frame → new_marks ≡ replicate (length (mid_of (SLOT_LENGTH * slot) k marks)) false → (let new : FrameContents = record { bytes = frame_bytes (put_mid (SLOT_LENGTH * slot) k marks new_marks) bytes; slots = slice_set slots slot (Some pointer) } in new) ≡ keep_pointer frame slot pointer
-unfolding contents
-keep_writes marks bytes slots frame slot k pointer new_marks same is long view all =
-    let at = SLOT_LENGTH * slot in
-    let middle = mid_of at k bytes in
-    let wide : length middle ≡ SLOT_LENGTH = sym (same_parts marks bytes at k same) ∙ long in
-    let stays : put_mid at k bytes middle ≡ bytes = ap (λ (l : List ℕ). take at bytes ++ l) (take-append-drop k (drop at bytes)) ∙ take-append-drop at bytes in
-    ap (λ (l : List Bool). contents (frame_bytes (put_mid at k marks l) bytes) (slice_set slots slot (Some pointer))) (all ∙ ap (λ (n : ℕ). replicate n false) long)
-    ∙ ap (λ (l : List ℕ). contents (frame_bytes (put_mid at k marks (replicate SLOT_LENGTH false)) l) (slice_set slots slot (Some pointer))) (sym stays)
-    ∙ ap (λ (l : List FrameByte). contents l (slice_set slots slot (Some pointer)))
-    (frame_bytes-put_mid marks bytes (replicate SLOT_LENGTH false) middle at k same (length-replicate SLOT_LENGTH false ∙ sym wide)
-    ∙ ap (put_mid at k (frame_bytes marks bytes)) (frame_bytes-unmarked SLOT_LENGTH middle wide)
-    ∙ put_mid_is_write (frame_bytes marks bytes) (replicate SLOT_LENGTH Unwritten) at k (is ∙ sym (length-replicate SLOT_LENGTH Unwritten)))
-    ∙ ap (λ (f : FrameContents). keep_pointer f slot pointer) view
-
 -- bytes of a frame that are all written are those that a call reads
 
-written-frame_bytes : (marks : List Bool) (bytes : List ℕ) → length marks ≡ length bytes → all_written (frame_bytes marks bytes) ≡ true → written_bytes (frame_bytes marks bytes) ≡ bytes
+written-frame_bytes : (marks : List Bool) (bytes : List ℕ) → length marks ≡ length bytes → all_written (frame_bytes marks bytes) ≡ true
+    → written_bytes (frame_bytes marks bytes) ≡ bytes
 written-frame_bytes [] [] same all = refl
 written-frame_bytes [] (byte ∷ bytes) same all = absurd (omega arith)
 written-frame_bytes (mark ∷ marks) [] same all = absurd (omega arith)
-written-frame_bytes (true ∷ marks) (byte ∷ bytes) same all = ap (λ (l : List ℕ). byte ∷ l) (written-frame_bytes marks bytes (omega arith) all)
+written-frame_bytes (true ∷ marks) (byte ∷ bytes) same all =
+    ap (λ (l : List ℕ). byte ∷ l) (written-frame_bytes marks bytes (omega arith) all)
 written-frame_bytes (false ∷ marks) (byte ∷ bytes) same all = absurd (false≢true all)
 
-pub read_alike : (marks : List Bool) (bytes : List ℕ) (slots : List (Option Pointer)) (frame : FrameContents) (lent : FrameUse) (arguments : List ℕ) → length marks ≡ length bytes → record { bytes = frame_bytes marks bytes; slots = slots } ≡ frame → all_written (bytes_read lent arguments frame.bytes) ≡ true → bytes_read lent arguments bytes ≡ written_bytes (bytes_read lent arguments frame.bytes)
-read_alike marks bytes slots frame Nothing arguments same view all = refl
-read_alike marks bytes slots frame Writes arguments same view all = refl
-read_alike marks bytes slots frame Reads arguments same view all =
-    let at = second arguments in
-    let count = third arguments in
-    let part : take count (drop at frame.bytes) ≡ frame_bytes (mid_of at count marks) (mid_of at count bytes) =
-    part_of marks bytes frame.bytes at count count refl (ap (λ (f : FrameContents). f.bytes) view) in
-    sym (ap written_bytes part ∙ written-frame_bytes (mid_of at count marks) (mid_of at count bytes) (same_parts marks bytes at count same) (sym (ap all_written part) ∙ all))
-
 -- they are all written where each has its mark
-pub all_written-marks : (is_unmarked : Bool → Bool) (marks : List Bool) (bytes : List ℕ) (memory : List FrameByte) (at count k : ℕ) → is_unmarked false ≡ true → is_unmarked true ≡ false → k ≡ count → length marks ≡ length bytes → frame_bytes marks bytes ≡ memory → not (list_any is_unmarked (mid_of at k marks)) ≡ all_written (take count (drop at memory))
-all_written-marks is_unmarked marks bytes memory at count k test other is same view =
-    by_marks (mid_of at k marks) (mid_of at k bytes) (same_parts marks bytes at k same) ∙ sym (ap all_written (part_of marks bytes memory at count k is view))
-  where
-    by_marks : (marks : List Bool) (bytes : List ℕ) → length marks ≡ length bytes → not (list_any is_unmarked marks) ≡ all_written (frame_bytes marks bytes)
-    by_marks [] [] same = refl
-    by_marks [] (byte ∷ bytes) same = absurd (omega arith)
-    by_marks (mark ∷ marks) [] same = absurd (omega arith)
-    by_marks (true ∷ marks) (byte ∷ bytes) same = rw other (by_marks marks bytes (omega arith))
-    by_marks (false ∷ marks) (byte ∷ bytes) same = rw test refl
+written-marks : (is_unmarked : Bool → Bool) (marks : List Bool) (bytes : List ℕ) → is_unmarked false ≡ true → is_unmarked true ≡ false
+    → length marks ≡ length bytes → not (list_any is_unmarked marks) ≡ all_written (frame_bytes marks bytes)
+written-marks is_unmarked [] [] test other same = refl
+written-marks is_unmarked [] (byte ∷ bytes) test other same = absurd (omega arith)
+written-marks is_unmarked (mark ∷ marks) [] test other same = absurd (omega arith)
+written-marks is_unmarked (true ∷ marks) (byte ∷ bytes) test other same =
+    rw other (written-marks is_unmarked marks bytes test other (omega arith))
+written-marks is_unmarked (false ∷ marks) (byte ∷ bytes) test other same = rw test refl
+
+-- as many marks as bytes, at a frame's contents
+module _ (marks : List Bool) (bytes : List ℕ) (same : length marks ≡ length bytes) where
+  same_parts : (at k : ℕ) → length (mid_of at k marks) ≡ length (mid_of at k bytes)
+  same_parts at k = simp (length-take, length-drop) (ap (λ (n : ℕ). min k (n - at)) same)
+
+  -- marks and bytes put in place
+  frame_bytes-put_mid : (middle : List Bool) (new : List ℕ) (at k : ℕ) → length middle ≡ length new
+      → frame_bytes (put_mid at k marks middle) (put_mid at k bytes new) ≡ put_mid at k (frame_bytes marks bytes) (frame_bytes middle new)
+  frame_bytes-put_mid middle new at k long =
+      let front : length (take at marks) ≡ length (take at bytes) =
+      length-take at marks ∙ ap (λ (n : ℕ). min at n) same ∙ sym (length-take at bytes) in
+      frame_bytes-append (take at marks) (middle ++ drop k (drop at marks)) (take at bytes) (new ++ drop k (drop at bytes)) front
+      ∙ ap (λ (l : List FrameByte). l ++ frame_bytes (middle ++ drop k (drop at marks)) (new ++ drop k (drop at bytes)))
+      (sym (take-frame_bytes at marks bytes))
+      ∙ ap (λ (l : List FrameByte). take at (frame_bytes marks bytes) ++ l)
+      (frame_bytes-append middle (drop k (drop at marks)) new (drop k (drop at bytes)) long
+      ∙ ap (λ (l : List FrameByte). frame_bytes middle new ++ l)
+      (sym (drop-frame_bytes k (drop at marks) (drop at bytes))
+      ∙ ap (λ (l : List FrameByte). drop k l) (sym (drop-frame_bytes at marks bytes))))
+
+  -- a part of a memory, by its marks and bytes
+  module _ {memory : List FrameByte} (view : frame_bytes marks bytes ≡ memory) (at count k : ℕ) (is : k ≡ count) where
+    part_of : take count (drop at memory) ≡ frame_bytes (mid_of at k marks) (mid_of at k bytes)
+    part_of =
+        ap (λ (m : List FrameByte). take count (drop at m)) (sym view) ∙ ap (λ (n : ℕ). take n (drop at (frame_bytes marks bytes))) (sym is)
+        ∙ ap (λ (l : List FrameByte). take k l) (drop-frame_bytes at marks bytes) ∙ take-frame_bytes k (drop at marks) (drop at bytes)
+
+    pub unwritten_is_none : (is_unmarked : Bool → Bool) → is_unmarked true ≡ false → list_any is_unmarked (mid_of at k marks) ≡ true
+        → number_of (take count (drop at memory)) ≡ None
+    unwritten_is_none is_unmarked test any =
+        ap number_of part_of ∙ number_of-unmarked is_unmarked (mid_of at k marks) (mid_of at k bytes) test (same_parts at k) any
+
+    pub written_is_number : (is_unmarked : Bool → Bool) → is_unmarked false ≡ true → is_unmarked true ≡ false
+        → list_any is_unmarked (mid_of at k marks) ≡ false
+        → number_of (take count (drop at memory)) ≡ number_of (map Byte (mid_of at k bytes))
+    written_is_number is_unmarked test other any =
+        ap number_of (part_of ∙ frame_bytes-all is_unmarked (mid_of at k marks) (mid_of at k bytes) test other (same_parts at k) any)
+
+    pub all_written-marks : (is_unmarked : Bool → Bool) → is_unmarked false ≡ true → is_unmarked true ≡ false
+        → not (list_any is_unmarked (mid_of at k marks)) ≡ all_written (take count (drop at memory))
+    all_written-marks is_unmarked test other =
+        written-marks is_unmarked (mid_of at k marks) (mid_of at k bytes) test other (same_parts at k) ∙ sym (ap all_written part_of)
+
+  -- bytes written over those of a frame, and their marks
+  pub call_writes : {slots : List (Option Pointer)} {frame : FrameContents} (at k : ℕ) (written : List ℕ) {new_bytes : List ℕ}
+      {new_marks : List Bool}
+      → k ≡ length written → length (mid_of at k marks) ≡ length written → record { bytes = frame_bytes marks bytes; slots = slots } ≡ frame
+      → new_bytes ≡ write bytes at written → new_marks ≡ replicate (length (mid_of at k marks)) true
+      → (let new : FrameContents = record { bytes = frame_bytes (put_mid at k marks new_marks) new_bytes; slots = slots } in new)
+      ≡ record frame { bytes = write frame.bytes at (map Byte written) }
+  unfolding contents
+  call_writes {slots} at k written {new_bytes} {new_marks} is long view low all =
+      let all_are : new_marks ≡ replicate (length written) true = all ∙ ap (λ (n : ℕ). replicate n true) long in
+      let put : new_bytes ≡ put_mid at k bytes written = low ∙ sym (put_mid_is_write bytes written at k is) in
+      let many : k ≡ length (map Byte written) = is ∙ sym (length-map written Byte) in
+      ap (λ (l : List ℕ). contents (frame_bytes (put_mid at k marks new_marks) l) slots) put
+      ∙ ap (λ (l : List Bool). contents (frame_bytes (put_mid at k marks l) (put_mid at k bytes written)) slots) all_are
+      ∙ ap (λ (l : List FrameByte). contents l slots)
+      (frame_bytes-put_mid (replicate (length written) true) written at k (length-replicate (length written) true)
+      ∙ ap (put_mid at k (frame_bytes marks bytes)) (frame_bytes-replicate (length written) written refl)
+      ∙ put_mid_is_write (frame_bytes marks bytes) (map Byte written) at k many)
+      ∙ ap (λ (f : FrameContents). contents (write f.bytes at (map Byte written)) f.slots) view
+
+  -- the low bytes of a number, and their marks
+  module _ (at count k : ℕ) (is : k ≡ count) (long : length (mid_of at k marks) ≡ count) (short : count ≤ 8) where
+    pub store_writes : {slots : List (Option Pointer)} {frame : FrameContents} (number : ℕ) {new_bytes : List ℕ} {new_marks : List Bool}
+        → record { bytes = frame_bytes marks bytes; slots = slots } ≡ frame → new_bytes ≡ take count (bytes_low_first 0 8 number)
+        → new_marks ≡ replicate (length (mid_of at k marks)) true
+        → (let new : FrameContents = record {
+          bytes = frame_bytes (put_mid at k marks new_marks) (put_mid at k bytes new_bytes);
+          slots = slots;
+        } in new)
+        ≡ record frame { bytes = store frame.bytes at count number }
+    unfolding contents
+    store_writes {frame} number {new_bytes} view low all =
+        let written = bytes_low_first 0 count number in
+        let number_long : length written ≡ count = length-bytes_low_first 0 count number in
+        let low_is : new_bytes ≡ written = low ∙ take-bytes_low_first 0 8 count number short in
+        call_writes at k written (is ∙ sym number_long) (long ∙ sym number_long) view
+        (ap (put_mid at k bytes) low_is ∙ put_mid_is_write bytes written at k (is ∙ sym number_long)) all
+        ∙ ap (λ (l : List FrameByte). contents l frame.slots) (sym (store_is_write frame.bytes at count number))
+
+  -- a pointer that is kept, and the marks of its slot
+  pub keep_writes : {slots : List (Option Pointer)} {frame : FrameContents} (slot k : ℕ) (pointer : Pointer) {new_marks : List Bool}
+      → k ≡ SLOT_LENGTH
+      → length (mid_of (SLOT_LENGTH * slot) k marks) ≡ SLOT_LENGTH → record { bytes = frame_bytes marks bytes; slots = slots } ≡ frame
+      → new_marks ≡ replicate (length (mid_of (SLOT_LENGTH * slot) k marks)) false
+      → (let new : FrameContents = record {
+        bytes = frame_bytes (put_mid (SLOT_LENGTH * slot) k marks new_marks) bytes;
+        slots = slice_set
+            slots slot (Some pointer);
+      } in new)
+      ≡ keep_pointer frame slot pointer
+  unfolding contents
+  keep_writes {slots} slot k pointer is long view all =
+      let at = SLOT_LENGTH * slot in
+      let middle = mid_of at k bytes in
+      let wide : length middle ≡ SLOT_LENGTH = sym (same_parts at k) ∙ long in
+      let stays : put_mid at k bytes middle ≡ bytes =
+      ap (λ (l : List ℕ). take at bytes ++ l) (take-append-drop k (drop at bytes)) ∙ take-append-drop at bytes in
+      ap (λ (l : List Bool). contents (frame_bytes (put_mid at k marks l) bytes) (slice_set slots slot (Some pointer)))
+      (all ∙ ap (λ (n : ℕ). replicate n false) long)
+      ∙ ap (λ (l : List ℕ). contents (frame_bytes (put_mid at k marks (replicate SLOT_LENGTH false)) l)
+      (slice_set slots slot (Some pointer))) (sym stays)
+      ∙ ap (λ (l : List FrameByte). contents l (slice_set slots slot (Some pointer)))
+      (frame_bytes-put_mid (replicate SLOT_LENGTH false) middle at k (length-replicate SLOT_LENGTH false ∙ sym wide)
+      ∙ ap (put_mid at k (frame_bytes marks bytes)) (frame_bytes-unmarked SLOT_LENGTH middle wide)
+      ∙ put_mid_is_write (frame_bytes marks bytes) (replicate SLOT_LENGTH Unwritten) at k
+      (is ∙ sym (length-replicate SLOT_LENGTH Unwritten)))
+      ∙ ap (λ (f : FrameContents). keep_pointer f slot pointer) view
+
+  pub read_alike : {slots : List (Option Pointer)} {frame : FrameContents} (lent : FrameUse) (arguments : List ℕ)
+      → record { bytes = frame_bytes marks bytes; slots = slots } ≡ frame → all_written (bytes_read lent arguments frame.bytes) ≡ true
+      → bytes_read lent arguments bytes ≡ written_bytes (bytes_read lent arguments frame.bytes)
+  read_alike Nothing arguments view all = refl
+  read_alike Writes arguments view all = refl
+  read_alike Reads arguments view all =
+      let at = second arguments in
+      let count = third arguments in
+      let part = part_of (ap (λ (f : FrameContents). f.bytes) view) at count count refl in
+      sym (ap written_bytes part
+      ∙ written-frame_bytes (mid_of at count marks) (mid_of at count bytes) (same_parts at count) (sym (ap all_written part) ∙ all))
+
+-- a frame over which nothing is written
+pub call_writes_nothing : (marks : List Bool) (bytes : List ℕ) {slots : List (Option Pointer)} {frame : FrameContents} (at : ℕ)
+    {written new_bytes : List ℕ} → record { bytes = frame_bytes marks bytes; slots = slots } ≡ frame → written ≡ []
+    → new_bytes ≡ write bytes at written
+    → (let new : FrameContents = record { bytes = frame_bytes marks new_bytes; slots = slots } in new) ≡ write_bytes frame at written
+unfolding contents
+call_writes_nothing marks bytes {slots} {frame} at view none low =
+    ap (λ (l : List ℕ). contents (frame_bytes marks l) slots) (low ∙ ap (write bytes at) none ∙ write-nothing bytes at) ∙ view
+    ∙ ap (λ (l : List FrameByte). contents l frame.slots) (sym (write-nothing frame.bytes at)) ∙ ap (write_bytes frame at) (sym none)
 
 -- what was stored is loaded, and other bytes stay
 
@@ -241,7 +302,8 @@ byte_at-is (suc i) number = refl
 -- the byte i of a number and those above it, so many
 one_byte_more : (i count number : ℕ) → byte_at i number + 256 * (number / 256 ^ suc i % 256 ^ count) ≡ number / 256 ^ i % 256 ^ suc count
 one_byte_more i count number =
-    let above : number / 256 ^ suc i ≡ number / 256 ^ i / 256 = ap (λ (n : ℕ). number / n) (pow-suc 256 i) ∙ sym (div-div-eq-div-mul number (256 ^ i) 256) in
+    let above : number / 256 ^ suc i ≡ number / 256 ^ i / 256 = ap (λ (n : ℕ). number / n) (pow-suc 256 i) ∙ sym
+    (div-div-eq-div-mul number (256 ^ i) 256) in
     let split : number / 256 ^ i % 256 ^ suc count ≡ (number / 256 ^ i / 256 % 256 ^ count) * 256 + number / 256 ^ i % 256 =
     ap (λ (n : ℕ). number / 256 ^ i % n) (pow-suc 256 count) ∙ mod-mul (number / 256 ^ i) (one-le-pow count 256 (lit< tt)) (lit< tt) in
     let low = byte_at-is i number in
@@ -251,7 +313,8 @@ one_byte_more i count number =
 number_of-low : (i count number : ℕ) → number_of (map Byte (bytes_low_first i count number)) ≡ Some (number / 256 ^ i % 256 ^ count)
 number_of-low i zero number = ap (λ (n : ℕ). Some n) (sym (mod-one (number / 256 ^ i)))
 number_of-low i (suc count) number =
-    ap (option_map (λ rest. byte_at i number + 256 * rest)) (number_of-low (suc i) count number) ∙ ap (λ (n : ℕ). Some n) (one_byte_more i count number)
+    ap (option_map (λ rest. byte_at i number + 256 * rest)) (number_of-low (suc i) count number)
+    ∙ ap (λ (n : ℕ). Some n) (one_byte_more i count number)
 
 -- the parts of a memory that was written
 front_is : (memory : List FrameByte) (at count : ℕ) → at + count ≤ length memory → length (take at memory) ≡ at
@@ -260,7 +323,8 @@ front_is memory at count within = length-take-le at memory (omega arith)
 low_is : (count number : ℕ) → length (map Byte (bytes_low_first 0 count number)) ≡ count
 low_is count number = length-map (bytes_low_first 0 count number) Byte ∙ length-bytes_low_first 0 count number
 
-pub stored_is_loaded : (memory : List FrameByte) (at count number : ℕ) → at + count ≤ length memory → number_of (take count (drop at (store memory at count number))) ≡ Some (number % 256 ^ count)
+pub stored_is_loaded : (memory : List FrameByte) (at count number : ℕ) → at + count ≤ length memory
+    → number_of (take count (drop at (store memory at count number))) ≡ Some (number % 256 ^ count)
 stored_is_loaded memory at count number within =
     let low = map Byte (bytes_low_first 0 count number) in
     let behind = drop (at + count) memory in
@@ -271,12 +335,14 @@ stored_is_loaded memory at count number within =
 
 -- what lies before the bytes written, and what lies behind them
 
-pub before_stays : (memory : List FrameByte) (at count number : ℕ) → at + count ≤ length memory → take at (store memory at count number) ≡ take at memory
+pub before_stays : (memory : List FrameByte) (at count number : ℕ) → at + count ≤ length memory
+    → take at (store memory at count number) ≡ take at memory
 before_stays memory at count number within =
     ap (take at) (append_assoc (take at memory) (map Byte (bytes_low_first 0 count number)) (drop (at + count) memory))
     ∙ take_at (take at memory) (map Byte (bytes_low_first 0 count number) ++ drop (at + count) memory) at (front_is memory at count within)
 
-pub behind_stays : (memory : List FrameByte) (at count number : ℕ) → at + count ≤ length memory → drop (at + count) (store memory at count number) ≡ drop (at + count) memory
+pub behind_stays : (memory : List FrameByte) (at count number : ℕ) → at + count ≤ length memory
+    → drop (at + count) (store memory at count number) ≡ drop (at + count) memory
 behind_stays memory at count number within =
     let low = map Byte (bytes_low_first 0 count number) in
     let long : length (take at memory ++ low) ≡ at + count =

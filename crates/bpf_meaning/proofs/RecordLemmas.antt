@@ -1,5 +1,6 @@
 -- A code that reads the record alone answers alike on segments of the same record: each step leads to the same configuration.
-use Rattle.std.proofs.Common.{◌≡◌, ℕ, ◌+◌, ◌-◌, ◌==◌, ◌&&◌, Bool, true, false, IsTrue, List, [], ◌∷◌, length, nat_lt, Option, Some, None, IfSome, Result, Ok, Err, if◌then◌else◌, refl, ap, ◌∙◌, subst}
+use Rattle.std.proofs.Common.{◌≡◌, ℕ, ◌+◌, ◌-◌, ◌==◌, ◌&&◌, Bool, true, false, IsTrue, List, [], ◌∷◌, length, nat_lt, Option, Some, None}
+use Rattle.std.proofs.Common.{IfSome, Result, Ok, Err, if◌then◌else◌, refl, ap, ◌∙◌, subst}
 use Rattle.std.specs.Int.{cast_unsigned, w32}
 use Rattle.std.proofs.lemmas.Bool.{false≢true}
 use Rattle.bpf_insn.specs.Code.{instruction_at, spelling}
@@ -35,7 +36,8 @@ both false other are = absurd (false≢true are)
 abbrev FoundAlone : Option Insn → Type 0
 FoundAlone found = IfSome found (λ insn. IsTrue (instruction_reads_record_alone insn))
 
-first_or_later : (insn : Insn) (later : Option Insn) (begins inside : Bool) → IsTrue (instruction_reads_record_alone insn) → FoundAlone later → FoundAlone (if begins then Some insn else (if inside then None else later))
+first_or_later : (insn : Insn) (later : Option Insn) (begins inside : Bool) → IsTrue (instruction_reads_record_alone insn)
+    → FoundAlone later → FoundAlone (if begins then Some insn else (if inside then None else later))
 first_or_later insn later true inside first rest = first
 first_or_later insn later false true first rest = tt
 first_or_later insn later false false first rest = rest
@@ -45,14 +47,16 @@ found_alone [] place alone = tt
 found_alone (insn ∷ code) place alone =
     let each = both (instruction_reads_record_alone insn) (reads_record_alone code) alone in
     let later = place - length (spelling insn) in
-    first_or_later insn (instruction_at code later) (place == 0) (nat_lt place (length (spelling insn))) each.0 (found_alone code later each.1)
+    first_or_later insn (instruction_at code later) (place == 0) (nat_lt place (length (spelling insn))) each.0
+    (found_alone code later each.1)
 
 -- a change by an instruction that reads the record alone: a helper function that it calls does, too
 abbrev IsOfRecord : Change → Type 0
 IsOfRecord (CallHelper called arguments) = IsTrue (helper.reads_record_alone called)
 IsOfRecord change = Unit {0}
 
-call_of_record : (state : State) (found : Option Helper) → IsTrue (call_reads_record_alone found) → IfPasses IsOfRecord (call_change state found)
+call_of_record : (state : State) (found : Option Helper) → IsTrue (call_reads_record_alone found)
+    → IfPasses IsOfRecord (call_change state found)
 call_of_record state None alone = tt
 call_of_record state (Some called) alone =
     then_passes IsOfRecord (arguments_in state (signature called).arguments >>= lend_frame state (frame_use (signature called).shape))
@@ -64,26 +68,32 @@ changes_of_record state insn alone = record {
   set = λ register value. tt;
   store_bytes = λ from size number inside. tt;
   store_pointer = λ from size pointer slot is inside. tt;
-  call = λ immediate is. call_of_record state (by_number (cast_unsigned w32 immediate)) (subst (λ (x : Insn). IsTrue (instruction_reads_record_alone x)) is alone);
+  call = λ immediate is. call_of_record state (by_number (cast_unsigned w32 immediate))
+      (subst (λ (x : Insn). IsTrue (instruction_reads_record_alone x)) is alone);
 }
 
 -- an instruction has the same effect on segments of the same record: but for loads, which read the record, no check reads the segment
 
-rows_alike : (code : List Insn) (segment other : Contents) (state : State) (next : ℕ) (insn : Insn) → segment.bytes ≡ other.bytes → instruction_effect code segment state next insn ≡ instruction_effect code other state next insn
-rows_alike code segment other state next insn same = ap (λ (bytes : List ℕ). instruction_effect code (record segment { bytes = bytes }) state next insn) same
+rows_alike : (code : List Insn) (segment other : Contents) (state : State) (next : ℕ) (insn : Insn) → segment.bytes ≡ other.bytes
+    → instruction_effect code segment state next insn ≡ instruction_effect code other state next insn
+rows_alike code segment other state next insn same = ap
+    (λ (bytes : List ℕ). instruction_effect code (record segment { bytes = bytes }) state next insn) same
 
 -- a change that is of the record is carried out alike
 
-changes_alike : (segment other : Contents) (state : State) (change : Change) → IsOfRecord change → segment.bytes ≡ other.bytes → carry_out segment state change ≡ carry_out other state change
+changes_alike : (segment other : Contents) (state : State) (change : Change) → IsOfRecord change → segment.bytes ≡ other.bytes
+    → carry_out segment state change ≡ carry_out other state change
 changes_alike segment other state Nothing is same = refl
 changes_alike segment other state (SetRegister register value) is same = refl
 changes_alike segment other state (StoreBytes at size number) is same = refl
 changes_alike segment other state (StorePointer slot pointer) is same = refl
 changes_alike segment other state (CallHelper called arguments) is same =
     ap (state_after state (second arguments))
-    (calls_alike called segment other arguments (written_bytes (bytes_read (frame_use (signature called).shape) arguments state.frame.bytes)) state.score is same)
+    (calls_alike called segment other arguments (written_bytes
+    (bytes_read (frame_use (signature called).shape) arguments state.frame.bytes)) state.score is same)
 
-applied_alike : (segment other : Contents) (state : State) (result : Result Effect Cause) → IfPasses (GoesOnWith IsOfRecord) result → segment.bytes ≡ other.bytes → next_of segment state result ≡ next_of other state result
+applied_alike : (segment other : Contents) (state : State) (result : Result Effect Cause) → IfPasses (GoesOnWith IsOfRecord) result
+    → segment.bytes ≡ other.bytes → next_of segment state result ≡ next_of other state result
 applied_alike segment other state (Ok (GoOn change place)) is same =
     ap (λ (there : State). Running (record there { place = place })) (changes_alike segment other state change is same)
 applied_alike segment other state (Ok (End answer)) is same = refl
@@ -91,27 +101,33 @@ applied_alike segment other state (Err cause) is same = refl
 
 -- so a step leads to the same configuration
 
-found_alike : (code : List Insn) (segment other : Contents) (state : State) (found : Option Insn) → FoundAlone found → segment.bytes ≡ other.bytes → next_of segment state (effect_of code segment state found) ≡ next_of other state (effect_of code other state found)
+found_alike : (code : List Insn) (segment other : Contents) (state : State) (found : Option Insn) → FoundAlone found
+    → segment.bytes ≡ other.bytes → next_of segment state (effect_of code segment state found) ≡ next_of other state
+    (effect_of code other state found)
 found_alike code segment other state None alone same = refl
 found_alike code segment other state (Some insn) alone same =
     let next = state.place + length (spelling insn) in
-    applied_alike segment other state (instruction_effect code segment state next insn) (effect_is_such code segment state next IsOfRecord insn (changes_of_record state insn alone)) same
+    applied_alike segment other state (instruction_effect code segment state next insn)
+    (effect_is_such code segment state next IsOfRecord insn (changes_of_record state insn alone)) same
     ∙ ap (next_of other state) (rows_alike code segment other state next insn same)
 
-pub steps_alike : (code : List Insn) (segment other : Contents) (state : State) → IsTrue (reads_record_alone code) → segment.bytes ≡ other.bytes → after code segment state ≡ after code other state
+pub steps_alike : (code : List Insn) (segment other : Contents) (state : State) → IsTrue (reads_record_alone code)
+    → segment.bytes ≡ other.bytes → after code segment state ≡ after code other state
 unfolding after
 steps_alike code segment other state alone same =
     found_alike code segment other state (instruction_at code state.place) (found_alone code state.place alone) same
 
 -- and a run on one segment is a run on the other
-pub runs_alike : (code : List Insn) (segment other : Contents) (from : Configuration) (run : List Configuration) → IsTrue (reads_record_alone code) → segment.bytes ≡ other.bytes → FollowSteps code segment from run → FollowSteps code other from run
+pub runs_alike : (code : List Insn) (segment other : Contents) (from : Configuration) (run : List Configuration)
+    → IsTrue (reads_record_alone code) → segment.bytes ≡ other.bytes → FollowSteps code segment from run → FollowSteps code other from run
 runs_alike code segment other from [] alone same follow = tt
 runs_alike code segment other (Running state) (next ∷ run) alone same follow =
     (follow.0 ∙ steps_alike code segment other state alone same, runs_alike code segment other next run alone same follow.1)
 runs_alike code segment other (Exited answer score) (next ∷ run) alone same follow = absurd follow.0
 runs_alike code segment other (Stuck place cause) (next ∷ run) alone same follow = absurd follow.0
 
-pub answers_alike : (code : List Insn) (segment other : Contents) (answer score : ℕ) → IsTrue (reads_record_alone code) → segment.bytes ≡ other.bytes → Answers code segment answer score → Answers code other answer score
+pub answers_alike : (code : List Insn) (segment other : Contents) (answer score : ℕ) → IsTrue (reads_record_alone code)
+    → segment.bytes ≡ other.bytes → Answers code segment answer score → Answers code other answer score
 answers_alike code segment other answer score alone same answers = record {
   run = answers.run;
   is_run = runs_alike code segment other (Running start) answers.run alone same answers.is_run;

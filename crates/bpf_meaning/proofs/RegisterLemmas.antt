@@ -1,5 +1,6 @@
 -- Which registers a call empties, and which it keeps.
-use Rattle.std.proofs.Common.{◌≡◌, ℕ, zero, suc, ◌≤◌, ℤ, List, get_or, Option, Some, None, Result, Ok, Err, refl, sym, ap, ◌∙◌, subst, arith}
+use Rattle.std.proofs.Common.{◌≡◌, ℕ, zero, suc, ◌≤◌, ℤ, List, get_or, Option, Some, None, Result, Ok, Err, refl, sym, ap, ◌∙◌, subst}
+use Rattle.std.proofs.Common.{arith}
 use Rattle.std.specs.Int.{cast_unsigned, w32}
 use Rattle.std.proofs.lemmas.List.{get_or-drop}
 use Rattle.bpf_insn.specs.Code.{instruction_at}
@@ -30,7 +31,8 @@ pub record IsAfterCall (old new : State) : Type 0 where
   pub empty : (register : ℕ) → 1 ≤ register → register ≤ 5 → register_value new register ≡ Empty
   pub kept : (register : ℕ) → 6 ≤ register → register_value new register ≡ register_value old register
 
-registers_empty : (answer : ℕ) (registers : List Value) (register : ℕ) → 1 ≤ register → register ≤ 5 → get_or (registers_after answer registers) register Empty ≡ Empty
+registers_empty : (answer : ℕ) (registers : List Value) (register : ℕ) → 1 ≤ register → register ≤ 5
+    → get_or (registers_after answer registers) register Empty ≡ Empty
 registers_empty answer registers zero from to = absurd (omega arith)
 registers_empty answer registers (suc zero) from to = refl
 registers_empty answer registers (suc (suc zero)) from to = refl
@@ -39,14 +41,16 @@ registers_empty answer registers (suc (suc (suc (suc zero)))) from to = refl
 registers_empty answer registers (suc (suc (suc (suc (suc zero))))) from to = refl
 registers_empty answer registers (suc (suc (suc (suc (suc (suc register)))))) from to = absurd (omega arith)
 
-registers_kept : (answer : ℕ) (registers : List Value) (register : ℕ) → 6 ≤ register → get_or (registers_after answer registers) register Empty ≡ get_or registers register Empty
+registers_kept : (answer : ℕ) (registers : List Value) (register : ℕ) → 6 ≤ register
+    → get_or (registers_after answer registers) register Empty ≡ get_or registers register Empty
 registers_kept answer registers zero from = absurd (omega arith)
 registers_kept answer registers (suc zero) from = absurd (omega arith)
 registers_kept answer registers (suc (suc zero)) from = absurd (omega arith)
 registers_kept answer registers (suc (suc (suc zero))) from = absurd (omega arith)
 registers_kept answer registers (suc (suc (suc (suc zero)))) from = absurd (omega arith)
 registers_kept answer registers (suc (suc (suc (suc (suc zero))))) from = absurd (omega arith)
-registers_kept answer registers (suc (suc (suc (suc (suc (suc register)))))) from = get_or-drop 6 registers register Empty ∙ ap (λ (n : ℕ). get_or registers n Empty) (omega arith)
+registers_kept answer registers (suc (suc (suc (suc (suc (suc register)))))) from =
+    get_or-drop 6 registers register Empty ∙ ap (λ (n : ℕ). get_or registers n Empty) (omega arith)
 
 -- an effect that is a call
 abbrev IsCall : Change → Type 0
@@ -62,7 +66,8 @@ change_is_call state (Some helper) =
     then_passes IsCall (arguments_in state (signature helper).arguments >>= lend_frame state (frame_use (signature helper).shape))
     (λ arguments. Ok (CallHelper helper arguments)) (λ arguments. tt)
 
-applies_call : (segment : Contents) (state : State) (result : Result Effect Cause) → IfPasses (GoesOnWith IsCall) result → IfRunning (IsAfterCall state) (next_of segment state result)
+applies_call : (segment : Contents) (state : State) (result : Result Effect Cause) → IfPasses (GoesOnWith IsCall) result
+    → IfRunning (IsAfterCall state) (next_of segment state result)
 applies_call segment state (Err cause) call = tt
 applies_call segment state (Ok (End answer)) call = tt
 applies_call segment state (Ok (GoOn Nothing place)) call = absurd call
@@ -74,10 +79,12 @@ applies_call segment state (Ok (GoOn (CallHelper helper arguments) place)) call 
   kept = registers_kept _ state.registers;
 }
 
-pub step_after_call : (code : List Insn) (segment : Contents) (state there : State) (immediate : ℤ) → instruction_at code state.place ≡ Some (Call immediate) → Step code segment (Running state) (Running there) → IsAfterCall state there
+pub step_after_call : (code : List Insn) (segment : Contents) (state there : State) (immediate : ℤ)
+    → instruction_at code state.place ≡ Some (Call immediate) → Step code segment (Running state) (Running there) → IsAfterCall state there
 unfolding after
 step_after_call code segment state there immediate at step =
     subst (IfRunning (IsAfterCall state)) (sym step)
     (applies_call segment state (effect code segment state)
     (subst (λ (found : Option Insn). IfPasses (GoesOnWith IsCall) (effect_of code segment state found)) (sym at)
-    (then_keeps IsCall (GoesOnWith IsCall) _ _ (change_is_call state (by_number (cast_unsigned w32 immediate))) (goes_on_with IsCall code _))))
+    (then_keeps IsCall (GoesOnWith IsCall) _ _ (change_is_call state (by_number (cast_unsigned w32 immediate)))
+    (goes_on_with IsCall code _))))

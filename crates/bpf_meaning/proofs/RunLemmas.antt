@@ -10,61 +10,71 @@ use Rattle.bpf_meaning.specs.declared.outcome.Outcome.{Outcome}
 use Rattle.bpf_meaning.specs.declared.outcome.Outcome.TheVariants as outcome
 use Rattle.bpf_meaning.specs.declared.state.State.{State}
 
--- a configuration that has a next isn't ended, and has one next
-pub one_next : (code : List Insn) (segment : Contents) (from next other : Configuration) → Step code segment from next → Step code segment from other → next ≡ other
-one_next code segment (Running state) next other a b = a ∙ sym b
-one_next code segment (Exited answer score) next other a b = absurd a
-one_next code segment (Stuck place cause) next other a b = absurd a
+module _ (code : List Insn) (segment : Contents) where
+  -- a configuration that has a next isn't ended, and has one next
+  pub one_next : (from next other : Configuration) → Step code segment from next → Step code segment from other → next ≡ other
+  one_next (Running state) next other a b = a ∙ sym b
+  one_next (Exited answer score) next other a b = absurd a
+  one_next (Stuck place cause) next other a b = absurd a
 
-pub running_goes_on : (code : List Insn) (segment : Contents) (state : State) → HasOneNext code segment (Running state)
-running_goes_on code segment state = record { next = after code segment state; is_next = refl; only = λ other step. step }
+  pub running_goes_on : (state : State) → HasOneNext code segment (Running state)
+  running_goes_on state = record { next = after code segment state; is_next = refl; only = λ other step. step }
 
-pub exited_ends : (code : List Insn) (segment : Contents) (answer score : ℕ) → HasNoNext code segment (Exited answer score)
-exited_ends code segment answer score next step = step
+  pub exited_ends : (answer score : ℕ) → HasNoNext code segment (Exited answer score)
+  exited_ends answer score next step = step
 
-pub stuck_ends : (code : List Insn) (segment : Contents) (place : ℕ) (cause : Cause) → HasNoNext code segment (Stuck place cause)
-stuck_ends code segment place cause next step = step
+  pub stuck_ends : (place : ℕ) (cause : Cause) → HasNoNext code segment (Stuck place cause)
+  stuck_ends place cause next step = step
 
--- two ways from one configuration agree as far as both go
-pub agree_from : (code : List Insn) (segment : Contents) (from : Configuration) (run longer : List Configuration) → FollowSteps code segment from run → FollowSteps code segment from longer → length run ≤ length longer → (rest : List Configuration) × (longer ≡ run ++ rest)
-agree_from code segment from [] longer f g short = (longer, refl)
-agree_from code segment from (next ∷ run) [] f g short = let no : ⊥ = omega (arith, short) in absurd no
-agree_from code segment from (next ∷ run) (there ∷ longer) f g short =
-    let same = one_next code segment from there next g.0 f.0 in
-    let more = agree_from code segment next run longer f.1 (subst (λ from. FollowSteps code segment from longer) same g.1) (omega (arith, short)) in
-    (more.0, ap (λ (c : Configuration). c ∷ longer) same ∙ ap (λ (l : List Configuration). next ∷ l) more.1)
+  -- two ways from one configuration agree as far as both go
+  pub agree_from : (from : Configuration) (run longer : List Configuration) → FollowSteps code segment from run
+      → FollowSteps code segment from longer → length run ≤ length longer → (rest : List Configuration) × (longer ≡ run ++ rest)
+  agree_from from [] longer f g short = (longer, refl)
+  agree_from from (next ∷ run) [] f g short = let no : ⊥ = omega (arith, short) in absurd no
+  agree_from from (next ∷ run) (there ∷ longer) f g short =
+      let same = one_next from there next g.0 f.0 in
+      let more = agree_from next run longer f.1 (subst (λ from. FollowSteps code segment from longer) same g.1) (omega (arith, short)) in
+      (more.0, ap (λ (c : Configuration). c ∷ longer) same ∙ ap (λ (l : List Configuration). next ∷ l) more.1)
 
-pub runs_agree_lem : (code : List Insn) (segment : Contents) (run longer : List Configuration) → IsRun code segment run → IsRun code segment longer → length run ≤ length longer → (rest : List Configuration) × (longer ≡ run ++ rest)
-runs_agree_lem code segment run longer f g short = agree_from code segment (Running start) run longer f g short
+  pub runs_agree_lem : (run longer : List Configuration) → IsRun code segment run → IsRun code segment longer → length run ≤ length longer
+      → (rest : List Configuration) × (longer ≡ run ++ rest)
+  runs_agree_lem run longer f g short = agree_from (Running start) run longer f g short
 
--- from an ended configuration nothing follows
-pub ends_there : (code : List Insn) (segment : Contents) (answer score : ℕ) (run : List Configuration) → FollowSteps code segment (Exited answer score) run → last_of (Exited answer score) run ≡ Exited answer score
-ends_there code segment answer score [] follow = refl
-ends_there code segment answer score (next ∷ run) follow = absurd follow.0
+  -- from an ended configuration nothing follows
+  pub ends_there : (answer score : ℕ) (run : List Configuration) → FollowSteps code segment (Exited answer score) run
+      → last_of (Exited answer score) run ≡ Exited answer score
+  ends_there answer score [] follow = refl
+  ends_there answer score (next ∷ run) follow = absurd follow.0
 
--- two ways that both exit, exit alike
-pub same_exit : (code : List Insn) (segment : Contents) (from : Configuration) (run others : List Configuration) (answer score other other_score : ℕ) → FollowSteps code segment from run → FollowSteps code segment from others → last_of from run ≡ Exited answer score → last_of from others ≡ Exited other other_score → Exited answer score ≡ Exited other other_score
-same_exit code segment from [] others answer score other other_score f g e h =
-    sym (ends_there code segment answer score others (subst (λ from. FollowSteps code segment from others) e g))
-    ∙ subst (λ from. last_of from others ≡ Exited other other_score) e h
-same_exit code segment from (next ∷ run) [] answer score other other_score f g e h =
-    absurd (subst (λ from. Step code segment from next) h f.0)
-same_exit code segment from (next ∷ run) (there ∷ others) answer score other other_score f g e h =
-    let same = one_next code segment from there next g.0 f.0 in
-    same_exit code segment next run others answer score other other_score f.1
-    (subst (λ from. FollowSteps code segment from others) same g.1) e (subst (λ from. last_of from others ≡ Exited other other_score) same h)
+  -- two ways that both exit, exit alike
+  pub same_exit : (from : Configuration) (run others : List Configuration) {answer score other other_score : ℕ}
+      → FollowSteps code segment from run → FollowSteps code segment from others → last_of from run ≡ Exited answer score
+      → last_of from others ≡ Exited other other_score → Exited answer score ≡ Exited other other_score
+  same_exit from [] others {answer} {score} {other} {other_score} f g e h =
+      sym (ends_there answer score others (subst (λ from. FollowSteps code segment from others) e g))
+      ∙ subst (λ from. last_of from others ≡ Exited other other_score) e h
+  same_exit from (next ∷ run) [] f g e h =
+      absurd (subst (λ from. Step code segment from next) h f.0)
+  same_exit from (next ∷ run) (there ∷ others) {other} {other_score} f g e h =
+      let same = one_next from there next g.0 f.0 in
+      same_exit next run others f.1
+      (subst (λ from. FollowSteps code segment from others) same g.1) e
+      (subst (λ from. last_of from others ≡ Exited other other_score) same h)
 
-pub one_answer_lem : (code : List Insn) (segment : Contents) (answer score other other_score : ℕ) → Answers code segment answer score → Answers code segment other other_score → (answer ≡ other) × (score ≡ other_score)
-one_answer_lem code segment answer score other other_score a b =
-    let same = same_exit code segment (Running start) a.run b.run answer score other other_score a.is_run b.is_run a.exits b.exits in
-    (cc, cc)
+  pub one_answer_lem : (answer score other other_score : ℕ) → Answers code segment answer score → Answers code segment other other_score
+      → (answer ≡ other) × (score ≡ other_score)
+  one_answer_lem answer score other other_score a b =
+      let same = same_exit (Running start) a.run b.run a.is_run b.is_run a.exits b.exits in
+      (cc, cc)
 
--- runs that grow at their end
+  -- runs that grow at their end
 
--- one step more
-pub follow_more : (code : List Insn) (segment : Contents) (from : Configuration) (run : List Configuration) (state : State) (next : Configuration) → FollowSteps code segment from run → last_of from run ≡ Running state → next ≡ after code segment state → FollowSteps code segment from (run ++ next ∷ [])
-follow_more code segment from [] state next follow ends is = (subst (λ (c : Configuration). Step code segment c next) (sym ends) is, tt)
-follow_more code segment from (there ∷ run) state next follow ends is = (follow.0, follow_more code segment there run state next follow.1 ends is)
+  -- one step more
+  pub follow_more : (from : Configuration) (run : List Configuration) (state : State) (next : Configuration)
+      → FollowSteps code segment from run → last_of from run ≡ Running state → next ≡ after code segment state
+      → FollowSteps code segment from (run ++ next ∷ [])
+  follow_more from [] state next follow ends is = (subst (λ (c : Configuration). Step code segment c next) (sym ends) is, tt)
+  follow_more from (there ∷ run) state next follow ends is = (follow.0, follow_more there run state next follow.1 ends is)
 
 pub last_of-more : (from : Configuration) (run : List Configuration) (next : Configuration) → last_of from (run ++ next ∷ []) ≡ next
 last_of-more from [] next = refl
@@ -84,7 +94,8 @@ pub record ComesTo (code : List Insn) (segment : Contents) (steps : ℕ) (next :
   pub ends : end_of run ≡ next
   pub long : length run ≡ steps + 1
 
-pub comes_to : (code : List Insn) (segment : Contents) (steps : ℕ) (state : State) (next : Configuration) → IsOnItsWay code segment steps state → next ≡ after code segment state → ComesTo code segment steps next
+pub comes_to : (code : List Insn) (segment : Contents) (steps : ℕ) (state : State) (next : Configuration)
+    → IsOnItsWay code segment steps state → next ≡ after code segment state → ComesTo code segment steps next
 comes_to code segment steps state next way is = record {
   run = way.run ++ next ∷ [];
   is_run = follow_more code segment (Running start) way.run state next way.is_run way.ends is;
@@ -92,19 +103,24 @@ comes_to code segment steps state next way is = record {
   long = length-append way.run (next ∷ []) ∙ ap (λ (n : ℕ). n + 1) way.long;
 }
 
-pub goes_on : (code : List Insn) (segment : Contents) (steps : ℕ) (state next : State) → IsOnItsWay code segment steps state → Running next ≡ after code segment state → IsOnItsWay code segment (steps + 1) next
+pub goes_on : (code : List Insn) (segment : Contents) (steps : ℕ) (state next : State) → IsOnItsWay code segment steps state
+    → Running next ≡ after code segment state → IsOnItsWay code segment (steps + 1) next
 goes_on code segment steps state next way is =
-    let way = comes_to code segment steps state (Running next) way is in record { run = way.run; is_run = way.is_run; ends = way.ends; long = way.long }
+    let way = comes_to code segment steps state (Running next) way is in
+    record { run = way.run; is_run = way.is_run; ends = way.ends; long = way.long }
 
 -- what a trace tells of a run that has ended, and of one that hasn't
-pub traces_end : (code : List Insn) (segment : Contents) (steps limit : ℕ) (state next : State) (ended : Outcome) → IsOnItsWay code segment steps state → steps < limit → configuration_of ended next ≡ after code segment state → (ended ≡ outcome.Running → ⊥) → IsTraced code segment limit ended
-traces_end code segment steps limit state next outcome.Running way less is ends = absurd (ends refl)
-traces_end code segment steps limit state next (outcome.Exit answer score) way less is ends =
+pub traces_end : {code : List Insn} {segment : Contents} {steps : ℕ} (limit : ℕ) {state : State} (next : State) (ended : Outcome)
+    → IsOnItsWay code segment steps state → steps < limit → configuration_of ended next ≡ after code segment state
+    → (ended ≡ outcome.Running → ⊥) → IsTraced code segment limit ended
+traces_end limit next outcome.Running way less is ends = absurd (ends refl)
+traces_end {code} {segment} {steps} limit {state} next (outcome.Exit answer score) way less is ends =
     let way = comes_to code segment steps state (Exited answer score) way is in
     record { run = way.run; is_run = way.is_run; ends = (way.ends, let long = way.long in omega arith) }
-traces_end code segment steps limit state next (outcome.Stuck place cause) way less is ends =
+traces_end {code} {segment} {steps} limit {state} next (outcome.Stuck place cause) way less is ends =
     let way = comes_to code segment steps state (Stuck place cause) way is in
     record { run = way.run; is_run = way.is_run; ends = (way.ends, let long = way.long in omega arith) }
 
-pub traces_on : (code : List Insn) (segment : Contents) (steps limit : ℕ) (state : State) → IsOnItsWay code segment steps state → steps ≡ limit → IsTraced code segment limit outcome.Running
+pub traces_on : (code : List Insn) (segment : Contents) (steps limit : ℕ) (state : State) → IsOnItsWay code segment steps state
+    → steps ≡ limit → IsTraced code segment limit outcome.Running
 traces_on code segment steps limit state way all = record { run = way.run; is_run = way.is_run; ends = (state, way.ends, way.long ∙ all) }

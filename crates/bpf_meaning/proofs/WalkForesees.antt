@@ -1,10 +1,12 @@
--- One domain foresees another: where each step of an instruction over the first is sound for that over the second, so is the whole walk. The
+-- One domain foresees another: where each step of an instruction over the first is sound for that over the second, so is the whole walk.
+-- The
 -- checks of an instruction are gone through here alone.
 use Rattle.std.proofs.Common.{◌≡◌, ℕ, ℤ, Option, Some, None, Result, refl}
 use Rattle.std.specs.Int.{cast_unsigned, w32}
 use Rattle.bpf_insn.specs.Jump.{jump_distance, words}
 use Rattle.bpf_insn.specs.declared.instruction.Insn.{Insn}
-use Rattle.bpf_insn.specs.declared.instruction.Insn.TheVariants.{Alu, MoveSignExtended, Negate, ByteSwap, JumpIf, Jump, Call, Exit, Load, StoreImmediate, Store, WideLoad}
+use Rattle.bpf_insn.specs.declared.instruction.Insn.TheVariants.{Alu, MoveSignExtended, Negate, ByteSwap, JumpIf, Jump, Call, Exit, Load}
+use Rattle.bpf_insn.specs.declared.instruction.Insn.TheVariants.{StoreImmediate, Store, WideLoad}
 use Rattle.bpf_insn.specs.declared.instruction.Operation.{Operation}
 use Rattle.bpf_insn.specs.declared.instruction.Operation.TheVariants.{Move}
 use Rattle.bpf_insn.specs.declared.instruction.Width.{Width}
@@ -43,7 +45,8 @@ InsnFits Fits insn = Unit {0}
 
 -- A domain foresees another at an instruction: their parts are related, and each step of the instruction keeps that.
 pub record Foresees (A B : Domain) (insn : Insn) : Type 1 where
-  -- immediates of which this is so; what is read from a register, of which more is known than of any value; and what is stored, which is read
+  -- immediates of which this is so; what is read from a register, of which more is known than of any value; and what is stored, which is
+  -- read
   -- or an immediate
   pub Fits : ℤ → Type 0
   pub Read : ℕ → A.Value → B.Value → Type 0
@@ -57,32 +60,58 @@ pub record Foresees (A B : Domain) (insn : Insn) : Type 1 where
   -- values
   pub read : (register : ℕ) → Sound (Read register) (A.read register) (B.read register)
   pub any : (register : ℕ) (x : A.Value) (v : B.Value) → Read register x v → Values x v
-  pub number_or : (cause : Cause) (register : ℕ) (x : A.Value) (v : B.Value) → Read register x v → Sound Numbers (A.number_or cause x) (B.number_or cause v)
+  pub number_or : (cause : Cause) (register : ℕ) (x : A.Value) (v : B.Value) → Read register x v
+      → Sound Numbers (A.number_or cause x) (B.number_or cause v)
   pub stored : (register : ℕ) (x : A.Value) (v : B.Value) → Read register x v → Stored x v
   pub stored_immediate : (immediate : ℤ) → Fits immediate → Stored (A.immediate immediate) (B.immediate immediate)
   pub pointer_in : (register : ℕ) → Sound Pointers (A.pointer_in register) (B.pointer_in register)
   pub immediate : (immediate : ℤ) → Fits immediate → Values (A.immediate immediate) (B.immediate immediate)
   -- arithmetic
-  pub wide : (immediate next : ℤ) → Fits immediate × Fits next → Values (A.number (A.wide immediate next)) (B.number (B.wide immediate next))
-  pub extend : (extension : SignExtension) (x : A.Number) (n : B.Number) → Numbers x n → Values (A.number (A.extend extension x)) (B.number (B.extend extension n))
-  pub negate : (width : Width) (x : A.Number) (n : B.Number) → Numbers x n → Values (A.number (A.negate width x)) (B.number (B.negate width n))
-  pub byte_swap : (order : ByteOrder) (width : SwapWidth) (x : A.Number) (n : B.Number) → Numbers x n → Values (A.number (A.byte_swap order width x)) (B.number (B.byte_swap order width n))
+  pub wide : (immediate next : ℤ) → Fits immediate × Fits next
+      → Values (A.number (A.wide immediate next)) (B.number (B.wide immediate next))
+  pub extend : (extension : SignExtension) (x : A.Number) (n : B.Number) → Numbers x n
+      → Values (A.number (A.extend extension x)) (B.number (B.extend extension n))
+  pub negate : (width : Width) (x : A.Number) (n : B.Number) → Numbers x n
+      → Values (A.number (A.negate width x)) (B.number (B.negate width n))
+  pub byte_swap : (order : ByteOrder) (width : SwapWidth) (x : A.Number) (n : B.Number) → Numbers x n
+      → Values (A.number (A.byte_swap order width x)) (B.number (B.byte_swap order width n))
   pub move : (width : Width) (x : A.Value) (v : B.Value) → Values x v → Sound Values (A.move width x) (B.move width v)
-  pub operate : (operation : Operation) (width : Width) (x y : A.Value) (v w : B.Value) → Values x v → Values y w → Sound Values (A.operate operation width x y) (B.operate operation width v w)
+  pub operate : (operation : Operation) (width : Width) (x y : A.Value) (v w : B.Value) → Values x v → Values y w
+      → Sound Values (A.operate operation width x y) (B.operate operation width v w)
   -- memory and calls
-  pub load : (format : LoadFormat) (p : A.Pointer) (q : B.Pointer) (offset : ℤ) → Pointers p q → Sound Values (A.load format p offset) (B.load format q offset)
+  pub load : (format : LoadFormat) (p : A.Pointer) (q : B.Pointer) (offset : ℤ) → Pointers p q
+      → Sound Values (A.load format p offset) (B.load format q offset)
   pub frame : (p : A.Pointer) (q : B.Pointer) (offset : ℤ) → Pointers p q → Sound (Offsets offset) (A.frame p offset) (B.frame q offset)
-  pub store_at : (x : A.Offset) (from : B.Offset) (offset : ℤ) (size : StoreSize) (v : A.Value) (w : B.Value) → Offsets offset x from → Stored v w → Sound Changes (A.store_at x offset size v) (B.store_at from offset size w)
+  pub store_at : (x : A.Offset) (from : B.Offset) (offset : ℤ) (size : StoreSize) (v : A.Value) (w : B.Value) → Offsets offset x from
+      → Stored v w → Sound Changes (A.store_at x offset size v) (B.store_at from offset size w)
   pub call : (helper : Helper) → Sound Changes (A.call helper) (B.call helper)
   -- what comes next
-  pub set : GoesOn insn → (destination : WritableRegister) (x : A.Value) (v : B.Value) → Values x v → Sound Outcomes (A.set destination x) (B.set destination v)
-  pub go_on : GoesOn insn → (behind : A.Change) (change : B.Change) → Changes behind change → Sound Outcomes (A.go_on behind) (B.go_on change)
+  pub set : GoesOn insn → (destination : WritableRegister) (x : A.Value) (v : B.Value) → Values x v
+      → Sound Outcomes (A.set destination x) (B.set destination v)
+  pub go_on : GoesOn insn → (behind : A.Change) (change : B.Change) → Changes behind change
+      → Sound Outcomes (A.go_on behind) (B.go_on change)
   pub jump : (distance : ℤ) → jump_distance insn ≡ Some distance → Sound Outcomes (A.jump distance) (B.jump distance)
-  pub with_immediate : GoesOn insn → (condition : Condition) (width : Width) (left : RegisterParts) (immediate distance : ℤ) (x : A.Value) (v : B.Value) → Fits immediate → jump_distance insn ≡ Some distance → Read left.number x v
-      → let jump : ConditionalJump = record { condition = condition; width = width; left = left; right = Immediate immediate; distance = distance } in
+  pub with_immediate : GoesOn insn → (condition : Condition) (width : Width) (left : RegisterParts) (immediate distance : ℤ) (x : A.Value)
+      (v : B.Value) → Fits immediate → jump_distance insn ≡ Some distance → Read left.number x v
+      → let jump : ConditionalJump = record {
+        condition = condition;
+        width = width;
+        left = left;
+        right = Immediate immediate;
+        distance =
+            distance;
+      } in
       Sound Outcomes (A.branch jump x (A.compared width immediate)) (B.branch jump v (B.compared width immediate))
-  pub with_register : GoesOn insn → (condition : Condition) (width : Width) (left right : RegisterParts) (distance : ℤ) (x y : A.Value) (v w : B.Value) → jump_distance insn ≡ Some distance → Read left.number x v → Read right.number y w
-      → let jump : ConditionalJump = record { condition = condition; width = width; left = left; right = Register right; distance = distance } in
+  pub with_register : GoesOn insn → (condition : Condition) (width : Width) (left right : RegisterParts) (distance : ℤ) (x y : A.Value)
+      (v w : B.Value) → jump_distance insn ≡ Some distance → Read left.number x v → Read right.number y w
+      → let jump : ConditionalJump = record {
+        condition = condition;
+        width = width;
+        left = left;
+        right = Register right;
+        distance =
+            distance;
+      } in
       Sound Outcomes (A.branch jump x y) (B.branch jump v w)
   pub end : (x : A.Number) (n : B.Number) → Numbers x n → Sound Outcomes (A.end x) (B.end n)
 
@@ -96,36 +125,48 @@ module _ (A B : Domain) (insn : Insn) (f : Foresees A B insn) where
 
   stored_foreseen : (source : Source) → SourceFits f.Fits source → Sound f.Stored (operand A.registers source) (operand B.registers source)
   stored_foreseen (Immediate immediate) fits = f.stored_immediate immediate fits
-  stored_foreseen (Register register) fits = weaker (f.Read register.number) f.Stored _ _ (f.stored register.number) (f.read register.number)
+  stored_foreseen (Register register) fits = weaker (f.Read register.number) f.Stored _ _ (f.stored register.number)
+      (f.read register.number)
 
-  operation_foreseen : (operation : Operation) (width : Width) (destination : ℕ) (source : Source) → SourceFits f.Fits source → Sound f.Values (operation_value A.registers operation width destination source) (operation_value B.registers operation width destination source)
+  operation_foreseen : (operation : Operation) (width : Width) (destination : ℕ) (source : Source) → SourceFits f.Fits source
+      → Sound f.Values (operation_value A.registers operation width destination source)
+      (operation_value B.registers operation width destination source)
   operation_foreseen Move width destination source fits = then_sound f.Values f.Values _ _ _ _ (operand_foreseen source fits) (f.move width)
   operation_foreseen operation width destination source fits =
       then_sound f.Values f.Values _ _ _ _ (values_read destination) (λ x v left.
       then_sound f.Values f.Values _ _ _ _ (operand_foreseen source fits) (λ y w right. f.operate operation width x y v w left right))
 
-  value_written : GoesOn insn → (destination : WritableRegister) (a : Result A.Value Cause) (b : Result B.Value Cause) → Sound f.Values a b → Sound f.Outcomes (a >>= A.set destination) (b >>= B.set destination)
+  value_written : GoesOn insn → (destination : WritableRegister) (a : Result A.Value Cause) (b : Result B.Value Cause) → Sound f.Values a b
+      → Sound f.Outcomes (a >>= A.set destination) (b >>= B.set destination)
   value_written goes_on destination a b sound = then_sound f.Values f.Outcomes _ _ _ _ sound (f.set goes_on destination)
 
-  number_written : GoesOn insn → (register : ℕ) (destination : WritableRegister) (g : A.Number → A.Number) (h : B.Number → B.Number) → ((x : A.Number) (n : B.Number) → f.Numbers x n → f.Values (A.number (g x)) (B.number (h n)))
-      → Sound f.Outcomes (number_in A.registers register >>= λ x. A.set destination (A.number (g x))) (number_in B.registers register >>= λ x. B.set destination (B.number (h x)))
+  number_written : GoesOn insn → (register : ℕ) (destination : WritableRegister) (g : A.Number → A.Number) (h : B.Number → B.Number)
+      → ((x : A.Number) (n : B.Number) → f.Numbers x n → f.Values (A.number (g x)) (B.number (h n)))
+      → Sound f.Outcomes (number_in A.registers register >>= λ x. A.set destination (A.number (g x)))
+      (number_in B.registers register >>= λ x. B.set destination (B.number (h x)))
   number_written goes_on register destination g h all =
       then_sound f.Numbers f.Outcomes _ _ _ _ (then_sound (f.Read register) f.Numbers _ _ _ _ (f.read register) (f.number_or _ register))
       (λ x n numbers. f.set goes_on destination _ _ (all x n numbers))
 
-  compare_foreseen : GoesOn insn → (condition : Condition) (width : Width) (left : RegisterParts) (right : Source) (distance : ℤ) → SourceFits f.Fits right → jump_distance insn ≡ Some distance
+  compare_foreseen : GoesOn insn → (condition : Condition) (width : Width) (left : RegisterParts) (right : Source) (distance : ℤ)
+      → SourceFits f.Fits right → jump_distance insn ≡ Some distance
       → let jump : ConditionalJump = record { condition = condition; width = width; left = left; right = right; distance = distance } in
       Sound f.Outcomes (compare A jump) (compare B jump)
   compare_foreseen goes_on condition width left (Immediate immediate) distance fits jumps =
-      then_sound (f.Read left.number) f.Outcomes _ _ _ _ (f.read left.number) (λ x v first. f.with_immediate goes_on condition width left immediate distance x v fits jumps first)
+      then_sound (f.Read left.number) f.Outcomes _ _ _ _ (f.read left.number)
+      (λ x v first. f.with_immediate goes_on condition width left immediate distance x v fits jumps first)
   compare_foreseen goes_on condition width left (Register right) distance fits jumps =
       then_sound (f.Read left.number) f.Outcomes _ _ _ _ (f.read left.number) (λ x v first.
-      then_sound (f.Read right.number) f.Outcomes _ _ _ _ (f.read right.number) (λ y w second. f.with_register goes_on condition width left right distance x y v w jumps first second))
+      then_sound (f.Read right.number) f.Outcomes _ _ _ _ (f.read right.number)
+      (λ y w second. f.with_register goes_on condition width left right distance x y v w jumps first second))
 
-  load_foreseen : (format : LoadFormat) (base : ℕ) (offset : ℤ) → Sound f.Values (load_value A format base offset) (load_value B format base offset)
-  load_foreseen format base offset = then_sound f.Pointers f.Values _ _ _ _ (f.pointer_in base) (λ p q points. f.load format p q offset points)
+  load_foreseen : (format : LoadFormat) (base : ℕ) (offset : ℤ)
+      → Sound f.Values (load_value A format base offset) (load_value B format base offset)
+  load_foreseen format base offset = then_sound f.Pointers f.Values _ _ _ _ (f.pointer_in base)
+      (λ p q points. f.load format p q offset points)
 
-  store_foreseen : (size : StoreSize) (base : ℕ) (offset : ℤ) (source : Source) → SourceFits f.Fits source → Sound f.Changes (store A size base offset source) (store B size base offset source)
+  store_foreseen : (size : StoreSize) (base : ℕ) (offset : ℤ) (source : Source) → SourceFits f.Fits source
+      → Sound f.Changes (store A size base offset source) (store B size base offset source)
   store_foreseen size base offset source fits =
       then_sound f.Pointers f.Changes _ _ _ _ (f.pointer_in base) (λ p q points.
       then_sound (f.Offsets offset) f.Changes _ _ _ _ (f.frame p q offset points) (λ x from is.
@@ -135,22 +176,33 @@ module _ (A B : Domain) (insn : Insn) (f : Foresees A B insn) where
   call_foreseen None = tt
   call_foreseen (Some helper) = f.call helper
 
-  change_made : GoesOn insn → (a : Result A.Change Cause) (b : Result B.Change Cause) → Sound f.Changes a b → Sound f.Outcomes (a >>= A.go_on) (b >>= B.go_on)
+  change_made : GoesOn insn → (a : Result A.Change Cause) (b : Result B.Change Cause) → Sound f.Changes a b
+      → Sound f.Outcomes (a >>= A.go_on) (b >>= B.go_on)
   change_made goes_on a b sound = then_sound f.Changes f.Outcomes _ _ _ _ sound (f.go_on goes_on)
 
 -- where one domain foresees another, the walk over it is sound for that over the other: each row of the instruction table
-pub walk_foreseen : (A B : Domain) (insn : Insn) (f : Foresees A B insn) → InsnFits f.Fits insn → Sound f.Outcomes (walk A insn) (walk B insn)
-walk_foreseen A B (Alu operation width destination source) f fits = value_written A B _ f (λ e. cc) destination _ _ (operation_foreseen A B _ f operation width destination.number source fits)
-walk_foreseen A B (MoveSignExtended extension destination source) f fits = number_written A B _ f (λ e. cc) source.number destination _ _ (f.extend extension)
+pub walk_foreseen : (A B : Domain) (insn : Insn) (f : Foresees A B insn) → InsnFits f.Fits insn
+    → Sound f.Outcomes (walk A insn) (walk B insn)
+walk_foreseen A B (Alu operation width destination source) f fits =
+    value_written A B _ f (λ e. cc) destination _ _ (operation_foreseen A B _ f operation width destination.number source fits)
+walk_foreseen A B (MoveSignExtended extension destination source) f fits =
+    number_written A B _ f (λ e. cc) source.number destination _ _ (f.extend extension)
 walk_foreseen A B (Negate width destination) f fits = number_written A B _ f (λ e. cc) destination.number destination _ _ (f.negate width)
-walk_foreseen A B (ByteSwap order width destination) f fits = number_written A B _ f (λ e. cc) destination.number destination _ _ (f.byte_swap order width)
-walk_foreseen A B (JumpIf condition width left right distance) f fits = compare_foreseen A B _ f (λ e. cc) condition width left right distance fits refl
+walk_foreseen A B (ByteSwap order width destination) f fits =
+    number_written A B _ f (λ e. cc) destination.number destination _ _ (f.byte_swap order width)
+walk_foreseen A B (JumpIf condition width left right distance) f fits =
+    compare_foreseen A B _ f (λ e. cc) condition width left right distance fits refl
 walk_foreseen A B (Jump distance) f fits = f.jump (words distance) refl
-walk_foreseen A B (Call immediate) f fits = change_made A B _ f (λ e. cc) _ _ (call_foreseen A B _ f (by_number (cast_unsigned w32 immediate)))
-walk_foreseen A B Exit f fits = then_sound f.Numbers f.Outcomes _ _ _ _ (then_sound (f.Read 0) f.Numbers _ _ _ _ (f.read 0) (f.number_or _ 0)) f.end
-walk_foreseen A B (Load format destination base offset) f fits = value_written A B _ f (λ e. cc) destination _ _ (load_foreseen A B _ f format base.number offset)
-walk_foreseen A B (StoreImmediate size base offset immediate) f fits = change_made A B _ f (λ e. cc) _ _ (store_foreseen A B _ f size base.number offset (Immediate immediate) fits)
-walk_foreseen A B (Store size base offset source) f fits = change_made A B _ f (λ e. cc) _ _ (store_foreseen A B _ f size base.number offset (Register source) tt)
+walk_foreseen A B (Call immediate) f fits = change_made A B _ f (λ e. cc) _ _
+    (call_foreseen A B _ f (by_number (cast_unsigned w32 immediate)))
+walk_foreseen A B Exit f fits = then_sound f.Numbers f.Outcomes _ _ _ _
+    (then_sound (f.Read 0) f.Numbers _ _ _ _ (f.read 0) (f.number_or _ 0)) f.end
+walk_foreseen A B (Load format destination base offset) f fits =
+    value_written A B _ f (λ e. cc) destination _ _ (load_foreseen A B _ f format base.number offset)
+walk_foreseen A B (StoreImmediate size base offset immediate) f fits =
+    change_made A B _ f (λ e. cc) _ _ (store_foreseen A B _ f size base.number offset (Immediate immediate) fits)
+walk_foreseen A B (Store size base offset source) f fits = change_made A B _ f (λ e. cc) _ _
+    (store_foreseen A B _ f size base.number offset (Register source) tt)
 walk_foreseen A B (WideLoad destination immediate next) f fits = f.set (λ e. cc) destination _ _ (f.wide immediate next fits)
 
 -- any immediates will do

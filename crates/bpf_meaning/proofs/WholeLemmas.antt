@@ -1,6 +1,7 @@
 -- An effect whose checks have passed can be carried out. A state that has all its registers and a whole frame keeps them, and so does one
 -- whose frame holds bytes, or keeps pointers apart from bytes that are written.
-use Rattle.std.proofs.Common.{◌≡◌, ℕ, zero, suc, ◌+◌, ◌*◌, ◌/◌, ◌≤◌, ◌<◌, ℤ, pos, negsuc, true, List, [], ◌∷◌, length, map, get_or, replicate, unsigned_abs, Option, Some, None, Result, Ok, Err, refl, sym, ap, ◌∙◌, subst, arith, length-set}
+use Rattle.std.proofs.Common.{◌≡◌, ℕ, zero, suc, ◌+◌, ◌*◌, ◌/◌, ◌≤◌, ◌<◌, ℤ, pos, negsuc, true, List, [], ◌∷◌, length, map, get_or}
+use Rattle.std.proofs.Common.{replicate, unsigned_abs, Option, Some, None, Result, Ok, Err, refl, sym, ap, ◌∙◌, subst, arith, length-set}
 use Rattle.std.specs.Int.{bytes_low_first, cast_unsigned, w32}
 use Rattle.std.proofs.lemmas.Bool.{false≢true}
 use Rattle.std.proofs.lemmas.Bool.Decides.{nat_tests}
@@ -31,7 +32,8 @@ use Rattle.bpf_insn.proofs.SlotLemmas.{slot_at-is}
 use Rattle.bpf_meaning.proofs.SlotLemmas.{apart-keep_pointer, apart-store_number, length-overwrite_slots}
 use Rattle.bpf_helpers.proofs.WriteLemmas.{length-write}
 use Rattle.bpf_meaning.proofs.EffectLemmas.{GoesOnWith, AreSuch, effect_is_such}
-use Rattle.bpf_meaning.proofs.CallLemmas.{IfPasses, apart-frame_after, bytes-frame_after, called_can_be_made, length-frame_after, length-slots_after}
+use Rattle.bpf_meaning.proofs.CallLemmas.{IfPasses, apart-frame_after, bytes-frame_after, called_can_be_made, length-frame_after}
+use Rattle.bpf_meaning.proofs.CallLemmas.{length-slots_after}
 
 -- effects can be carried out
 
@@ -39,7 +41,8 @@ inside_ends : (from : ℤ) (count bytes : ℕ) → lie_within from count bytes �
 inside_ends (pos n) count bytes inside = grind (arith, nat_tests)
 inside_ends (negsuc n) count bytes inside = absurd (false≢true inside)
 
-slot_within : (from : ℤ) (size : StoreSize) (slot : ℕ) → slot_at (unsigned_abs from) (store_length size) ≡ Some slot → lie_within from (store_length size) FRAME_LENGTH ≡ true → slot < SLOTS
+slot_within : (from : ℤ) (size : StoreSize) (slot : ℕ) → slot_at (unsigned_abs from) (store_length size) ≡ Some slot
+    → lie_within from (store_length size) FRAME_LENGTH ≡ true → slot < SLOTS
 slot_within from size slot is inside =
     let found = slot_at-is (unsigned_abs from) (store_length size) slot is in
     let all = found.0 in
@@ -56,22 +59,29 @@ changes_within state insn = record {
   call = λ immediate is. called_can_be_made state (by_number (cast_unsigned w32 immediate));
 }
 
-carried_out : (state : State) (result : Result Effect Cause) → IfPasses (GoesOnWith (CanBeMade state)) result → IfPasses (CanBeCarriedOut state) result
+carried_out : (state : State) (result : Result Effect Cause) → IfPasses (GoesOnWith (CanBeMade state)) result
+    → IfPasses (CanBeCarriedOut state) result
 carried_out state (Ok (GoOn change place)) can = can
 carried_out state (Ok (End answer)) can = tt
 carried_out state (Err cause) can = tt
 
-found_within : (code : List Insn) (segment : Contents) (state : State) (found : Option Insn) → IfPasses (CanBeCarriedOut state) (effect_of code segment state found)
+found_within : (code : List Insn) (segment : Contents) (state : State) (found : Option Insn)
+    → IfPasses (CanBeCarriedOut state) (effect_of code segment state found)
 found_within code segment state None = tt
-found_within code segment state (Some insn) = carried_out state _ (effect_is_such code segment state _ (CanBeMade state) insn (changes_within state insn))
+found_within code segment state (Some insn) = carried_out state _
+    (effect_is_such code segment state _ (CanBeMade state) insn (changes_within state insn))
 
-pub effect_within : (code : List Insn) (segment : Contents) (state : State) (does : Effect) → Ok does ≡ effect code segment state → CanBeCarriedOut state does
-effect_within code segment state does is = subst (IfPasses (CanBeCarriedOut state)) (sym is) (found_within code segment state (instruction_at code state.place))
+pub effect_within : (code : List Insn) (segment : Contents) (state : State) (does : Effect) → Ok does ≡ effect code segment state
+    → CanBeCarriedOut state does
+effect_within code segment state does is = subst (IfPasses (CanBeCarriedOut state)) (sym is)
+    (found_within code segment state (instruction_at code state.place))
 
 -- a frame that is written keeps its length
-length-store : (memory : List FrameByte) (at count number : ℕ) → at + count ≤ length memory → length (store memory at count number) ≡ length memory
+length-store : (memory : List FrameByte) (at count number : ℕ) → at + count ≤ length memory
+    → length (store memory at count number) ≡ length memory
 length-store memory at count number within =
-    let long : length (map Byte (bytes_low_first 0 count number)) ≡ count = length-map (bytes_low_first 0 count number) Byte ∙ length-bytes_low_first 0 count number in
+    let long : length (map Byte (bytes_low_first 0 count number)) ≡ count =
+    length-map (bytes_low_first 0 count number) Byte ∙ length-bytes_low_first 0 count number in
     ap (λ (m : List FrameByte). length m) (store_is_write memory at count number)
     ∙ length-write memory (map Byte (bytes_low_first 0 count number)) at (omega arith)
 
@@ -82,17 +92,25 @@ IfRunning Such (Exited answer score) = Unit {0}
 IfRunning Such (Stuck place cause) = Unit {0}
 
 -- what holds at first and is kept by each step holds all along a run
-along_run : (Such : State → Type 0) (code : List Insn) (segment : Contents) → ((state there : State) → Such state → Step code segment (Running state) (Running there) → Such there) → (from : Configuration) (run : List Configuration) → IfRunning Such from → FollowSteps code segment from run → IfRunning Such (last_of from run)
+along_run : (Such : State → Type 0) (code : List Insn) (segment : Contents)
+    → ((state there : State) → Such state → Step code segment (Running state) (Running there) → Such there)
+    → (from : Configuration) (run : List Configuration) → IfRunning Such from → FollowSteps code segment from run
+    → IfRunning Such (last_of from run)
 along_run Such code segment kept from [] such follow = such
-along_run Such code segment kept (Running here) (Running there ∷ run) such follow = along_run Such code segment kept (Running there) run (kept here there such follow.0) follow.1
-along_run Such code segment kept (Running here) (Exited answer score ∷ run) such follow = along_run Such code segment kept (Exited answer score) run tt follow.1
-along_run Such code segment kept (Running here) (Stuck place cause ∷ run) such follow = along_run Such code segment kept (Stuck place cause) run tt follow.1
+along_run Such code segment kept (Running here) (Running there ∷ run) such follow =
+    along_run Such code segment kept (Running there) run (kept here there such follow.0) follow.1
+along_run Such code segment kept (Running here) (Exited answer score ∷ run) such follow =
+    along_run Such code segment kept (Exited answer score) run tt follow.1
+along_run Such code segment kept (Running here) (Stuck place cause ∷ run) such follow =
+    along_run Such code segment kept (Stuck place cause) run tt follow.1
 along_run Such code segment kept (Exited answer score) (next ∷ run) such follow = absurd follow.0
 along_run Such code segment kept (Stuck place cause) (next ∷ run) such follow = absurd follow.0
 
-carries_out_whole : (segment : Contents) (state : State) (change : Change) → CanBeMade state change → IsWhole state → IsWhole (carry_out segment state change)
+carries_out_whole : (segment : Contents) (state : State) (change : Change) → CanBeMade state change → IsWhole state
+    → IsWhole (carry_out segment state change)
 carries_out_whole segment state Nothing can whole = whole
-carries_out_whole segment state (SetRegister register value) can whole = record { registers = simp length-set whole.registers; frame = whole.frame; slots = whole.slots }
+carries_out_whole segment state (SetRegister register value) can whole =
+    record { registers = simp length-set whole.registers; frame = whole.frame; slots = whole.slots }
 carries_out_whole segment state (StoreBytes at size number) can whole = record {
   registers = whole.registers;
   frame = let same = whole.frame in length-store state.frame.bytes at (store_length size) number (omega arith) ∙ whole.frame;
@@ -100,7 +118,8 @@ carries_out_whole segment state (StoreBytes at size number) can whole = record {
 }
 carries_out_whole segment state (StorePointer slot pointer) can whole = record {
   registers = whole.registers;
-  frame = let same = whole.frame in length-write state.frame.bytes (replicate SLOT_LENGTH Unwritten) (SLOT_LENGTH * slot) (omega arith) ∙ whole.frame;
+  frame = let same = whole.frame in length-write state.frame.bytes (replicate SLOT_LENGTH Unwritten) (SLOT_LENGTH * slot) (omega arith)
+      ∙ whole.frame;
   slots = simp length-set whole.slots;
 }
 carries_out_whole segment state (CallHelper helper arguments) can whole = record {
@@ -109,23 +128,28 @@ carries_out_whole segment state (CallHelper helper arguments) can whole = record
   slots = length-slots_after segment state helper arguments can whole.slots;
 }
 
-applies_whole : (segment : Contents) (state : State) (result : Result Effect Cause) → IfPasses (CanBeCarriedOut state) result → IsWhole state → (IfRunning IsWhole) (next_of segment state result)
+applies_whole : (segment : Contents) (state : State) (result : Result Effect Cause) → IfPasses (CanBeCarriedOut state) result
+    → IsWhole state → (IfRunning IsWhole) (next_of segment state result)
 applies_whole segment state (Ok (GoOn change place)) can whole =
-    let there = carries_out_whole segment state change can whole in record { registers = there.registers; frame = there.frame; slots = there.slots }
+    let there = carries_out_whole segment state change can whole in
+    record { registers = there.registers; frame = there.frame; slots = there.slots }
 applies_whole segment state (Ok (End answer)) can whole = tt
 applies_whole segment state (Err cause) can whole = tt
 
 -- a step from a whole state leads to a whole one
-pub step_whole : (code : List Insn) (segment : Contents) (state there : State) → IsWhole state → Step code segment (Running state) (Running there) → IsWhole there
+pub step_whole : (code : List Insn) (segment : Contents) (state there : State) → IsWhole state
+    → Step code segment (Running state) (Running there) → IsWhole there
 unfolding after
 step_whole code segment state there whole step =
-    subst (IfRunning IsWhole) (sym step) (applies_whole segment state (effect code segment state) (found_within code segment state (instruction_at code state.place)) whole)
+    subst (IfRunning IsWhole) (sym step) (applies_whole segment state (effect code segment state)
+    (found_within code segment state (instruction_at code state.place)) whole)
 
 start_whole : IsWhole start
 start_whole = record { registers = refl; frame = refl; slots = refl }
 
 -- so is each state that a run comes to
-pub run_whole : (code : List Insn) (segment : Contents) (run : List Configuration) (state : State) → IsRun code segment run → end_of run ≡ Running state → IsWhole state
+pub run_whole : (code : List Insn) (segment : Contents) (run : List Configuration) (state : State) → IsRun code segment run
+    → end_of run ≡ Running state → IsWhole state
 run_whole code segment run state is_run end =
     subst (IfRunning IsWhole) end (along_run IsWhole code segment (step_whole code segment) (Running start) run start_whole is_run)
 
@@ -139,27 +163,39 @@ unwritten_bytes (suc count) (suc at) = unwritten_bytes count at
 pub start_bytes : HoldsBytes start
 start_bytes = record { frame = unwritten_bytes FRAME_LENGTH }
 
-carries_out_bytes : (segment : Contents) (state : State) (change : Change) → IsSegment segment → CanBeMade state change → HoldsBytes state → HoldsBytes (carry_out segment state change)
+carries_out_bytes : (segment : Contents) (state : State) (change : Change) → IsSegment segment → CanBeMade state change → HoldsBytes state
+    → HoldsBytes (carry_out segment state change)
 carries_out_bytes segment state Nothing is can holds = holds
 carries_out_bytes segment state (SetRegister register value) is can holds = record { frame = holds.frame }
-carries_out_bytes segment state (StoreBytes at size number) is can holds = record { frame = bytes-store state.frame.bytes at (store_length size) number holds.frame }
+carries_out_bytes segment state (StoreBytes at size number) is can holds =
+    record { frame = bytes-store state.frame.bytes at (store_length size) number holds.frame }
 carries_out_bytes segment state (StorePointer slot pointer) is can holds =
-    record { frame = bytes-write state.frame.bytes (SLOT_LENGTH * slot) (replicate SLOT_LENGTH Unwritten) holds.frame (unwritten_bytes SLOT_LENGTH) }
-carries_out_bytes segment state (CallHelper helper arguments) is can holds = record { frame = bytes-frame_after segment state helper arguments is can holds.frame }
+    record {
+      frame = bytes-write state.frame.bytes (SLOT_LENGTH * slot) (replicate SLOT_LENGTH Unwritten) holds.frame
+          (unwritten_bytes SLOT_LENGTH);
+    }
+carries_out_bytes segment state (CallHelper helper arguments) is can holds =
+    record { frame = bytes-frame_after segment state helper arguments is can holds.frame }
 
-applies_bytes : (segment : Contents) (state : State) (result : Result Effect Cause) → IsSegment segment → IfPasses (CanBeCarriedOut state) result → HoldsBytes state → (IfRunning HoldsBytes) (next_of segment state result)
-applies_bytes segment state (Ok (GoOn change place)) is can holds = let there = carries_out_bytes segment state change is can holds in record { frame = there.frame }
+applies_bytes : (segment : Contents) (state : State) (result : Result Effect Cause) → IsSegment segment
+    → IfPasses (CanBeCarriedOut state) result → HoldsBytes state → (IfRunning HoldsBytes) (next_of segment state result)
+applies_bytes segment state (Ok (GoOn change place)) is can holds = let there = carries_out_bytes segment state change is can holds in
+    record { frame = there.frame }
 applies_bytes segment state (Ok (End answer)) is can holds = tt
 applies_bytes segment state (Err cause) is can holds = tt
 
-pub step_bytes : (code : List Insn) (segment : Contents) (state there : State) → IsSegment segment → HoldsBytes state → Step code segment (Running state) (Running there) → HoldsBytes there
+pub step_bytes : (code : List Insn) (segment : Contents) (state there : State) → IsSegment segment → HoldsBytes state
+    → Step code segment (Running state) (Running there) → HoldsBytes there
 unfolding after
 step_bytes code segment state there is holds step =
-    subst (IfRunning HoldsBytes) (sym step) (applies_bytes segment state (effect code segment state) is (found_within code segment state (instruction_at code state.place)) holds)
+    subst (IfRunning HoldsBytes) (sym step) (applies_bytes segment state (effect code segment state) is
+    (found_within code segment state (instruction_at code state.place)) holds)
 
-pub run_bytes : (code : List Insn) (segment : Contents) (run : List Configuration) (state : State) → IsSegment segment → IsRun code segment run → end_of run ≡ Running state → HoldsBytes state
+pub run_bytes : (code : List Insn) (segment : Contents) (run : List Configuration) (state : State) → IsSegment segment
+    → IsRun code segment run → end_of run ≡ Running state → HoldsBytes state
 run_bytes code segment run state is is_run end =
-    subst (IfRunning HoldsBytes) end (along_run HoldsBytes code segment (λ here there. step_bytes code segment here there is) (Running start) run start_bytes is_run)
+    subst (IfRunning HoldsBytes) end (along_run HoldsBytes code segment (λ here there. step_bytes code segment here there is)
+    (Running start) run start_bytes is_run)
 
 -- written bytes lie in slots that hold no pointer, and a step from a whole state keeps it so
 
@@ -171,7 +207,8 @@ start_apart = record { written = λ at written. slots_hold_nothing SLOTS (at / S
     slots_hold_nothing (suc count) zero = refl
     slots_hold_nothing (suc count) (suc at) = slots_hold_nothing count at
 
-carries_out_apart : (segment : Contents) (state : State) (change : Change) → CanBeMade state change → IsWhole state → KeepsPointersApart state → KeepsPointersApart (carry_out segment state change)
+carries_out_apart : (segment : Contents) (state : State) (change : Change) → CanBeMade state change → IsWhole state
+    → KeepsPointersApart state → KeepsPointersApart (carry_out segment state change)
 carries_out_apart segment state Nothing can whole keeps = keeps
 carries_out_apart segment state (SetRegister register value) can whole keeps = record { written = keeps.written }
 carries_out_apart segment state (StoreBytes at size number) can whole keeps =
@@ -180,22 +217,30 @@ carries_out_apart segment state (StoreBytes at size number) can whole keeps =
     record { written = apart-store_number state.frame at (store_length size) number (omega arith) (omega arith) keeps.written }
 carries_out_apart segment state (StorePointer slot pointer) can whole keeps =
     let bytes = whole.frame in record { written = apart-keep_pointer state.frame slot pointer (omega arith) keeps.written }
-carries_out_apart segment state (CallHelper helper arguments) can whole keeps = record { written = apart-frame_after segment state helper arguments can whole.frame whole.slots keeps.written }
+carries_out_apart segment state (CallHelper helper arguments) can whole keeps =
+    record { written = apart-frame_after segment state helper arguments can whole.frame whole.slots keeps.written }
 
-applies_apart : (segment : Contents) (state : State) (result : Result Effect Cause) → IfPasses (CanBeCarriedOut state) result → IsWhole state → KeepsPointersApart state → (IfRunning KeepsPointersApart) (next_of segment state result)
-applies_apart segment state (Ok (GoOn change place)) can whole keeps = let there = carries_out_apart segment state change can whole keeps in record { written = there.written }
+applies_apart : (segment : Contents) (state : State) (result : Result Effect Cause) → IfPasses (CanBeCarriedOut state) result
+    → IsWhole state → KeepsPointersApart state → (IfRunning KeepsPointersApart) (next_of segment state result)
+applies_apart segment state (Ok (GoOn change place)) can whole keeps = let there = carries_out_apart segment state change can whole keeps in
+    record { written = there.written }
 applies_apart segment state (Ok (End answer)) can whole keeps = tt
 applies_apart segment state (Err cause) can whole keeps = tt
 
-pub step_apart : (code : List Insn) (segment : Contents) (state there : State) → IsWhole state → KeepsPointersApart state → Step code segment (Running state) (Running there) → KeepsPointersApart there
+pub step_apart : (code : List Insn) (segment : Contents) (state there : State) → IsWhole state → KeepsPointersApart state
+    → Step code segment (Running state) (Running there) → KeepsPointersApart there
 unfolding after
 step_apart code segment state there whole keeps step =
-    subst (IfRunning KeepsPointersApart) (sym step) (applies_apart segment state (effect code segment state) (found_within code segment state (instruction_at code state.place)) whole keeps)
+    subst (IfRunning KeepsPointersApart) (sym step) (applies_apart segment state (effect code segment state)
+    (found_within code segment state (instruction_at code state.place)) whole keeps)
 
-pub run_apart : (code : List Insn) (segment : Contents) (run : List Configuration) (state : State) → IsRun code segment run → end_of run ≡ Running state → KeepsPointersApart state
+pub run_apart : (code : List Insn) (segment : Contents) (run : List Configuration) (state : State) → IsRun code segment run
+    → end_of run ≡ Running state → KeepsPointersApart state
 run_apart code segment run state is_run end =
     (subst (IfRunning Both) end
-    (along_run Both code segment (λ here there both step. (step_whole code segment here there both.0 step, step_apart code segment here there both.0 both.1 step)) (Running start) run (start_whole, start_apart) is_run)).1
+    (along_run Both code segment (λ here there both step.
+    (step_whole code segment here there both.0 step, step_apart code segment here there both.0 both.1 step)) (Running start) run
+    (start_whole, start_apart) is_run)).1
   where
     Both : State → Type 0
     Both here = IsWhole here × KeepsPointersApart here

@@ -1,9 +1,8 @@
 //! Why a program is stuck.
-ghost use Rattle.std.specs.Prelude.{◌≡◌, ◌≤◌, length};
+ghost use Rattle.std.specs.Prelude.{◌≡◌};
 ghost use Rattle.bpf_meaning.specs.Cause as cause;
 
-use arrayvec::ArrayString;
-use bpf_insn::place_line;
+use refusals::Refusal;
 
 /// Why a program is stuck. A register is given by its number.
 #[derive(Clone, Copy, Debug, PartialEq, Eq)]
@@ -39,64 +38,25 @@ pub enum Cause {
 }
 
 impl Cause {
-    pub fn number(self) -> u8
-        ensures { result ≡ cause.number self }
+    /// Returns the cause as a refusal, without the place where the program is stuck.
+    pub fn refusal(self) -> Refusal
+        ensures { result ≡ cause.refusal self }
     {
         match self {
-            Cause::OutOfProgram => 31,
-            Cause::IntoWide => 32,
-            Cause::ReadsNothing(_) => 40,
-            Cause::PointerArithmetic => 41,
-            Cause::LeavesArea => 42,
-            Cause::NotPointer => 43,
-            Cause::OutOfBounds => 44,
-            Cause::UnwrittenFrame => 45,
-            Cause::WritesRecord => 46,
-            Cause::StoresPointer => 47,
-            Cause::ComparesPointer => 48,
-            Cause::UnknownHelper => 49,
-            Cause::BadArgument(_) => 50,
-            Cause::ExitNotNumber => 51,
+            Cause::OutOfProgram => Refusal::refused(31, "OutOfProgram"),
+            Cause::IntoWide => Refusal::refused(32, "IntoWide"),
+            Cause::ReadsNothing(register) => Refusal::detailed(40, "ReadsNothing", Some(register)),
+            Cause::PointerArithmetic => Refusal::refused(41, "PointerArithmetic"),
+            Cause::LeavesArea => Refusal::refused(42, "LeavesArea"),
+            Cause::NotPointer => Refusal::refused(43, "NotPointer"),
+            Cause::OutOfBounds => Refusal::refused(44, "OutOfBounds"),
+            Cause::UnwrittenFrame => Refusal::refused(45, "UnwrittenFrame"),
+            Cause::WritesRecord => Refusal::refused(46, "WritesRecord"),
+            Cause::StoresPointer => Refusal::refused(47, "StoresPointer"),
+            Cause::ComparesPointer => Refusal::refused(48, "ComparesPointer"),
+            Cause::UnknownHelper => Refusal::refused(49, "UnknownHelper"),
+            Cause::BadArgument(argument) => Refusal::detailed(50, "BadArgument", Some(argument)),
+            Cause::ExitNotNumber => Refusal::refused(51, "ExitNotNumber"),
         }
-    }
-
-    pub fn name(self) -> &'static str
-        ensures value { result.now ≡ cause.name self }
-        ensures short { length result.now ≤ 17 }
-    {
-        match self {
-            Cause::OutOfProgram => "OutOfProgram",
-            Cause::IntoWide => "IntoWide",
-            Cause::ReadsNothing(_) => "ReadsNothing",
-            Cause::PointerArithmetic => "PointerArithmetic",
-            Cause::LeavesArea => "LeavesArea",
-            Cause::NotPointer => "NotPointer",
-            Cause::OutOfBounds => "OutOfBounds",
-            Cause::UnwrittenFrame => "UnwrittenFrame",
-            Cause::WritesRecord => "WritesRecord",
-            Cause::StoresPointer => "StoresPointer",
-            Cause::ComparesPointer => "ComparesPointer",
-            Cause::UnknownHelper => "UnknownHelper",
-            Cause::BadArgument(_) => "BadArgument",
-            Cause::ExitNotNumber => "ExitNotNumber",
-        }
-    }
-
-    /// The register or the argument that it's about, by its number.
-    pub fn detail(self) -> Option<u8>
-        ensures { result ≡ cause.detail self }
-    {
-        match self {
-            Cause::ReadsNothing(number) | Cause::BadArgument(number) => Some(number),
-            _ => None,
-        }
-    }
-
-    /// The refusal's line of text, as `refused 40 place 0 ReadsNothing(0)`, without an end of line.
-    /// It takes no memory.
-    pub fn line(self, place: usize) -> ArrayString<64>
-        ensures { result.bytes ≡ cause.line self place }
-    {
-        place_line(self.number(), place, self.name(), self.detail())
     }
 }

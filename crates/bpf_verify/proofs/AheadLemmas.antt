@@ -1,5 +1,6 @@
 -- The states ahead of the pass: they wait at targets of jumps that were passed.
-use Rattle.std.proofs.Common.{◌≡◌, ◌≢◌, ℕ, pos, ◌+◌, ◌<◌, ◌≤◌, ◌==◌, Bool, cond, if◌then◌else◌, true, false, List, [], ◌∷◌, length, Option, Some, None, option_map, IfSome, IsSome, refl, sym, ap, ◌∙◌, subst, arith, inl, inr}
+use Rattle.std.proofs.Common.{◌≡◌, ◌≢◌, ℕ, pos, ◌+◌, ◌<◌, ◌≤◌, ◌==◌, Bool, cond, if◌then◌else◌, true, false, List, [], ◌∷◌, length, Option}
+use Rattle.std.proofs.Common.{Some, None, option_map, IfSome, IsSome, refl, sym, ap, ◌∙◌, subst, arith, inl, inr}
 use Rattle.std.proofs.lemmas.Bool.{cases_lt, false≢true}
 use Rattle.std.proofs.lemmas.Bool.Decides.{nat_tests}
 use Rattle.std.specs.BTreeMap.{BTreeMap, Updates, is_at}
@@ -13,29 +14,34 @@ use Rattle.bpf_insn.specs.Code.{instruction_at, spelling}
 use Rattle.bpf_insn.specs.Jump.{jump_distance}
 use Rattle.bpf_insn.specs.declared.instruction.Insn.{Insn}
 use Rattle.bpf_flow.specs.Flow.{IsForward, target_of}
-use Rattle.bpf_verify.specs.Pass.{Ahead, AreAhead, AreProper, IsTargetAhead, first, joined, joined_if, kept, propagated, state_of, states_in, waiting_at}
+use Rattle.bpf_verify.specs.Pass.{Ahead, AreAhead, AreProper, IsTargetAhead, first, joined, joined_if, kept, propagated, state_of}
+use Rattle.bpf_verify.specs.Pass.{states_in, waiting_at}
 use Rattle.bpf_verify.specs.State.{AbstractState, Unreached, Reached, Edges, join, IsProper, IsProperKnown}
 use Rattle.bpf_verify.specs.declared.state.Known.{Known}
-use Rattle.bpf_verify.proofs.PassLemmas.{entry_is_proper, is_found_proper, joined-here, joined-other, joined-same, joined_each, joined_if-same, joined_proper, jump_of, same_place}
+use Rattle.bpf_verify.proofs.PassLemmas.{entry_is_proper, is_found_proper, joined-here, joined-other, joined-same, joined_each}
+use Rattle.bpf_verify.proofs.PassLemmas.{joined_if-same, joined_proper, jump_of, same_place}
 
 -- where jumps lead that were passed
 
 -- a place behind an instruction's first word where an instruction begins lies behind the instruction
-lies_behind : (code : List Insn) (place : ℕ) (insn : Insn) (to : ℕ) → instruction_at code place ≡ Some insn → IsSome (instruction_at code to) → place < to → place + length (spelling insn) ≤ to
-lies_behind code place insn to stands begins past = elim (cases_lt to (place + length (spelling insn))) as (λ _. place + length (spelling insn) ≤ to) [
-  | inl inside ↦ absurd (none-is_some (instruction_at code to) (nothing_within code place insn to stands past inside) begins)
-  | inr behind ↦ behind
-]
+lies_behind : (code : List Insn) (place : ℕ) (insn : Insn) (to : ℕ) → instruction_at code place ≡ Some insn
+    → IsSome (instruction_at code to) → place < to → place + length (spelling insn) ≤ to
+lies_behind code place insn to stands begins past = elim (cases_lt to (place + length (spelling insn))) as
+    (λ _. place + length (spelling insn) ≤ to) [
+      | inl inside ↦ absurd (none-is_some (instruction_at code to) (nothing_within code place insn to stands past inside) begins)
+      | inr behind ↦ behind
+    ]
   where
     none-is_some : (found : Option Insn) → found ≡ None → IsSome found → ⊥
     none-is_some None is some = false≢true some
     none-is_some (Some insn) is some = absurd (let no : ⊥ = cc in no)
 
 -- the target of the jump at a place, behind it
-pub target_ahead : (code : List Insn) (place next : ℕ) (insn : Insn) (target : Option ℕ) → instruction_at code place ≡ Some insn → next ≡ place + length (spelling insn)
-    → option_map pos target ≡ option_map (target_of place) (jump_distance insn) → IfSome target (λ to. place < to) → IfSome target (λ to. IsSome (instruction_at code to)) → IfSome target (IsTargetAhead code next)
-target_ahead code place next insn None stands goes leads later begins = tt
-target_ahead code place next insn (Some to) stands goes leads later begins =
+pub target_ahead : (code : List Insn) {next : ℕ} (place : ℕ) {insn : Insn} (target : Option ℕ) → instruction_at code place ≡ Some insn
+    → next ≡ place + length (spelling insn) → option_map pos target ≡ option_map (target_of place) (jump_distance insn)
+    → IfSome target (λ to. place < to) → IfSome target (λ to. IsSome (instruction_at code to)) → IfSome target (IsTargetAhead code next)
+target_ahead code place None stands goes leads later begins = tt
+target_ahead code place {insn} (Some to) stands goes leads later begins =
     let jump = jump_of place to (Some to) (jump_distance insn) leads refl in
     let long = length-spelling_positive insn in
     record {
@@ -48,8 +54,9 @@ target_ahead code place next insn (Some to) stands goes leads later begins =
     }
 
 -- a target ahead that isn't the place itself stays ahead behind the instruction there
-pub stays_ahead : (code : List Insn) (place next : ℕ) (insn : Insn) (to : ℕ) → IsForward code → instruction_at code place ≡ Some insn → next ≡ place + length (spelling insn) → to ≢ place → IsTargetAhead code place to → IsTargetAhead code next to
-stays_ahead code place next insn to forward stands goes apart target =
+pub stays_ahead : {code : List Insn} {place next : ℕ} {insn : Insn} {to : ℕ} → IsForward code → instruction_at code place ≡ Some insn
+    → next ≡ place + length (spelling insn) → to ≢ place → IsTargetAhead code place to → IsTargetAhead code next to
+stays_ahead {code} {place} {insn} {to} forward stands goes apart target =
     let on = forward.jumps target.jump target.jumps.insn target.distance target.jumps.stands target.jumps.jumps in
     let same : on.target ≡ to = (let both : pos on.target ≡ pos to = sym on.is_target ∙ target.leads in cc) in
     let long = length-spelling_positive insn in
@@ -61,57 +68,84 @@ stays_ahead code place next insn to forward stands goes apart target =
       distance = target.distance;
       jumps = target.jumps;
       leads = target.leads;
-      ahead = (let behind = lies_behind code place insn to stands (subst (λ (p : ℕ). IsSome (instruction_at code p)) same on.begins) past in omega (arith, goes));
+      ahead = (let behind = lies_behind code place insn to stands (subst (λ (p : ℕ). IsSome (instruction_at code p)) same on.begins) past in
+          omega (arith, goes));
     }
 
 -- at first
 
 pub first_are_ahead : (code : List Insn) → IsForward code → AreAhead (first code)
-first_are_ahead code forward = record { forward = forward; straight = entry_is_proper; proper = λ place. tt; wait = λ to waits. absurd (waits refl) }
+first_are_ahead code forward = record {
+  forward = forward;
+  straight = entry_is_proper;
+  proper = λ place. tt;
+  wait =
+      λ to waits. absurd (waits refl);
+}
 
 -- what waits, as it stands in the map
 
 test_is : (place other : ℕ) → is_at (nat_cmp place) other ≡ (place == other)
 test_is place other = grind (arith, nat_tests)
 
-pub waits : {A : Type 0} (entries : List (ℕ × Box Known A)) (place : ℕ) → waiting_at (states_in entries) place ≡ state_of (lookup (is_at (nat_cmp place)) entries)
+pub waits : {A : Type 0} (entries : List (ℕ × Box Known A)) (place : ℕ)
+    → waiting_at (states_in entries) place ≡ state_of (lookup (is_at (nat_cmp place)) entries)
 waits [] place = refl
 waits {A} (known ∷ others) place = by (waits others place) (place == known.0) (is_at (nat_cmp place) known.0) (sym (test_is place known.0))
   where
     by : waiting_at (states_in others) place ≡ state_of (lookup (is_at (nat_cmp place)) others) → (here test : Bool) → here ≡ test
-        → unwrap_or (cond here (Some (Reached known.1.value)) (lookup (λ at. place == at) (states_in others))) Unreached ≡ state_of (cond test (Some known.1) (lookup (is_at (nat_cmp place)) others))
+        → unwrap_or (cond here (Some (Reached known.1.value)) (lookup (λ at. place == at) (states_in others))) Unreached ≡ state_of
+        (cond test (Some known.1) (lookup (is_at (nat_cmp place)) others))
     by rest true true same = refl
     by rest false false same = rest
     by rest true false same = absurd (let no : ⊥ = cc in no)
     by rest false true same = absurd (let no : ⊥ = cc in no)
 
 -- a map of which one entry is changed, or taken
-pub waits_after : {A : Type 0} (old new : BTreeMap ℕ (Box Known A)) (place : ℕ) (put : Option (Box Known A)) → Updates nat_cmp old new place put → (other : ℕ)
+pub waits_after : {A : Type 0} (old new : BTreeMap ℕ (Box Known A)) (place : ℕ) (put : Option (Box Known A))
+    → Updates nat_cmp old new place put → (other : ℕ)
     → waiting_at (states_in new.entries) other ≡ (if other == place then state_of put else waiting_at (states_in old.entries) other)
-waits_after {A} old new place put updates other = waits new.entries other ∙ ap state_of (updates.0 other) ∙ by (other == place) (is_at (nat_cmp place) other) refl (test_is place other)
+waits_after {A} old new place put updates other = waits new.entries other ∙ ap state_of (updates.0 other)
+    ∙ by (other == place) (is_at (nat_cmp place) other) refl (test_is place other)
   where
-    by : (here test : Bool) → (other == place) ≡ here → test ≡ (place == other) → state_of (cond test put (lookup (is_at (nat_cmp other)) old.entries)) ≡ (if here then state_of put else waiting_at (states_in old.entries) other)
+    by : (here test : Bool) → (other == place) ≡ here → test ≡ (place == other)
+        → state_of (cond test put (lookup (is_at (nat_cmp other)) old.entries)) ≡ (if here then state_of put else waiting_at
+        (states_in old.entries) other)
     by true true here test = refl
     by false false here test = sym (waits old.entries other)
     by true false here test = absurd (grind (arith, nat_tests))
     by false true here test = absurd (grind (arith, nat_tests))
 
 -- what is found at a place
-pub found_proper : {A : Type 0} (entries : List (ℕ × Box Known A)) (place : ℕ) (found : Option (Box Known A)) → AreProper (waiting_at (states_in entries)) → found ≡ lookup (is_at (nat_cmp place)) entries
+pub found_proper : {A : Type 0} (entries : List (ℕ × Box Known A)) (place : ℕ) (found : Option (Box Known A))
+    → AreProper (waiting_at (states_in entries)) → found ≡ lookup (is_at (nat_cmp place)) entries
     → IfSome found (λ known. IsProperKnown known.value)
-found_proper entries place found proper is = is_found_proper found (subst IsProper (waits entries place ∙ sym (ap state_of is)) (proper place))
+found_proper entries place found proper is = is_found_proper found
+    (subst IsProper (waits entries place ∙ sym (ap state_of is)) (proper place))
+
+-- an entry of a map was taken, and one put in its place
+pub record IsPutAgain {A : Type 0} (old new : BTreeMap ℕ (Box Known A)) (place : ℕ) (put : Box Known A) : Type 0 where
+  pub middle : BTreeMap ℕ (Box Known A)
+  pub takes : Updates nat_cmp old middle place None
+  pub puts : Updates nat_cmp middle new place (Some put)
 
 -- what is found there is taken, and put there again, joined with what else is known
-pub waits_joined : {A : Type 0} (old middle new : BTreeMap ℕ (Box Known A)) (place : ℕ) (there : Option (Box Known A)) (met : Box Known A) (state : AbstractState) → Updates nat_cmp old middle place None → Updates nat_cmp middle new place (Some met)
-    → there ≡ lookup (is_at (nat_cmp place)) old.entries → Reached met.value ≡ join (state_of there) state → (other : ℕ) → waiting_at (states_in new.entries) other ≡ joined (waiting_at (states_in old.entries)) place state other
-waits_joined old middle new place there met state takes puts found value other =
-    waits_after middle new place (Some met) puts other ∙ by (other == place) refl
+pub waits_joined : {A : Type 0} {old new : BTreeMap ℕ (Box Known A)} {place : ℕ} {there : Option (Box Known A)} {met : Box Known A}
+    (state : AbstractState) → IsPutAgain old new place met → there ≡ lookup (is_at (nat_cmp place)) old.entries
+    → Reached met.value ≡ join (state_of there) state → (other : ℕ)
+    → waiting_at (states_in new.entries) other ≡ joined (waiting_at (states_in old.entries)) place state other
+waits_joined {old} {new} {place} {met} state again found value other =
+    waits_after again.middle new place (Some met) again.puts other ∙ by (other == place) refl
   where
-    by : (test : Bool) → (other == place) ≡ test → (if test then Reached met.value else waiting_at (states_in middle.entries) other) ≡ (if test then join (waiting_at (states_in old.entries) other) state else waiting_at (states_in old.entries) other)
+    by : (test : Bool) → (other == place) ≡ test
+        → (if test then Reached met.value else waiting_at (states_in again.middle.entries) other)
+        ≡ (if test then join (waiting_at (states_in old.entries) other) state else waiting_at (states_in old.entries) other)
     by true is =
         subst (λ (p : ℕ). Reached met.value ≡ join (waiting_at (states_in old.entries) p) state) (same_place other place is)
         (value ∙ ap (λ (s : AbstractState). join s state) (ap state_of found ∙ sym (waits old.entries place)))
-    by false is = waits_after old middle place None takes other ∙ ap (λ (test : Bool). if test then Unreached else waiting_at (states_in old.entries) other) is
+    by false is =
+        waits_after old again.middle place None again.takes other
+        ∙ ap (λ (test : Bool). if test then Unreached else waiting_at (states_in old.entries) other) is
 
 -- states of which one was taken
 
@@ -119,7 +153,9 @@ abbrev pub IsTaken : List (ℕ × AbstractState) → List (ℕ × AbstractState)
 IsTaken old new place = (other : ℕ) → waiting_at new other ≡ (if other == place then Unreached else waiting_at old other)
 
 -- each that is left was there
-left_each : (P : ℕ → AbstractState → Type 0) (old new : List (ℕ × AbstractState)) (place : ℕ) → IsTaken old new place → ((other : ℕ) → P other Unreached) → ((other : ℕ) → other ≢ place → P other (waiting_at old other)) → (other : ℕ) → P other (waiting_at new other)
+left_each : (P : ℕ → AbstractState → Type 0) (old new : List (ℕ × AbstractState)) (place : ℕ) → IsTaken old new place
+    → ((other : ℕ) → P other Unreached) → ((other : ℕ) → other ≢ place → P other (waiting_at old other)) → (other : ℕ)
+    → P other (waiting_at new other)
 left_each P old new place taken bottom others other = subst (P other) (sym (taken other)) (by (other == place) refl)
   where
     by : (test : Bool) → (other == place) ≡ test → P other (if test then Unreached else waiting_at old other)
@@ -135,58 +171,76 @@ abbrev with_states : Ahead → AbstractState → List (ℕ × AbstractState) →
 with_states ahead straight waiting = record { code = ahead.code; place = ahead.place; straight = straight; waiting = waiting }
 
 -- where a state is joined into those that wait at the target of a jump that was passed
-pub joined_ahead : (ahead : Ahead) (straight : AbstractState) (waiting : List (ℕ × AbstractState)) (to : ℕ) (state : AbstractState) → AreAhead ahead → IsProper straight → IsProper state → IsTargetAhead ahead.code ahead.place to
-    → ((other : ℕ) → waiting_at waiting other ≡ joined (waiting_at ahead.waiting) to state other) → AreAhead (with_states ahead straight waiting)
-joined_ahead ahead straight waiting to state are proper-straight proper-state target is = record {
+pub joined_ahead : {ahead : Ahead} {straight : AbstractState} (waiting : List (ℕ × AbstractState)) {to : ℕ} (state : AbstractState)
+    → AreAhead ahead → IsProper straight → IsProper state → IsTargetAhead ahead.code ahead.place to
+    → ((other : ℕ) → waiting_at waiting other ≡ joined (waiting_at ahead.waiting) to state other)
+    → AreAhead (with_states ahead straight waiting)
+joined_ahead {ahead} {straight} waiting {to} state are proper-straight proper-state target is = record {
   forward = are.forward;
   straight = proper-straight;
   proper = λ other. subst IsProper (sym (is other)) (joined_proper (waiting_at ahead.waiting) to state are.proper proper-state other);
   wait = λ other.
       subst (λ (s : AbstractState). s ≢ Unreached → IsTargetAhead ahead.code ahead.place other) (sym (is other))
-      (joined_each (λ p s. s ≢ Unreached → IsTargetAhead ahead.code ahead.place p) (waiting_at ahead.waiting) to state (λ waits. target) are.wait other);
+      (joined_each (λ p s. s ≢ Unreached → IsTargetAhead ahead.code ahead.place p) (waiting_at ahead.waiting) to state
+      (λ waits. target) are.wait other);
 }
 
 -- where one of those that wait was taken
-pub taken_ahead : (ahead : Ahead) (straight : AbstractState) (waiting : List (ℕ × AbstractState)) (place : ℕ) → AreAhead ahead → IsProper straight → IsTaken ahead.waiting waiting place → AreAhead (with_states ahead straight waiting)
+pub taken_ahead : (ahead : Ahead) (straight : AbstractState) (waiting : List (ℕ × AbstractState)) (place : ℕ) → AreAhead ahead
+    → IsProper straight → IsTaken ahead.waiting waiting place → AreAhead (with_states ahead straight waiting)
 taken_ahead ahead straight waiting place are proper-straight taken = record {
   forward = are.forward;
   straight = proper-straight;
   proper = left_each (λ other. IsProper) ahead.waiting waiting place taken (λ other. tt) (λ other apart. are.proper other);
-  wait = left_each (λ other s. s ≢ Unreached → IsTargetAhead ahead.code ahead.place other) ahead.waiting waiting place taken (λ other waits. absurd (waits refl)) (λ other apart. are.wait other);
+  wait = left_each (λ other s. s ≢ Unreached → IsTargetAhead ahead.code ahead.place other) ahead.waiting waiting place taken
+      (λ other waits. absurd (waits refl)) (λ other apart. are.wait other);
 }
 
 -- where the state at the place was taken, and the pass goes on behind the instruction there
-pub moved_ahead : (ahead : Ahead) (waiting : List (ℕ × AbstractState)) (next : ℕ) (insn : Insn) → AreAhead ahead → instruction_at ahead.code ahead.place ≡ Some insn → next ≡ ahead.place + length (spelling insn) → IsTaken ahead.waiting waiting ahead.place
+pub moved_ahead : (ahead : Ahead) (waiting : List (ℕ × AbstractState)) (next : ℕ) (insn : Insn) → AreAhead ahead
+    → instruction_at ahead.code ahead.place ≡ Some insn → next ≡ ahead.place + length (spelling insn)
+    → IsTaken ahead.waiting waiting ahead.place
     → AreAhead (record { code = ahead.code; place = next; straight = Unreached; waiting = waiting })
 moved_ahead ahead waiting next insn are stands goes taken = record {
   forward = are.forward;
   straight = tt;
   proper = left_each (λ other. IsProper) ahead.waiting waiting ahead.place taken (λ other. tt) (λ other apart. are.proper other);
-  wait = left_each (λ other s. s ≢ Unreached → IsTargetAhead ahead.code next other) ahead.waiting waiting ahead.place taken (λ other waits. absurd (waits refl))
-      (λ other apart waits. stays_ahead ahead.code ahead.place next insn other are.forward stands goes apart (are.wait other waits));
+  wait = left_each (λ other s. s ≢ Unreached → IsTargetAhead ahead.code next other) ahead.waiting waiting ahead.place taken
+      (λ other waits. absurd (waits refl))
+      (λ other apart waits. stays_ahead are.forward stands goes apart (are.wait other waits));
 }
 
 -- behind the place they wait as before
-pub left_behind : (old new : List (ℕ × AbstractState)) (place other : ℕ) → IsTaken old new place → place < other → waiting_at new other ≡ waiting_at old other
+pub left_behind : (old new : List (ℕ × AbstractState)) (place other : ℕ) → IsTaken old new place → place < other
+    → waiting_at new other ≡ waiting_at old other
 left_behind old new place other taken past =
     let apart : (other == place) ≡ false = grind (arith, nat_tests) in
     taken other ∙ ap (λ (test : Bool). if test then Unreached else waiting_at old other) apart
 
 -- the state at the place to which the pass has come
-pub here_is : (ahead : Ahead) (there straight : AbstractState) → there ≡ waiting_at ahead.waiting ahead.place → straight ≡ ahead.straight → join there straight ≡ kept ahead ahead.place
+pub here_is : (ahead : Ahead) (there straight : AbstractState) → there ≡ waiting_at ahead.waiting ahead.place → straight ≡ ahead.straight
+    → join there straight ≡ kept ahead ahead.place
 here_is ahead there straight waits edge =
-    ap (λ (s : AbstractState). join s straight) waits ∙ ap (join (waiting_at ahead.waiting ahead.place)) edge ∙ sym (joined-here (waiting_at ahead.waiting) ahead.place ahead.straight)
+    ap (λ (s : AbstractState). join s straight) waits ∙ ap (join (waiting_at ahead.waiting ahead.place)) edge
+    ∙ sym (joined-here (waiting_at ahead.waiting) ahead.place ahead.straight)
 
 -- behind a visit
 
 at_other : (ahead : Ahead) (other : ℕ) → ahead.place < other → waiting_at ahead.waiting other ≡ kept ahead other
 at_other ahead other past = sym (joined-other (waiting_at ahead.waiting) ahead.place ahead.straight other (λ same. absurd (omega arith)))
 
+-- behind the place the states are those from before it, with those on the edges propagated
+abbrev pub ArePropagated : Ahead → Ahead → Option ℕ → Edges → Type 0
+ArePropagated before after target edges =
+    (other : ℕ) → before.place < other → kept after other ≡ propagated (kept before) after.place target edges other
+
 -- the state at the place was taken, and those on the edges were propagated
-pub visited_states : (before middle after : Ahead) (target : Option ℕ) (edges : Edges) → ((other : ℕ) → before.place < other → waiting_at middle.waiting other ≡ waiting_at before.waiting other)
-    → ((other : ℕ) → waiting_at after.waiting other ≡ joined_if (waiting_at middle.waiting) target edges.target other) → after.straight ≡ edges.next
-    → (other : ℕ) → before.place < other → kept after other ≡ propagated (kept before) after.place target edges other
+pub visited_states : (before middle after : Ahead) (target : Option ℕ) (edges : Edges)
+    → ((other : ℕ) → before.place < other → waiting_at middle.waiting other ≡ waiting_at before.waiting other)
+    → ((other : ℕ) → waiting_at after.waiting other ≡ joined_if (waiting_at middle.waiting) target edges.target other)
+    → after.straight ≡ edges.next → ArePropagated before after target edges
 visited_states before middle after target edges left waits straight other past =
     ap (λ (s : AbstractState). joined (waiting_at after.waiting) after.place s other) straight
     ∙ joined-same (waiting_at after.waiting) (joined_if (kept before) target edges.target) after.place edges.next other
-    (waits other ∙ joined_if-same (waiting_at middle.waiting) (kept before) target edges.target other (left other past ∙ at_other before other past))
+    (waits other ∙ joined_if-same (waiting_at middle.waiting) (kept before) target edges.target other
+    (left other past ∙ at_other before other past))

@@ -1,10 +1,13 @@
 -- The areas of bases: in every run of a code that is accepted they hold.
-use Rattle.std.proofs.Common.{◌≡◌, ℕ, zero, suc, ◌+◌, ◌-◌, ◌<◌, ◌≤◌, nat_lt, IfSome, false, List, [], ◌∷◌, ◌++◌, ◌⊎◌, ◌==◌, length, get_or, Option, Some, None, option_map, option_and_then, Result, Ok, Err, is_some, refl, sym, ap, ◌∙◌, subst, arith, inl, inr}
+use Rattle.std.proofs.Common.{◌≡◌, ℕ, zero, suc, ◌+◌, ◌-◌, ◌<◌, ◌≤◌, nat_lt, IfSome, false, List, [], ◌∷◌, ◌++◌, ◌⊎◌, ◌==◌, length, get_or}
+use Rattle.std.proofs.Common.{Option, Some, None, option_map, option_and_then, Result, Ok, Err, is_some, refl, sym, ap, ◌∙◌, subst, arith}
+use Rattle.std.proofs.Common.{inl, inr}
 use Rattle.std.specs.Prelude.{slice_get}
 use Rattle.std.proofs.lemmas.Bool.{cases_lt}
 use Rattle.std.proofs.lemmas.Bool.Decides.{nat_tests}
 use Rattle.std.proofs.lemmas.Option.{none-some}
-use Rattle.bpf_insn.proofs.PlaceLemmas.{index_within, instruction_at-index, instruction_at-inside, instruction_at-behind, instruction_within, word_count-cons}
+use Rattle.bpf_insn.proofs.PlaceLemmas.{index_within, instruction_at-index, instruction_at-inside, instruction_at-behind}
+use Rattle.bpf_insn.proofs.PlaceLemmas.{instruction_within, word_count-cons}
 use Rattle.bpf_insn.specs.Code.{index_at, instruction_at, spelling, word_count}
 use Rattle.bpf_insn.specs.declared.instruction.Insn.{Insn}
 use Rattle.bpf_insn.specs.declared.instruction.Insn.TheVariants as insn
@@ -12,7 +15,8 @@ use Rattle.bpf_insn.specs.declared.instruction.Source.TheVariants.{Immediate, Re
 use Rattle.bpf_insn.specs.declared.value.Area.{Area}
 use Rattle.bpf_insn.specs.declared.value.Value.{Value}
 use Rattle.bpf_insn.specs.declared.value.Value.TheVariants as value
-use Rattle.bpf_flat.specs.Flat.{AreFlatForms, HasImmediates}
+use Rattle.bpf_insn.specs.Immediates.{HasImmediates, HaveImmediates}
+use Rattle.bpf_flat.specs.Flat.{AreFlatForms}
 use Rattle.bpf_flat.specs.declared.flat.FlatInsn.{FlatInsn}
 use Rattle.bpf_flow.specs.Flow.{IsForward}
 use Rattle.bpf_kinds.specs.Kind as kind
@@ -27,7 +31,7 @@ use Rattle.bpf_meaning.specs.Walk.{walk, load_value}
 use Rattle.bpf_meaning.specs.declared.cause.Cause.{Cause}
 use Rattle.bpf_meaning.specs.declared.state.State.{State}
 use Rattle.tl_segments.specs.Segment as segments
-use Rattle.bpf_verify.specs.Annotation.{Annotation, HaveImmediates, IsAccepted, area_of, area_of_kind, areas_from}
+use Rattle.bpf_verify.specs.Annotation.{Annotation, IsAccepted, area_of, area_of_kind, areas_from}
 use Rattle.bpf_verify.specs.State.{AbstractState, Unreached, Reached, Edges, Admits, kind_of}
 use Rattle.bpf_verify.specs.Transfer.{kinds, only_pointers, pointers_in, read_kind, transfer}
 use Rattle.bpf_verify.specs.Verified.{HasBaseAreas, PointsInto, areas_in, base_of, entries_of, instructions_in}
@@ -44,60 +48,74 @@ length-areas_from annotation place [] = refl
 length-areas_from annotation place (insn ∷ code) = ap suc (length-areas_from annotation (place + length (spelling insn)) code)
 
 -- one instruction more
-pub areas_from-more : (annotation : Annotation) (place : ℕ) (code : List Insn) (insn : Insn) → areas_from annotation place (code ++ insn ∷ []) ≡ areas_from annotation place code ++ area_of (annotation (place + word_count code)) insn ∷ []
+pub areas_from-more : (annotation : Annotation) (place : ℕ) (code : List Insn) (insn : Insn)
+    → areas_from annotation place (code ++ insn ∷ []) ≡ areas_from annotation place code ++ area_of
+    (annotation (place + word_count code)) insn ∷ []
 areas_from-more annotation place [] insn = ap (λ (p : ℕ). area_of (annotation p) insn ∷ []) (omega arith)
 areas_from-more annotation place (first ∷ code) insn =
     let rest = areas_from-more annotation (place + length (spelling first)) code insn in
-    let sum : place + length (spelling first) + word_count code ≡ place + word_count (first ∷ code) = omega (arith, word_count-cons first code) in
+    let sum : place + length (spelling first) + word_count code ≡ place + word_count (first ∷ code) =
+    omega (arith, word_count-cons first code) in
     ap (λ (areas : List (Option Area)). area_of (annotation place) first ∷ areas)
     (rest ∙ ap (λ (p : ℕ). areas_from annotation (place + length (spelling first)) code ++ area_of (annotation p) insn ∷ []) sum)
 
 -- an annotation that is another one up to their end
-pub areas_from-same : (old new : Annotation) (end place : ℕ) (code : List Insn) → ((other : ℕ) → other ≤ end → new other ≡ old other) → place + word_count code ≤ end → areas_from new place code ≡ areas_from old place code
+pub areas_from-same : (old new : Annotation) (end place : ℕ) (code : List Insn) → ((other : ℕ) → other ≤ end → new other ≡ old other)
+    → place + word_count code ≤ end → areas_from new place code ≡ areas_from old place code
 areas_from-same old new end place [] same ends = refl
 areas_from-same old new end place (insn ∷ code) same ends =
     let sum = word_count-cons insn code in
     ap (λ (state : AbstractState). area_of state insn ∷ areas_from new (place + length (spelling insn)) code) (same place (omega arith))
-    ∙ ap (λ (areas : List (Option Area)). area_of (old place) insn ∷ areas) (areas_from-same old new end (place + length (spelling insn)) code same (omega arith))
+    ∙ ap (λ (areas : List (Option Area)). area_of (old place) insn ∷ areas)
+    (areas_from-same old new end (place + length (spelling insn)) code same (omega arith))
 
 -- the area of the instruction at a place, by its index
 
-index_behind : (first : Insn) (code : List Insn) (place : ℕ) → length (spelling first) ≤ suc place → index_at (first ∷ code) (suc place) ≡ option_map (λ (i : ℕ). suc i) (index_at code (suc place - length (spelling first)))
+index_behind : (first : Insn) (code : List Insn) (place : ℕ) → length (spelling first) ≤ suc place
+    → index_at (first ∷ code) (suc place) ≡ option_map (λ (i : ℕ). suc i) (index_at code (suc place - length (spelling first)))
 index_behind first code place past =
     let not_first : (suc place == 0) ≡ false = grind (arith, nat_tests) in
     let behind : nat_lt (suc place) (length (spelling first)) ≡ false = grind (arith, nat_tests) in
     rw (not_first, behind) refl
 
-get_or-next : {A : Type 0} (x : A) (xs : List A) (d y : A) (found : Option ℕ) (index : ℕ) → option_map (λ (i : ℕ). suc i) found ≡ Some index → ((i : ℕ) → found ≡ Some i → get_or xs i d ≡ y) → get_or (x ∷ xs) index d ≡ y
+get_or-next : {A : Type 0} (x : A) (xs : List A) (d y : A) (found : Option ℕ) (index : ℕ) → option_map (λ (i : ℕ). suc i) found ≡ Some index
+    → ((i : ℕ) → found ≡ Some i → get_or xs i d ≡ y) → get_or (x ∷ xs) index d ≡ y
 get_or-next x xs d y None index is each = absurd (none-some index is)
 get_or-next x xs d y (Some i) index is each = let same : suc i ≡ index = cc in subst (λ (n : ℕ). get_or (x ∷ xs) n d ≡ y) same (each i refl)
 
-area_at : (annotation : Annotation) (from : ℕ) (code : List Insn) (place index : ℕ) (insn : Insn) → index_at code place ≡ Some index → instruction_at code place ≡ Some insn → get_or (areas_from annotation from code) index None ≡ area_of (annotation (from + place)) insn
+area_at : (annotation : Annotation) (from : ℕ) (code : List Insn) (place index : ℕ) (insn : Insn) → index_at code place ≡ Some index
+    → instruction_at code place ≡ Some insn → get_or (areas_from annotation from code) index None ≡ area_of (annotation (from + place)) insn
 area_at annotation from [] place index insn is stands = absurd (none-some index is)
 area_at annotation from (first ∷ code) zero index insn is stands =
     let here : 0 ≡ index = cc in
     let one : first ≡ insn = cc in
     subst (λ (n : ℕ). get_or (areas_from annotation from (first ∷ code)) n None ≡ area_of (annotation (from + 0)) insn) here
     (ap (area_of (annotation from)) one ∙ ap (λ (p : ℕ). area_of (annotation p) insn) (omega arith))
-area_at annotation from (first ∷ code) (suc place) index insn is stands = elim (cases_lt (suc place) (length (spelling first))) as (λ _. get_or (areas_from annotation from (first ∷ code)) index None ≡ area_of (annotation (from + suc place)) insn) [
-  | inl below ↦ absurd (none-some insn (sym (instruction_at-inside first code (suc place) (omega arith) below) ∙ stands))
-  | inr past ↦
-      let left : ℕ = suc place - length (spelling first) in
-      let sum : from + length (spelling first) + left ≡ from + suc place = omega arith in
-      get_or-next _ (areas_from annotation (from + length (spelling first)) code) None _ (index_at code left) index (sym (index_behind first code place past) ∙ is)
-      (λ i found. area_at annotation (from + length (spelling first)) code left i insn found (sym (instruction_at-behind first code (suc place) past) ∙ stands) ∙ ap (λ (p : ℕ). area_of (annotation p) insn) sum)
-]
+area_at annotation from (first ∷ code) (suc place) index insn is stands =
+    elim (cases_lt (suc place) (length (spelling first))) as
+    (λ _. get_or (areas_from annotation from (first ∷ code)) index None ≡ area_of (annotation (from + suc place)) insn) [
+      | inl below ↦ absurd (none-some insn (sym (instruction_at-inside first code (suc place) (omega arith) below) ∙ stands))
+      | inr past ↦
+          let left : ℕ = suc place - length (spelling first) in
+          let sum : from + length (spelling first) + left ≡ from + suc place = omega arith in
+          get_or-next _ (areas_from annotation (from + length (spelling first)) code) None _ (index_at code left) index
+          (sym (index_behind first code place past) ∙ is)
+          (λ i found. area_at annotation (from + length (spelling first)) code left i insn found
+          (sym (instruction_at-behind first code (suc place) past) ∙ stands) ∙ ap (λ (p : ℕ). area_of (annotation p) insn) sum)
+    ]
 
 -- Where an instruction passes its checks, its base holds a pointer.
 
-first_passes : {A B : Type 0} (first : Result A Cause) (others : A → Result B Cause) (end : B) → first >>= others ≡ Ok end → (x : A) × (first ≡ Ok x)
+first_passes : {A B : Type 0} (first : Result A Cause) (others : A → Result B Cause) (end : B) → first >>= others ≡ Ok end → (x : A)
+    × (first ≡ Ok x)
 first_passes (Ok x) others end is = (x, refl)
 first_passes (Err cause) others end is = absurd (let no : ⊥ = cc in no)
 
 abbrev HasPointers : Known → ℕ → Type 0
 HasPointers known base = (pointers : Pointers) × (pointers_in known base ≡ Ok pointers)
 
-base_passes : (known : Known) (insn : Insn) (base : ℕ) (edges : Edges) → base_of insn ≡ Some base → walk (kinds known) insn ≡ Ok edges → HasPointers known base
+base_passes : (known : Known) (insn : Insn) (base : ℕ) (edges : Edges) → base_of insn ≡ Some base → walk (kinds known) insn ≡ Ok edges
+    → HasPointers known base
 base_passes known (insn.Load format destination register offset) base edges is passes =
     let loaded = first_passes (load_value (kinds known) format register.number offset) _ edges passes in
     let same : register.number ≡ base = cc in
@@ -112,15 +130,19 @@ base_passes known (insn.Store size register offset source) base edges is passes 
     subst (HasPointers known) same (first_passes (pointers_in known register.number) _ stored.0 stored.1)
 base_passes known insn base edges is passes = absurd (none-some base is)
 
-points_into : (x : Kind) (held : Value) (register : ℕ) (pointers : Pointers) → kind.Admits x held → read_kind register x >>= only_pointers ≡ Ok pointers → PointsInto held (area_of_kind x)
+points_into : (x : Kind) (held : Value) (register : ℕ) (pointers : Pointers) → kind.Admits x held
+    → read_kind register x >>= only_pointers ≡ Ok pointers → PointsInto held (area_of_kind x)
 points_into Nothing held register pointers admits passes = absurd (let no : ⊥ = cc in no)
 points_into (Number x) held register pointers admits passes = absurd (let no : ⊥ = cc in no)
-points_into (Record x) (value.Pointer pointer) register pointers admits passes = record { pointer = pointer; is = refl; into = ap Some (sym admits.0) }
+points_into (Record x) (value.Pointer pointer) register pointers admits passes =
+    record { pointer = pointer; is = refl; into = ap Some (sym admits.0) }
 points_into (Record x) held register pointers admits passes = absurd admits
-points_into (Frame x) (value.Pointer pointer) register pointers admits passes = record { pointer = pointer; is = refl; into = ap Some (sym admits.0) }
+points_into (Frame x) (value.Pointer pointer) register pointers admits passes =
+    record { pointer = pointer; is = refl; into = ap Some (sym admits.0) }
 points_into (Frame x) held register pointers admits passes = absurd admits
 
-by_state : (abstract : AbstractState) (state : State) (insn : Insn) (base : ℕ) (edges : Edges) → Admits abstract state → transfer abstract insn ≡ Ok edges → base_of insn ≡ Some base → PointsInto (register_value state base) (area_of abstract insn)
+by_state : (abstract : AbstractState) (state : State) (insn : Insn) (base : ℕ) (edges : Edges) → Admits abstract state
+    → transfer abstract insn ≡ Ok edges → base_of insn ≡ Some base → PointsInto (register_value state base) (area_of abstract insn)
 by_state Unreached state insn base edges admits passes is = absurd admits
 by_state (Reached known) state insn base edges admits passes is =
     let pointers = base_passes known insn base edges is passes in
@@ -128,22 +150,27 @@ by_state (Reached known) state insn base edges admits passes is =
     (points_into (kind_of known base) (register_value state base) base pointers.0 (admits.registers base) pointers.1)
 
 -- a state in which a run is on its way
-state_points : (code : List Insn) (segment : segments.Contents) (annotation : Annotation) → IsVerified code segment annotation → (run : List Configuration) → IsRun code segment run → (state : State) → end_of run ≡ Running state
-    → (insn : Insn) (base : ℕ) → instruction_at code state.place ≡ Some insn → base_of insn ≡ Some base → PointsInto (register_value state base) (area_of (annotation state.place) insn)
-state_points code segment annotation verified run is_run state end insn base stands is =
+state_points : {code : List Insn} {segment : segments.Contents} {annotation : Annotation} → IsVerified code segment annotation
+    → (run : List Configuration) → IsRun code segment run → {state : State} → end_of run ≡ Running state → {insn : Insn} {base : ℕ}
+    → instruction_at code state.place ≡ Some insn → base_of insn ≡ Some base
+    → PointsInto (register_value state base) (area_of (annotation state.place) insn)
+state_points {code} {segment} {annotation} verified run is_run {state} end {insn} {base} stands is =
     let way = subst (IsAdmitted code annotation) end (end_admitted code segment annotation verified run is_run) in
     let passes = verified.good.passes state.place insn (instruction_within code state.place (ap is_some stands)) stands in
     by_state (annotation state.place) state insn base passes.edges way.admits passes.passes is
 
-pub areas_hold : (code : List Insn) (areas : List (Option Area)) → IsForward code → HaveImmediates code → IsAccepted code areas → HasBaseAreas code areas
+pub areas_hold : (code : List Insn) (areas : List (Option Area)) → IsForward code → HaveImmediates code → IsAccepted code areas
+    → HasBaseAreas code areas
 areas_hold code areas forward immediates accepted = record {
   count = ap length accepted.are ∙ length-areas_from accepted.annotation 0 code;
   bases = λ segment is_segment run is_run state end index insn base at stands is.
-      let verified : IsVerified code segment accepted.annotation = record { forward = forward; good = accepted.is_least.good; is_segment = is_segment; immediates = immediates } in
+      let verified : IsVerified code segment accepted.annotation =
+      record { forward = forward; good = accepted.is_least.good; is_segment = is_segment; immediates = immediates } in
       let place : get_or areas index None ≡ area_of (accepted.annotation state.place) insn =
-      ap (λ (areas : List (Option Area)). get_or areas index None) accepted.are ∙ area_at accepted.annotation 0 code state.place index insn at stands
+      ap (λ (areas : List (Option Area)). get_or areas index None) accepted.are
+      ∙ area_at accepted.annotation 0 code state.place index insn at stands
       ∙ ap (λ (p : ℕ). area_of (accepted.annotation p) insn) (omega arith) in
-      subst (PointsInto (register_value state base)) (sym place) (state_points code segment accepted.annotation verified run is_run state end insn base stands is);
+      subst (PointsInto (register_value state base)) (sym place) (state_points verified run is_run end stands is);
 }
 
 -- The immediates of a code whose flat forms are known.
@@ -158,11 +185,13 @@ element_found [] index x found = absurd (let no : ⊥ = cc in no)
 element_found (y ∷ xs) zero x found = let same : y ≡ x = cc in sym same
 element_found (y ∷ xs) (suc index) x found = element_found xs index x found
 
-pub immediates_of_forms : (code : List Insn) (areas : List (Option Area)) (flats : List FlatInsn) → AreFlatForms code areas (length code) flats → HaveImmediates code
+pub immediates_of_forms : (code : List Insn) (areas : List (Option Area)) (flats : List FlatInsn)
+    → AreFlatForms code areas (length code) flats → HaveImmediates code
 immediates_of_forms code areas flats forms place insn stands =
     by_index (index_at code place) (index_within code place) (sym (instruction_at-index code place) ∙ stands)
   where
-    by_index : (found : Option ℕ) → IfSome found (λ index. index < length code) → option_and_then (slice_get code) found ≡ Some insn → HasImmediates insn
+    by_index : (found : Option ℕ) → IfSome found (λ index. index < length code) → option_and_then (slice_get code) found ≡ Some insn
+        → HasImmediates insn
     by_index None within is = absurd (let no : ⊥ = cc in no)
     by_index (Some index) within is =
         let flat = element_at flats index (let count = forms.count_is in omega arith) in
@@ -172,16 +201,20 @@ immediates_of_forms code areas flats forms place insn stands =
 
 -- what they are made of
 
-pub instructions_in-entries_of : (code : List Insn) (areas : List (Option Area)) → length areas ≡ length code → instructions_in (entries_of code areas) ≡ code
+pub instructions_in-entries_of : (code : List Insn) (areas : List (Option Area)) → length areas ≡ length code
+    → instructions_in (entries_of code areas) ≡ code
 instructions_in-entries_of [] areas same = refl
 instructions_in-entries_of (insn ∷ code) [] same = absurd (omega arith)
-instructions_in-entries_of (insn ∷ code) (area ∷ areas) same = ap (λ (rest : List Insn). insn ∷ rest) (instructions_in-entries_of code areas (omega arith))
+instructions_in-entries_of (insn ∷ code) (area ∷ areas) same =
+    ap (λ (rest : List Insn). insn ∷ rest) (instructions_in-entries_of code areas (omega arith))
 
-pub areas_in-entries_of : (code : List Insn) (areas : List (Option Area)) → length areas ≡ length code → areas_in (entries_of code areas) ≡ areas
+pub areas_in-entries_of : (code : List Insn) (areas : List (Option Area)) → length areas ≡ length code
+    → areas_in (entries_of code areas) ≡ areas
 areas_in-entries_of [] [] same = refl
 areas_in-entries_of [] (area ∷ areas) same = absurd (omega arith)
 areas_in-entries_of (insn ∷ code) [] same = absurd (omega arith)
-areas_in-entries_of (insn ∷ code) (area ∷ areas) same = ap (λ (rest : List (Option Area)). area ∷ rest) (areas_in-entries_of code areas (omega arith))
+areas_in-entries_of (insn ∷ code) (area ∷ areas) same = ap (λ (rest : List (Option Area)). area ∷ rest)
+    (areas_in-entries_of code areas (omega arith))
 
 pub entries_of-parts : (entries : List Entry) → entries ≡ entries_of (instructions_in entries) (areas_in entries)
 entries_of-parts [] = refl

@@ -10,7 +10,8 @@ use Rattle.bpf_verify.specs.Transfer.{state_after}
 use Rattle.bpf_verify.specs.State.{IsProperKnown}
 use Rattle.bpf_verify.specs.declared.state.Known.{Known}
 
-after_proper : (answer : Interval) (kinds : List Kind) → interval.IsProper answer → ((register : ℕ) → kind.IsProper (get_or kinds register Nothing))
+after_proper : (answer : Interval) (kinds : List Kind) → interval.IsProper answer
+    → ((register : ℕ) → kind.IsProper (get_or kinds register Nothing))
     → (register : ℕ) → kind.IsProper (get_or (Number answer ∷ replicate 5 Nothing ++ drop 6 kinds) register Nothing)
 after_proper answer kinds proper all zero = proper
 after_proper answer kinds proper all (suc zero) = tt
@@ -21,7 +22,8 @@ after_proper answer kinds proper all (suc (suc (suc (suc (suc zero))))) = tt
 after_proper answer kinds proper all (suc (suc (suc (suc (suc (suc register)))))) =
     subst kind.IsProper (sym (get_or-drop 6 kinds register Nothing)) (all (6 + register))
 
-pub state_after_is_proper : (answer : Interval) (known : Known) → interval.IsProper answer → IsProperKnown known → IsProperKnown (state_after answer known)
+pub state_after_is_proper : (answer : Interval) (known : Known) → interval.IsProper answer → IsProperKnown known
+    → IsProperKnown (state_after answer known)
 state_after_is_proper answer known answers proper = record {
   count = let rest = length-drop 6 known.registers in let all = proper.count in omega arith;
   kinds = after_proper answer known.registers answers proper.kinds;

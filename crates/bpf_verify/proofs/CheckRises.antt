@@ -3,42 +3,40 @@ use Rattle.std.proofs.Common.{ℕ, ℤ, Some}
 use Rattle.bpf_helpers.specs.declared.helper.Helper.{Helper}
 use Rattle.bpf_helpers.specs.declared.signature.Argument.{Argument}
 use Rattle.bpf_insn.specs.declared.instruction.LoadFormat.{LoadFormat}
-use Rattle.bpf_insn.specs.declared.instruction.StoreSize.{StoreSize}
 use Rattle.bpf_kinds.specs.Kind as kind
 use Rattle.bpf_kinds.specs.Offsets as offsets
-use Rattle.bpf_kinds.specs.declared.kind.Kind.{Kind}
-use Rattle.bpf_kinds.specs.declared.offsets.Offsets.{Offsets}
 use Rattle.bpf_meaning.proofs.CheckLemmas.{weaker}
 use Rattle.bpf_meaning.specs.Checks.{Sound}
-use Rattle.bpf_verify.specs.State.{AreEdgesWithin, IsBelow, IsWithinKnown}
-use Rattle.bpf_verify.specs.Transfer.{ArePointersWithin, argument_in, call, compare, load_from, pointers_in, read, store_at}
-use Rattle.bpf_verify.specs.declared.comparison.Comparison.{Comparison}
+use Rattle.bpf_verify.specs.State.{IsBelow, IsWithinKnown}
+use Rattle.bpf_verify.specs.Transfer.{ArePointersWithin, argument_in, call, load_from, pointers_in, read}
 use Rattle.bpf_verify.specs.declared.memory.Pointers.{Pointers}
 use Rattle.bpf_verify.specs.declared.state.Known.{Known}
 use Rattle.bpf_verify.proofs.RiseCalls.{argument_in_lower, call_lower}
-use Rattle.bpf_verify.proofs.RiseChecks.{IsLower, is_lower, is_within, read_lower}
-use Rattle.bpf_verify.proofs.RiseComparison.{compare_lower}
-use Rattle.bpf_verify.proofs.RiseMemory.{ArePointersLower, load_from_lower, pointers_lower, store_at_lower}
+use Rattle.bpf_verify.proofs.RiseChecks.{IsLower, is_within, read_lower}
+use Rattle.bpf_verify.proofs.RiseMemory.{ArePointersLower, load_from_lower, pointers_lower}
 
-pub read_rises : (lower higher : Known) (register : ℕ) → IsBelow lower higher → Sound (λ x n. kind.IsWithin n x) (read higher register) (read lower register)
+pub read_rises : (lower higher : Known) (register : ℕ) → IsBelow lower higher
+    → Sound (λ x n. kind.IsWithin n x) (read higher register) (read lower register)
 read_rises lower higher register below = weaker IsLower (λ x n. kind.IsWithin n x) _ _ is_within (read_lower higher lower below register)
 
-pub base_rises : (lower higher : Known) (base : ℕ) → IsBelow lower higher → Sound (λ x n. ArePointersWithin n x) (pointers_in higher base) (pointers_in lower base)
-base_rises lower higher base below = weaker ArePointersLower (λ x n. ArePointersWithin n x) _ _ (λ x n is. record { into = is.into; offsets = is.offsets.within }) (pointers_lower higher lower below base)
+pub base_rises : (lower higher : Known) (base : ℕ) → IsBelow lower higher
+    → Sound (λ x n. ArePointersWithin n x) (pointers_in higher base) (pointers_in lower base)
+base_rises lower higher base below = weaker ArePointersLower (λ x n. ArePointersWithin n x) _ _
+    (λ x n is. record { into = is.into; offsets = is.offsets.within }) (pointers_lower higher lower below base)
 
-pub load_rises : (lower higher : Known) (format : LoadFormat) (x n : Pointers) (offset : ℤ) → IsBelow lower higher → offsets.IsProper n.offsets → ArePointersWithin n x → Sound (λ x n. kind.IsWithin n x) (load_from higher format x offset) (load_from lower format n offset)
-load_rises lower higher format x n offset below proper within =
+pub load_rises : {lower higher : Known} (format : LoadFormat) {x n : Pointers} (offset : ℤ) → IsBelow lower higher
+    → offsets.IsProper n.offsets → ArePointersWithin n x
+    → Sound (λ x n. kind.IsWithin n x) (load_from higher format x offset) (load_from lower format n offset)
+load_rises {lower} {higher} format {x} {n} offset below proper within =
     weaker IsLower (λ x n. kind.IsWithin n x) _ _ is_within
-    (load_from_lower higher lower below format x n offset (record { into = within.into; offsets = record { within = within.offsets; ordered = proper.ordered } }))
+    (load_from_lower higher lower below format x n offset
+    (record { into = within.into; offsets = record { within = within.offsets; ordered = proper.ordered } }))
 
-pub store_rises : (lower higher : Known) (x n : Offsets) (offset : ℤ) (size : StoreSize) (k l : Kind) → IsBelow lower higher → offsets.IsProper n → offsets.IsWithin n x → kind.IsProper l → kind.IsWithin l k → Sound (λ x n. IsWithinKnown n x) (store_at higher x offset size k) (store_at lower n offset size l)
-store_rises lower higher x n offset size k l below proper within proper_kind stored = store_at_lower higher lower below x n offset size k l (record { within = within; ordered = proper.ordered }) (is_lower k l stored proper_kind)
+pub argument_rises : (lower higher : Known) (number : ℕ) (wanted : Argument) → IsBelow lower higher
+    → Sound (λ x n. kind.IsWithin n x) (argument_in higher number wanted) (argument_in lower number wanted)
+argument_rises lower higher number wanted below = weaker IsLower (λ x n. kind.IsWithin n x) _ _ is_within
+    (argument_in_lower higher lower below number wanted)
 
-pub argument_rises : (lower higher : Known) (number : ℕ) (wanted : Argument) → IsBelow lower higher → Sound (λ x n. kind.IsWithin n x) (argument_in higher number wanted) (argument_in lower number wanted)
-argument_rises lower higher number wanted below = weaker IsLower (λ x n. kind.IsWithin n x) _ _ is_within (argument_in_lower higher lower below number wanted)
-
-pub call_rises : (lower higher : Known) (helper : Helper) → IsBelow lower higher → Sound (λ x n. IsWithinKnown n x) (call higher (Some helper)) (call lower (Some helper))
+pub call_rises : (lower higher : Known) (helper : Helper) → IsBelow lower higher
+    → Sound (λ x n. IsWithinKnown n x) (call higher (Some helper)) (call lower (Some helper))
 call_rises lower higher helper below = call_lower higher lower below helper
-
-pub compare_rises : (lower higher : Known) (comparison : Comparison) (x y m n : Kind) → IsBelow lower higher → kind.IsProper m → kind.IsProper n → kind.IsWithin m x → kind.IsWithin n y → Sound (λ x n. AreEdgesWithin n x) (compare higher comparison x y) (compare lower comparison m n)
-compare_rises lower higher comparison x y m n below proper_m proper_n first second = compare_lower higher lower below comparison x y m n (is_lower x m first proper_m) (is_lower y n second proper_n)

@@ -1,5 +1,6 @@
 pub mod MoveLemmas
 pub mod CallLemmas
+pub mod PointerLemmas
 pub mod SoundChecks
 pub mod SoundStates
 pub mod SoundArithmetic

@@ -13,25 +13,26 @@ is_found : (found : Option Offsets) (cause : Cause) (offsets : Offsets) → ok_o
 is_found None cause offsets is = cc
 is_found (Some other) cause offsets is = cc
 
-all_proper : (found : Option Offsets) (cause : Cause) → ((offsets : Offsets) → found ≡ Some offsets → IsProper offsets) → IfOk (ok_or found cause) IsProper
+all_proper : (found : Option Offsets) (cause : Cause) → ((offsets : Offsets) → found ≡ Some offsets → IsProper offsets)
+    → IfOk (ok_or found cause) IsProper
 all_proper None cause proper = tt
 all_proper (Some offsets) cause proper = proper offsets (λ i. Some offsets)
 
 -- the distances
-pub distances_are_proper : (x : Interval) (found : Option Offsets) (cause : Cause) (result : Result Offsets Cause) (distances : Offsets) → interval.IsProper x
-    → found ≡ near_distances x → result ≡ ok_or found cause → result ≡ Ok distances → IsProper distances
-distances_are_proper x found cause result distances proper near is ok =
+pub distances_are_proper : {x : Interval} {found : Option Offsets} (cause : Cause) {result : Result Offsets Cause} {distances : Offsets}
+    → interval.IsProper x → found ≡ near_distances x → result ≡ ok_or found cause → result ≡ Ok distances → IsProper distances
+distances_are_proper {x} {found} cause {distances} proper near is ok =
     near-proper x distances proper (sym near ∙ is_found found cause distances (sym is ∙ ok))
 
 -- the offsets behind a move
-pub moved_are_proper : (offsets distances : Offsets) (moved : Option Offsets) (cause : Cause) (result : Result Offsets Cause) → IsProper offsets → IsProper distances
-    → moved ≡ move_by offsets distances → result ≡ ok_or moved cause → IfOk result IsProper
-moved_are_proper offsets distances moved cause result proper near move is =
+pub moved_are_proper : {offsets distances : Offsets} {moved : Option Offsets} (cause : Cause) {result : Result Offsets Cause}
+    → IsProper offsets → IsProper distances → moved ≡ move_by offsets distances → result ≡ ok_or moved cause → IfOk result IsProper
+moved_are_proper {offsets} {distances} {moved} cause proper near move is =
     subst (λ (r : Result Offsets Cause). IfOk r IsProper) (sym is)
     (all_proper moved cause (λ to found. move_by-proper offsets distances to proper near (sym move ∙ found)))
 
-pub moved_back_are_proper : (offsets distances : Offsets) (moved : Option Offsets) (cause : Cause) (result : Result Offsets Cause) → IsProper offsets → IsProper distances
-    → moved ≡ move_back_by offsets distances → result ≡ ok_or moved cause → IfOk result IsProper
-moved_back_are_proper offsets distances moved cause result proper near move is =
+pub moved_back_are_proper : {offsets distances : Offsets} {moved : Option Offsets} (cause : Cause) {result : Result Offsets Cause}
+    → IsProper offsets → IsProper distances → moved ≡ move_back_by offsets distances → result ≡ ok_or moved cause → IfOk result IsProper
+moved_back_are_proper {offsets} {distances} {moved} cause proper near move is =
     subst (λ (r : Result Offsets Cause). IfOk r IsProper) (sym is)
     (all_proper moved cause (λ to found. move_back_by-proper offsets distances to proper near (sym move ∙ found)))

@@ -1,5 +1,7 @@
 -- The pass: what it keeps is an annotation that is good up to where it has come.
-use Rattle.std.proofs.Common.{◌≡◌, ℕ, ℤ, pos, ◌≢◌, zero, suc, ◌+◌, ◌+ℤ◌, ◌<◌, ◌≤◌, ◌==◌, Bool, List, [], ◌∷◌, ◌++◌, length, get_or, Option, Some, None, option_map, IfSome, Result, Ok, Err, nat_le, true, false, if◌then◌else◌, refl, sym, ap, ◌∙◌, subst, arith, rules, inl, inr}
+use Rattle.std.proofs.Common.{◌≡◌, ℕ, ℤ, pos, ◌≢◌, zero, suc, ◌+◌, ◌+ℤ◌, ◌<◌, ◌≤◌, ◌==◌, Bool, List, [], ◌∷◌, ◌++◌, length, get_or, Option}
+use Rattle.std.proofs.Common.{Some, None, option_map, IfSome, Result, Ok, Err, nat_le, true, false, if◌then◌else◌, refl, sym, ap, ◌∙◌}
+use Rattle.std.proofs.Common.{subst, arith, rules, inl, inr}
 use Rattle.std.proofs.lemmas.Bool.{cases_lt}
 use Rattle.std.proofs.lemmas.Bool.Decides.{nat_tests}
 use Rattle.std.proofs.lemmas.Int.{ints}
@@ -21,7 +23,8 @@ use Rattle.bpf_kinds.specs.Offsets as offsets
 use Rattle.bpf_kinds.specs.declared.kind.Kind.{Kind}
 use Rattle.bpf_kinds.specs.declared.kind.Kind.TheVariants.{Nothing}
 use Rattle.bpf_insn.specs.declared.value.Area.{Area}
-use Rattle.bpf_verify.specs.Annotation.{Annotation, PassesAt, IsGoodUpTo, IsLeastUpTo, Fails, IsAccepted, IsRefusedAt, IsVerifyFault, area_of, areas_from}
+use Rattle.bpf_verify.specs.Annotation.{Annotation, PassesAt, IsGoodUpTo, IsLeastUpTo, Fails, IsAccepted, IsRefusedAt, IsVerifyFault}
+use Rattle.bpf_verify.specs.Annotation.{area_of, areas_from}
 use Rattle.bpf_verify.specs.Pass.{Ahead, AreProper, IsVisitFault, Visits, first, joined, joined_if, kept, propagated, state_of, waiting_at}
 use Rattle.bpf_meaning.specs.declared.cause.Cause.{Cause}
 use Rattle.bpf_verify.specs.State.{AbstractState, Unreached, Reached, Edges, AreEdgesWithin, entry, join, IsProper, IsProperKnown, IsWithin}
@@ -39,7 +42,8 @@ pub join-bottom : (state : AbstractState) → join state Unreached ≡ state
 join-bottom Unreached = refl
 join-bottom (Reached known) = refl
 
-pub is_found_proper : {A : Type 0} (found : Option (Box Known A)) → IsProper (state_of found) → IfSome found (λ known. IsProperKnown known.value)
+pub is_found_proper : {A : Type 0} (found : Option (Box Known A)) → IsProper (state_of found)
+    → IfSome found (λ known. IsProperKnown known.value)
 is_found_proper None proper = tt
 is_found_proper (Some known) proper = proper
 
@@ -48,7 +52,8 @@ is_found_proper (Some known) proper = proper
 pub same_place : (other place : ℕ) → (other == place) ≡ true → place ≡ other
 same_place other place is = grind (arith, nat_tests)
 
-pub joined_each : (P : ℕ → AbstractState → Type 0) (states : Annotation) (place : ℕ) (state : AbstractState) → P place (join (states place) state) → ((other : ℕ) → P other (states other)) → (other : ℕ) → P other (joined states place state other)
+pub joined_each : (P : ℕ → AbstractState → Type 0) (states : Annotation) (place : ℕ) (state : AbstractState)
+    → P place (join (states place) state) → ((other : ℕ) → P other (states other)) → (other : ℕ) → P other (joined states place state other)
 joined_each P states place state here others other = by (other == place) refl
   where
     by : (test : Bool) → (other == place) ≡ test → P other (if test then join (states other) state else states other)
@@ -58,31 +63,40 @@ joined_each P states place state here others other = by (other == place) refl
 pub joined-here : (states : Annotation) (place : ℕ) (state : AbstractState) → joined states place state place ≡ join (states place) state
 joined-here states place state = let same : (place == place) ≡ true = grind (arith, nat_tests) in rw same refl
 
-pub joined-other : (states : Annotation) (place : ℕ) (state : AbstractState) (other : ℕ) → other ≢ place → joined states place state other ≡ states other
+pub joined-other : (states : Annotation) (place : ℕ) (state : AbstractState) (other : ℕ) → other ≢ place
+    → joined states place state other ≡ states other
 joined-other states place state other apart = let not : (other == place) ≡ false = grind (arith, nat_tests, apart) in rw not refl
 
 pub joined-bottom : (states : Annotation) (place other : ℕ) → joined states place Unreached other ≡ states other
-joined-bottom states place other = joined_each (λ other state. state ≡ states other) states place Unreached (join-bottom (states place)) (λ other. refl) other
+joined-bottom states place other = joined_each (λ other state. state ≡ states other) states place Unreached (join-bottom (states place))
+    (λ other. refl) other
 
 pub joined_if-bottom : (states : Annotation) (place : Option ℕ) (other : ℕ) → joined_if states place Unreached other ≡ states other
 joined_if-bottom states None other = refl
 joined_if-bottom states (Some place) other = joined-bottom states place other
 
 -- where two annotations agree, they do so behind a join
-pub joined-same : (states others : Annotation) (place : ℕ) (state : AbstractState) (other : ℕ) → states other ≡ others other → joined states place state other ≡ joined others place state other
+pub joined-same : (states others : Annotation) (place : ℕ) (state : AbstractState) (other : ℕ) → states other ≡ others other
+    → joined states place state other ≡ joined others place state other
 joined-same states others place state other same = ap (λ (s : AbstractState). if other == place then join s state else s) same
 
-pub joined_if-same : (states others : Annotation) (place : Option ℕ) (state : AbstractState) (other : ℕ) → states other ≡ others other → joined_if states place state other ≡ joined_if others place state other
+pub joined_if-same : (states others : Annotation) (place : Option ℕ) (state : AbstractState) (other : ℕ) → states other ≡ others other
+    → joined_if states place state other ≡ joined_if others place state other
 joined_if-same states others None state other same = same
 joined_if-same states others (Some place) state other same = joined-same states others place state other same
 
-pub propagated-bottom : (states : Annotation) (next : ℕ) (target : Option ℕ) (other : ℕ) → propagated states next target (record { next = Unreached; target = Unreached }) other ≡ states other
-propagated-bottom states next target other = joined-bottom (joined_if states target Unreached) next other ∙ joined_if-bottom states target other
+pub propagated-bottom : (states : Annotation) (next : ℕ) (target : Option ℕ) (other : ℕ)
+    → propagated states next target (record { next = Unreached; target = Unreached }) other ≡ states other
+propagated-bottom states next target other = joined-bottom (joined_if states target Unreached) next other
+    ∙ joined_if-bottom states target other
 
-pub joined_proper : (states : Annotation) (place : ℕ) (state : AbstractState) → AreProper states → IsProper state → AreProper (joined states place state)
-joined_proper states place state proper proper-state = joined_each (λ other. IsProper) states place state (laws.join_is_proper (states place) state (proper place) proper-state) proper
+pub joined_proper : (states : Annotation) (place : ℕ) (state : AbstractState) → AreProper states → IsProper state
+    → AreProper (joined states place state)
+joined_proper states place state proper proper-state = joined_each (λ other. IsProper) states place state
+    (laws.join_is_proper (states place) state (proper place) proper-state) proper
 
-pub joined_if_proper : (states : Annotation) (place : Option ℕ) (state : AbstractState) → AreProper states → IsProper state → AreProper (joined_if states place state)
+pub joined_if_proper : (states : Annotation) (place : Option ℕ) (state : AbstractState) → AreProper states → IsProper state
+    → AreProper (joined_if states place state)
 joined_if_proper states None state proper proper-state = proper
 joined_if_proper states (Some place) state proper proper-state = joined_proper states place state proper proper-state
 
@@ -91,20 +105,31 @@ record Takes (before after : Annotation) (place : Option ℕ) (state : AbstractS
   proper : AreProper after
   more : (other : ℕ) → IsWithin (before other) (after other)
   holds : (to : ℕ) → place ≡ Some to → IsWithin state (after to)
-  least : (bound : AbstractState) (other : ℕ) → IsWithin (before other) bound → (place ≡ Some other → IsWithin state bound) → IsWithin (after other) bound
+  least : (bound : AbstractState) (other : ℕ) → IsWithin (before other) bound → (place ≡ Some other → IsWithin state bound)
+      → IsWithin (after other) bound
 
-joined_takes : (states : Annotation) (place : Option ℕ) (state : AbstractState) → AreProper states → IsProper state → Takes states (joined_if states place state) place state
+joined_takes : (states : Annotation) (place : Option ℕ) (state : AbstractState) → AreProper states → IsProper state
+    → Takes states (joined_if states place state) place state
 joined_takes states None state proper proper-state =
-    record { proper = proper; more = λ other. laws.reflexive (states other); holds = λ to is. absurd (none-some to is); least = λ bound other below lower. below }
+    record {
+      proper = proper;
+      more = λ other. laws.reflexive (states other);
+      holds = λ to is. absurd (none-some to is);
+      least =
+          λ bound other below lower. below;
+    }
 joined_takes states (Some place) state proper proper-state = record {
   proper = joined_proper states place state proper proper-state;
-  more = joined_each (λ other. IsWithin (states other)) states place state (laws.left_is_within_join (states place) state (proper place) proper-state) (λ other. laws.reflexive (states other));
+  more = joined_each (λ other. IsWithin (states other)) states place state
+      (laws.left_is_within_join (states place) state (proper place) proper-state) (λ other. laws.reflexive (states other));
   holds = λ to is.
       let same : place ≡ to = cc in
       subst (λ (p : ℕ). IsWithin state (joined states place state p)) same
-      (subst (IsWithin state) (sym (joined-here states place state)) (laws.right_is_within_join (states place) state (proper place) proper-state));
+      (subst (IsWithin state) (sym (joined-here states place state))
+      (laws.right_is_within_join (states place) state (proper place) proper-state));
   least = λ bound other below lower. joined_each (λ at (kept : AbstractState). at ≡ other → IsWithin kept bound) states place state
-      (λ same. laws.join_is_least (states place) state bound (proper place) proper-state (subst (λ (at : ℕ). IsWithin (states at) bound) (sym same) below) (lower (ap Some same)))
+      (λ same. laws.join_is_least (states place) state bound (proper place) proper-state
+      (subst (λ (at : ℕ). IsWithin (states at) bound) (sym same) below) (lower (ap Some same)))
       (λ at same. subst (λ (at : ℕ). IsWithin (states at) bound) (sym same) below) other refl;
 }
 
@@ -122,7 +147,8 @@ pub record IsOnItsWay (code passed : List Insn) (ahead : Ahead) (areas : List (O
   pub kept_on : (other : ℕ) → ahead.place ≤ other → annotation other ≡ kept ahead other
   pub found : areas ≡ areas_from annotation 0 passed
 
-pub length-found : {code passed : List Insn} {ahead : Ahead} {areas : List (Option Area)} → IsOnItsWay code passed ahead areas → length areas ≡ length passed
+pub length-found : {code passed : List Insn} {ahead : Ahead} {areas : List (Option Area)} → IsOnItsWay code passed ahead areas
+    → length areas ≡ length passed
 length-found {passed = passed} way = ap length way.found ∙ length-areas_from way.annotation 0 passed
 
 same_edges : (x y : Edges) (found : Result Edges Cause) → found ≡ Ok x → found ≡ Ok y → x ≡ y
@@ -132,12 +158,15 @@ pub not_both : (edges : Edges) (cause : Cause) (found : Result Edges Cause) → 
 not_both edges cause found passes fails = cc
 
 -- what passed passes still where other states grow
-passes_more : (old new : Annotation) (place : ℕ) (insn : Insn) → new place ≡ old place → ((at : ℕ) → IsWithin (old at) (new at)) → PassesAt old place insn → PassesAt new place insn
+passes_more : (old new : Annotation) (place : ℕ) (insn : Insn) → new place ≡ old place → ((at : ℕ) → IsWithin (old at) (new at))
+    → PassesAt old place insn → PassesAt new place insn
 passes_more old new place insn same more passes = record {
   edges = passes.edges;
   passes = ap (λ (state : AbstractState). transfer state insn) same ∙ passes.passes;
-  next = laws.transitive passes.edges.next (old (place + length (spelling insn))) (new (place + length (spelling insn))) passes.next (more (place + length (spelling insn)));
-  target = λ distance to jumps leads. laws.transitive passes.edges.target (old to) (new to) (passes.target distance to jumps leads) (more to);
+  next = laws.transitive passes.edges.next (old (place + length (spelling insn))) (new (place + length (spelling insn))) passes.next
+      (more (place + length (spelling insn)));
+  target = λ distance to jumps leads. laws.transitive passes.edges.target (old to) (new to) (passes.target distance to jumps leads)
+      (more to);
 }
 
 -- one annotation up to a place and another behind it
@@ -151,7 +180,8 @@ behind-new : (old new : Annotation) (place other : ℕ) → place < other → be
 behind-new old new place other past = let is : nat_le other place ≡ false = grind (arith, nat_tests) in rw is refl
 
 -- where a jump that leads on has its target
-target_is : (place to : ℕ) (target : Option ℕ) (distance : ℤ) (jump : Option ℤ) → option_map pos target ≡ option_map (target_of place) jump → jump ≡ Some distance → pos (place + 1) +ℤ distance ≡ pos to → target ≡ Some to
+target_is : (place to : ℕ) (target : Option ℕ) (distance : ℤ) (jump : Option ℤ) → option_map pos target ≡ option_map (target_of place) jump
+    → jump ≡ Some distance → pos (place + 1) +ℤ distance ≡ pos to → target ≡ Some to
 target_is place to None distance None same is leads = absurd (none-some distance is)
 target_is place to (Some found) distance None same is leads = absurd (none-some distance is)
 target_is place to None distance (Some by) same is leads = cc
@@ -162,7 +192,8 @@ target_is place to (Some found) distance (Some by) same is leads =
     let equal : found ≡ to = cc in ap Some equal
 
 -- and the jump of which it is
-pub jump_of : (place to : ℕ) (target : Option ℕ) (jump : Option ℤ) → option_map pos target ≡ option_map (target_of place) jump → target ≡ Some to → (distance : ℤ) × (jump ≡ Some distance) × (pos (place + 1) +ℤ distance ≡ pos to)
+pub jump_of : (place to : ℕ) (target : Option ℕ) (jump : Option ℤ) → option_map pos target ≡ option_map (target_of place) jump
+    → target ≡ Some to → (distance : ℤ) × (jump ≡ Some distance) × (pos (place + 1) +ℤ distance ≡ pos to)
 jump_of place to None jump same is = absurd (none-some to is)
 jump_of place to (Some found) None same is = absurd (let no : ⊥ = cc in no)
 jump_of place to (Some found) (Some distance) same is =
@@ -170,7 +201,9 @@ jump_of place to (Some found) (Some distance) same is =
     let there : pos found ≡ target_of place distance = cc in
     (distance, refl, sym there ∙ ap pos here)
 
-module _ (code passed : List Insn) (insn : Insn) (before after : Ahead) (areas : List (Option Area)) (forward : IsForward code) (stands : instruction_at code before.place ≡ Some insn) (way : IsOnItsWay code passed before areas) (all_proper : AreProper (kept after)) (visits : Visits insn before after) where
+module _ (code passed : List Insn) (insn : Insn) (before after : Ahead) (areas : List (Option Area)) (forward : IsForward code)
+    (stands : instruction_at code before.place ≡ Some insn) (way : IsOnItsWay code passed before areas)
+    (all_proper : AreProper (kept after)) (visits : Visits insn before after) where
   abbrev place : ℕ
   place = before.place
 
@@ -204,8 +237,10 @@ module _ (code passed : List Insn) (insn : Insn) (before after : Ahead) (areas :
   more other = elim (cases_lt place other) as (λ _. IsWithin (way.annotation other) (annotation other)) [
     | inl past ↦
         subst (λ (s : AbstractState). IsWithin s (annotation other)) (sym (way.kept_on other (omega arith)))
-        (subst (IsWithin (states other)) (sym (is_behind other past)) (laws.transitive (states other) (middle other) _ (first_edge.more other) (second_edge.more other)))
-    | inr up ↦ subst (IsWithin (way.annotation other)) (sym (behind-old way.annotation (kept after) place other up)) (laws.reflexive (way.annotation other))
+        (subst (IsWithin (states other)) (sym (is_behind other past))
+        (laws.transitive (states other) (middle other) _ (first_edge.more other) (second_edge.more other)))
+    | inr up ↦ subst (IsWithin (way.annotation other)) (sym (behind-old way.annotation (kept after) place other up))
+        (laws.reflexive (way.annotation other))
   ]
 
   here_kept : annotation place ≡ states place
@@ -218,19 +253,22 @@ module _ (code passed : List Insn) (insn : Insn) (before after : Ahead) (areas :
     next =
         let long = length-spelling_positive insn in
         let later : place < next = omega (arith, goes) in
-        subst (λ (p : ℕ). IsWithin visits.edges.next (annotation p)) goes (subst (IsWithin visits.edges.next) (sym (is_behind next later)) (second_edge.holds next refl));
+        subst (λ (p : ℕ). IsWithin visits.edges.next (annotation p)) goes
+        (subst (IsWithin visits.edges.next) (sym (is_behind next later)) (second_edge.holds next refl));
     target = λ distance to jumps leads.
         let on = forward.jumps place insn distance stands jumps in
         let same : on.target ≡ to = (let both : pos on.target ≡ pos to = sym on.is_target ∙ leads in cc) in
         let later : place < to = omega (arith, on.later) in
         subst (IsWithin visits.edges.target) (sym (is_behind to later))
         (laws.transitive visits.edges.target (middle to) _
-        (first_edge.holds to (target_is place to visits.target distance (jump_distance insn) visits.leads jumps leads)) (second_edge.more to));
+        (first_edge.holds to (target_is place to visits.target distance (jump_distance insn) visits.leads jumps leads))
+        (second_edge.more to));
   }
 
   passes_up_to : (at : ℕ) (found : Insn) → at < next → instruction_at code at ≡ Some found → PassesAt annotation at found
   passes_up_to at found below is = elim (cases_lt at place) as (λ _. PassesAt annotation at found) [
-    | inl earlier ↦ passes_more way.annotation annotation at found (behind-old way.annotation (kept after) place at (omega arith)) more (way.good.passes at found earlier is)
+    | inl earlier ↦ passes_more way.annotation annotation at found (behind-old way.annotation (kept after) place at (omega arith)) more
+        (way.good.passes at found earlier is)
     | inr from ↦ elim (cases_lt place at) as (λ _. PassesAt annotation at found) [
       | inl inside ↦ absurd (none-some found (sym (nothing_within code place insn at stands inside (let end = goes in omega arith)) ∙ is))
       | inr here ↦
@@ -254,30 +292,40 @@ module _ (code passed : List Insn) (insn : Insn) (before after : Ahead) (areas :
 
   found_more : areas ++ area_of (states place) insn ∷ [] ≡ areas_from annotation 0 (passed ++ insn ∷ [])
   found_more =
-      let earlier = areas_from-same way.annotation annotation place 0 passed (behind-old way.annotation (kept after) place) (let at = way.at in omega arith) in
+      let earlier = areas_from-same way.annotation annotation place 0 passed (behind-old way.annotation (kept after) place)
+      (let at = way.at in omega arith) in
       ap (λ (found : List (Option Area)). found ++ area_of (states place) insn ∷ []) (way.found ∙ sym earlier)
       ∙ ap (λ (area : Option Area). areas_from annotation 0 passed ++ area ∷ []) (sym area_here)
       ∙ sym (areas_from-more annotation 0 passed insn)
 
-  -- Below every other annotation that is good so far: its state here is above ours, so are its edges, and what is kept where they lead stays
+  -- Below every other annotation that is good so far: its state here is above ours, so are its edges, and what is kept where they lead
+  -- stays
   -- below it.
   module _ (other : Annotation) (good : IsGoodUpTo code next other) where
     good_before : IsGoodUpTo code place other
-    good_before = record { proper = good.proper; entry = good.entry; passes = λ earlier found below is. good.passes earlier found (let end = goes in omega arith) is }
+    good_before = record {
+      proper = good.proper;
+      entry = good.entry;
+      passes =
+          λ earlier found below is. good.passes earlier found (let end = goes in omega arith) is;
+    }
 
     passes : PassesAt other place insn
     passes = good.passes place insn (let long = length-spelling_positive insn in let end = goes in omega arith) stands
 
     here_below : IsWithin (states place) (other place)
-    here_below = subst (λ (s : AbstractState). IsWithin s (other place)) (way.kept_on place (omega arith)) (way.least other good_before place)
+    here_below = subst (λ (s : AbstractState). IsWithin s (other place)) (way.kept_on place (omega arith))
+        (way.least other good_before place)
 
     edges_below : AreEdgesWithin visits.edges passes.edges
     edges_below =
         let lower = upward insn (states place) (other place) passes.edges (way.proper place) (good.proper place) here_below passes.passes in
-        subst (λ (edges : Edges). AreEdgesWithin edges passes.edges) (same_edges lower.0 visits.edges (transfer (states place) insn) lower.1 visits.passes) lower.2
+        subst (λ (edges : Edges). AreEdgesWithin edges passes.edges)
+        (same_edges lower.0 visits.edges (transfer (states place) insn) lower.1 visits.passes) lower.2
 
     ahead_below : (at : ℕ) → place < at → IsWithin (states at) (other at)
-    ahead_below at past = subst (λ (s : AbstractState). IsWithin s (other at)) (way.kept_on at (omega arith)) (way.least other good_before at)
+    ahead_below at past = subst (λ (s : AbstractState). IsWithin s (other at)) (way.kept_on at (omega arith))
+        (way.least other good_before at)
 
     target_below : (at : ℕ) → visits.target ≡ Some at → IsWithin visits.edges.target (other at)
     target_below at is =
@@ -287,21 +335,24 @@ module _ (code passed : List Insn) (insn : Insn) (before after : Ahead) (areas :
     next_below : (at : ℕ) → Some next ≡ Some at → IsWithin visits.edges.next (other at)
     next_below at is =
         let same : place + length (spelling insn) ≡ at = (let both : next ≡ at = cc in sym goes ∙ both) in
-        subst (λ (p : ℕ). IsWithin visits.edges.next (other p)) same (laws.transitive visits.edges.next passes.edges.next (other (place + length (spelling insn))) edges_below.next passes.next)
+        subst (λ (p : ℕ). IsWithin visits.edges.next (other p)) same
+        (laws.transitive visits.edges.next passes.edges.next (other (place + length (spelling insn))) edges_below.next passes.next)
 
     least_here : (at : ℕ) → IsWithin (annotation at) (other at)
     least_here at = elim (cases_lt place at) as (λ _. IsWithin (annotation at) (other at)) [
       | inl past ↦
           subst (λ (s : AbstractState). IsWithin s (other at)) (sym (is_behind at past))
           (second_edge.least (other at) at (first_edge.least (other at) at (ahead_below at past) (target_below at)) (next_below at))
-      | inr up ↦ subst (λ (s : AbstractState). IsWithin s (other at)) (sym (behind-old way.annotation (kept after) place at up)) (way.least other good_before at)
+      | inr up ↦ subst (λ (s : AbstractState). IsWithin s (other at)) (sym (behind-old way.annotation (kept after) place at up))
+          (way.least other good_before at)
     ]
 
   -- one instruction more
   pub goes_on : IsOnItsWay code (passed ++ insn ∷ []) after (areas ++ area_of (states place) insn ∷ [])
   goes_on = record {
     of_code = visits.code ∙ way.of_code;
-    at = let more = word_count-append passed (insn ∷ []) in let one = word_count-one insn in let at = way.at in let end = goes in omega arith;
+    at = let more = word_count-append passed (insn ∷ []) in let one = word_count-one insn in let at = way.at in let end = goes in
+        omega arith;
     proper = all_proper;
     annotation = annotation;
     good = record {
@@ -310,12 +361,14 @@ module _ (code passed : List Insn) (insn : Insn) (before after : Ahead) (areas :
       passes = passes_up_to;
     };
     least = least_here;
-    kept_on = λ other past. let long = length-spelling_positive insn in behind-new way.annotation (kept after) place other (let end = goes in omega arith);
+    kept_on = λ other past. let long = length-spelling_positive insn in
+        behind-new way.annotation (kept after) place other (let end = goes in omega arith);
     found = found_more;
   }
 
 -- Where a check fails in a state, some check fails in every state above: where none fails, none fails below.
-fails_above : (insn : Insn) (lower higher : AbstractState) (cause : Cause) → IsProper lower → IsProper higher → IsWithin lower higher → transfer lower insn ≡ Err cause → Fails higher insn
+fails_above : (insn : Insn) (lower higher : AbstractState) (cause : Cause) → IsProper lower → IsProper higher → IsWithin lower higher
+    → transfer lower insn ≡ Err cause → Fails higher insn
 fails_above insn lower higher cause proper above within fails = by_result (transfer higher insn) refl
   where
     by_result : (found : Result Edges Cause) → transfer higher insn ≡ found → (why : Cause) × (transfer higher insn ≡ Err why)
@@ -325,9 +378,11 @@ fails_above insn lower higher cause proper above within fails = by_result (trans
         absurd (not_both passes.0 cause (transfer lower insn) passes.1 fails)
 
 -- a visit that is refused
-pub refuses : (code passed : List Insn) (insn : Insn) (ahead : Ahead) (areas : List (Option Area)) (fault : VerifyFault) → instruction_at code ahead.place ≡ Some insn → IsOnItsWay code passed ahead areas → IsVisitFault ahead insn fault → IsVerifyFault code fault
-refuses code passed insn ahead areas Memory stands way fault = tt
-refuses code passed insn ahead areas (Refused at cause) stands way fault =
+pub refuses : {code passed : List Insn} {insn : Insn} {ahead : Ahead} {areas : List (Option Area)} (fault : VerifyFault)
+    → instruction_at code ahead.place ≡ Some insn → IsOnItsWay code passed ahead areas → IsVisitFault ahead insn fault
+    → IsVerifyFault code fault
+refuses Memory stands way fault = tt
+refuses {code} {insn} {ahead} (Refused at cause) stands way fault =
     subst (λ (p : ℕ). IsRefusedAt code p cause) (sym fault.0)
     (record {
       annotation = way.annotation;
@@ -335,11 +390,13 @@ refuses code passed insn ahead areas (Refused at cause) stands way fault =
       insn = insn;
       stands = stands;
       fails = here;
-      always = λ other good. fails_above insn (way.annotation ahead.place) (other ahead.place) cause (way.good.proper ahead.place) (good.proper ahead.place) (way.least other good ahead.place) here;
+      always = λ other good. fails_above insn (way.annotation ahead.place) (other ahead.place) cause (way.good.proper ahead.place)
+          (good.proper ahead.place) (way.least other good ahead.place) here;
     })
   where
     here : transfer (way.annotation ahead.place) insn ≡ Err cause
-    here = ap (λ (state : AbstractState). transfer state insn) (way.kept_on ahead.place (omega arith) ∙ ap (kept ahead) (sym fault.0)) ∙ fault.1
+    here = ap (λ (state : AbstractState). transfer state insn) (way.kept_on ahead.place (omega arith) ∙ ap (kept ahead) (sym fault.0))
+        ∙ fault.1
 
 -- at the start
 
@@ -358,7 +415,13 @@ at_proper offset fits = record { ordered = omega (arith, ints); low = fits; high
 
 all_proper : AllProper entry.registers
 unfolding AllProper
-all_proper = (tt, (at_proper (pos 0) (search rules), (tt, (tt, (tt, (tt, (tt, (tt, (tt, (tt, (at_proper (pos FRAME_LENGTH) (search rules), tt)))))))))))
+all_proper = (
+  tt,
+  (
+    at_proper (pos 0) (search rules),
+    (tt, (tt, (tt, (tt, (tt, (tt, (tt, (tt, (at_proper (pos FRAME_LENGTH) (search rules), tt))))))))),
+  ),
+)
 
 pub entry_is_proper : IsProperKnown entry
 entry_is_proper = record { count = refl; kinds = each_proper entry.registers all_proper; frame = unwritten_is_proper }
@@ -368,8 +431,10 @@ entry_is_proper = record { count = refl; kinds = each_proper entry.registers all
 pub first_are_proper : (code : List Insn) → AreProper (kept (first code))
 first_are_proper code = joined_proper (waiting_at []) 0 (Reached entry) (λ place. tt) entry_is_proper
 
-first_are_least : (code : List Insn) (other : Annotation) → IsWithin (Reached entry) (other 0) → (at : ℕ) → IsWithin (kept (first code) at) (other at)
-first_are_least code other entered = joined_each (λ at state. IsWithin state (other at)) (waiting_at []) 0 (Reached entry) entered (λ at. tt)
+first_are_least : (code : List Insn) (other : Annotation) → IsWithin (Reached entry) (other 0) → (at : ℕ)
+    → IsWithin (kept (first code) at) (other at)
+first_are_least code other entered = joined_each (λ at state. IsWithin state (other at)) (waiting_at []) 0 (Reached entry) entered
+    (λ at. tt)
 
 pub starts : (code : List Insn) (ahead : Ahead) → ahead ≡ first code → IsOnItsWay code [] ahead []
 starts code ahead is = subst (λ (ahead : Ahead). IsOnItsWay code [] ahead []) (sym is) (record {
@@ -389,9 +454,11 @@ starts code ahead is = subst (λ (ahead : Ahead). IsOnItsWay code [] ahead []) (
 
 -- at the end
 
-pub accepts : (code passed : List Insn) (ahead : Ahead) (areas : List (Option Area)) → passed ≡ code → IsOnItsWay code passed ahead areas → IsAccepted code areas
+pub accepts : (code passed : List Insn) (ahead : Ahead) (areas : List (Option Area)) → passed ≡ code → IsOnItsWay code passed ahead areas
+    → IsAccepted code areas
 accepts code passed ahead areas all way = record {
   annotation = way.annotation;
-  is_least = subst (λ (p : ℕ). IsLeastUpTo code p way.annotation) (way.at ∙ ap word_count all) (record { good = way.good; least = λ other good at before. way.least other good at });
+  is_least = subst (λ (p : ℕ). IsLeastUpTo code p way.annotation) (way.at ∙ ap word_count all)
+      (record { good = way.good; least = λ other good at before. way.least other good at });
   are = way.found ∙ ap (areas_from way.annotation 0) all;
 }

@@ -59,7 +59,9 @@ is_lower (Frame x) (Record n) within proper = absurd within
 is_lower (Frame x) Nothing within proper = absurd within
 
 -- such kinds, by what they are
-pub lower_cases : (Such : Kind → Kind → Type 0) → ((x n : Interval) → IsLowerInterval x n → Such (Number x) (Number n)) → ((x n : Offsets) → AreLowerOffsets x n → Such (Record x) (Record n)) → ((x n : Offsets) → AreLowerOffsets x n → Such (Frame x) (Frame n)) → ((n : Kind) → Such Nothing n)
+pub lower_cases : (Such : Kind → Kind → Type 0) → ((x n : Interval) → IsLowerInterval x n → Such (Number x) (Number n))
+    → ((x n : Offsets) → AreLowerOffsets x n → Such (Record x) (Record n))
+    → ((x n : Offsets) → AreLowerOffsets x n → Such (Frame x) (Frame n)) → ((n : Kind) → Such Nothing n)
     → (x n : Kind) → IsLower x n → Such x n
 lower_cases Such numbers records frames nothing (Number x) (Number n) is = numbers x n is
 lower_cases Such numbers records frames nothing (Record x) (Record n) is = records x n is
@@ -91,7 +93,8 @@ single_lower n = record { within = record { low = omega arith; high = omega arit
 -- reading
 
 read_kind_lower : (register : ℕ) (x n : Kind) → IsLower x n → Sound IsLower (read_kind register x) (read_kind register n)
-read_kind_lower register = lower_cases (λ x n. Sound IsLower (read_kind register x) (read_kind register n)) (λ x n is. is) (λ x n are. are) (λ x n are. are) (λ n. tt)
+read_kind_lower register = lower_cases (λ x n. Sound IsLower (read_kind register x) (read_kind register n)) (λ x n is. is) (λ x n are. are)
+    (λ x n are. are) (λ n. tt)
 
 pub read_lower : (higher lower : Known) → IsBelow lower higher → (register : ℕ) → Sound IsLower (read higher register) (read lower register)
 read_lower higher lower below register =
@@ -99,27 +102,33 @@ read_lower higher lower below register =
     (is_lower (kind_of higher register) (kind_of lower register) (below.within.registers register) (below.proper.kinds register))
 
 pub number_or_lower : (cause : Cause) (x n : Kind) → IsLower x n → Sound IsLowerInterval (number_or cause x) (number_or cause n)
-number_or_lower cause = lower_cases (λ x n. Sound IsLowerInterval (number_or cause x) (number_or cause n)) (λ x n is. is) (λ x n are. tt) (λ x n are. tt) (λ n. tt)
+number_or_lower cause = lower_cases (λ x n. Sound IsLowerInterval (number_or cause x) (number_or cause n)) (λ x n is. is) (λ x n are. tt)
+    (λ x n are. tt) (λ n. tt)
 
 -- arithmetic
 
-alu_lower : (operation : Operation) (width : Width) (x y m n : Interval) → IsLowerInterval x m → IsLowerInterval y n → IsLowerInterval (alu operation width x y) (alu operation width m n)
+alu_lower : (operation : Operation) (width : Width) (x y m n : Interval) → IsLowerInterval x m → IsLowerInterval y n
+    → IsLowerInterval (alu operation width x y) (alu operation width m n)
 alu_lower operation width x y m n left right = record {
-  within = alu_rises operation width m n x y left.ordered right.ordered left.within right.within;
+  within = alu_rises operation width left.ordered right.ordered left.within right.within;
   ordered = alu_ordered operation width m n left.ordered right.ordered;
 }
 
 low_half_lower : (x n : Interval) → IsLowerInterval x n → IsLowerInterval (interval.cut w32 x) (interval.cut w32 n)
 low_half_lower x n is = record { within = cut_rises w32 n x is.ordered is.within; ordered = cut_ordered w32 n is.ordered }
 
-found_lower : (cause : Cause) (found other : Option Offsets) → ((x : Offsets) → found ≡ Some x → (nearer : Offsets) × (other ≡ Some nearer) × offsets.IsWithin nearer x × (nearer.low ≤ℤ nearer.high)) → Sound AreLowerOffsets (or_cause cause found) (or_cause cause other)
+found_lower : (cause : Cause) (found other : Option Offsets)
+    → ((x : Offsets) → found ≡ Some x → (nearer : Offsets) × (other ≡ Some nearer) × offsets.IsWithin nearer x
+    × (nearer.low ≤ℤ nearer.high)) → Sound AreLowerOffsets (or_cause cause found) (or_cause cause other)
 found_lower cause None other all = tt
 found_lower cause (Some x) other all =
     let there = all x refl in
-    subst (λ (o : Option Offsets). Sound AreLowerOffsets (Ok x) (or_cause cause o)) (sym there.1) (record { within = there.2; ordered = there.3 })
+    subst (λ (o : Option Offsets). Sound AreLowerOffsets (Ok x) (or_cause cause o)) (sym there.1)
+    (record { within = there.2; ordered = there.3 })
 
 tags_lower : (x n : Kind) → IsLower x n → Relate IsLowerInterval AreLowerOffsets (tagged_kind x) (tagged_kind n)
-tags_lower = lower_cases (λ x n. Relate IsLowerInterval AreLowerOffsets (tagged_kind x) (tagged_kind n)) (λ x n is. is) (λ x n are. (refl, are)) (λ x n are. (refl, are)) (λ n. tt)
+tags_lower = lower_cases (λ x n. Relate IsLowerInterval AreLowerOffsets (tagged_kind x) (tagged_kind n)) (λ x n is. is)
+    (λ x n are. (refl, are)) (λ x n are. (refl, are)) (λ n. tt)
 
 pointer_lower : (into : Area) (x n : Offsets) → AreLowerOffsets x n → IsLower (kind_pointer into x) (kind_pointer into n)
 pointer_lower area.Record x n is = is
@@ -136,12 +145,16 @@ kinds_agree = record {
   pointer = pointer_lower;
   result = alu_lower;
   low_half = low_half_lower;
-  distance = λ x n is. found_lower PointerArithmetic (near_distances x) (near_distances n) (λ distances found. near_rises n x distances is.ordered is.within found);
-  forwards = λ x n d e here by. found_lower LeavesArea (move_by x d) (move_by n e) (λ moved found. move_by_rises n e x d moved here.ordered by.ordered here.within by.within found);
-  backwards = λ x n d e here by. found_lower LeavesArea (move_back_by x d) (move_back_by n e) (λ moved found. move_back_by_rises n e x d moved here.ordered by.ordered here.within by.within found);
+  distance = λ x n is. found_lower PointerArithmetic (near_distances x) (near_distances n)
+      (λ distances found. near_rises n x distances is.ordered is.within found);
+  forwards = λ x n d e here by. found_lower LeavesArea (move_by x d) (move_by n e)
+      (λ moved found. move_by_rises here.ordered by.ordered here.within by.within found);
+  backwards = λ x n d e here by. found_lower LeavesArea (move_back_by x d) (move_back_by n e)
+      (λ moved found. move_back_by_rises here.ordered by.ordered here.within by.within found);
 }
 
-pub operate_lower : (operation : Operation) (width : Width) (x y m n : Kind) → IsLower x m → IsLower y n → Sound IsLower (operate kind_tags operation width x y) (operate kind_tags operation width m n)
+pub operate_lower : (operation : Operation) (width : Width) (x y m n : Kind) → IsLower x m → IsLower y n
+    → Sound IsLower (operate kind_tags operation width x y) (operate kind_tags operation width m n)
 unfolding kinds_agree
 operate_lower = operate_agrees kind_tags kind_tags kinds_agree
 

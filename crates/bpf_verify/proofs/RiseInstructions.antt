@@ -1,4 +1,5 @@
--- The transfer function goes upwards: where no check of an instruction fails on what is known, none fails on what is lower, and what is known
+-- The transfer function goes upwards: where no check of an instruction fails on what is known, none fails on what is lower, and what is
+-- known
 -- behind it is lower too.
 use Rattle.std.proofs.Common.{◌≡◌, Result, Ok, Err, refl, sym, ◌∙◌, subst}
 use Rattle.bpf_insn.specs.Arithmetic as arithmetic
@@ -12,14 +13,17 @@ use Rattle.bpf_meaning.proofs.WalkForesees.{Foresees, walk_foreseen, any_fits}
 use Rattle.bpf_verify.specs.State.{IsBelow, AbstractState, Unreached, Reached, Edges, AreEdgesWithin, IsProper, IsWithin, IsWithinKnown}
 use Rattle.bpf_verify.specs.Transfer.{kinds, transfer}
 use Rattle.bpf_verify.specs.declared.state.Known.{Known}
-use Rattle.bpf_verify.proofs.RiseChecks.{IsLower, IsLowerInterval, AreLowerOffsets, is_within, single_lower, read_lower, number_or_lower, operate_lower, move_lower}
-use Rattle.bpf_verify.proofs.RiseMemory.{ArePointersLower, ChangesBelow, pointers_lower, load_from_lower, frame_offsets_lower, store_at_lower, with_kind_lower}
+use Rattle.bpf_verify.proofs.RiseChecks.{IsLower, IsLowerInterval, AreLowerOffsets, is_within, single_lower, read_lower, number_or_lower}
+use Rattle.bpf_verify.proofs.RiseChecks.{operate_lower, move_lower}
+use Rattle.bpf_verify.proofs.RiseMemory.{ArePointersLower, ChangesBelow, pointers_lower, load_from_lower, frame_offsets_lower}
+use Rattle.bpf_verify.proofs.RiseMemory.{store_at_lower, with_kind_lower}
 use Rattle.bpf_verify.proofs.RiseCalls.{call_lower}
 use Rattle.bpf_verify.proofs.RiseComparison.{EdgesBelow, compare_lower}
 use Rattle.bpf_verify.proofs.SoundComparison.{with_source}
 use Rattle.bpf_kinds.proofs.ResultsRise.{negate_rises, negate_ordered, extend_rises, extend_ordered, byte_swap_rises, byte_swap_ordered}
 
-on_to_next : (higher lower : Known) → IsWithinKnown lower higher → EdgesBelow (record { next = Reached higher; target = Unreached }) (record { next = Reached lower; target = Unreached })
+on_to_next : (higher lower : Known) → IsWithinKnown lower higher
+    → EdgesBelow (record { next = Reached higher; target = Unreached }) (record { next = Reached lower; target = Unreached })
 on_to_next higher lower within = record { next = within; target = tt }
 
 -- each step of an instruction
@@ -42,30 +46,43 @@ kinds_rise higher lower below insn = record {
   pointer_in = pointers_lower higher lower below;
   immediate = λ immediate fits. single_lower (arithmetic.immediate_operand immediate);
   wide = λ immediate next fits. single_lower (arithmetic.wide_number immediate next);
-  extend = λ extension x n is. record { within = extend_rises extension n x is.ordered is.within; ordered = extend_ordered extension n is.ordered };
+  extend = λ extension x n is. record {
+    within = extend_rises extension n x is.ordered is.within;
+    ordered =
+        extend_ordered extension n is.ordered;
+  };
   negate = λ width x n is. record { within = negate_rises width n x is.ordered is.within; ordered = negate_ordered width n is.ordered };
-  byte_swap = λ order width x n is. record { within = byte_swap_rises order width n x is.ordered is.within; ordered = byte_swap_ordered order width n is.ordered };
+  byte_swap = λ order width x n is. record {
+    within = byte_swap_rises order width n x is.ordered is.within;
+    ordered =
+        byte_swap_ordered order width n is.ordered;
+  };
   move = move_lower;
   operate = operate_lower;
   load = load_from_lower higher lower below;
   frame = λ p q offset are. frame_offsets_lower p q are;
-  store_at = λ x n offset size k l is stored. store_at_lower higher lower below x n offset size k l is stored;
+  store_at = λ x n offset size k l is stored. store_at_lower below offset size k l is stored;
   call = call_lower higher lower below;
-  set = λ goes_on destination x n is. on_to_next _ _ (with_kind_lower higher lower destination.number x n (below.proper.count ∙ sym below.proper_higher.count) below.within (is_within x n is));
+  set = λ goes_on destination x n is. on_to_next _ _
+      (with_kind_lower higher lower destination.number x n (below.proper.count ∙ sym below.proper_higher.count) below.within
+      (is_within x n is));
   go_on = λ goes_on behind after within. on_to_next behind after within;
   jump = λ distance jumps. record { next = tt; target = below.within };
   with_immediate = λ goes_on condition width left immediate distance x n fits jumps first.
-      compare_lower higher lower below (with_source condition width left (Immediate immediate)) x _ n _ first (single_lower (low_bits (operand_bits width) (arithmetic.immediate_operand immediate)));
+      compare_lower below (with_source condition width left (Immediate immediate)) x _ n _ first
+      (single_lower (low_bits (operand_bits width) (arithmetic.immediate_operand immediate)));
   with_register = λ goes_on condition width left right distance x y m n jumps first second.
-      compare_lower higher lower below (with_source condition width left (Register right)) x y m n first second;
+      compare_lower below (with_source condition width left (Register right)) x y m n first second;
   end = λ x n is. record { next = tt; target = tt };
 }
 
-walk_rises : (higher lower : Known) → IsBelow lower higher → (insn : Insn) → Sound EdgesBelow (walk (kinds higher) insn) (walk (kinds lower) insn)
+walk_rises : (higher lower : Known) → IsBelow lower higher → (insn : Insn)
+    → Sound EdgesBelow (walk (kinds higher) insn) (walk (kinds lower) insn)
 unfolding kinds_rise
 walk_rises higher lower below insn = walk_foreseen (kinds higher) (kinds lower) insn (kinds_rise higher lower below insn) (any_fits insn)
 
-transfer_sound : (insn : Insn) (lower higher : AbstractState) → IsProper lower → IsProper higher → IsWithin lower higher → Sound EdgesBelow (transfer higher insn) (transfer lower insn)
+transfer_sound : (insn : Insn) (lower higher : AbstractState) → IsProper lower → IsProper higher → IsWithin lower higher
+    → Sound EdgesBelow (transfer higher insn) (transfer lower insn)
 transfer_sound insn Unreached Unreached proper above within = record { next = tt; target = tt }
 transfer_sound insn Unreached (Reached higher) proper above within = nothing_below (walk (kinds higher) insn)
   where
@@ -73,15 +90,20 @@ transfer_sound insn Unreached (Reached higher) proper above within = nothing_bel
     nothing_below (Ok edges) = record { next = tt; target = tt }
     nothing_below (Err cause) = tt
 transfer_sound insn (Reached lower) Unreached proper above within = absurd within
-transfer_sound insn (Reached lower) (Reached higher) proper above within = walk_rises higher lower (record { proper_higher = above; proper = proper; within = within }) insn
+transfer_sound insn (Reached lower) (Reached higher) proper above within =
+    walk_rises higher lower (record { proper_higher = above; proper = proper; within = within }) insn
 
 same_edges : (x y : Edges) (found : Result Edges Cause) → found ≡ Ok x → found ≡ Ok y → x ≡ y
 same_edges x y found one other = cc
 
-found_sound : (found other : Result Edges Cause) (edges : Edges) → Sound EdgesBelow found other → found ≡ Ok edges → (below : Edges) × (other ≡ Ok below) × AreEdgesWithin below edges
-found_sound (Ok found) (Ok below) edges sound is = (below, refl, subst (λ (e : Edges). AreEdgesWithin below e) (same_edges found edges (Ok found) refl is) sound)
+found_sound : (found other : Result Edges Cause) (edges : Edges) → Sound EdgesBelow found other → found ≡ Ok edges → (below : Edges)
+    × (other ≡ Ok below) × AreEdgesWithin below edges
+found_sound (Ok found) (Ok below) edges sound is =
+    (below, refl, subst (λ (e : Edges). AreEdgesWithin below e) (same_edges found edges (Ok found) refl is) sound)
 found_sound (Ok found) (Err cause) edges sound is = absurd sound
 found_sound (Err cause) other edges sound is = cc
 
-pub upward : (insn : Insn) (lower higher : AbstractState) (edges : Edges) → IsProper lower → IsProper higher → IsWithin lower higher → transfer higher insn ≡ Ok edges → (below : Edges) × (transfer lower insn ≡ Ok below) × AreEdgesWithin below edges
-upward insn lower higher edges proper above within passes = found_sound (transfer higher insn) (transfer lower insn) edges (transfer_sound insn lower higher proper above within) passes
+pub upward : (insn : Insn) (lower higher : AbstractState) (edges : Edges) → IsProper lower → IsProper higher → IsWithin lower higher
+    → transfer higher insn ≡ Ok edges → (below : Edges) × (transfer lower insn ≡ Ok below) × AreEdgesWithin below edges
+upward insn lower higher edges proper above within passes = found_sound (transfer higher insn) (transfer lower insn) edges
+    (transfer_sound insn lower higher proper above within) passes

@@ -1,5 +1,6 @@
 -- Arithmetic on kinds is sound.
-use Rattle.std.proofs.Common.{◌≡◌, ℕ, ◌/◌, ◌%◌, ◌^◌, ◌<◌, ◌≤◌, ◌-◌, ◌==◌, ◌||◌, nat_lt, nat_le, ℤ, Bool, true, false, Option, Some, None, Ok, IsTrue, if◌then◌else◌, refl, subst, arith}
+use Rattle.std.proofs.Common.{◌≡◌, ℕ, ◌/◌, ◌%◌, ◌^◌, ◌<◌, ◌≤◌, ◌-◌, ◌==◌, ◌||◌, nat_lt, nat_le, ℤ, Bool, true, false, Option, Some, None}
+use Rattle.std.proofs.Common.{Ok, IsTrue, if◌then◌else◌, refl, subst, arith}
 use Rattle.std.proofs.lemmas.Bool.Decides.{nat_tests}
 use Rattle.std.proofs.Math.Nat.{mod-lt}
 use Rattle.std.proofs.lemmas.Nat.{pow_pos}
@@ -39,18 +40,23 @@ use Rattle.bpf_meaning.proofs.TagLemmas.{Relate, Agree, operate_agrees, move_agr
 -- ask nothing of the interval.
 
 pub cut_admits : (width : Width) (x : Interval) (n : ℕ) → Admits x n → Admits (cut (operand_bits width) x) (low_bits (operand_bits width) n)
-cut_admits Bits32 x n admits = let above = admits.above in let below = admits.below in record { above = grind (arith, nat_tests); below = grind (arith, nat_tests) }
-cut_admits Bits64 x n admits = let above = admits.above in let below = admits.below in record { above = grind (arith, nat_tests); below = grind (arith, nat_tests) }
+cut_admits Bits32 x n admits = let above = admits.above in let below = admits.below in
+    record { above = grind (arith, nat_tests); below = grind (arith, nat_tests) }
+cut_admits Bits64 x n admits = let above = admits.above in let below = admits.below in
+    record { above = grind (arith, nat_tests); below = grind (arith, nat_tests) }
 
 cut_proper : (width : Width) (x : Interval) (n : ℕ) → Admits x n → IsProper (cut (operand_bits width) x)
-cut_proper Bits32 x n admits = let above = admits.above in let below = admits.below in record { ordered = grind (arith, nat_tests); fits = grind (arith, nat_tests) }
-cut_proper Bits64 x n admits = let above = admits.above in let below = admits.below in record { ordered = grind (arith, nat_tests); fits = grind (arith, nat_tests) }
+cut_proper Bits32 x n admits = let above = admits.above in let below = admits.below in
+    record { ordered = grind (arith, nat_tests); fits = grind (arith, nat_tests) }
+cut_proper Bits64 x n admits = let above = admits.above in let below = admits.below in
+    record { ordered = grind (arith, nat_tests); fits = grind (arith, nat_tests) }
 
 pub low_twice : (width : Width) (n : ℕ) → low_bits (operand_bits width) (low_bits (operand_bits width) n) ≡ low_bits (operand_bits width) n
 low_twice Bits32 n = omega arith
 low_twice Bits64 n = omega arith
 
-cut_small : (width : Width) (low high : ℕ) → low < 2 ^ bits (operand_bits width) → high < 2 ^ bits (operand_bits width) → cut (operand_bits width) (between low high) ≡ between low high
+cut_small : (width : Width) (low high : ℕ) → low < 2 ^ bits (operand_bits width) → high < 2 ^ bits (operand_bits width)
+    → cut (operand_bits width) (between low high) ≡ between low high
 cut_small Bits32 low high small little =
     let test : (low / 2 ^ 32 == high / 2 ^ 32) ≡ true = grind (arith, nat_tests) in
     let here : low % 2 ^ 32 ≡ low = omega arith in
@@ -65,36 +71,59 @@ cut_small Bits64 low high small little =
 cut_twice : (width : Width) (x : Interval) → cut (operand_bits width) (cut (operand_bits width) x) ≡ cut (operand_bits width) x
 cut_twice width x = by_test (x.low / 2 ^ bits (operand_bits width) == x.high / 2 ^ bits (operand_bits width))
   where
-    by_test : (same : Bool) → cut (operand_bits width) (if same then between (low_bits (operand_bits width) x.low) (low_bits (operand_bits width) x.high) else full (operand_bits width)) ≡ (if same then between (low_bits (operand_bits width) x.low) (low_bits (operand_bits width) x.high) else full (operand_bits width))
-    by_test true = cut_small width (low_bits (operand_bits width) x.low) (low_bits (operand_bits width) x.high) (mod-lt x.low (pow_pos (bits (operand_bits width)))) (mod-lt x.high (pow_pos (bits (operand_bits width))))
-    by_test false = let some = pow_pos (bits (operand_bits width)) in cut_small width 0 (2 ^ bits (operand_bits width) - 1) some (omega arith)
+    by_test : (same : Bool) → cut (operand_bits width)
+        (if same then between (low_bits (operand_bits width) x.low) (low_bits (operand_bits width) x.high) else full
+        (operand_bits width)) ≡ (if same then between (low_bits (operand_bits width) x.low) (low_bits (operand_bits width) x.high) else full
+        (operand_bits width))
+    by_test true = cut_small width (low_bits (operand_bits width) x.low) (low_bits (operand_bits width) x.high)
+        (mod-lt x.low (pow_pos (bits (operand_bits width)))) (mod-lt x.high (pow_pos (bits (operand_bits width))))
+    by_test false = let some = pow_pos (bits (operand_bits width)) in
+        cut_small width 0 (2 ^ bits (operand_bits width) - 1) some (omega arith)
 
 -- arithmetic takes nothing but the low halves
-pub alu_sound : (operation : Operation) (width : Width) (x y : Interval) (m n : ℕ) → Admits x m → Admits y n → Admits (alu operation width x y) (result_of operation width m n)
+pub alu_sound : (operation : Operation) (width : Width) (x y : Interval) (m n : ℕ) → Admits x m → Admits y n
+    → Admits (alu operation width x y) (result_of operation width m n)
 alu_sound operation width x y m n left right =
     let w = operand_bits width in
-    let low = alu-admits operation width (cut w x) (cut w y) (low_bits w m) (low_bits w n) (cut_proper width x m left) (cut_proper width y n right) (cut_admits width x m left) (cut_admits width y n right) in
-    let numbers : result_of operation width (low_bits w m) (low_bits w n) ≡ result_of operation width m n = rw (low_twice width m, low_twice width n) refl in
+    let low = alu-admits operation width (cut_proper width x m left) (cut_proper width y n right) (cut_admits width x m left)
+    (cut_admits width y n right) in
+    let numbers : result_of operation width (low_bits w m) (low_bits w n) ≡ result_of operation width m n =
+    rw (low_twice width m, low_twice width n) refl in
     let intervals : alu operation width (cut w x) (cut w y) ≡ alu operation width x y = rw (cut_twice width x, cut_twice width y) refl in
-    subst (λ (n : ℕ). Admits (alu operation width x y) n) numbers (subst (λ (x : Interval). Admits x (result_of operation width (low_bits w m) (low_bits w n))) intervals low)
+    subst (λ (n : ℕ). Admits (alu operation width x y) n) numbers
+    (subst (λ (x : Interval). Admits x (result_of operation width (low_bits w m) (low_bits w n))) intervals low)
 
 -- pointers that are moved
 
-near_offset : (low n high : ℕ) → low ≤ n → n ≤ high → (nat_lt high (2 ^ 15) || nat_le (2 ^ 64 - 2 ^ 15) low) ≡ true → IsTrue (is_offset (cast_signed w64 n))
+near_offset : (low n high : ℕ) → low ≤ n → n ≤ high → (nat_lt high (2 ^ 15) || nat_le (2 ^ 64 - 2 ^ 15) low) ≡ true
+    → IsTrue (is_offset (cast_signed w64 n))
 near_offset low n high above below near = grind (arith, ints, nat_tests)
 
 -- A number by which pointers may be moved. Near ends have near numbers between them.
-near_sound : (x : Interval) (n : ℕ) → Admits x n → Sound offsets.Admits (or_cause PointerArithmetic (near_distances x)) (effect.near_distance n)
+near_sound : (x : Interval) (n : ℕ) → Admits x n → Sound offsets.Admits (or_cause PointerArithmetic (near_distances x))
+    (effect.near_distance n)
 near_sound x n admits = by_test (nat_lt x.high (2 ^ 15) || nat_le (2 ^ 64 - 2 ^ 15) x.low) refl
   where
-    by_test : (near : Bool) → (nat_lt x.high (2 ^ 15) || nat_le (2 ^ 64 - 2 ^ 15) x.low) ≡ near → Sound offsets.Admits (or_cause PointerArithmetic (if near then Some (offsets.between (cast_signed w64 x.low) (cast_signed w64 x.high)) else None)) (effect.near_distance n)
-    by_test true near = passes_if offsets.Admits (Ok (offsets.between (cast_signed w64 x.low) (cast_signed w64 x.high))) (Ok (cast_signed w64 n)) (is_offset (cast_signed w64 n)) PointerArithmetic (near_offset x.low n x.high admits.above admits.below near) (record { above = near_above x.low n x.high admits.above admits.below near; below = near_below x.low n x.high admits.above admits.below near })
+    by_test : (near : Bool) → (nat_lt x.high (2 ^ 15) || nat_le (2 ^ 64 - 2 ^ 15) x.low) ≡ near
+        → Sound offsets.Admits (or_cause PointerArithmetic
+        (if near then Some (offsets.between (cast_signed w64 x.low) (cast_signed w64 x.high)) else None)) (effect.near_distance n)
+    by_test true near = passes_if offsets.Admits (Ok (offsets.between (cast_signed w64 x.low) (cast_signed w64 x.high)))
+        (Ok (cast_signed w64 n)) (is_offset (cast_signed w64 n)) PointerArithmetic
+        (near_offset x.low n x.high admits.above admits.below near)
+        (record {
+          above = near_above x.low n x.high admits.above admits.below near;
+          below =
+              near_below x.low n x.high admits.above admits.below near;
+        })
     by_test false far = tt
 
 -- offsets behind a move
-moved_sound : (found : Option Offsets) (offset : ℤ) → ((moved : Offsets) → found ≡ Some moved → IsTrue (is_offset offset) × offsets.Admits moved offset) → Sound offsets.Admits (or_cause LeavesArea found) (offset_or offset)
+moved_sound : (found : Option Offsets) (offset : ℤ)
+    → ((moved : Offsets) → found ≡ Some moved → IsTrue (is_offset offset) × offsets.Admits moved offset)
+    → Sound offsets.Admits (or_cause LeavesArea found) (offset_or offset)
 moved_sound None offset all = tt
-moved_sound (Some moved) offset all = let there = all moved refl in passes_if offsets.Admits (Ok moved) (Ok offset) (is_offset offset) LeavesArea there.0 there.1
+moved_sound (Some moved) offset all = let there = all moved refl in
+    passes_if offsets.Admits (Ok moved) (Ok offset) (is_offset offset) LeavesArea there.0 there.1
 
 tags_related : (x : Kind) (v : Value) → kind.Admits x v → Relate Admits offsets.Admits (tagged_kind x) (tagged_value v)
 tags_related Nothing v admits = tt
@@ -103,7 +132,8 @@ tags_related (Record x) (value.Pointer pointer) admits = admits
 tags_related (Frame x) (value.Pointer pointer) admits = admits
 tags_related x v admits = absurd admits
 
-pointer_related : (into : Area) (x : Offsets) (offset : ℤ) → offsets.Admits x offset → kind.Admits (kind_pointer into x) (value.Pointer (record { area = into; offset = offset }))
+pointer_related : (into : Area) (x : Offsets) (offset : ℤ) → offsets.Admits x offset
+    → kind.Admits (kind_pointer into x) (value.Pointer (record { area = into; offset = offset }))
 pointer_related area.Record x offset admits = (refl, admits)
 pointer_related area.Frame x offset admits = (refl, admits)
 
@@ -120,13 +150,16 @@ tags_agree = record {
   low_half = cut_admits Bits32;
   distance = near_sound;
   forwards = λ x offset d distance here by. moved_sound (move_by x d) _ (λ moved is. move_by-admits x d moved offset distance is here by);
-  backwards = λ x offset d distance here by. moved_sound (move_back_by x d) _ (λ moved is. move_back_by-admits x d moved offset distance is here by);
+  backwards = λ x offset d distance here by. moved_sound (move_back_by x d) _
+      (λ moved is. move_back_by-admits x d moved offset distance is here by);
 }
 
-pub operate_sound : (operation : Operation) (width : Width) (x y : Kind) (v w : Value) → kind.Admits x v → kind.Admits y w → Sound kind.Admits (operate kind_tags operation width x y) (operate value_tags operation width v w)
+pub operate_sound : (operation : Operation) (width : Width) (x y : Kind) (v w : Value) → kind.Admits x v → kind.Admits y w
+    → Sound kind.Admits (operate kind_tags operation width x y) (operate value_tags operation width v w)
 unfolding tags_agree
 operate_sound = operate_agrees kind_tags value_tags tags_agree
 
-pub move_sound : (width : Width) (x : Kind) (v : Value) → kind.Admits x v → Sound kind.Admits (move kind_tags width x) (move value_tags width v)
+pub move_sound : (width : Width) (x : Kind) (v : Value) → kind.Admits x v
+    → Sound kind.Admits (move kind_tags width x) (move value_tags width v)
 unfolding tags_agree
 move_sound = move_agrees kind_tags value_tags tags_agree

@@ -1,6 +1,8 @@
 -- Calls of helper functions are sound: where their checks pass on kinds, they pass on values, and what is known behind a call admits the
 -- state behind it.
-use Rattle.std.proofs.Common.{◌≡◌, ℕ, zero, suc, ◌+◌, ◌≤◌, ℤ, pos, negsuc, ◌+ℤ◌, ◌≤ℤ◌, ◌&&◌, int_le, unsigned_abs, Bool, true, false, List, [], ◌∷◌, ◌++◌, length, drop, get_or, replicate, Option, Some, None, Result, Ok, Err, if◌then◌else◌, refl, sym, subst, arith}
+use Rattle.std.proofs.Common.{◌≡◌, ℕ, zero, suc, ◌+◌, ◌≤◌, ℤ, pos, negsuc, ◌+ℤ◌, ◌≤ℤ◌, ◌&&◌, int_le, unsigned_abs, Bool, true, false, List}
+use Rattle.std.proofs.Common.{[], ◌∷◌, ◌++◌, length, drop, get_or, replicate, Option, Some, None, Result, Ok, Err, if◌then◌else◌, refl, sym}
+use Rattle.std.proofs.Common.{subst, arith}
 use Rattle.std.specs.Int.{cast_signed, cast_unsigned, w64}
 use Rattle.std.proofs.lemmas.Bool.Decides.{nat_tests}
 use Rattle.std.proofs.lemmas.Int.{ints}
@@ -40,7 +42,8 @@ use Rattle.bpf_meaning.proofs.CallLemmas.{IfPasses, called_can_be_made}
 use Rattle.bpf_meaning.proofs.FrameLemmas.{all_written-part, written_stays, is_written-write_inside}
 use Rattle.tl_segments.specs.Segment.{Contents, IsSegment}
 use Rattle.bpf_frame.specs.FrameMap as map
-use Rattle.bpf_verify.specs.Transfer.{are_allowed, argument_kind, argument_in, arguments_in, lie_within, lend_bytes, lend_read, lend_frame, all_marked, state_after, call}
+use Rattle.bpf_verify.specs.Transfer.{are_allowed, argument_kind, argument_in, arguments_in, lie_within, lend_bytes, lend_read, lend_frame}
+use Rattle.bpf_verify.specs.Transfer.{all_marked, state_after, call}
 use Rattle.bpf_verify.specs.Transfer as transfer
 use Rattle.bpf_verify.specs.State.{AdmitsKnown}
 use Rattle.bpf_verify.specs.declared.calls.LentBytes.{LentBytes}
@@ -71,18 +74,25 @@ IsWord Nothing word = Unit {0}
 allowed_within : (allowed x : Interval) (n : ℕ) → interval.Admits x n → are_allowed allowed x ≡ true → effect.is_allowed allowed n ≡ true
 allowed_within allowed x n admits within = let above = admits.above in let below = admits.below in grind (arith, nat_tests)
 
-number_sound : (number : ℕ) (allowed x : Interval) (n : ℕ) → interval.Admits x n → Sound IsWord (argument_kind number (argument.Number allowed) (Number x)) (effect.argument_word number (argument.Number allowed) (value.Number n))
+number_sound : (number : ℕ) (allowed x : Interval) (n : ℕ) → interval.Admits x n
+    → Sound IsWord (argument_kind number (argument.Number allowed) (Number x))
+    (effect.argument_word number (argument.Number allowed) (value.Number n))
 number_sound number allowed x n admits = by_test (are_allowed allowed x) refl
   where
-    by_test : (within : Bool) → are_allowed allowed x ≡ within → Sound IsWord (if within then Ok (Number x) else Err (BadArgument number)) (effect.argument_word number (argument.Number allowed) (value.Number n))
-    by_test true within = passes_if IsWord (Ok (Number x)) (Ok n) (effect.is_allowed allowed n) (BadArgument number) (allowed_within allowed x n admits within) admits
+    by_test : (within : Bool) → are_allowed allowed x ≡ within → Sound IsWord (if within then Ok (Number x) else Err (BadArgument number))
+        (effect.argument_word number (argument.Number allowed) (value.Number n))
+    by_test true within = passes_if IsWord (Ok (Number x)) (Ok n) (effect.is_allowed allowed n) (BadArgument number)
+        (allowed_within allowed x n admits within) admits
     by_test false without = tt
 
-pointer_sound : (number : ℕ) (x : Offsets) (into : Area) (offset : ℤ) → offsets.IsProper x → into ≡ area.Frame → offsets.Admits x offset → Sound IsWord (argument_kind number argument.Frame (Frame x)) (effect.argument_word number argument.Frame (value.Pointer (record { area = into; offset = offset })))
+pointer_sound : (number : ℕ) (x : Offsets) (into : Area) (offset : ℤ) → offsets.IsProper x → into ≡ area.Frame → offsets.Admits x offset
+    → Sound IsWord (argument_kind number argument.Frame (Frame x))
+    (effect.argument_word number argument.Frame (value.Pointer (record { area = into; offset = offset })))
 pointer_sound number x area.Frame offset proper into admits = record { proper = proper; offset = offset; admits = admits; is = refl }
 pointer_sound number x area.Record offset proper into admits = cc
 
-argument_sound : (number : ℕ) (wanted : Argument) (x : Kind) (v : Value) → HasValue x v → Sound IsWord (argument_kind number wanted x) (effect.argument_word number wanted v)
+argument_sound : (number : ℕ) (wanted : Argument) (x : Kind) (v : Value) → HasValue x v
+    → Sound IsWord (argument_kind number wanted x) (effect.argument_word number wanted v)
 argument_sound number argument.Unused x v has = tt
 argument_sound number (argument.Number allowed) (Number x) (value.Number n) has = number_sound number allowed x n has.admits
 argument_sound number (argument.Number allowed) (Number x) value.Empty has = absurd has.admits
@@ -90,24 +100,29 @@ argument_sound number (argument.Number allowed) (Number x) (value.Pointer pointe
 argument_sound number (argument.Number allowed) (Record x) v has = tt
 argument_sound number (argument.Number allowed) (Frame x) v has = tt
 argument_sound number (argument.Number allowed) Nothing v has = tt
-argument_sound number argument.Frame (Frame x) (value.Pointer pointer) has = pointer_sound number x pointer.area pointer.offset has.proper has.admits.0 has.admits.1
+argument_sound number argument.Frame (Frame x) (value.Pointer pointer) has =
+    pointer_sound number x pointer.area pointer.offset has.proper has.admits.0 has.admits.1
 argument_sound number argument.Frame (Frame x) value.Empty has = absurd has.admits
 argument_sound number argument.Frame (Frame x) (value.Number n) has = absurd has.admits
 argument_sound number argument.Frame (Number x) v has = tt
 argument_sound number argument.Frame (Record x) v has = tt
 argument_sound number argument.Frame Nothing v has = tt
 
-argument_in_sound : (known : Known) (state : State) → HasState known state → (number : ℕ) (wanted : Argument) → Sound IsWord (argument_in known number wanted) (effect.argument_in state number wanted)
+argument_in_sound : (known : Known) (state : State) → HasState known state → (number : ℕ) (wanted : Argument)
+    → Sound IsWord (argument_in known number wanted) (effect.argument_in state number wanted)
 argument_in_sound known state has number argument.Unused = tt
-argument_in_sound known state has number (argument.Number allowed) = then_sound HasValue IsWord _ _ _ _ (read_sound known state has number) (argument_sound number (argument.Number allowed))
-argument_in_sound known state has number argument.Frame = then_sound HasValue IsWord _ _ _ _ (read_sound known state has number) (argument_sound number argument.Frame)
+argument_in_sound known state has number (argument.Number allowed) =
+    then_sound HasValue IsWord _ _ _ _ (read_sound known state has number) (argument_sound number (argument.Number allowed))
+argument_in_sound known state has number argument.Frame = then_sound HasValue IsWord _ _ _ _ (read_sound known state has number)
+    (argument_sound number argument.Frame)
 
 -- the words that stand for bytes of the frame: where they begin, and how many they are
 record AreWords (kinds : List Kind) (words : List ℕ) : Type 0 where
   second : IsWord (get_or kinds 1 Nothing) (second words)
   third : IsWord (get_or kinds 2 Nothing) (third words)
 
-arguments_sound : (known : Known) (state : State) → HasState known state → (wanted : List Argument) → Sound AreWords (arguments_in known wanted) (effect.arguments_in state wanted)
+arguments_sound : (known : Known) (state : State) → HasState known state → (wanted : List Argument)
+    → Sound AreWords (arguments_in known wanted) (effect.arguments_in state wanted)
 arguments_sound known state has wanted =
     then_sound IsWord AreWords _ _ _ _ (argument_in_sound known state has 1 (get_or wanted 0 argument.Unused)) (λ x a one.
     then_sound IsWord AreWords _ _ _ _ (argument_in_sound known state has 2 (get_or wanted 1 argument.Unused)) (λ y b two.
@@ -134,22 +149,27 @@ small_inside n word count ends is =
     subst (λ (w : ℕ). IsInside (pos n) w count) (sym same)
     (record { same = omega (arith, ints); ends = ends; inside = grind (arith, ints, nat_tests) })
 
-is_inside : (low high at : ℤ) (word count most : ℕ) → low ≤ℤ at → at ≤ℤ high → word ≡ cast_unsigned w64 at → count ≤ most → (int_le (pos 0) (low +ℤ pos 0) && int_le ((high +ℤ pos 0) +ℤ pos most) (pos FRAME_LENGTH)) ≡ true → IsInside at word count
-is_inside low high (pos n) word count most above below is less within = small_inside n word count (grind (arith, ints, nat_tests)) is
-is_inside low high (negsuc n) word count most above below is less within = let no : ⊥ = grind (arith, ints, nat_tests) in absurd no
+is_inside : (low high : ℤ) {at : ℤ} {word count : ℕ} (most : ℕ) → low ≤ℤ at → at ≤ℤ high → word ≡ cast_unsigned w64 at → count ≤ most
+    → (int_le (pos 0) (low +ℤ pos 0) && int_le ((high +ℤ pos 0) +ℤ pos most) (pos FRAME_LENGTH)) ≡ true → IsInside at word count
+is_inside low high {at = pos n} {word} {count} most above below is less within =
+    small_inside n word count (grind (arith, ints, nat_tests)) is
+is_inside low high {at = negsuc n} most above below is less within = let no : ⊥ = grind (arith, ints, nat_tests) in absurd no
 
 lent_inside : (bytes : LentBytes) (words : List ℕ) (lent : AreLent bytes words) → IsInside lent.offset.offset (second words) (third words)
 lent_inside bytes words lent =
-    is_inside bytes.offsets.low bytes.offsets.high lent.offset.offset (second words) (third words) bytes.count.high
-    lent.offset.admits.above lent.offset.admits.below lent.offset.is lent.count.below lent.within
+    is_inside bytes.offsets.low bytes.offsets.high bytes.count.high lent.offset.admits.above lent.offset.admits.below lent.offset.is
+    lent.count.below lent.within
 
-lend_bytes_sound : (x y : Kind) (words : List ℕ) → IsWord x (second words) → IsWord y (third words) → Sound AreLent (lend_bytes x y) (effect.lend_bytes words)
+lend_bytes_sound : (x y : Kind) (words : List ℕ) → IsWord x (second words) → IsWord y (third words)
+    → Sound AreLent (lend_bytes x y) (effect.lend_bytes words)
 lend_bytes_sound (Frame x) (Number y) words offset count = by_test (lie_within x (pos 0) y.high FRAME_LENGTH) refl
   where
-    by_test : (within : Bool) → lie_within x (pos 0) y.high FRAME_LENGTH ≡ within → Sound AreLent (if within then Ok (record { offsets = x; count = y }) else Err OutOfBounds) (effect.lend_bytes words)
+    by_test : (within : Bool) → lie_within x (pos 0) y.high FRAME_LENGTH ≡ within
+        → Sound AreLent (if within then Ok (record { offsets = x; count = y }) else Err OutOfBounds) (effect.lend_bytes words)
     by_test true within =
         let lent : AreLent (record { offsets = x; count = y }) words = record { offset = offset; count = count; within = within } in
-        passes_if AreLent (Ok (record { offsets = x; count = y })) (Ok words) (effect.lie_within (cast_signed w64 (second words)) (third words) FRAME_LENGTH) OutOfBounds
+        passes_if AreLent (Ok (record { offsets = x; count = y })) (Ok words)
+        (effect.lie_within (cast_signed w64 (second words)) (third words) FRAME_LENGTH) OutOfBounds
         (lent_inside (record { offsets = x; count = y }) words lent).inside lent
     by_test false outside = tt
 lend_bytes_sound (Frame x) (Frame y) words offset count = tt
@@ -168,60 +188,75 @@ written state words bytes = record state { frame = write_bytes state.frame (seco
 record IsLent (state : State) (frame : FrameUse) (after : Known) (words : List ℕ) : Type 0 where
   admits : (bytes : List ℕ) → length bytes ≡ written_length frame words → AdmitsKnown after (written state words bytes)
 
-writes_none : (known : Known) (state : State) (words : List ℕ) → AdmitsKnown known state → (bytes : List ℕ) → length bytes ≡ 0 → AdmitsKnown known (written state words bytes)
+writes_none : (known : Known) (state : State) (words : List ℕ) → AdmitsKnown known state → (bytes : List ℕ) → length bytes ≡ 0
+    → AdmitsKnown known (written state words bytes)
 writes_none known state words admits [] none = record {
   registers = admits.registers;
-  frame = subst (λ (memory : List FrameByte). let frame : FrameContents = record { bytes = memory; slots = state.frame.slots } in map.Admits known.frame frame) (sym (write-nothing state.frame.bytes (second words))) admits.frame;
+  frame = subst (λ (memory : List FrameByte). let frame : FrameContents = record { bytes = memory; slots = state.frame.slots } in
+      map.Admits known.frame frame) (sym (write-nothing state.frame.bytes (second words))) admits.frame;
 }
 writes_none known state words admits (byte ∷ bytes) none = absurd (omega arith)
 
-writes_some : (known : Known) (state : State) → HasState known state → (lent : LentBytes) (words : List ℕ) → AreLent lent words → (bytes : List ℕ) → length bytes ≡ third words
+writes_some : (known : Known) (state : State) → HasState known state → (lent : LentBytes) (words : List ℕ) → AreLent lent words
+    → (bytes : List ℕ) → length bytes ≡ third words
     → AdmitsKnown (transfer.write_bytes known lent.offsets (pos 0) lent.count.low lent.count.high) (written state words bytes)
 writes_some known state has lent words is bytes count =
     let at = is.offset.offset in
     let inside = lent_inside lent words is in
     let ends = inside.ends in let same = inside.same in let most = is.count.below in let least = is.count.above in
     let fits : second words + length bytes ≤ length state.frame.bytes = (let whole = has.whole.frame in omega arith) in
-    writes_admit known state.frame (written state words bytes) (record { proper = has.proper; registers = has.admits.registers; frame = has.admits.frame })
-    lent.offsets at (pos 0) (length bytes) lent.count.low lent.count.high is.offset.admits is.within (omega arith) (omega arith)
+    writes_admit (pos 0) is.offset.admits (record { proper = has.proper; registers = has.admits.registers; frame = has.admits.frame })
+    (length bytes) lent.count.low lent.count.high is.within (omega arith) (omega arith)
     (record {
       stay = λ i before. written_stays state.frame.bytes (second words) bytes i fits before;
       written = λ i above below. is_written-write_inside state.frame.bytes (second words) bytes i fits (omega arith) (omega arith);
-      kept = λ slot inside apart. slot_value-write_bytes_apart state.frame (second words) bytes slot fits inside has.whole.slots (λ i above below lies. apart i (omega arith) (omega arith) lies);
+      kept = λ slot inside apart. slot_value-write_bytes_apart state.frame (second words) bytes slot fits inside has.whole.slots
+          (λ i above below lies. apart i (omega arith) (omega arith) lies);
     })
 
-reads_sound : (known : Known) (state : State) → HasState known state → (lent : LentBytes) (words : List ℕ) → AreLent lent words → Sound (IsLent state frame_use.Reads) (lend_read known lent) (effect.lend_written state words)
+reads_sound : (known : Known) (state : State) → HasState known state → (lent : LentBytes) (words : List ℕ) → AreLent lent words
+    → Sound (IsLent state frame_use.Reads) (lend_read known lent) (effect.lend_written state words)
 reads_sound known state has lent words is = by_test (all_marked known lent.offsets (pos 0) lent.count.high) refl
   where
-    by_test : (marked : Bool) → all_marked known lent.offsets (pos 0) lent.count.high ≡ marked → Sound (IsLent state frame_use.Reads) (if marked then Ok known else Err UnwrittenFrame) (effect.lend_written state words)
+    by_test : (marked : Bool) → all_marked known lent.offsets (pos 0) lent.count.high ≡ marked
+        → Sound (IsLent state frame_use.Reads) (if marked then Ok known else Err UnwrittenFrame) (effect.lend_written state words)
     by_test true marked =
         let inside = lent_inside lent words is in
         let same = inside.same in let most = is.count.below in
-        let written = marked_are_written known state has lent.offsets is.offset.offset (pos 0) lent.count.high is.offset.admits is.within marked in
-        passes_if (IsLent state frame_use.Reads) (Ok known) (Ok words) (all_written (bytes_read frame_use.Reads words state.frame.bytes)) UnwrittenFrame
+        let written = marked_are_written has (pos 0) lent.count.high is.offset.admits is.within marked in
+        passes_if (IsLent state frame_use.Reads) (Ok known) (Ok words)
+        (all_written (bytes_read frame_use.Reads words state.frame.bytes)) UnwrittenFrame
         (all_written-part state.frame.bytes (second words) (third words) (λ i above below. written i (omega arith) (omega arith)))
         (record { admits = writes_none known state words has.admits })
     by_test false unmarked = tt
 
-then_known : {A B C : Type 0} (First : A → B → Type 0) (Second : C → B → Type 0) (abstract : Result A Cause) (concrete : Result B Cause) (f : A → C) → Sound First abstract concrete → ((x : A) (y : B) → First x y → Second (f x) y) → Sound Second (abstract >>= λ x. Ok (f x)) concrete
+then_known : {A B C : Type 0} (First : A → B → Type 0) (Second : C → B → Type 0) (abstract : Result A Cause) (concrete : Result B Cause)
+    (f : A → C) → Sound First abstract concrete → ((x : A) (y : B) → First x y → Second (f x) y)
+    → Sound Second (abstract >>= λ x. Ok (f x)) concrete
 then_known First Second (Err cause) concrete f first second = tt
 then_known First Second (Ok x) (Ok y) f first second = second x y first
 then_known First Second (Ok x) (Err cause) f first second = absurd first
 
-lend_frame_sound : (known : Known) (state : State) → HasState known state → (frame : FrameUse) (kinds : List Kind) (words : List ℕ) → AreWords kinds words → Sound (IsLent state frame) (lend_frame known frame kinds) (effect.lend_frame state frame words)
+lend_frame_sound : (known : Known) (state : State) → HasState known state → (frame : FrameUse) (kinds : List Kind) (words : List ℕ)
+    → AreWords kinds words → Sound (IsLent state frame) (lend_frame known frame kinds) (effect.lend_frame state frame words)
 lend_frame_sound known state has frame_use.Nothing kinds words are = record { admits = writes_none known state words has.admits }
 lend_frame_sound known state has frame_use.Writes kinds words are =
-    then_known AreLent (IsLent state frame_use.Writes) _ _ (λ lent. transfer.write_bytes known lent.offsets (pos 0) lent.count.low lent.count.high) (lend_bytes_sound (get_or kinds 1 Nothing) (get_or kinds 2 Nothing) words are.second are.third)
+    then_known AreLent (IsLent state frame_use.Writes) _ _
+    (λ lent. transfer.write_bytes known lent.offsets (pos 0) lent.count.low lent.count.high)
+    (lend_bytes_sound (get_or kinds 1 Nothing) (get_or kinds 2 Nothing) words are.second are.third)
     (λ lent words is. record { admits = writes_some known state has lent words is })
 lend_frame_sound known state has frame_use.Reads kinds words are =
-    then_sound AreLent (IsLent state frame_use.Reads) _ _ _ _ (lend_bytes_sound (get_or kinds 1 Nothing) (get_or kinds 2 Nothing) words are.second are.third)
+    then_sound AreLent (IsLent state frame_use.Reads) _ _ _ _
+    (lend_bytes_sound (get_or kinds 1 Nothing) (get_or kinds 2 Nothing) words are.second are.third)
     (reads_sound known state has)
 
 -- calls
 
 -- the registers behind a call
-registers_admit : (kinds : List Kind) (values : List Value) (x : Interval) (n : ℕ) → interval.Admits x n → ((register : ℕ) → kind.Admits (get_or kinds register Nothing) (get_or values register value.Empty))
-    → (register : ℕ) → kind.Admits (get_or (Number x ∷ replicate 5 Nothing ++ drop 6 kinds) register Nothing) (get_or (step.registers_after n values) register value.Empty)
+registers_admit : (kinds : List Kind) (values : List Value) (x : Interval) (n : ℕ) → interval.Admits x n
+    → ((register : ℕ) → kind.Admits (get_or kinds register Nothing) (get_or values register value.Empty))
+    → (register : ℕ) → kind.Admits (get_or (Number x ∷ replicate 5 Nothing ++ drop 6 kinds) register Nothing)
+    (get_or (step.registers_after n values) register value.Empty)
 registers_admit kinds values x n admits all zero = admits
 registers_admit kinds values x n admits all (suc zero) = tt
 registers_admit kinds values x n admits all (suc (suc zero)) = tt
@@ -232,26 +267,34 @@ registers_admit kinds values x n admits all (suc (suc (suc (suc (suc (suc regist
     subst (λ (k : Kind). kind.Admits k (get_or (drop 6 values) register value.Empty)) (sym (get_or-drop 6 kinds register Nothing))
     (subst (kind.Admits (get_or kinds (6 + register) Nothing)) (sym (get_or-drop 6 values register value.Empty)) (all (6 + register)))
 
-call_admits : (segment : Contents) (state : State) (helper : Helper) (after : Known) (words : List ℕ) → IsSegment segment → MeetsSignature helper words → IsLent state (frame_use (signature helper).shape) after words → Stores segment state (state_after (signature helper).answer after) (CallHelper helper words)
+call_admits : (segment : Contents) (state : State) (helper : Helper) (after : Known) (words : List ℕ) → IsSegment segment
+    → MeetsSignature helper words → IsLent state (frame_use (signature helper).shape) after words
+    → Stores segment state (state_after (signature helper).answer after) (CallHelper helper words)
 call_admits segment state helper after words is_segment meets lent =
     let called = step.called segment state helper words in
     let bytes = written_bytes (bytes_read (frame_use (signature helper).shape) words state.frame.bytes) in
     let admits = lent.admits called.written (written-length helper segment words bytes state.score is_segment meets) in
     record {
-      registers = registers_admit after.registers state.registers (signature helper).answer called.answer (answer-admits helper segment words bytes state.score is_segment meets) admits.registers;
+      registers = registers_admit after.registers state.registers (signature helper).answer called.answer
+          (answer-admits helper segment words bytes state.score is_segment meets) admits.registers;
       frame = admits.frame;
     }
 
-made_sound : (segment : Contents) (state : State) (helper : Helper) → IsSegment segment → (abstract : Result Known Cause) (concrete : Result (List ℕ) Cause) → Sound (IsLent state (frame_use (signature helper).shape)) abstract concrete
+made_sound : (segment : Contents) (state : State) (helper : Helper) → IsSegment segment
+    → (abstract : Result Known Cause) (concrete : Result (List ℕ) Cause)
+    → Sound (IsLent state (frame_use (signature helper).shape)) abstract concrete
     → IfPasses (effect.CanBeMade state) (concrete >>= λ words. Ok (CallHelper helper words))
-    → Sound (Stores segment state) (abstract >>= λ after. Ok (state_after (signature helper).answer after)) (concrete >>= λ words. Ok (CallHelper helper words))
+    → Sound (Stores segment state) (abstract >>= λ after. Ok (state_after (signature helper).answer after))
+    (concrete >>= λ words. Ok (CallHelper helper words))
 made_sound segment state helper is (Err cause) concrete sound can = tt
 made_sound segment state helper is (Ok after) (Err cause) sound can = absurd sound
 made_sound segment state helper is (Ok after) (Ok words) lent can = call_admits segment state helper after words is can.meets lent
 
-pub call_sound : (segment : Contents) (known : Known) (state : State) → IsSegment segment → HasState known state → (found : Option Helper) → Sound (Stores segment state) (call known found) (effect.call_change state found)
+pub call_sound : (segment : Contents) (known : Known) (state : State) → IsSegment segment → HasState known state → (found : Option Helper)
+    → Sound (Stores segment state) (call known found) (effect.call_change state found)
 call_sound segment known state is has None = tt
 call_sound segment known state is has (Some helper) =
     made_sound segment state helper is _ _
-    (then_sound AreWords (IsLent state (frame_use (signature helper).shape)) _ _ _ _ (arguments_sound known state has (signature helper).arguments) (lend_frame_sound known state has (frame_use (signature helper).shape)))
+    (then_sound AreWords (IsLent state (frame_use (signature helper).shape)) _ _ _ _
+    (arguments_sound known state has (signature helper).arguments) (lend_frame_sound known state has (frame_use (signature helper).shape)))
     (called_can_be_made state (Some helper))

@@ -34,7 +34,8 @@ pub record HasState (known : Known) (state : State) : Type 0 where
   pub whole : IsWhole state
   pub bytes : HoldsBytes state
 
-pub has_value : (known : Known) (state : State) → HasState known state → (register : ℕ) → HasValue (kind_of known register) (register_value state register)
+pub has_value : (known : Known) (state : State) → HasState known state → (register : ℕ)
+    → HasValue (kind_of known register) (register_value state register)
 has_value known state has register = record { proper = has.proper.kinds register; admits = has.admits.registers register }
 
 -- a value that is read, which is what the register holds
@@ -43,7 +44,8 @@ pub record IsReadOf (held : Value) (known : Kind) (found : Value) : Type 0 where
   pub has : HasValue known found
   pub same : held ≡ found
 
-read_kind_sound : (register : ℕ) (known : Kind) (held : Value) → HasValue known held → Sound (IsReadOf held) (read_kind register known) (effect.read_value register held)
+read_kind_sound : (register : ℕ) (known : Kind) (held : Value) → HasValue known held
+    → Sound (IsReadOf held) (read_kind register known) (effect.read_value register held)
 read_kind_sound register Nothing held has = tt
 read_kind_sound register (Number x) value.Empty has = absurd has.admits
 read_kind_sound register (Number x) (value.Number n) has = record { has = has; same = refl }
@@ -55,13 +57,17 @@ read_kind_sound register (Frame x) value.Empty has = absurd has.admits
 read_kind_sound register (Frame x) (value.Number n) has = absurd has.admits
 read_kind_sound register (Frame x) (value.Pointer pointer) has = record { has = has; same = refl }
 
-pub read_holds : (known : Known) (state : State) → HasState known state → (register : ℕ) → Sound (IsReadOf (register_value state register)) (read known register) (effect.read state register)
+pub read_holds : (known : Known) (state : State) → HasState known state → (register : ℕ)
+    → Sound (IsReadOf (register_value state register)) (read known register) (effect.read state register)
 read_holds known state has register = read_kind_sound register _ _ (has_value known state has register)
 
-pub read_sound : (known : Known) (state : State) → HasState known state → (register : ℕ) → Sound HasValue (read known register) (effect.read state register)
-read_sound known state has register = weaker (IsReadOf (register_value state register)) HasValue _ _ (λ x v is. is.has) (read_holds known state has register)
+pub read_sound : (known : Known) (state : State) → HasState known state → (register : ℕ)
+    → Sound HasValue (read known register) (effect.read state register)
+read_sound known state has register = weaker (IsReadOf (register_value state register)) HasValue _ _ (λ x v is. is.has)
+    (read_holds known state has register)
 
-pub number_or_sound : (cause : Cause) (known : Kind) (held : Value) → HasValue known held → Sound HasNumber (number_or cause known) (effect.number_or cause held)
+pub number_or_sound : (cause : Cause) (known : Kind) (held : Value) → HasValue known held
+    → Sound HasNumber (number_or cause known) (effect.number_or cause held)
 number_or_sound cause (Number x) value.Empty has = absurd has.admits
 number_or_sound cause (Number x) (value.Number n) has = record { proper = has.proper; admits = has.admits }
 number_or_sound cause (Number x) (value.Pointer pointer) has = absurd has.admits

@@ -50,17 +50,21 @@ record Operands (state : State) (left : ℕ) (right : Source) (x y : Interval) (
   on_left : register_value state left ≡ value.Number m
   on_right : RightHolds state right n
 
-with_narrowed_admits : (known : Known) (state : State) → known_state.AdmitsKnown known state → (left : ℕ) (right : Source) (both : Narrowed) (m n : ℕ) → register_value state left ≡ value.Number m → RightHolds state right n → Admits both.left m → Admits both.right n → known_state.AdmitsKnown (with_narrowed known left right both) state
-with_narrowed_admits known state admits left (Immediate immediate) both m n holds other first second =
+with_narrowed_admits : {known : Known} {state : State} → known_state.AdmitsKnown known state
+    → (left : ℕ) (right : Source) (both : Narrowed) {m n : ℕ} → register_value state left ≡ value.Number m → RightHolds state right n
+    → Admits both.left m → Admits both.right n → known_state.AdmitsKnown (with_narrowed known left right both) state
+with_narrowed_admits {known} {state} admits left (Immediate immediate) both holds other first second =
     narrows_keep known state admits left (Number both.left) (subst (kind.Admits (Number both.left)) (sym holds) first)
-with_narrowed_admits known state admits left (Register register) both m n holds other first second =
+with_narrowed_admits {known} {state} admits left (Register register) both holds other first second =
     narrows_keep (known_state.with_kind known left (Number both.left)) state
     (narrows_keep known state admits left (Number both.left) (subst (kind.Admits (Number both.left)) (sym holds) first))
     register.number (Number both.right) (subst (kind.Admits (Number both.right)) (sym other) second)
 
 -- an edge of a conditional jump
-branch_admits : (known : Known) (state : State) → HasState known state → (comparison : Comparison) (x y : Interval) (m n : ℕ) (taken : Bool) → Operands state comparison.left.number comparison.right x y m n → is_met comparison.condition comparison.width m n ≡ taken → known_state.Admits (on_edge known comparison (branch comparison x y taken)) state
-branch_admits known state has comparison x y m n taken operands answer = by_test (is_register left right)
+branch_admits : {known : Known} {state : State} → HasState known state → (comparison : Comparison) {x y : Interval} {m n : ℕ} {taken : Bool}
+    → Operands state comparison.left.number comparison.right x y m n → is_met comparison.condition comparison.width m n ≡ taken
+    → known_state.Admits (on_edge known comparison (branch comparison x y taken)) state
+branch_admits {known} {state} has comparison {x} {y} {taken} operands answer = by_test (is_register left right)
   where
     left : ℕ
     left = comparison.left.number
@@ -68,23 +72,28 @@ branch_admits known state has comparison x y m n taken operands answer = by_test
     right : Source
     right = comparison.right
 
-    by_test : (same : Bool) → known_state.Admits (on_edge known comparison (if same then Unchanged else narrowed (refine comparison.condition comparison.width x y taken))) state
+    by_test : (same : Bool) → known_state.Admits (on_edge known comparison
+        (if same then Unchanged else narrowed (refine comparison.condition comparison.width x y taken))) state
     by_test true = has.admits
     by_test false =
-        let kept = refine-keeps comparison.condition comparison.width x y m n taken operands.first.proper operands.second.proper operands.first.admits operands.second.admits answer in
+        let kept = refine-keeps comparison.condition comparison.width operands.first.proper operands.second.proper operands.first.admits
+        operands.second.admits answer in
         subst (λ (refined : Option Narrowed). known_state.Admits (on_edge known comparison (narrowed refined)) state) (sym kept.1)
-        (with_narrowed_admits known state has.admits left right kept.0 m n operands.on_left operands.on_right kept.2 kept.3)
+        (with_narrowed_admits has.admits left right kept.0 operands.on_left operands.on_right kept.2 kept.3)
 
 -- both edges, where the operands are numbers
 abbrev edges_of : Known → Comparison → Interval → Interval → Edges
 edges_of known comparison x y = edges_to known (Branch comparison (branch comparison x y false) (branch comparison x y true))
 
-edges_take : (known : Known) (state : State) → HasState known state → (comparison : Comparison) (x y : Interval) (m n : ℕ) → Operands state comparison.left.number comparison.right x y m n → TakesEdge state (edges_of known comparison x y) (is_met comparison.condition comparison.width m n)
-edges_take known state has comparison x y m n operands = by_answer (is_met comparison.condition comparison.width m n) refl
+edges_take : {known : Known} {state : State} → HasState known state → (comparison : Comparison) {x y : Interval} {m n : ℕ}
+    → Operands state comparison.left.number comparison.right x y m n
+    → TakesEdge state (edges_of known comparison x y) (is_met comparison.condition comparison.width m n)
+edges_take {known} {state} has comparison {x} {y} {m} {n} operands = by_answer (is_met comparison.condition comparison.width m n) refl
   where
-    by_answer : (taken : Bool) → is_met comparison.condition comparison.width m n ≡ taken → TakesEdge state (edges_of known comparison x y) taken
-    by_answer true answer = branch_admits known state has comparison x y m n true operands answer
-    by_answer false answer = branch_admits known state has comparison x y m n false operands answer
+    by_answer : (taken : Bool) → is_met comparison.condition comparison.width m n ≡ taken
+        → TakesEdge state (edges_of known comparison x y) taken
+    by_answer true answer = branch_admits has comparison operands answer
+    by_answer false answer = branch_admits has comparison operands answer
 
 -- An immediate is compared as its low bits.
 
@@ -95,33 +104,54 @@ low_proper : (width : Width) (n : ℕ) → IsProper (single (low_bits (operand_b
 low_proper Bits32 n = record { ordered = omega arith; fits = omega arith }
 low_proper Bits64 n = record { ordered = omega arith; fits = omega arith }
 
-met_low : (condition : Condition) (width : Width) (m n : ℕ) → is_met condition width m (low_bits (operand_bits width) n) ≡ is_met condition width m n
-met_low condition width m n = ap (λ (k : ℕ). arithmetic.is_met_on condition (operand_bits width) (low_bits (operand_bits width) m) k) (low_twice width n)
+met_low : (condition : Condition) (width : Width) (m n : ℕ) → is_met condition width m (low_bits (operand_bits width) n) ≡ is_met condition
+    width m n
+met_low condition width m n = ap (λ (k : ℕ). arithmetic.is_met_on condition (operand_bits width) (low_bits (operand_bits width) m) k)
+    (low_twice width n)
 
 abbrev pub with_source : Condition → Width → RegisterParts → Source → Comparison
 with_source condition width left right = record { condition = condition; width = width; left = left; right = right }
 
-pub with_immediate : (known : Known) (state : State) → HasState known state → (condition : Condition) (width : Width) (left : RegisterParts) (immediate : ℤ) (x : Kind) (v : Value) → IsReadOf (register_value state left.number) x v → Sound (TakesEdge state) (compare known (with_source condition width left (Immediate immediate)) x (Number (single (low_bits (operand_bits width) (arithmetic.immediate_operand immediate))))) (effect.compare condition width v (value.Number (arithmetic.immediate_operand immediate)))
-with_immediate known state has condition width left immediate (Number x) (value.Number m) first =
-    let n = arithmetic.immediate_operand immediate in
-    let low = low_bits (operand_bits width) n in
-    subst (TakesEdge state (edges_of known (with_source condition width left (Immediate immediate)) x (single low))) (met_low condition width m n)
-    (edges_take known state has (with_source condition width left (Immediate immediate)) x (single low) m low
-    (record { first = record { proper = first.has.proper; admits = first.has.admits }; second = record { proper = low_proper width n; admits = single_admits low }; on_left = first.same; on_right = tt }))
-with_immediate known state has condition width left immediate (Number x) v first = absurd first.has.admits
-with_immediate known state has condition width left immediate (Record x) v first = tt
-with_immediate known state has condition width left immediate (Frame x) v first = tt
-with_immediate known state has condition width left immediate Nothing v first = tt
+-- a register's value is compared
+module _ {known : Known} {state : State} (has : HasState known state) (condition : Condition) (width : Width) (left : RegisterParts) where
+  pub with_immediate : (immediate : ℤ) (x : Kind) (v : Value) → IsReadOf (register_value state left.number) x v
+      → Sound (TakesEdge state)
+      (compare known (with_source condition width left (Immediate immediate)) x
+      (Number (single (low_bits (operand_bits width) (arithmetic.immediate_operand immediate)))))
+      (effect.compare condition width v (value.Number (arithmetic.immediate_operand immediate)))
+  with_immediate immediate (Number x) (value.Number m) first =
+      let n = arithmetic.immediate_operand immediate in
+      let low = low_bits (operand_bits width) n in
+      subst (TakesEdge state (edges_of known (with_source condition width left (Immediate immediate)) x (single low)))
+      (met_low condition width m n)
+      (edges_take has (with_source condition width left (Immediate immediate))
+      (record {
+        first = record { proper = first.has.proper; admits = first.has.admits };
+        second = record { proper = low_proper width n; admits = single_admits low };
+        on_left = first.same;
+        on_right = tt;
+      }))
+  with_immediate immediate (Number x) v first = absurd first.has.admits
+  with_immediate immediate (Record x) v first = tt
+  with_immediate immediate (Frame x) v first = tt
+  with_immediate immediate Nothing v first = tt
 
-pub with_register : (known : Known) (state : State) → HasState known state → (condition : Condition) (width : Width) (left right : RegisterParts) (x y : Kind) (v w : Value) → IsReadOf (register_value state left.number) x v → IsReadOf (register_value state right.number) y w → Sound (TakesEdge state) (compare known (with_source condition width left (Register right)) x y) (effect.compare condition width v w)
-with_register known state has condition width left right (Number x) (Number y) (value.Number m) (value.Number n) first second =
-    edges_take known state has (with_source condition width left (Register right)) x y m n
-    (record { first = record { proper = first.has.proper; admits = first.has.admits }; second = record { proper = second.has.proper; admits = second.has.admits }; on_left = first.same; on_right = second.same })
-with_register known state has condition width left right (Number x) (Number y) (value.Number m) w first second = absurd second.has.admits
-with_register known state has condition width left right (Number x) (Number y) v w first second = absurd first.has.admits
-with_register known state has condition width left right (Number x) (Record y) v w first second = tt
-with_register known state has condition width left right (Number x) (Frame y) v w first second = tt
-with_register known state has condition width left right (Number x) Nothing v w first second = tt
-with_register known state has condition width left right (Record x) y v w first second = tt
-with_register known state has condition width left right (Frame x) y v w first second = tt
-with_register known state has condition width left right Nothing y v w first second = tt
+  pub with_register : (right : RegisterParts) (x y : Kind) (v w : Value) → IsReadOf (register_value state left.number) x v
+      → IsReadOf (register_value state right.number) y w
+      → Sound (TakesEdge state) (compare known (with_source condition width left (Register right)) x y) (effect.compare condition width v w)
+  with_register right (Number x) (Number y) (value.Number m) (value.Number n) first second =
+      edges_take has (with_source condition width left (Register right))
+      (record {
+        first = record { proper = first.has.proper; admits = first.has.admits };
+        second = record { proper = second.has.proper; admits = second.has.admits };
+        on_left = first.same;
+        on_right = second.same;
+      })
+  with_register right (Number x) (Number y) (value.Number m) w first second = absurd second.has.admits
+  with_register right (Number x) (Number y) v w first second = absurd first.has.admits
+  with_register right (Number x) (Record y) v w first second = tt
+  with_register right (Number x) (Frame y) v w first second = tt
+  with_register right (Number x) Nothing v w first second = tt
+  with_register right (Record x) y v w first second = tt
+  with_register right (Frame x) y v w first second = tt
+  with_register right Nothing y v w first second = tt

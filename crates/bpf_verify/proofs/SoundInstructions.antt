@@ -1,9 +1,10 @@
 -- One instruction is sound: where it fails no check on what is known, it fails none in a state of which this is known, and what is known
 -- behind it admits the state behind it.
-use Rattle.std.proofs.Common.{◌≡◌, ℕ, ◌<◌, ◌⊎◌, inl, inr, ℤ, pos, nat_lt, IsSome, Bool, true, false, List, Some, Result, Ok, Err, if◌then◌else◌, refl, sym, subst}
+use Rattle.std.proofs.Common.{◌≡◌, ℕ, ◌<◌, ◌⊎◌, inl, inr, ℤ, pos, nat_lt, IsSome, Bool, true, false, List, Some, Result, Ok, Err}
+use Rattle.std.proofs.Common.{if◌then◌else◌, refl, sym, subst}
 use Rattle.std.specs.Prelude.{FitsSigned}
 use Rattle.std.specs.Int.{w32}
-use Rattle.bpf_flat.specs.Flat.{HasImmediates}
+use Rattle.bpf_insn.specs.Immediates.{HasImmediates}
 use Rattle.bpf_insn.specs.Code.{instruction_at, word_count}
 use Rattle.bpf_insn.specs.Jump.{jump_distance}
 use Rattle.bpf_insn.specs.declared.instruction.Insn.{Insn}
@@ -13,7 +14,8 @@ use Rattle.bpf_insn.specs.declared.value.Value.{Value}
 use Rattle.bpf_flow.specs.Flow.{target_of, LeadsOn}
 use Rattle.bpf_kinds.specs.Kind as kind
 use Rattle.bpf_kinds.specs.declared.kind.Kind.{Kind}
-use Rattle.bpf_kinds.proofs.ResultLemmas.{negate-admits, extend-admits, byte_swap-admits, wide_number-admits, immediate_operand-admits, immediate_operand-proper}
+use Rattle.bpf_kinds.proofs.ResultLemmas.{negate-admits, extend-admits, byte_swap-admits, wide_number-admits, immediate_operand-admits}
+use Rattle.bpf_kinds.proofs.ResultLemmas.{immediate_operand-proper}
 use Rattle.bpf_meaning.specs.Effect as effect
 use Rattle.bpf_meaning.specs.Effect.{◌>>=◌}
 use Rattle.tl_segments.specs.Segment.{Contents, IsSegment}
@@ -43,12 +45,14 @@ use Rattle.bpf_meaning.proofs.WalkForesees.{Foresees, walk_foreseen}
 
 -- The program goes on at the next place, or at a jump's target, and what is known on that edge admits the state there.
 
-pub record GoesToNext (code : List Insn) (segment : Contents) (state : State) (next : ℕ) (edges : Edges) (change : Change) (place : ℕ) : Type 0 where
+pub record GoesToNext (code : List Insn) (segment : Contents) (state : State) (next : ℕ) (edges : Edges) (change : Change)
+    (place : ℕ) : Type 0 where
   pub is_next : place ≡ next
   pub begins : IsSome (instruction_at code place)
   pub admits : known_state.Admits edges.next (carry_out segment state change)
 
-pub record GoesToTarget (code : List Insn) (segment : Contents) (state : State) (insn : Insn) (edges : Edges) (change : Change) (place : ℕ) : Type 0 where
+pub record GoesToTarget (code : List Insn) (segment : Contents) (state : State) (insn : Insn) (edges : Edges) (change : Change)
+    (place : ℕ) : Type 0 where
   pub distance : ℤ
   pub jumps : jump_distance insn ≡ Some distance
   pub is_target : target_of state.place distance ≡ pos place
@@ -57,7 +61,8 @@ pub record GoesToTarget (code : List Insn) (segment : Contents) (state : State) 
   pub admits : known_state.Admits edges.target (carry_out segment state change)
 
 abbrev pub Follows : List Insn → Contents → State → Insn → ℕ → Edges → Effect → Type 0
-Follows code segment state insn next edges (GoOn change place) = GoesToNext code segment state next edges change place ⊎ GoesToTarget code segment state insn edges change place
+Follows code segment state insn next edges (GoOn change place) =
+    GoesToNext code segment state next edges change place ⊎ GoesToTarget code segment state insn edges change place
 Follows code segment state insn next edges (End answer) = Unit {0}
 
 -- an instruction that stands at a state's place in a code whose jumps lead on
@@ -69,35 +74,66 @@ pub record Stands (code : List Insn) (segment : Contents) (known : Known) (state
   pub fits : HasImmediates insn
 
 -- on to the next instruction
-next_sound : (code : List Insn) (segment : Contents) (state : State) (insn : Insn) (next : ℕ) (edges : Edges) (change : Change) → IsSome (instruction_at code next) → known_state.Admits edges.next (carry_out segment state change) → Sound (Follows code segment state insn next) (Ok edges) (effect.go_on code next change)
-next_sound code segment state insn next edges change begins admits =
-    subst (λ (b : Bool). Sound (Follows code segment state insn next) (Ok edges) (if b then Ok (GoOn change next) else (if nat_lt next (word_count code) then Err IntoWide else Err OutOfProgram))) (sym begins)
+next_sound : {code : List Insn} {segment : Contents} {known : Known} {state : State} {insn : Insn} {next : ℕ}
+    → Stands code segment known state insn next → (insn ≡ Exit → ⊥) → (edges : Edges) (change : Change)
+    → known_state.Admits edges.next (carry_out segment state change)
+    → Sound (Follows code segment state insn next) (Ok edges) (effect.go_on code next change)
+next_sound {code} {segment} {state} {insn} {next} stands goes_on edges change admits =
+    let begins = stands.followed goes_on in
+    subst (λ (b : Bool). Sound (Follows code segment state insn next) (Ok edges)
+    (if b then Ok (GoOn change next) else (if nat_lt next (word_count code) then Err IntoWide else Err OutOfProgram))) (sym begins)
     (inl (record { is_next = refl; begins = begins; admits = admits }))
 
 -- to the target of a jump
-target_sound : (code : List Insn) (segment : Contents) (state : State) (insn : Insn) (next : ℕ) (edges : Edges) (distance : ℤ) → jump_distance insn ≡ Some distance → LeadsOn code state.place distance → known_state.Admits edges.target state → Sound (Follows code segment state insn next) (Ok edges) (effect.jump code state.place distance)
-target_sound code segment state insn next edges distance jumps leads admits =
+target_sound : {code : List Insn} (segment : Contents) (state : State) (insn : Insn) (next : ℕ) (edges : Edges) {distance : ℤ}
+    → jump_distance insn ≡ Some distance → LeadsOn code state.place distance → known_state.Admits edges.target state
+    → Sound (Follows code segment state insn next) (Ok edges) (effect.jump code state.place distance)
+target_sound {code} segment state insn next edges {distance} jumps leads admits =
     subst (λ (z : ℤ). Sound (Follows code segment state insn next) (Ok edges) (effect.go_to code z)) (sym leads.is_target)
-    (subst (λ (b : Bool). Sound (Follows code segment state insn next) (Ok edges) (if b then Ok (GoOn Nothing leads.target) else (if nat_lt leads.target (word_count code) then Err IntoWide else Err OutOfProgram))) (sym leads.begins)
-    (inr (record { distance = distance; jumps = jumps; is_target = leads.is_target; later = leads.later; begins = leads.begins; admits = admits })))
+    (subst (λ (b : Bool). Sound (Follows code segment state insn next) (Ok edges)
+    (if b then Ok (GoOn Nothing leads.target) else (if nat_lt leads.target (word_count code) then Err IntoWide else Err OutOfProgram)))
+    (sym leads.begins)
+    (inr (record {
+      distance = distance;
+      jumps = jumps;
+      is_target = leads.is_target;
+      later = leads.later;
+      begins = leads.begins;
+      admits =
+          admits;
+    })))
 
 -- a register is written
-set_sound : (code : List Insn) (segment : Contents) (known : Known) (state : State) (insn : Insn) (next : ℕ) → Stands code segment known state insn next → (insn ≡ Exit → ⊥) → (destination : WritableRegister) (x : Kind) (v : Value) → kind.Admits x v → Sound (Follows code segment state insn next) (edge.set_register known destination.number x) (effect.set_register code next destination v)
-set_sound code segment known state insn next stands goes_on destination x v admits =
-    next_sound code segment state insn next _ (SetRegister destination v) (stands.followed goes_on) (writes_admit segment known state stands.has destination x v admits)
+set_sound : {code : List Insn} {segment : Contents} {known : Known} {state : State} {insn : Insn} {next : ℕ}
+    → Stands code segment known state insn next → (insn ≡ Exit → ⊥) → (destination : WritableRegister) (x : Kind) (v : Value)
+    → kind.Admits x v
+    → Sound (Follows code segment state insn next) (edge.set_register known destination.number x)
+    (effect.set_register code next destination v)
+set_sound {segment} {known} {state} stands goes_on destination x v admits =
+    next_sound stands goes_on _ (SetRegister destination v) (writes_admit segment known state stands.has destination x v admits)
 
 -- the edge of a conditional jump
-branch_sound : (code : List Insn) (segment : Contents) (known : Known) (state : State) (insn : Insn) (next : ℕ) → Stands code segment known state insn next → (insn ≡ Exit → ⊥) → (distance : ℤ) → jump_distance insn ≡ Some distance → (edges : Edges) (taken : Bool) → TakesEdge state edges taken → Sound (Follows code segment state insn next) (Ok edges) (if taken then effect.jump code state.place distance else effect.go_on code next Nothing)
-branch_sound code segment known state insn next stands goes_on distance jumps edges true admits = target_sound code segment state insn next edges distance jumps (stands.leads distance jumps) admits
-branch_sound code segment known state insn next stands goes_on distance jumps edges false admits = next_sound code segment state insn next edges Nothing (stands.followed goes_on) admits
+branch_sound : {code : List Insn} {segment : Contents} {known : Known} {state : State} {insn : Insn} {next : ℕ}
+    → Stands code segment known state insn next → (insn ≡ Exit → ⊥) → {distance : ℤ} → jump_distance insn ≡ Some distance
+    → (edges : Edges) (taken : Bool) → TakesEdge state edges taken
+    → Sound (Follows code segment state insn next) (Ok edges)
+    (if taken then effect.jump code state.place distance else effect.go_on code next Nothing)
+branch_sound {segment} {state} {insn} {next} stands goes_on {distance} jumps edges true admits =
+    target_sound segment state insn next edges jumps (stands.leads distance jumps) admits
+branch_sound stands goes_on jumps edges false admits = next_sound stands goes_on edges Nothing admits
 
-taken_sound : (code : List Insn) (segment : Contents) (known : Known) (state : State) (insn : Insn) (next : ℕ) → Stands code segment known state insn next → (insn ≡ Exit → ⊥) → (distance : ℤ) → jump_distance insn ≡ Some distance → (abstract : Result Edges Cause) (concrete : Result Bool Cause) → Sound (TakesEdge state) abstract concrete → Sound (Follows code segment state insn next) abstract (concrete >>= λ taken. if taken then effect.jump code state.place distance else effect.go_on code next Nothing)
-taken_sound code segment known state insn next stands goes_on distance jumps (Err cause) concrete sound = tt
-taken_sound code segment known state insn next stands goes_on distance jumps (Ok edges) (Err cause) sound = absurd sound
-taken_sound code segment known state insn next stands goes_on distance jumps (Ok edges) (Ok taken) sound = branch_sound code segment known state insn next stands goes_on distance jumps edges taken sound
+taken_sound : {code : List Insn} {segment : Contents} {known : Known} {state : State} {insn : Insn} {next : ℕ}
+    → Stands code segment known state insn next → (insn ≡ Exit → ⊥) → {distance : ℤ} → jump_distance insn ≡ Some distance
+    → (abstract : Result Edges Cause) (concrete : Result Bool Cause) → Sound (TakesEdge state) abstract concrete
+    → Sound (Follows code segment state insn next) abstract
+    (concrete >>= λ taken. if taken then effect.jump code state.place distance else effect.go_on code next Nothing)
+taken_sound stands goes_on jumps (Err cause) concrete sound = tt
+taken_sound stands goes_on jumps (Ok edges) (Err cause) sound = absurd sound
+taken_sound stands goes_on jumps (Ok edges) (Ok taken) sound = branch_sound stands goes_on jumps edges taken sound
 
 -- each step of an instruction
-kinds_foresee : (code : List Insn) (segment : Contents) (known : Known) (state : State) (insn : Insn) (next : ℕ) → Stands code segment known state insn next → Foresees (kinds known) (effect.values code segment state next) insn
+kinds_foresee : (code : List Insn) (segment : Contents) (known : Known) (state : State) (insn : Insn) (next : ℕ)
+    → Stands code segment known state insn next → Foresees (kinds known) (effect.values code segment state next) insn
 kinds_foresee code segment known state insn next stands = record {
   Fits = FitsSigned w32;
   Read = λ register. IsReadOf (register_value state register);
@@ -112,7 +148,11 @@ kinds_foresee code segment known state insn next stands = record {
   any = λ register x v is. is.has.admits;
   number_or = λ cause register x v is. number_or_sound cause x v is.has;
   stored = λ register x v is. is.has;
-  stored_immediate = λ immediate fits. record { proper = immediate_operand-proper immediate fits; admits = immediate_operand-admits immediate };
+  stored_immediate = λ immediate fits. record {
+    proper = immediate_operand-proper immediate fits;
+    admits =
+        immediate_operand-admits immediate;
+  };
   pointer_in = pointers_sound known state stands.has;
   immediate = λ immediate fits. immediate_operand-admits immediate;
   wide = λ immediate next fits. wide_number-admits immediate next;
@@ -121,21 +161,25 @@ kinds_foresee code segment known state insn next stands = record {
   byte_swap = λ order width x n has. byte_swap-admits order width x n has.proper has.admits;
   move = move_sound;
   operate = operate_sound;
-  load = λ format p q offset points. load_from_sound segment known state stands.is_segment stands.has format p.area p.offsets q offset points.into points.admits;
+  load = λ format p q offset points. load_from_sound stands.is_segment stands.has format q offset points.into points.admits;
   frame = λ p q offset points. from_sound p.area p.offsets q offset points.into points.admits;
-  store_at = λ x from offset size k held is stored. store_at_sound segment known state stands.has x offset from size k held is stored;
+  store_at = λ x from offset size k held is stored. store_at_sound segment stands.has size k held is stored;
   call = λ helper. call_sound segment known state stands.is_segment stands.has (Some helper);
-  set = set_sound code segment known state insn next stands;
-  go_on = λ goes_on behind change admits. next_sound code segment state insn next _ change (stands.followed goes_on) admits;
-  jump = λ distance jumps. target_sound code segment state insn next _ distance jumps (stands.leads distance jumps) stands.has.admits;
+  set = set_sound stands;
+  go_on = λ goes_on behind change admits. next_sound stands goes_on _ change admits;
+  jump = λ distance jumps. target_sound segment state insn next _ jumps (stands.leads distance jumps) stands.has.admits;
   with_immediate = λ goes_on condition width left immediate offset x v fits jumps first.
-      taken_sound code segment known state insn next stands goes_on offset jumps _ _ (with_immediate known state stands.has condition width left immediate x v first);
+      taken_sound stands goes_on jumps _ _ (with_immediate stands.has condition width left immediate x v first);
   with_register = λ goes_on condition width left right offset x y v w jumps first second.
-      taken_sound code segment known state insn next stands goes_on offset jumps _ _ (with_register known state stands.has condition width left right x y v w first second);
+      taken_sound stands goes_on jumps _ _ (with_register stands.has condition width left right x y v w first second);
   end = λ x n among. tt;
 }
 
 -- each row of the instruction table
-pub instruction_sound : (code : List Insn) (segment : Contents) (known : Known) (state : State) (insn : Insn) (next : ℕ) → Stands code segment known state insn next → Sound (Follows code segment state insn next) (walk (kinds known) insn) (effect.instruction_effect code segment state next insn)
+pub instruction_sound : (code : List Insn) (segment : Contents) (known : Known) (state : State) (insn : Insn) (next : ℕ)
+    → Stands code segment known state insn next → Sound (Follows code segment state insn next) (walk (kinds known) insn)
+    (effect.instruction_effect code segment state next insn)
 unfolding kinds_foresee
-instruction_sound code segment known state insn next stands = walk_foreseen (kinds known) (effect.values code segment state next) insn (kinds_foresee code segment known state insn next stands) stands.fits
+instruction_sound code segment known state insn next stands =
+    walk_foreseen (kinds known) (effect.values code segment state next) insn
+    (kinds_foresee code segment known state insn next stands) stands.fits

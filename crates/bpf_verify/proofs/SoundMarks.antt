@@ -1,6 +1,8 @@
--- What is known of the frame is sound: bytes that have their marks are written, those that get them were written, and of slots that may have
+-- What is known of the frame is sound: bytes that have their marks are written, those that get them were written, and of slots that may
+-- have
 -- been written over nothing is known.
-use Rattle.std.proofs.Common.{◌≡◌, ℕ, zero, suc, ◌+◌, ◌<◌, ◌≤◌, ℤ, pos, ◌+ℤ◌, ◌≤ℤ◌, ◌&&◌, int_le, unsigned_abs, Bool, true, false, IsTrue, List, if◌then◌else◌, refl, subst, arith}
+use Rattle.std.proofs.Common.{◌≡◌, ℕ, zero, suc, ◌+◌, ◌<◌, ◌≤◌, ℤ, pos, ◌+ℤ◌, ◌≤ℤ◌, ◌&&◌, int_le, unsigned_abs, Bool, true, false, IsTrue}
+use Rattle.std.proofs.Common.{List, if◌then◌else◌, refl, subst, arith}
 use Rattle.std.specs.Ordering.{int_eq}
 use Rattle.std.proofs.lemmas.Bool.Decides.{nat_tests}
 use Rattle.std.proofs.lemmas.Int.{ints}
@@ -8,7 +10,6 @@ use Rattle.bpf_insn.specs.declared.memory.TheConstants.{FRAME_LENGTH, SLOTS}
 use Rattle.bpf_frame.specs.FrameMap as map
 use Rattle.bpf_insn.specs.Frame.{IsApart, FrameByte, FrameContents, is_written, slot_value}
 use Rattle.bpf_frame.proofs.AdmitLemmas.{admits_stays, mark_admits, touch_admits}
-use Rattle.bpf_frame.proofs.MarkLemmas.{all_written_admitted}
 use Rattle.bpf_frame.proofs.ProperLemmas.{touch_is_proper}
 use Rattle.bpf_frame.proofs.ReadLemmas.{all_written_is}
 use Rattle.bpf_kinds.specs.Kind as kind
@@ -23,10 +24,12 @@ use Rattle.bpf_verify.specs.declared.state.Known.{Known}
 use Rattle.bpf_verify.proofs.SoundChecks.{HasState}
 
 -- bytes that lie within an area from each of the offsets on, lie within it from one of them on
-pub lies_within : (x : Offsets) (at offset : ℤ) (count bytes : ℕ) → Admits x at → lie_within x offset count bytes ≡ true → effect.lie_within (at +ℤ offset) count bytes ≡ true
+pub lies_within : (x : Offsets) (at offset : ℤ) (count bytes : ℕ) → Admits x at → lie_within x offset count bytes ≡ true
+    → effect.lie_within (at +ℤ offset) count bytes ≡ true
 lies_within x at offset count bytes admits within = by_ends x.low x.high admits.above admits.below within
   where
-    by_ends : (low high : ℤ) → low ≤ℤ at → at ≤ℤ high → (int_le (pos 0) (low +ℤ offset) && int_le ((high +ℤ offset) +ℤ pos count) (pos bytes)) ≡ true → (int_le (pos 0) (at +ℤ offset) && int_le ((at +ℤ offset) +ℤ pos count) (pos bytes)) ≡ true
+    by_ends : (low high : ℤ) → low ≤ℤ at → at ≤ℤ high → (int_le (pos 0) (low +ℤ offset) && int_le ((high +ℤ offset) +ℤ pos count)
+        (pos bytes)) ≡ true → (int_le (pos 0) (at +ℤ offset) && int_le ((at +ℤ offset) +ℤ pos count) (pos bytes)) ≡ true
     by_ends low high above below within = grind (arith, ints, nat_tests)
 
 -- so many bytes of memory from an offset on are written
@@ -39,7 +42,9 @@ record LieBetween (low high at : ℤ) (offset : ℤ) (count : ℕ) : Type 0 wher
   below : unsigned_abs (at +ℤ offset) ≤ unsigned_abs (high +ℤ offset)
   within : unsigned_abs (high +ℤ offset) + count ≤ FRAME_LENGTH
 
-lie_between : (low high at offset : ℤ) (count : ℕ) → low ≤ℤ at → at ≤ℤ high → (int_le (pos 0) (low +ℤ offset) && int_le ((high +ℤ offset) +ℤ pos count) (pos FRAME_LENGTH)) ≡ true → LieBetween low high at offset count
+lie_between : (low high at offset : ℤ) (count : ℕ) → low ≤ℤ at → at ≤ℤ high
+    → (int_le (pos 0) (low +ℤ offset) && int_le ((high +ℤ offset) +ℤ pos count) (pos FRAME_LENGTH)) ≡ true
+    → LieBetween low high at offset count
 lie_between low high at offset count above below within = record {
   above = grind (arith, ints, nat_tests);
   below = grind (arith, ints, nat_tests);
@@ -47,29 +52,34 @@ lie_between low high at offset count above below within = record {
 }
 
 -- bytes that have their marks from each of the offsets on are written from one of them on
-pub marked_are_written : (known : Known) (state : State) → HasState known state → (x : Offsets) (at offset : ℤ) (count : ℕ) → Admits x at → lie_within x offset count FRAME_LENGTH ≡ true → all_marked known x offset count ≡ true → AreWritten state.frame.bytes (at +ℤ offset) count
-marked_are_written known state has x at offset zero admits within marked i above below = absurd (omega arith)
-marked_are_written known state has x at offset (suc more) admits within marked i above below =
+pub marked_are_written : {known : Known} {state : State} → HasState known state → {x : Offsets} {at : ℤ} (offset : ℤ) (count : ℕ)
+    → Admits x at → lie_within x offset count FRAME_LENGTH ≡ true → all_marked known x offset count ≡ true
+    → AreWritten state.frame.bytes (at +ℤ offset) count
+marked_are_written has offset zero admits within marked i above below = absurd (omega arith)
+marked_are_written {known} {state} has {x} {at} offset (suc more) admits within marked i above below =
     let ends = lie_between x.low x.high at offset (suc more) admits.above admits.below within in
     let left = ends.above in let right = ends.below in let short = ends.within in let count = has.proper.frame.count in
     let from = unsigned_abs (x.low +ℤ offset) in
     let to = unsigned_abs (x.high +ℤ offset) + more in
-    all_written_admitted known.frame state.frame from to i has.admits.frame
-    ((all_written_is known.frame.marks from to (omega arith) (omega arith)).0 marked) (omega arith) (omega arith)
+    has.admits.frame.written i
+    ((all_written_is known.frame.marks from to (omega arith) (omega arith)).0 marked i (omega arith) (omega arith))
 
 -- the ends of the bytes that may be written
-touched_ends : (low high offset : ℤ) (more : ℕ) → low ≤ℤ high → (int_le (pos 0) (low +ℤ offset) && int_le ((high +ℤ offset) +ℤ pos (suc more)) (pos FRAME_LENGTH)) ≡ true
+touched_ends : (low high offset : ℤ) (more : ℕ) → low ≤ℤ high
+    → (int_le (pos 0) (low +ℤ offset) && int_le ((high +ℤ offset) +ℤ pos (suc more)) (pos FRAME_LENGTH)) ≡ true
     → (unsigned_abs (low +ℤ offset) ≤ unsigned_abs (high +ℤ offset) + more) × (unsigned_abs (high +ℤ offset) + more < FRAME_LENGTH)
 touched_ends low high offset more ordered within = (grind (arith, ints, nat_tests), grind (arith, ints, nat_tests))
 
-pub touched_is_proper : (known : Known) (x : Offsets) (offset : ℤ) (count : ℕ) → IsProperKnown known → x.low ≤ℤ x.high → lie_within x offset count FRAME_LENGTH ≡ true → IsProperKnown (touch_bytes known x offset count)
+pub touched_is_proper : (known : Known) (x : Offsets) (offset : ℤ) (count : ℕ) → IsProperKnown known → x.low ≤ℤ x.high
+    → lie_within x offset count FRAME_LENGTH ≡ true → IsProperKnown (touch_bytes known x offset count)
 touched_is_proper known x offset zero proper ordered within = proper
 touched_is_proper known x offset (suc more) proper ordered within =
     let ends = touched_ends x.low x.high offset more ordered within in
     record {
       count = proper.count;
       kinds = proper.kinds;
-      frame = touch_is_proper known.frame (unsigned_abs (x.low +ℤ offset)) (unsigned_abs (x.high +ℤ offset) + more) proper.frame ends.0 ends.1;
+      frame = touch_is_proper known.frame (unsigned_abs (x.low +ℤ offset))
+          (unsigned_abs (x.high +ℤ offset) + more) proper.frame ends.0 ends.1;
     }
 
 -- a frame once bytes of it, so many, were written from an offset on
@@ -90,57 +100,67 @@ ordered_ends x at admits = by_ends x.low x.high admits.above admits.below
     by_ends : (low high : ℤ) → low ≤ℤ at → at ≤ℤ high → low ≤ℤ high
     by_ends low high above below = omega (arith, ints)
 
--- what is known once bytes may have been written from each of the offsets on, where they were written from one of them on
-touched_admits : (known : Known) (before : FrameContents) (after : State) → IsKnownBefore known before after → (x : Offsets) (at offset : ℤ) (count most : ℕ) → Admits x at → lie_within x offset most FRAME_LENGTH ≡ true → count ≤ most
-    → IsWritten before after.frame (at +ℤ offset) count → AdmitsKnown (touch_bytes known x offset most) after
-touched_admits known before after is x at offset zero zero admits within fewer written = record {
-  registers = is.registers;
-  frame = admits_stays known.frame before after.frame is.proper.frame is.frame written.stay (λ slot inside. written.kept slot inside (λ i above below same. omega arith));
-}
-touched_admits known before after is x at offset (suc count) zero admits within fewer written = absurd (omega arith)
-touched_admits known before after is x at offset count (suc more) admits within fewer written =
-    let ends = touched_ends x.low x.high offset more (ordered_ends x at admits) within in
-    let between = lie_between x.low x.high at offset (suc more) admits.above admits.below within in
-    let left = between.above in let right = between.below in
-    record {
-      registers = is.registers;
-      frame = touch_admits known.frame (unsigned_abs (x.low +ℤ offset)) (unsigned_abs (x.high +ℤ offset) + more) before after.frame is.proper.frame ends.0 ends.1 is.frame written.stay
-          (λ slot inside apart. written.kept slot inside (λ i above below same. apart i (omega arith) (omega arith) same));
-    }
+-- one of the offsets from which bytes may have been written
+module _ {x : Offsets} {at : ℤ} (offset : ℤ) (admits : Admits x at) where
+  -- what is known once bytes may have been written from each of the offsets on, where they were written from one of them on
+  touched_admits : {known : Known} {before : FrameContents} {after : State} → IsKnownBefore known before after → (count most : ℕ)
+      → lie_within x offset most FRAME_LENGTH ≡ true → count ≤ most → IsWritten before after.frame (at +ℤ offset) count
+      → AdmitsKnown (touch_bytes known x offset most) after
+  touched_admits {after} is zero zero within fewer written = record {
+    registers = is.registers;
+    frame = admits_stays after.frame is.proper.frame is.frame written.stay
+        (λ slot inside. written.kept slot inside (λ i above below same. omega arith));
+  }
+  touched_admits is (suc count) zero within fewer written = absurd (omega arith)
+  touched_admits {after} is count (suc more) within fewer written =
+      let ends = touched_ends x.low x.high offset more (ordered_ends x at admits) within in
+      let between = lie_between x.low x.high at offset (suc more) admits.above admits.below within in
+      let left = between.above in let right = between.below in
+      record {
+        registers = is.registers;
+        frame = touch_admits after.frame is.proper.frame is.frame (unsigned_abs (x.low +ℤ offset)) (unsigned_abs (x.high +ℤ offset) + more)
+            ends.0 ends.1 written.stay
+            (λ slot inside apart. written.kept slot inside (λ i above below same. apart i (omega arith) (omega arith) same));
+      }
 
--- and once those that were written in any case have their marks
-marks_admit : (known : Known) (after : State) → IsProperKnown known → AdmitsKnown known after → (x : Offsets) (at offset : ℤ) (count least : ℕ) → Admits x at → lie_within x offset count FRAME_LENGTH ≡ true → least ≤ count
-    → AreWritten after.frame.bytes (at +ℤ offset) count → AdmitsKnown (mark_bytes known x offset least) after
-marks_admit known after proper admitted x at offset count least admits within fewer written = by_test (int_eq x.low x.high) refl
-  where
-    from : ℕ
-    from = unsigned_abs (x.low +ℤ offset)
+  -- and once those that were written in any case have their marks
+  marks_admit : {known : Known} {after : State} → IsProperKnown known → AdmitsKnown known after → (count least : ℕ)
+      → lie_within x offset count FRAME_LENGTH ≡ true → least ≤ count → AreWritten after.frame.bytes (at +ℤ offset) count
+      → AdmitsKnown (mark_bytes known x offset least) after
+  marks_admit {known} {after} proper admitted count least within fewer written = by_test (int_eq x.low x.high) refl
+    where
+      from : ℕ
+      from = unsigned_abs (x.low +ℤ offset)
 
-    marked : Known
-    marked = record known { frame = map.mark known.frame from least }
+      marked : Known
+      marked = record known { frame = map.mark known.frame from least }
 
-    only_one : (low high z : ℤ) → low ≤ℤ z → z ≤ℤ high → int_eq low high ≡ true → z ≡ low
-    only_one low high z above below one = grind (arith, ints, nat_tests)
+      only_one : (low high z : ℤ) → low ≤ℤ z → z ≤ℤ high → int_eq low high ≡ true → z ≡ low
+      only_one low high z above below one = grind (arith, ints, nat_tests)
 
-    by_test : (one : Bool) → int_eq x.low x.high ≡ one → AdmitsKnown (if one then marked else known) after
-    by_test true one =
-        let same : at ≡ x.low = only_one x.low x.high at admits.above admits.below one in
-        let here : AreWritten after.frame.bytes (x.low +ℤ offset) count = subst (λ (z : ℤ). AreWritten after.frame.bytes (z +ℤ offset) count) same written in
-        let ends = lie_between x.low x.high at offset count admits.above admits.below within in
-        let left = ends.above in let right = ends.below in let short = ends.within in
-        record {
-          registers = admitted.registers;
-          frame = mark_admits known.frame from least after.frame after.frame proper.frame (omega arith) admitted.frame (λ i there. there)
-              (λ i above below. here i above (omega arith)) (λ slot inside apart. refl);
-        }
-    by_test false many = admitted
+      by_test : (one : Bool) → int_eq x.low x.high ≡ one → AdmitsKnown (if one then marked else known) after
+      by_test true one =
+          let same : at ≡ x.low = only_one x.low x.high at admits.above admits.below one in
+          let here : AreWritten after.frame.bytes (x.low +ℤ offset) count =
+          subst (λ (z : ℤ). AreWritten after.frame.bytes (z +ℤ offset) count) same written in
+          let ends = lie_between x.low x.high at offset count admits.above admits.below within in
+          let left = ends.above in let right = ends.below in let short = ends.within in
+          record {
+            registers = admitted.registers;
+            frame = mark_admits after.frame proper.frame admitted.frame from least (omega arith) (λ i there. there)
+                (λ i above below. here i above (omega arith)) (λ slot inside apart. refl);
+          }
+      by_test false many = admitted
 
--- what is known where bytes are written from one of the offsets on
-pub writes_admit : (known : Known) (before : FrameContents) (after : State) → IsKnownBefore known before after → (x : Offsets) (at offset : ℤ) (count least most : ℕ) → Admits x at → lie_within x offset most FRAME_LENGTH ≡ true → least ≤ count → count ≤ most
-    → IsWritten before after.frame (at +ℤ offset) count → AdmitsKnown (write_bytes known x offset least most) after
-writes_admit known before after is x at offset count least most admits within fewer more written =
-    marks_admit (touch_bytes known x offset most) after (touched_is_proper known x offset most is.proper (ordered_ends x at admits) within)
-    (touched_admits known before after is x at offset count most admits within more written) x at offset count least admits (shorter x.low x.high most count more within) fewer written.written
-  where
-    shorter : (low high : ℤ) (count less : ℕ) → less ≤ count → (int_le (pos 0) (low +ℤ offset) && int_le ((high +ℤ offset) +ℤ pos count) (pos FRAME_LENGTH)) ≡ true → (int_le (pos 0) (low +ℤ offset) && int_le ((high +ℤ offset) +ℤ pos less) (pos FRAME_LENGTH)) ≡ true
-    shorter low high count less below within = grind (arith, ints, nat_tests)
+  -- what is known where bytes are written from one of the offsets on
+  pub writes_admit : {known : Known} {before : FrameContents} {after : State} → IsKnownBefore known before after → (count least most : ℕ)
+      → lie_within x offset most FRAME_LENGTH ≡ true → least ≤ count → count ≤ most → IsWritten before after.frame (at +ℤ offset) count
+      → AdmitsKnown (write_bytes known x offset least most) after
+  writes_admit {known} is count least most within fewer more written =
+      marks_admit (touched_is_proper known x offset most is.proper (ordered_ends x at admits) within)
+      (touched_admits is count most within more written) count least (shorter x.low x.high most count more within) fewer written.written
+    where
+      shorter : (low high : ℤ) (count less : ℕ) → less ≤ count
+          → (int_le (pos 0) (low +ℤ offset) && int_le ((high +ℤ offset) +ℤ pos count) (pos FRAME_LENGTH)) ≡ true
+          → (int_le (pos 0) (low +ℤ offset) && int_le ((high +ℤ offset) +ℤ pos less) (pos FRAME_LENGTH)) ≡ true
+      shorter low high count less below within = grind (arith, ints, nat_tests)

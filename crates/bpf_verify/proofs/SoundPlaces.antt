@@ -1,5 +1,6 @@
 -- Places in a code that ends in EXIT: what follows an instruction, and how many instructions are left from a place on.
-use Rattle.std.proofs.Common.{◌≡◌, ℕ, zero, suc, ◌+◌, ◌-◌, ◌<◌, ◌≤◌, IsSome, List, [], ◌∷◌, length, Some, refl, sym, ◌∙◌, subst, inl, inr, arith}
+use Rattle.std.proofs.Common.{◌≡◌, ℕ, zero, suc, ◌+◌, ◌-◌, ◌<◌, ◌≤◌, IsSome, List, [], ◌∷◌, length, Some, refl, sym, ◌∙◌, subst, inl, inr}
+use Rattle.std.proofs.Common.{arith}
 use Rattle.std.proofs.lemmas.Bool.{cases_lt}
 use Rattle.bpf_insn.specs.Code.{instruction_at, spelling}
 use Rattle.bpf_insn.specs.declared.instruction.Insn.{Insn}
@@ -9,21 +10,26 @@ use Rattle.bpf_insn.proofs.SpanLemmas.{next_begins}
 use Rattle.bpf_flow.specs.Flow.{EndsInExit}
 
 -- an instruction other than EXIT is followed by another one
-pub is_followed : (code : List Insn) → EndsInExit code → (place : ℕ) (insn : Insn) → instruction_at code place ≡ Some insn → (insn ≡ Exit → ⊥) → IsSome (instruction_at code (place + length (spelling insn)))
+pub is_followed : (code : List Insn) → EndsInExit code → (place : ℕ) (insn : Insn) → instruction_at code place ≡ Some insn
+    → (insn ≡ Exit → ⊥) → IsSome (instruction_at code (place + length (spelling insn)))
 is_followed code ends place insn stands other =
     subst (λ (c : List Insn). instruction_at c place ≡ Some insn → IsSome (instruction_at c (place + length (spelling insn)))) (sym ends.1)
     (λ there. next_begins ends.0 Exit place insn there other) stands
 
 -- an instruction that is found behind the start of the first one stands behind its words, and in the rest of the code
 
-stands_behind : (first : Insn) (code : List Insn) (place : ℕ) (insn : Insn) → instruction_at (first ∷ code) (suc place) ≡ Some insn → length (spelling first) ≤ suc place
-stands_behind first code place insn stands = elim (cases_lt (suc place) (length (spelling first))) as (λ _. length (spelling first) ≤ suc place) [
-  | inl below ↦ let nothing = instruction_at-inside first code (suc place) (omega arith) below in absurd (let no : ⊥ = cc in no)
-  | inr past ↦ past
-]
+stands_behind : (first : Insn) (code : List Insn) (place : ℕ) (insn : Insn) → instruction_at (first ∷ code) (suc place) ≡ Some insn
+    → length (spelling first) ≤ suc place
+stands_behind first code place insn stands = elim (cases_lt (suc place) (length (spelling first))) as
+    (λ _. length (spelling first) ≤ suc place) [
+      | inl below ↦ let nothing = instruction_at-inside first code (suc place) (omega arith) below in absurd (let no : ⊥ = cc in no)
+      | inr past ↦ past
+    ]
 
-stands_in_rest : (first : Insn) (code : List Insn) (place : ℕ) (insn : Insn) → instruction_at (first ∷ code) (suc place) ≡ Some insn → instruction_at code (suc place - length (spelling first)) ≡ Some insn
-stands_in_rest first code place insn stands = sym (instruction_at-behind first code (suc place) (stands_behind first code place insn stands)) ∙ stands
+stands_in_rest : (first : Insn) (code : List Insn) (place : ℕ) (insn : Insn) → instruction_at (first ∷ code) (suc place) ≡ Some insn
+    → instruction_at code (suc place - length (spelling first)) ≡ Some insn
+stands_in_rest first code place insn stands = sym (instruction_at-behind first code (suc place)
+    (stands_behind first code place insn stands)) ∙ stands
 
 -- how many instructions begin at a place or behind it
 abbrev pub count_from : List Insn → ℕ → ℕ
@@ -41,11 +47,14 @@ count_from-most (insn ∷ code) zero = omega arith
 count_from-most (insn ∷ code) (suc place) = let rest = count_from-most code (suc place - length (spelling insn)) in omega arith
 
 -- from a place behind an instruction there are fewer
-pub count_from-later : (code : List Insn) (place later : ℕ) (insn : Insn) → instruction_at code place ≡ Some insn → place < later → count_from code later < count_from code place
+pub count_from-later : (code : List Insn) (place later : ℕ) (insn : Insn) → instruction_at code place ≡ Some insn → place < later
+    → count_from code later < count_from code place
 count_from-later [] place later insn stands less = absurd (let no : ⊥ = cc in no)
 count_from-later (first ∷ code) zero zero insn stands less = absurd (omega arith)
-count_from-later (first ∷ code) zero (suc later) insn stands less = let rest = count_from-most code (suc later - length (spelling first)) in omega arith
+count_from-later (first ∷ code) zero (suc later) insn stands less = let rest = count_from-most code (suc later - length (spelling first)) in
+    omega arith
 count_from-later (first ∷ code) (suc place) zero insn stands less = absurd (omega arith)
 count_from-later (first ∷ code) (suc place) (suc later) insn stands less =
     let past = stands_behind first code place insn stands in
-    count_from-later code (suc place - length (spelling first)) (suc later - length (spelling first)) insn (stands_in_rest first code place insn stands) (omega arith)
+    count_from-later code (suc place - length (spelling first)) (suc later - length (spelling first)) insn
+    (stands_in_rest first code place insn stands) (omega arith)

@@ -1,5 +1,6 @@
 -- Soundness: a code that is accepted, whose jumps go forward and which ends in EXIT, is safe.
 use Rattle.std.proofs.Common.{◌≡◌, ℕ, zero, suc, ◌≤◌, List, [], ◌∷◌, length, refl, sym, subst, arith}
+use Rattle.bpf_insn.specs.Immediates.{HaveImmediates}
 use Rattle.bpf_insn.specs.declared.instruction.Insn.{Insn}
 use Rattle.bpf_flow.specs.Flow.{IsForward}
 use Rattle.bpf_meaning.specs.Run.{FollowSteps, IsRun, last_of, end_of, Exits, IsSafe}
@@ -7,7 +8,7 @@ use Rattle.tl_segments.specs.Segment.{Contents, IsSegment}
 use Rattle.bpf_meaning.specs.State.{start}
 use Rattle.bpf_meaning.specs.Step.{Configuration, Running, Exited, Stuck, after}
 use Rattle.bpf_meaning.specs.declared.state.State.{State}
-use Rattle.bpf_verify.specs.Annotation.{Annotation, HasGoodAnnotation, HaveImmediates}
+use Rattle.bpf_verify.specs.Annotation.{Annotation, HasGoodAnnotation}
 use Rattle.bpf_verify.proofs.SoundSteps.{IsVerified, IsOnItsWay, ComesTo, step_comes, starts}
 use Rattle.bpf_verify.proofs.SoundPlaces.{count_from, count_from-start, count_from-later}
 
@@ -18,20 +19,25 @@ IsAdmitted code annotation (Running state) = IsOnItsWay code annotation state
 IsAdmitted code annotation (Exited answer score) = Unit {0}
 IsAdmitted code annotation (Stuck place cause) = ⊥
 
-comes_admitted : (code : List Insn) (annotation : Annotation) (state : State) (next : Configuration) → ComesTo code annotation state next → IsAdmitted code annotation next
+comes_admitted : (code : List Insn) (annotation : Annotation) (state : State) (next : Configuration) → ComesTo code annotation state next
+    → IsAdmitted code annotation next
 comes_admitted code annotation state (Running there) comes = comes.0
 comes_admitted code annotation state (Exited answer score) comes = tt
 comes_admitted code annotation state (Stuck place cause) comes = absurd comes
 
-from_admitted : (code : List Insn) (segment : Contents) (annotation : Annotation) → IsVerified code segment annotation → (from : Configuration) (run : List Configuration) → IsAdmitted code annotation from → FollowSteps code segment from run → IsAdmitted code annotation (last_of from run)
+from_admitted : (code : List Insn) (segment : Contents) (annotation : Annotation) → IsVerified code segment annotation
+    → (from : Configuration) (run : List Configuration) → IsAdmitted code annotation from → FollowSteps code segment from run
+    → IsAdmitted code annotation (last_of from run)
 from_admitted code segment annotation verified from [] admitted follow = admitted
 from_admitted code segment annotation verified (Running state) (next ∷ run) way follow =
     from_admitted code segment annotation verified next run
-    (comes_admitted code annotation state next (subst (ComesTo code annotation state) (sym follow.0) (step_comes code segment annotation state verified way))) follow.1
+    (comes_admitted code annotation state next (subst (ComesTo code annotation state) (sym follow.0)
+    (step_comes code segment annotation state verified way))) follow.1
 from_admitted code segment annotation verified (Exited answer score) (next ∷ run) admitted follow = absurd follow.0
 from_admitted code segment annotation verified (Stuck place cause) (next ∷ run) admitted follow = absurd follow.0
 
-pub end_admitted : (code : List Insn) (segment : Contents) (annotation : Annotation) → IsVerified code segment annotation → (run : List Configuration) → IsRun code segment run → IsAdmitted code annotation (end_of run)
+pub end_admitted : (code : List Insn) (segment : Contents) (annotation : Annotation) → IsVerified code segment annotation
+    → (run : List Configuration) → IsRun code segment run → IsAdmitted code annotation (end_of run)
 end_admitted code segment annotation verified run is_run =
     from_admitted code segment annotation verified (Running start) run (starts code segment annotation verified) is_run
 
@@ -47,11 +53,15 @@ record ExitsFrom (code : List Insn) (segment : Contents) (state : State) (steps 
   short : length run ≤ steps
 
 -- by what the state comes to
-exits_by : (code : List Insn) (segment : Contents) (annotation : Annotation) (state : State) (steps : ℕ) → IsOnItsWay code annotation state → count_from code state.place ≤ suc steps → ((there : State) → IsOnItsWay code annotation there → count_from code there.place ≤ steps → ExitsFrom code segment there steps) → (next : Configuration) → next ≡ after code segment state → ComesTo code annotation state next → ExitsFrom code segment state (suc steps)
-exits_by code segment annotation state steps way few others (Stuck place cause) is comes = absurd comes
-exits_by code segment annotation state steps way few others (Exited answer score) is comes =
+exits_by : {code : List Insn} (segment : Contents) {annotation : Annotation} {state : State} (steps : ℕ) → IsOnItsWay code annotation state
+    → count_from code state.place ≤ suc steps
+    → ((there : State) → IsOnItsWay code annotation there → count_from code there.place ≤ steps → ExitsFrom code segment there steps)
+    → {next : Configuration} → next ≡ after code segment state → ComesTo code annotation state next
+    → ExitsFrom code segment state (suc steps)
+exits_by segment steps way few others {next = Stuck place cause} is comes = absurd comes
+exits_by segment steps way few others {next = Exited answer score} is comes =
     record { run = Exited answer score ∷ []; follow = (is, tt); answer = answer; score = score; exits = refl; short = omega arith }
-exits_by code segment annotation state steps way few others (Running there) is comes =
+exits_by {code} segment {state} steps way few others {next = Running there} is comes =
     let fewer = count_from-later code state.place there.place way.insn way.stands comes.1 in
     let rest = others there comes.0 (omega arith) in
     record {
@@ -63,11 +73,13 @@ exits_by code segment annotation state steps way few others (Running there) is c
       short = let short = rest.short in omega arith;
     }
 
-exits_from : (code : List Insn) (segment : Contents) (annotation : Annotation) → IsVerified code segment annotation → (steps : ℕ) (state : State) → IsOnItsWay code annotation state → count_from code state.place ≤ steps → ExitsFrom code segment state steps
+exits_from : (code : List Insn) (segment : Contents) (annotation : Annotation) → IsVerified code segment annotation
+    → (steps : ℕ) (state : State) → IsOnItsWay code annotation state → count_from code state.place ≤ steps
+    → ExitsFrom code segment state steps
 exits_from code segment annotation verified zero state way few =
     let more = count_from-later code state.place (suc state.place) way.insn way.stands (omega arith) in absurd (omega arith)
 exits_from code segment annotation verified (suc steps) state way few =
-    exits_by code segment annotation state steps way few (exits_from code segment annotation verified steps) (after code segment state) refl
+    exits_by segment steps way few (exits_from code segment annotation verified steps) refl
     (step_comes code segment annotation state verified way)
 
 exits : (code : List Insn) (segment : Contents) (annotation : Annotation) → IsVerified code segment annotation → Exits code segment
@@ -78,7 +90,8 @@ exits code segment annotation verified =
 
 pub good_is_safe : (code : List Insn) → IsForward code → HaveImmediates code → HasGoodAnnotation code → IsSafe code
 good_is_safe code forward immediates accepted = record {
-  never_stuck = λ segment is run is_run place cause end. subst (IsAdmitted code accepted.0) end (end_admitted code segment accepted.0 (verified segment is) run is_run);
+  never_stuck = λ segment is run is_run place cause end. subst (IsAdmitted code accepted.0) end
+      (end_admitted code segment accepted.0 (verified segment is) run is_run);
   exits = λ segment is. exits code segment accepted.0 (verified segment is);
 }
   where

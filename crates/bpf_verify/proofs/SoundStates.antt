@@ -1,6 +1,5 @@
 -- What is known of the registers, where one is written, and where more is known of one.
-use Rattle.std.proofs.Common.{◌≡◌, ℕ, zero, suc, List, [], ◌∷◌, length, get_or, arith}
-use Rattle.std.specs.Prelude.{slice_set}
+use Rattle.std.proofs.Common.{ℕ, arith}
 use Rattle.bpf_insn.specs.declared.register.WritableRegister.{WritableRegister}
 use Rattle.bpf_insn.specs.declared.value.Value.{Value}
 use Rattle.bpf_insn.specs.declared.value.Value.TheVariants as value
@@ -15,26 +14,24 @@ use Rattle.bpf_meaning.specs.declared.state.State.{State}
 use Rattle.bpf_verify.specs.State.{with_kind, AdmitsKnown}
 use Rattle.bpf_verify.specs.declared.state.Known.{Known}
 use Rattle.bpf_verify.proofs.SoundChecks.{HasState}
-use Rattle.bpf_kinds.proofs.ListLemmas.{set_each}
+use Rattle.bpf_kinds.proofs.ListLemmas.{set_both, set_each}
 
 -- a register is written, on both sides
-set_admits : (kinds : List Kind) (values : List Value) (register : ℕ) (x : Kind) (v : Value) → length values ≡ length kinds → kind.Admits x v → ((number : ℕ) → kind.Admits (get_or kinds number Nothing) (get_or values number value.Empty)) → (number : ℕ) → kind.Admits (get_or (slice_set kinds register x) number Nothing) (get_or (slice_set values register v) number value.Empty)
-set_admits [] [] register x v same a all number = all number
-set_admits [] (w ∷ values) register x v same a all number = absurd (omega arith)
-set_admits (k ∷ kinds) [] register x v same a all number = absurd (omega arith)
-set_admits (k ∷ kinds) (w ∷ values) zero x v same a all zero = a
-set_admits (k ∷ kinds) (w ∷ values) zero x v same a all (suc number) = all (suc number)
-set_admits (k ∷ kinds) (w ∷ values) (suc register) x v same a all zero = all zero
-set_admits (k ∷ kinds) (w ∷ values) (suc register) x v same a all (suc number) =
-    set_admits kinds values register x v (omega arith) a (λ n. all (suc n)) number
-
-pub writes_admit : (segment : Contents) (known : Known) (state : State) → HasState known state → (register : WritableRegister) (x : Kind) (v : Value) → kind.Admits x v → AdmitsKnown (with_kind known register.number x) (carry_out segment state (SetRegister register v))
+pub writes_admit : (segment : Contents) (known : Known) (state : State) → HasState known state
+    → (register : WritableRegister) (x : Kind) (v : Value) → kind.Admits x v
+    → AdmitsKnown (with_kind known register.number x) (carry_out segment state (SetRegister register v))
 writes_admit segment known state has register x v admits = record {
-  registers = set_admits known.registers state.registers register.number x v (let many = has.proper.count in let all = has.whole.registers in omega arith) admits has.admits.registers;
+  registers = set_both kind.Admits Nothing value.Empty known.registers state.registers register.number x v
+      (let many = has.proper.count in let all = has.whole.registers in omega arith) admits has.admits.registers;
   frame = has.admits.frame;
 }
 
 -- more is known of a register
-pub narrows_keep : (known : Known) (state : State) → AdmitsKnown known state → (register : ℕ) (x : Kind) → kind.Admits x (register_value state register) → AdmitsKnown (with_kind known register x) state
+pub narrows_keep : (known : Known) (state : State) → AdmitsKnown known state → (register : ℕ) (x : Kind)
+    → kind.Admits x (register_value state register) → AdmitsKnown (with_kind known register x) state
 narrows_keep known state admits register x a =
-    record { registers = set_each (λ number held. kind.Admits held (register_value state number)) Nothing known.registers register x a admits.registers; frame = admits.frame }
+    record {
+      registers = set_each (λ number held. kind.Admits held (register_value state number)) Nothing known.registers register x a
+          admits.registers;
+      frame = admits.frame;
+    }

@@ -1,8 +1,10 @@
 -- A step of a code that is accepted: what the annotation says of the place that it comes to admits the state there.
-use Rattle.std.proofs.Common.{◌≡◌, ℕ, zero, suc, ◌+◌, ◌<◌, inl, inr, pos, IsSome, is_some, List, [], ◌∷◌, ◌++◌, length, get_or, Option, Some, None, Result, Ok, Err, refl, sym, ap, ◌∙◌, subst, arith}
+use Rattle.std.proofs.Common.{◌≡◌, ℕ, zero, suc, ◌+◌, ◌<◌, inl, inr, pos, IsSome, is_some, List, [], ◌∷◌, ◌++◌, length, get_or, Option}
+use Rattle.std.proofs.Common.{Some, None, Result, Ok, Err, refl, sym, ap, ◌∙◌, subst, arith}
 use Rattle.std.proofs.lemmas.Bool.{false≢true}
 use Rattle.std.proofs.lemmas.Int.{ints}
 use Rattle.bpf_insn.specs.Code.{instruction_at, spelling}
+use Rattle.bpf_insn.specs.Immediates.{HaveImmediates}
 use Rattle.bpf_insn.specs.declared.instruction.Insn.{Insn}
 use Rattle.bpf_insn.specs.declared.instruction.Insn.TheVariants.{Exit}
 use Rattle.bpf_insn.specs.declared.value.Value.{Value}
@@ -25,7 +27,7 @@ use Rattle.bpf_meaning.specs.declared.effect.Effect.TheVariants.{GoOn, End}
 use Rattle.bpf_insn.specs.declared.memory.TheConstants.{FRAME_LENGTH}
 use Rattle.bpf_meaning.specs.declared.state.State.{State}
 use Rattle.bpf_meaning.proofs.WholeLemmas.{step_whole, step_bytes, start_bytes}
-use Rattle.bpf_verify.specs.Annotation.{Annotation, HaveImmediates, PassesAt, IsGood}
+use Rattle.bpf_verify.specs.Annotation.{Annotation, PassesAt, IsGood}
 use Rattle.bpf_verify.specs.Transfer.{transfer}
 use Rattle.bpf_verify.specs.State.{entry, IsProper, Admits, AdmitsKnown, Edges, AbstractState, Unreached, Reached}
 use Rattle.bpf_verify.proofs.StateLaws.{admits_more}
@@ -34,7 +36,8 @@ use Rattle.bpf_verify.proofs.SoundInstructions.{Follows, instruction_sound}
 use Rattle.bpf_verify.proofs.SoundPlaces.{is_followed}
 
 -- a state at another place
-elsewhere : (abstract : AbstractState) (state : State) (place : ℕ) → Admits abstract state → Admits abstract (record state { place = place })
+elsewhere : (abstract : AbstractState) (state : State) (place : ℕ) → Admits abstract state
+    → Admits abstract (record state { place = place })
 elsewhere Unreached state place admits = absurd admits
 elsewhere (Reached known) state place admits = record { registers = admits.registers; frame = admits.frame }
 
@@ -64,30 +67,43 @@ found : (o : Option Insn) → IsSome o → (insn : Insn) × (o ≡ Some insn)
 found (Some insn) some = (insn, refl)
 found None some = absurd (false≢true some)
 
-arrives : (code : List Insn) (segment : Contents) (annotation : Annotation) (state : State) (change : Change) (place : ℕ) → IsWhole (record (carry_out segment state change) { place = place }) → HoldsBytes (record (carry_out segment state change) { place = place }) → state.place < place → IsSome (instruction_at code place) → Admits (annotation place) (carry_out segment state change) → ComesTo code annotation state (apply segment state (GoOn change place))
-arrives code segment annotation state change place whole bytes later begins admits =
-    let next = found (instruction_at code place) begins in
-    (record { whole = whole; bytes = bytes; insn = next.0; stands = next.1; admits = elsewhere (annotation place) (carry_out segment state change) place admits }, later)
+module _ (code : List Insn) (segment : Contents) (annotation : Annotation) (state : State) where
+  arrives : (change : Change) (place : ℕ) → IsWhole (record (carry_out segment state change) { place = place })
+      → HoldsBytes (record (carry_out segment state change) { place = place }) → state.place < place → IsSome (instruction_at code place)
+      → Admits (annotation place) (carry_out segment state change) → ComesTo code annotation state (apply segment state (GoOn change place))
+  arrives change place whole bytes later begins admits =
+      let next = found (instruction_at code place) begins in
+      let admitted = elsewhere (annotation place) (carry_out segment state change) place admits in
+      (record { whole = whole; bytes = bytes; insn = next.0; stands = next.1; admits = admitted }, later)
 
--- by what the instruction does
-effect_comes : (code : List Insn) (segment : Contents) (annotation : Annotation) (state : State) (insn : Insn) → IsSegment segment → IsWhole state → HoldsBytes state → (passes : PassesAt annotation state.place insn) (concrete : Result Effect Cause) → after code segment state ≡ next_of segment state concrete → Sound (Follows code segment state insn (state.place + length (spelling insn))) (Ok passes.edges) concrete → ComesTo code annotation state (next_of segment state concrete)
-effect_comes code segment annotation state insn is_segment whole bytes passes (Err cause) is sound = absurd sound
-effect_comes code segment annotation state insn is_segment whole bytes passes (Ok (End answer)) is sound = tt
-effect_comes code segment annotation state insn is_segment whole bytes passes (Ok (GoOn change place)) is (inl to) =
-    arrives code segment annotation state change place (step_whole code segment state _ whole (sym is)) (step_bytes code segment state _ is_segment bytes (sym is)) (let next = to.is_next in omega arith) to.begins
-    (subst (λ (n : ℕ). Admits (annotation n) (carry_out segment state change)) (sym to.is_next) (admits_more _ _ (carry_out segment state change) passes.next to.admits))
-effect_comes code segment annotation state insn is_segment whole bytes passes (Ok (GoOn change place)) is (inr to) =
-    arrives code segment annotation state change place (step_whole code segment state _ whole (sym is)) (step_bytes code segment state _ is_segment bytes (sym is)) to.later to.begins
-    (admits_more _ _ (carry_out segment state change) (passes.target to.distance place to.jumps to.is_target) to.admits)
+  -- by what the instruction does
+  effect_comes : {insn : Insn} → IsSegment segment → IsWhole state → HoldsBytes state → (passes : PassesAt annotation state.place insn)
+      (concrete : Result Effect Cause) → after code segment state ≡ next_of segment state concrete
+      → Sound (Follows code segment state insn (state.place + length (spelling insn))) (Ok passes.edges) concrete
+      → ComesTo code annotation state (next_of segment state concrete)
+  effect_comes is_segment whole bytes passes (Err cause) is sound = absurd sound
+  effect_comes is_segment whole bytes passes (Ok (End answer)) is sound = tt
+  effect_comes is_segment whole bytes passes (Ok (GoOn change place)) is (inl to) =
+      arrives change place (step_whole code segment state _ whole (sym is)) (step_bytes code segment state _ is_segment bytes (sym is))
+      (let next = to.is_next in omega arith) to.begins
+      (subst (λ (n : ℕ). Admits (annotation n) (carry_out segment state change)) (sym to.is_next)
+      (admits_more _ _ (carry_out segment state change) passes.next to.admits))
+  effect_comes is_segment whole bytes passes (Ok (GoOn change place)) is (inr to) =
+      arrives change place (step_whole code segment state _ whole (sym is)) (step_bytes code segment state _ is_segment bytes (sym is))
+      to.later to.begins
+      (admits_more _ _ (carry_out segment state change) (passes.target to.distance place to.jumps to.is_target) to.admits)
 
-after_is : (code : List Insn) (segment : Contents) (state : State) (insn : Insn) → instruction_at code state.place ≡ Some insn → after code segment state ≡ next_of segment state (instruction_effect code segment state (state.place + length (spelling insn)) insn)
+after_is : (code : List Insn) (segment : Contents) (state : State) (insn : Insn) → instruction_at code state.place ≡ Some insn
+    → after code segment state ≡ next_of segment state (instruction_effect code segment state (state.place + length (spelling insn)) insn)
 unfolding after
 after_is code segment state insn stands = ap (λ (found : Option Insn). next_of segment state (effect_of code segment state found)) stands
 
-pub step_comes : (code : List Insn) (segment : Contents) (annotation : Annotation) (state : State) → IsVerified code segment annotation → IsOnItsWay code annotation state → ComesTo code annotation state (after code segment state)
+pub step_comes : (code : List Insn) (segment : Contents) (annotation : Annotation) (state : State) → IsVerified code segment annotation
+    → IsOnItsWay code annotation state → ComesTo code annotation state (after code segment state)
 step_comes code segment annotation state verified way =
     subst (ComesTo code annotation state) (sym is)
-    (effect_comes code segment annotation state way.insn verified.is_segment way.whole way.bytes passes _ is (by_state (annotation state.place) (verified.good.proper state.place) way.admits passes.passes))
+    (effect_comes code segment annotation state verified.is_segment way.whole way.bytes passes _ is
+    (by_state (annotation state.place) (verified.good.proper state.place) way.admits passes.passes))
   where
     next : ℕ
     next = state.place + length (spelling way.insn)
@@ -98,10 +114,12 @@ step_comes code segment annotation state verified way =
     passes : PassesAt annotation state.place way.insn
     passes = verified.good.passes state.place way.insn (instruction_within code state.place (ap is_some way.stands)) way.stands
 
-    by_state : (abstract : AbstractState) → IsProper abstract → Admits abstract state → transfer abstract way.insn ≡ Ok passes.edges → Sound (Follows code segment state way.insn next) (Ok passes.edges) (instruction_effect code segment state next way.insn)
+    by_state : (abstract : AbstractState) → IsProper abstract → Admits abstract state → transfer abstract way.insn ≡ Ok passes.edges
+        → Sound (Follows code segment state way.insn next) (Ok passes.edges) (instruction_effect code segment state next way.insn)
     by_state Unreached proper admits e = absurd admits
     by_state (Reached known) proper admits e =
-        subst (λ (r : Result Edges Cause). Sound (Follows code segment state way.insn next) r (instruction_effect code segment state next way.insn)) e
+        subst (λ (r : Result Edges Cause). Sound (Follows code segment state way.insn next) r
+        (instruction_effect code segment state next way.insn)) e
         (instruction_sound code segment known state way.insn next (record {
           is_segment = verified.is_segment;
           has = record { proper = proper; admits = admits; whole = way.whole; bytes = way.bytes };
@@ -117,7 +135,8 @@ AdmitEach [] values = Unit {0}
 AdmitEach (x ∷ kinds) [] = ⊥
 AdmitEach (x ∷ kinds) (held ∷ values) = kind.Admits x held × AdmitEach kinds values
 
-admits_each : (kinds : List Kind) (values : List Value) → AdmitEach kinds values → (number : ℕ) → kind.Admits (get_or kinds number Nothing) (get_or values number value.Empty)
+admits_each : (kinds : List Kind) (values : List Value) → AdmitEach kinds values → (number : ℕ)
+    → kind.Admits (get_or kinds number Nothing) (get_or values number value.Empty)
 admits_each [] values all number = tt
 admits_each (x ∷ kinds) [] all number = absurd all
 admits_each (x ∷ kinds) (held ∷ values) all zero = all.0
@@ -137,7 +156,8 @@ begins : (before : List Insn) → (insn : Insn) × (instruction_at (before ++ Ex
 begins [] = (Exit, refl)
 begins (insn ∷ before) = (insn, refl)
 
-pub starts : (code : List Insn) (segment : Contents) (annotation : Annotation) → IsVerified code segment annotation → IsOnItsWay code annotation start
+pub starts : (code : List Insn) (segment : Contents) (annotation : Annotation) → IsVerified code segment annotation
+    → IsOnItsWay code annotation start
 starts code segment annotation verified =
     let first = begins verified.forward.last.0 in
     record {

@@ -14,12 +14,14 @@ use Rattle.bpf_insn.specs.declared.instruction.Source.{Source}
 use Rattle.bpf_insn.specs.declared.instruction.Source.TheVariants.{Immediate, Register}
 use Rattle.bpf_kinds.specs.Interval as interval
 use Rattle.bpf_kinds.specs.declared.narrowing.Narrowed.{Narrowed}
-use Rattle.bpf_verify.specs.State.{AbstractState, Unreached, Reached, kind_of, with_kind, IsProperKnown, AdmitsKnown, IsWithinKnown, join_known, IsProper, Admits, IsWithin, join}
+use Rattle.bpf_verify.specs.State.{AbstractState, Unreached, Reached, kind_of, with_kind, IsProperKnown, AdmitsKnown, IsWithinKnown}
+use Rattle.bpf_verify.specs.State.{join_known, IsProper, Admits, IsWithin, join}
 use Rattle.bpf_verify.specs.Transfer.{with_narrowed}
 use Rattle.bpf_verify.specs.declared.state.Known.{Known}
 
 -- the kinds of a join
-pub kind_of-join : (x y : Known) (register : ℕ) → IsProperKnown x → IsProperKnown y → kind_of (join_known x y) register ≡ kind.join (kind_of x register) (kind_of y register)
+pub kind_of-join : (x y : Known) (register : ℕ) → IsProperKnown x → IsProperKnown y
+    → kind_of (join_known x y) register ≡ kind.join (kind_of x register) (kind_of y register)
 kind_of-join x y register proper-x proper-y = get_or-join_kinds x.registers y.registers register (proper-x.count ∙ sym proper-y.count)
 
 pub known_reflexive : (x : Known) → IsWithinKnown x x
@@ -32,38 +34,45 @@ known_transitive x y z below above = record {
 }
 
 same_state : (registers others : List Kind) (frame other : Contents) → registers ≡ others → frame ≡ other
-    → let x : Known = record { registers = registers; frame = frame } in let y : Known = record { registers = others; frame = other } in x ≡ y
+    → let x : Known = record { registers = registers; frame = frame } in let y : Known = record { registers = others; frame = other } in
+    x ≡ y
 same_state registers others frame other same same_frame = cc
 
 pub known_antisymmetric : (x y : Known) → IsProperKnown x → IsProperKnown y → IsWithinKnown x y → IsWithinKnown y x → x ≡ y
 known_antisymmetric x y proper-x proper-y below above =
     same_state x.registers y.registers x.frame y.frame
     (ext_get_or Nothing x.registers y.registers (proper-x.count ∙ sym proper-y.count)
-    (λ register _. kinds.antisymmetric _ _ (proper-x.kinds register) (proper-y.kinds register) (below.registers register) (above.registers register)))
+    (λ register _. kinds.antisymmetric _ _ (proper-x.kinds register) (proper-y.kinds register) (below.registers register)
+    (above.registers register)))
     (maps.antisymmetric x.frame y.frame proper-x.frame proper-y.frame below.frame above.frame)
 
 pub join_known_is_proper : (x y : Known) → IsProperKnown x → IsProperKnown y → IsProperKnown (join_known x y)
 join_known_is_proper x y proper-x proper-y = record {
   count = length-join_kinds x.registers y.registers (proper-x.count ∙ sym proper-y.count) ∙ proper-x.count;
-  kinds = λ register. subst kind.IsProper (sym (kind_of-join x y register proper-x proper-y)) (kinds.join-proper _ _ (proper-x.kinds register) (proper-y.kinds register));
+  kinds = λ register. subst kind.IsProper (sym (kind_of-join x y register proper-x proper-y))
+      (kinds.join-proper _ _ (proper-x.kinds register) (proper-y.kinds register));
   frame = maps.join_is_proper x.frame y.frame proper-x.frame proper-y.frame;
 }
 
 pub left_is_within_join_known : (x y : Known) → IsProperKnown x → IsProperKnown y → IsWithinKnown x (join_known x y)
 left_is_within_join_known x y proper-x proper-y = record {
-  registers = λ register. subst (kind.IsWithin (kind_of x register)) (sym (kind_of-join x y register proper-x proper-y)) (kinds.left-within_join _ _ (proper-x.kinds register) (proper-y.kinds register));
+  registers = λ register. subst (kind.IsWithin (kind_of x register)) (sym (kind_of-join x y register proper-x proper-y))
+      (kinds.left-within_join _ _ (proper-x.kinds register) (proper-y.kinds register));
   frame = maps.left_is_within_join x.frame y.frame proper-x.frame proper-y.frame;
 }
 
 pub right_is_within_join_known : (x y : Known) → IsProperKnown x → IsProperKnown y → IsWithinKnown y (join_known x y)
 right_is_within_join_known x y proper-x proper-y = record {
-  registers = λ register. subst (kind.IsWithin (kind_of y register)) (sym (kind_of-join x y register proper-x proper-y)) (kinds.right-within_join _ _ (proper-x.kinds register) (proper-y.kinds register));
+  registers = λ register. subst (kind.IsWithin (kind_of y register)) (sym (kind_of-join x y register proper-x proper-y))
+      (kinds.right-within_join _ _ (proper-x.kinds register) (proper-y.kinds register));
   frame = maps.right_is_within_join x.frame y.frame proper-x.frame proper-y.frame;
 }
 
-pub join_known_is_least : (x y z : Known) → IsProperKnown x → IsProperKnown y → IsWithinKnown x z → IsWithinKnown y z → IsWithinKnown (join_known x y) z
+pub join_known_is_least : (x y z : Known) → IsProperKnown x → IsProperKnown y → IsWithinKnown x z → IsWithinKnown y z
+    → IsWithinKnown (join_known x y) z
 join_known_is_least x y z proper-x proper-y below-x below-y = record {
-  registers = λ register. subst (λ (joined : Kind). kind.IsWithin joined (kind_of z register)) (sym (kind_of-join x y register proper-x proper-y))
+  registers = λ register. subst (λ (joined : Kind). kind.IsWithin joined (kind_of z register))
+      (sym (kind_of-join x y register proper-x proper-y))
       (kinds.join-least _ _ _ (below-x.registers register) (below-y.registers register));
   frame = maps.join_is_least x.frame y.frame z.frame proper-x.frame proper-y.frame below-x.frame below-y.frame;
 }
@@ -76,17 +85,21 @@ known_admits_more x y state below admits = record {
 
 -- registers that are written
 
-with_kind_is_proper : (known : Known) (register : ℕ) (x : Kind) → IsProperKnown known → kind.IsProper x → IsProperKnown (with_kind known register x)
+with_kind_is_proper : (known : Known) (register : ℕ) (x : Kind) → IsProperKnown known → kind.IsProper x
+    → IsProperKnown (with_kind known register x)
 with_kind_is_proper known register x proper proper-x = record {
   count = length-set known.registers register x ∙ proper.count;
   kinds = set_each (λ number. kind.IsProper) Nothing known.registers register x proper-x proper.kinds;
   frame = proper.frame;
 }
 
-pub with_narrowed_is_proper : (known : Known) (left : ℕ) (right : Source) (both : Narrowed) → IsProperKnown known → interval.IsProper both.left → interval.IsProper both.right → IsProperKnown (with_narrowed known left right both)
-with_narrowed_is_proper known left (Immediate immediate) both proper first second = with_kind_is_proper known left (Number both.left) proper first
+pub with_narrowed_is_proper : (known : Known) (left : ℕ) (right : Source) (both : Narrowed) → IsProperKnown known
+    → interval.IsProper both.left → interval.IsProper both.right → IsProperKnown (with_narrowed known left right both)
+with_narrowed_is_proper known left (Immediate immediate) both proper first second =
+    with_kind_is_proper known left (Number both.left) proper first
 with_narrowed_is_proper known left (Register right) both proper first second =
-    with_kind_is_proper (with_kind known left (Number both.left)) right.number (Number both.right) (with_kind_is_proper known left (Number both.left) proper first) second
+    with_kind_is_proper (with_kind known left (Number both.left)) right.number (Number both.right)
+    (with_kind_is_proper known left (Number both.left) proper first) second
 
 -- with the bottom
 
@@ -125,7 +138,8 @@ pub join_is_least : (x y z : AbstractState) → IsProper x → IsProper y → Is
 join_is_least Unreached y z proper-x proper-y below-x below-y = below-y
 join_is_least (Reached x) Unreached z proper-x proper-y below-x below-y = below-x
 join_is_least (Reached x) (Reached y) Unreached proper-x proper-y below-x below-y = absurd below-x
-join_is_least (Reached x) (Reached y) (Reached z) proper-x proper-y below-x below-y = join_known_is_least x y z proper-x proper-y below-x below-y
+join_is_least (Reached x) (Reached y) (Reached z) proper-x proper-y below-x below-y =
+    join_known_is_least x y z proper-x proper-y below-x below-y
 
 pub admits_more : (x y : AbstractState) (state : State) → IsWithin x y → Admits x state → Admits y state
 admits_more Unreached y state below admits = absurd admits

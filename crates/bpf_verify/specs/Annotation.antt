@@ -1,7 +1,6 @@
 -- Annotations of a code: an abstract state for each place. Forward codes with one that is good to its end are those that are accepted, which
 -- is this project's own rule.
 use Rattle.std.specs.Prelude.{◌≡◌, ℕ, ℤ, pos, ◌+◌, ◌+ℤ◌, ◌<◌, ◌≤◌, List, [], ◌∷◌, length, Option, Some, None, option_and_then, Ok, Err}
-use Rattle.bpf_flat.specs.Flat.{HasImmediates}
 use Rattle.bpf_insn.specs.Code.{instruction_at, spelling, word_count}
 use Rattle.bpf_insn.specs.Jump.{jump_distance}
 use Rattle.bpf_insn.specs.declared.instruction.Insn.{Insn}
@@ -33,10 +32,6 @@ pub record IsGoodUpTo (code : List Insn) (end : ℕ) (annotation : Annotation) :
   pub proper : (place : ℕ) → IsProper (annotation place)
   pub entry : IsWithin (Reached entry) (annotation 0)
   pub passes : (place : ℕ) (insn : Insn) → place < end → instruction_at code place ≡ Some insn → PassesAt annotation place insn
-
--- the immediates of each instruction are signed numbers of 32 bits, as those of each code of words are
-abbrev pub HaveImmediates : List Insn → Type 0
-HaveImmediates code = (place : ℕ) (insn : Insn) → instruction_at code place ≡ Some insn → HasImmediates insn
 
 -- an annotation is good to the code's end
 abbrev pub IsGood : List Insn → Annotation → Type 0

@@ -1,5 +1,6 @@
 //! What holds of the definitions themselves. The functions do nothing: each one's contract is the law.
 ghost use Rattle.std.specs.Prelude.{◌≡◌, ℕ, ℤ, List, Option, Ok, Some};
+ghost use Rattle.bpf_insn.specs.Immediates.{HaveImmediates};
 ghost use Rattle.bpf_insn.specs.declared.instruction.Insn.{Insn};
 ghost use Rattle.bpf_insn.specs.declared.value.Area.{Area};
 ghost use Rattle.bpf_flow.specs.Flow.{IsForward};
@@ -15,7 +16,7 @@ ghost use Rattle.bpf_meaning.specs.Checks.{Sound};
 ghost use Rattle.bpf_meaning.specs.Run.{IsSafe};
 ghost use Rattle.bpf_meaning.specs.declared.cause.Cause.{Cause};
 ghost use Rattle.bpf_meaning.specs.declared.state.State.{State};
-ghost use Rattle.bpf_verify.specs.Annotation.{HasGoodAnnotation, HaveImmediates, IsAccepted, IsRefusedAt};
+ghost use Rattle.bpf_verify.specs.Annotation.{HasGoodAnnotation, IsAccepted, IsRefusedAt};
 ghost use Rattle.bpf_verify.specs.State.{AbstractState, Admits, AreEdgesWithin, Edges, IsBelow, IsProper, IsWithin, IsWithinKnown, Unreached, join};
 ghost use Rattle.bpf_verify.specs.Transfer.{ArePointersWithin, argument_in, call, compare, load_from, pointers_in, read, store_at, transfer};
 ghost use Rattle.bpf_verify.specs.declared.comparison.Comparison.{Comparison};

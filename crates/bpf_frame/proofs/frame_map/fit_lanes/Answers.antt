@@ -13,7 +13,8 @@ returns-clause-marks c =
     let range = c.lanes_of_range-range.ensures in
     let fitted : Kind → List Bool = λ k. fit_marks k (marks_of c.args.lanes) c.args.slot in
     elim c.match-kind.branch [
-      | in-Number w ↦ ap marks_of w.result-is ∙ marks_of-or _ _ first SLOT_LENGTH c.requires.lanes range.lanes (omega arith) range.marks ∙ ap fitted (sym w.in-Number.is)
+      | in-Number w ↦ ap marks_of w.result-is ∙ marks_of-or _ _ first SLOT_LENGTH c.requires.lanes range.lanes (omega arith) range.marks
+          ∙ ap fitted (sym w.in-Number.is)
       | in-Record w ↦
           ap marks_of w.result-is ∙ marks_of-without _ _ _ first SLOT_LENGTH (omega arith) range.marks w.without.ensures.marks ∙
           elim w.in-Record.is [

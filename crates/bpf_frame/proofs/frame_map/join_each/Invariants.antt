@@ -8,6 +8,7 @@ use Rattle.bpf_frame.proofs.frame_map.join_each.Given as goal
 abbrev pub invariant-loop-slot : goal.invariant-loop-slot
 invariant-loop-slot l = record {
   count : length l.kinds ≡ SLOTS;
-  joined : (slot : ℕ) → slot < l.slot → get_or l.kinds slot Nothing ≡ kind.join (get_or l.initial.kinds slot Nothing) (get_or l.others slot Nothing);
+  joined : (slot : ℕ) → slot < l.slot → get_or l.kinds slot Nothing ≡ kind.join (get_or l.initial.kinds slot Nothing)
+      (get_or l.others slot Nothing);
   rest : (slot : ℕ) → l.slot ≤ slot → get_or l.kinds slot Nothing ≡ get_or l.initial.kinds slot Nothing;
 }

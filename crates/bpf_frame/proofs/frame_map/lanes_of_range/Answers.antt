@@ -6,7 +6,8 @@ pub loop-lane-init : goal.loop-lane-init
 loop-lane-init c = no_range c.args.from c.args.end
 
 pub loop-lane-preserved : goal.loop-lane-preserved
-loop-lane-preserved c = one_lane_more c.loop-lane.lanes c.args.from c.args.end c.loop-lane.lane c.bits_within.result c.loop-lane.invariant (omega arith) (omega arith) (omega arith) c.bits_within.ensures
+loop-lane-preserved c =
+    one_lane_more c.bits_within.result c.loop-lane.invariant (omega arith) (omega arith) (omega arith) c.bits_within.ensures
 
 pub returns-clause-lanes : goal.returns-clause-lanes
 returns-clause-lanes c = c.loop-lane.invariant.are_lanes

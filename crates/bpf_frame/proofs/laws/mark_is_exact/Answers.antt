@@ -22,4 +22,6 @@ pub returns-clause-leaves : goal.returns-clause-leaves
 returns-clause-leaves c = mark_leaves
 
 pub returns-clause-none : goal.returns-clause-none
-returns-clause-none c = λ map from proper within. ap (λ (marks : List Bool). let same : Contents = record { marks = marks; kinds = map.kinds } in same) (mark_none map.marks from (in_frame map from proper within))
+returns-clause-none c = λ map from proper within. ap
+    (λ (marks : List Bool). let same : Contents = record { marks = marks; kinds = map.kinds } in same)
+    (mark_none map.marks from (in_frame map from proper within))

@@ -4,13 +4,15 @@ use Rattle.bpf_frame.proofs.RiseLemmas.{mark_rises, touch_rises, set_slot_rises,
 use Rattle.bpf_frame.proofs.laws.marks_go_upwards.Goals as goal
 
 pub returns-clause-mark : goal.returns-clause-mark
-returns-clause-mark c = mark_rises
+returns-clause-mark c = λ map other from len proper proper_other short within. mark_rises proper proper_other within from len short
 
 pub returns-clause-touch : goal.returns-clause-touch
-returns-clause-touch c = λ map other from to proper proper_other ordered short. touch_rises map other from to from to proper proper_other (omega arith) ordered (omega arith) short
+returns-clause-touch c = λ map other from to proper proper_other ordered short within.
+    touch_rises proper proper_other within from to from to (omega arith) ordered (omega arith) short
 
 pub returns-clause-set_slot : goal.returns-clause-set_slot
-returns-clause-set_slot c = set_slot_rises
+returns-clause-set_slot c = λ map other slot k l proper proper_other inside known below within.
+    set_slot_rises proper proper_other within slot k l inside known below
 
 pub returns-clause-slot : goal.returns-clause-slot
 returns-clause-slot c = slot_falls

@@ -2,10 +2,12 @@ use Rattle.bpf_frame.proofs.AdmitLemmas.{mark_admits, touch_admits, set_slot_adm
 use Rattle.bpf_frame.proofs.laws.possible_frames_stay_so.Goals as goal
 
 pub returns-clause-mark : goal.returns-clause-mark
-returns-clause-mark c = mark_admits
+returns-clause-mark c = λ map from len before after proper within admitted. mark_admits after proper admitted from len within
 
 pub returns-clause-touch : goal.returns-clause-touch
-returns-clause-touch c = touch_admits
+returns-clause-touch c =
+    λ map from to before after proper ordered within admitted. touch_admits after proper admitted from to ordered within
 
 pub returns-clause-set_slot : goal.returns-clause-set_slot
-returns-clause-set_slot c = set_slot_admits
+returns-clause-set_slot c =
+    λ map slot k before after proper within whole known admitted. set_slot_admits after proper admitted slot k within whole known

@@ -7,10 +7,10 @@ value : (c : goal.After-refine_by) → c.refine_by.result ≡ refine c.args.cond
 value c = rw c.relation_of.ensures at c.refine_by.ensures
 
 pub returns-clause-keeps : goal.returns-clause-keeps
-returns-clause-keeps c = refined-keeps c.args.condition c.args.width c.args.x c.args.y c.args.taken c.refine_by.result (value c)
+returns-clause-keeps c = refined-keeps c.args.condition c.args.width (value c)
 
 pub returns-clause-within : goal.returns-clause-within
 returns-clause-within c = refined-within c.args.condition c.args.width c.args.x c.args.y c.args.taken c.refine_by.result (value c)
 
 pub returns-clause-proper : goal.returns-clause-proper
-returns-clause-proper c = refined-proper c.args.condition c.args.width c.args.x c.args.y c.args.taken c.refine_by.result (value c)
+returns-clause-proper c = refined-proper c.args.condition c.args.width c.args.taken (value c)

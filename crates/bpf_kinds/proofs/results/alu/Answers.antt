@@ -12,7 +12,8 @@ value c = cc
 pub returns-clause-admits : goal.returns-clause-admits
 returns-clause-admits c = λ m n left right.
     let P : Interval → Type 0 = λ z. Admits z (result_of c.args.operation c.args.width m n) in
-    subst P (sym (value c)) (alu-admits c.args.operation c.args.width c.args.x c.args.y m n c.requires.x c.requires.y left right)
+    subst P (sym (value c)) (alu-admits c.args.operation c.args.width c.requires.x c.requires.y left right)
 
 pub returns-clause-proper : goal.returns-clause-proper
-returns-clause-proper c = subst IsProper (sym (value c)) (alu-proper c.args.operation c.args.width c.args.x c.args.y c.requires.x c.requires.y)
+returns-clause-proper c = subst IsProper (sym (value c))
+    (alu-proper c.args.operation c.args.width c.args.x c.args.y c.requires.x c.requires.y)

@@ -1,5 +1,6 @@
 use Rattle.std.proofs.Common.{arith}
-use Rattle.bpf_meaning.proofs.SlotLemmas.{is_written-keep_inside, slot_pointer-store_within, slot_pointer-write_within, slot_value-keep_pointer, slot_value-keep_pointer_apart}
+use Rattle.bpf_meaning.proofs.SlotLemmas.{is_written-keep_inside, slot_pointer-store_within, slot_pointer-write_within}
+use Rattle.bpf_meaning.proofs.SlotLemmas.{slot_value-keep_pointer, slot_value-keep_pointer_apart}
 use Rattle.bpf_meaning.proofs.laws.pointers_are_loaded.Goals as goal
 
 pub returns : goal.returns

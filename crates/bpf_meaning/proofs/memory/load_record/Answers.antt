@@ -1,4 +1,4 @@
-use Rattle.std.proofs.Common.{◌≡◌, ℕ, ◌+◌, ◌-◌, length, map, Some, Result, Ok, ap, ◌∙◌, arith}
+use Rattle.std.proofs.Common.{◌≡◌, ℕ, ◌+◌, ◌-◌, length, map, Result, Ok, ap, ◌∙◌, arith}
 use Rattle.std.proofs.lemmas.List.{length-map}
 use Rattle.std.proofs.lemmas.Int.{to_z-of_z}
 use Rattle.bpf_insn.specs.declared.value.Value.{Value}
@@ -13,8 +13,8 @@ returns c =
     let fits = c.ranges.offset in
     let inside = simp to_z-of_z at c.in-Some.ensures in
     let long : length c.args.bytes.now ≡ length (map Byte c.args.bytes.now) = simp length-map in
-    let part = part_of_record c.args.bytes.now c.in-Some.at c.load_length-count.result (c.in-Some.at + c.load_length-count.result - c.in-Some.at) (omega arith) in
+    let part = part_of_record c.args.bytes.now c.in-Some.at c.load_length-count.result
+    (c.in-Some.at + c.load_length-count.result - c.in-Some.at) (omega arith) in
     ap (λ (n : ℕ). let r : Result Value Cause = Ok (Number n) in r) c.extend.ensures
-    ∙ load_inside c.args.format (map Byte c.args.bytes.now) c.args.offset c.in-Some.at c.load_length-count.result (length c.args.bytes.now) (Some c.little_endian-number.result)
-    c.load_length-count.ensures.value long inside.0 inside.1
+    ∙ load_inside c.args.format (map Byte c.args.bytes.now) c.args.offset c.load_length-count.ensures.value long inside.0 inside.1
     (c.little_endian-number.ensures ∙ ap number_of part)

@@ -4,12 +4,14 @@ use Rattle.bpf_meaning.proofs.stepper.trace.Goals as goal
 
 pub loop-steps-preserved : goal.loop-steps-preserved
 loop-steps-preserved g c =
-    goes_on c.args.code.now c.args.segment.now c.loop-steps._steps c.loop-steps.state c.step.new.state c.loop-steps.invariant c.in-Running.ensures.next
+    goes_on c.args.code.now c.args.segment.now c.loop-steps._steps c.loop-steps.state c.step.new.state c.loop-steps.invariant
+    c.in-Running.ensures.next
 
 pub returns-in_default : goal.returns-in_default
 returns-in_default g c =
-    traces_end c.args.code.now c.args.segment.now c.loop-steps._steps c.args.limit c.loop-steps.state c.step.new.state c.step.result c.loop-steps.invariant
+    traces_end c.args.limit c.step.new.state _ c.loop-steps.invariant
     c.loop-steps-test.true c.step.ensures.next c.in_default.not-Running
 
 pub returns : goal.returns
-returns g c = traces_on c.args.code.now c.args.segment.now c.loop-steps._steps c.args.limit c.loop-steps.state c.loop-steps.invariant (omega arith)
+returns g c = traces_on c.args.code.now c.args.segment.now c.loop-steps._steps c.args.limit c.loop-steps.state c.loop-steps.invariant
+    (omega arith)

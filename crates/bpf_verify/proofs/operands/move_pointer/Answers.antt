@@ -5,5 +5,6 @@ use Rattle.bpf_verify.proofs.operands.move_pointer.Goals as goal
 pub returns-clause-proper : goal.returns-clause-proper
 returns-clause-proper c =
     let distances = c.in_ok-distances.distances in
-    let near = distances_are_proper c.args.x c.near_distances.result PointerArithmetic c.ok_or.result distances c.requires.number c.near_distances.ensures.value c.ok_or.ensures.value c.in_ok-distances.was in
-    moved_are_proper c.args.offsets distances c.move_by.result LeavesArea c.ok_or-2.result c.requires.offsets near c.move_by.ensures.value c.ok_or-2.ensures.value
+    let near = distances_are_proper PointerArithmetic c.requires.number c.near_distances.ensures.value c.ok_or.ensures.value
+    c.in_ok-distances.was in
+    moved_are_proper LeavesArea c.requires.offsets near c.move_by.ensures.value c.ok_or-2.ensures.value

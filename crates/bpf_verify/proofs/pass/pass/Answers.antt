@@ -10,28 +10,33 @@ use Rattle.bpf_verify.specs.Pass.{Ahead, AreProper, Visits, kept}
 use Rattle.bpf_verify.proofs.PassLemmas.{IsOnItsWay, length-found, starts, goes_on, refuses, accepts}
 use Rattle.bpf_verify.proofs.pass.pass.Goals as goal
 
--- the instruction to which the pass has come
-comes_to : (code items : List Insn) (index : ℕ) (ahead : Ahead) (areas : List (Option Area)) (insn : Insn) → items ≡ code → index < length items → insn ≡ get_or items index insn → IsOnItsWay code (take index code) ahead areas → instruction_at code ahead.place ≡ Some insn
-comes_to code items index ahead areas insn same within is way = stands_at items code index ahead.place insn same within is way.at
+module _ {code items : List Insn} (index : ℕ) {insn : Insn} (same : items ≡ code) (within : index < length items)
+    (is : insn ≡ get_or items index insn) where
+  -- the instruction to which the pass has come
+  comes_to : {ahead : Ahead} {areas : List (Option Area)} → IsOnItsWay code (take index code) ahead areas
+      → instruction_at code ahead.place ≡ Some insn
+  comes_to {ahead} way = stands_at index ahead.place same within is way.at
 
--- the instructions that were passed, and one more
-passed_more : (code items : List Insn) (index : ℕ) (insn : Insn) → items ≡ code → index < length items → insn ≡ get_or items index insn → take (index + 1) code ≡ take index code ++ insn ∷ []
-passed_more code items index insn same within is =
-    ap (take (index + 1)) (sym same) ∙ take_more items index insn within ∙ ap (λ (next : Insn). take index items ++ next ∷ []) (sym is)
-    ∙ ap (λ (code : List Insn). take index code ++ insn ∷ []) same
+  -- the instructions that were passed, and one more
+  passed_more : take (index + 1) code ≡ take index code ++ insn ∷ []
+  passed_more =
+      ap (take (index + 1)) (sym same) ∙ take_more items index insn within ∙ ap (λ (next : Insn). take index items ++ next ∷ []) (sym is)
+      ∙ ap (λ (code : List Insn). take index code ++ insn ∷ []) same
 
--- an iteration
-one_more : (code items : List Insn) (index : ℕ) (insn : Insn) (before after : Ahead) (areas more : List (Option Area)) (area : Option Area) → IsForward code → items ≡ code → index < length items → insn ≡ get_or items index insn
-    → IsOnItsWay code (take index code) before areas → Visits insn before after → AreProper (kept after) → area ≡ area_of (kept before before.place) insn → more ≡ areas ++ area ∷ [] → IsOnItsWay code (take (index + 1) code) after more
-one_more code items index insn before after areas more area forward same within is way visits proper found pushed =
-    let stands = comes_to code items index before areas insn same within is way in
-    let passed : take (index + 1) code ≡ take index code ++ insn ∷ [] = passed_more code items index insn same within is in
-    let all : more ≡ areas ++ area_of (kept before before.place) insn ∷ [] = pushed ∙ ap (λ (area : Option Area). areas ++ area ∷ []) found in
-    rw (passed, all) (goes_on code (take index code) insn before after areas forward stands way proper visits)
+  -- an iteration
+  one_more : {before after : Ahead} {areas more : List (Option Area)} {area : Option Area} → IsForward code
+      → IsOnItsWay code (take index code) before areas
+      → Visits insn before after → AreProper (kept after) → area ≡ area_of (kept before before.place) insn → more ≡ areas ++ area ∷ []
+      → IsOnItsWay code (take (index + 1) code) after more
+  one_more {before} {after} {areas} {more} forward way visits proper found pushed =
+      let all : more ≡ areas ++ area_of (kept before before.place) insn ∷ [] =
+      pushed ∙ ap (λ (area : Option Area). areas ++ area ∷ []) found in
+      rw (passed_more, all) (goes_on code (take index code) insn before after areas forward (comes_to way) way proper visits)
 
 pub loop-insn-init : goal.loop-insn-init
 loop-insn-init g c = record {
-  way = subst (IsOnItsWay c.args.flow.now.code [] c.in_ok-ahead.ahead) (sym c.in_ok-areas.ensures.items) (starts c.args.flow.now.code c.in_ok-ahead.ahead c.in_ok-ahead.ensures);
+  way = subst (IsOnItsWay c.args.flow.now.code [] c.in_ok-ahead.ahead) (sym c.in_ok-areas.ensures.items)
+      (starts c.args.flow.now.code c.in_ok-ahead.ahead c.in_ok-ahead.ensures);
   room = omega (arith, c.in_ok-areas.ensures.capacity, ap length (c.instructions-instructions.ensures.value ∙ c.code.ensures.value));
 }
 
@@ -39,33 +44,43 @@ pub visit-requires-clause-stands : goal.visit-requires-clause-stands
 visit-requires-clause-stands g c =
     let way = c.loop-insn.invariant.way in
     ap (λ (code : List Insn). instruction_at code c.loop-insn.ahead.place) way.of_code
-    ∙ comes_to c.args.flow.now.code c.instructions-instructions.result.now c.loop-insn.insn-index c.loop-insn.ahead _ c.insn-item.result (c.instructions-instructions.ensures.value ∙ c.code.ensures.value) c.loop-insn-test.true
+    ∙ comes_to c.loop-insn.insn-index (c.instructions-instructions.ensures.value ∙ c.code.ensures.value) c.loop-insn-test.true
     c.insn-item.is way
 
 pub returns-in_err-visit-clause-err : goal.returns-in_err-visit-clause-err
 returns-in_err-visit-clause-err g c =
     let way = c.loop-insn.invariant.way in
-    let stands = comes_to c.args.flow.now.code c.instructions-instructions.result.now c.loop-insn.insn-index c.loop-insn.ahead _ c.insn-item.result (c.instructions-instructions.ensures.value ∙ c.code.ensures.value)
+    let stands = comes_to c.loop-insn.insn-index (c.instructions-instructions.ensures.value ∙ c.code.ensures.value)
     c.loop-insn-test.true c.insn-item.is way in
-    let refused = refuses _ _ c.insn-item.result c.loop-insn.ahead _ c.in_err-visit.field-0.0 stands way c.in_err-visit.ensures.err in
+    let refused = refuses c.in_err-visit.field-0.0 stands way c.in_err-visit.ensures.err in
     search rules
 
 pub push_reserved-requires : goal.push_reserved-requires
 push_reserved-requires g c =
     let same = c.instructions-instructions.ensures.value ∙ c.code.ensures.value in
     let many = length-found c.loop-insn.invariant.way in
-    omega (arith, c.loop-insn.areas.ok.0, c.loop-insn.invariant.room, many, length-take-le c.loop-insn.insn-index c.args.flow.now.code, c.loop-insn-test.true, ap length same)
+    omega (
+      arith,
+      c.loop-insn.areas.ok.0,
+      c.loop-insn.invariant.room,
+      many,
+      length-take-le c.loop-insn.insn-index c.args.flow.now.code,
+      c.loop-insn-test.true,
+      ap length same,
+    )
 
 pub loop-insn-preserved : goal.loop-insn-preserved
 loop-insn-preserved g c =
     record {
-      way = one_more c.args.flow.now.code c.instructions-instructions.result.now c.loop-insn.insn-index c.insn-item.result c.loop-insn.ahead c.visit.new.ahead c.loop-insn.areas.items c.push_reserved.new.self.items
-          c.in_ok-visit.field-0 c.code.ensures.forward (c.instructions-instructions.ensures.value ∙ c.code.ensures.value) c.loop-insn-test.true c.insn-item.is c.loop-insn.invariant.way c.in_ok-visit.ensures.ok
-          c.in_ok-visit.ensures.proper c.in_ok-visit.ensures.area c.push_reserved.ensures.items;
+      way = one_more c.loop-insn.insn-index (c.instructions-instructions.ensures.value ∙ c.code.ensures.value)
+          c.loop-insn-test.true c.insn-item.is
+          c.code.ensures.forward c.loop-insn.invariant.way c.in_ok-visit.ensures.ok c.in_ok-visit.ensures.proper c.in_ok-visit.ensures.area
+          c.push_reserved.ensures.items;
       room = omega (arith, c.loop-insn.invariant.room, c.push_reserved.ensures.capacity);
     }
 
 pub returns-clause-ok : goal.returns-clause-ok
 returns-clause-ok g c =
     let same = c.instructions-instructions.ensures.value ∙ c.code.ensures.value in
-    accepts _ _ c.loop-insn.ahead _ (take_all c.loop-insn.insn-index c.args.flow.now.code (let long = ap length same in omega (arith, c.loop-insn-test.false))) c.loop-insn.invariant.way
+    accepts _ _ c.loop-insn.ahead _ (take_all c.loop-insn.insn-index c.args.flow.now.code
+    (let long = ap length same in omega (arith, c.loop-insn-test.false))) c.loop-insn.invariant.way

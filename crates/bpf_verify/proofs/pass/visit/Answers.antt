@@ -14,8 +14,11 @@ returns-in_default-clause-ok g c = record {
   passes = ap (λ (state : AbstractState). transfer state c.args.insn) (sym c.in_default.ensures.value);
   proper = record { next = tt; target = tt };
   target = c.target-target.result;
-  leads = subst (λ (o : Option Insn). IfSome o (λ insn. option_map pos c.target-target.result ≡ option_map (target_of c.args.ahead.now.place) (jump_distance insn))) c.requires.stands c.target-target.ensures.value;
+  leads = subst (λ (o : Option Insn). IfSome o (λ insn. option_map pos c.target-target.result ≡ option_map
+      (target_of c.args.ahead.now.place) (jump_distance insn))) c.requires.stands c.target-target.ensures.value;
   place = c.take.ensures.place;
   code = c.take.ensures.code;
-  states = visited_states c.args.ahead.now c.take.new.self c.take.new.self c.target-target.result (record { next = Unreached; target = Unreached }) c.take.ensures.waiting (λ other. sym (joined_if-bottom _ c.target-target.result other)) c.take.ensures.straight;
+  states = visited_states c.args.ahead.now c.take.new.self c.take.new.self c.target-target.result
+      (record { next = Unreached; target = Unreached }) c.take.ensures.waiting
+      (λ other. sym (joined_if-bottom _ c.target-target.result other)) c.take.ensures.straight;
 }

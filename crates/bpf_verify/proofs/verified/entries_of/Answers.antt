@@ -10,4 +10,5 @@ all_so_far entries rest all none is = sym (append-nil entries) ∙ ap (λ (rest 
 
 pub returns : goal.returns
 returns g c =
-    all_so_far c.loop-insn.entries.items _ _ (entries_of-end _ _ (either_empty_from_Zip c.loop-insn.insn-iterator c.next.new.self c.next.result c.in-None.is c.next.ensures.steps)) c.loop-insn.invariant
+    all_so_far c.loop-insn.entries.items _ _ (entries_of-end _ _
+    (either_empty_from_Zip c.loop-insn.insn-iterator c.next.new.self c.next.result c.in-None.is c.next.ensures.steps)) c.loop-insn.invariant

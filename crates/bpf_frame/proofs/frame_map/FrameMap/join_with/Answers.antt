@@ -8,7 +8,8 @@ pub invariant_of-self : goal.invariant_of-self
 invariant_of-self c = and_are_lanes _ _ c.self.invariant c.other.invariant
 
 pub returns-clause-value : goal.returns-clause-value
-returns-clause-value c = join_is _ _ _ _ _ _ _ c.self.invariant c.other.invariant c.join_each.ensures c.self.view_is c.other.view_is
+returns-clause-value c = join_is _ _ c.self.invariant c.other.invariant c.join_each.ensures c.self.view_is c.other.view_is
 
 pub returns-clause-proper : goal.returns-clause-proper
-returns-clause-proper c = subst IsProper (sym (returns-clause-value c)) (join_is_proper c.args.self.now c.args.other.now c.requires.proper c.requires.other)
+returns-clause-proper c = subst IsProper (sym (returns-clause-value c))
+    (join_is_proper c.args.self.now c.args.other.now c.requires.proper c.requires.other)

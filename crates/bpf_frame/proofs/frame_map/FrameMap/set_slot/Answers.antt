@@ -8,9 +8,11 @@ use Rattle.bpf_frame.proofs.frame_map.FrameMap.set_slot.Goals as goal
 
 pub returns-clause-value : goal.returns-clause-value
 returns-clause-value c =
-    same_maps (contents c.fit_lanes-self-inside.result (slice_set c.self.inside.kinds c.args.slot c.args.kind)) (set_slot (contents c.self.inside.lanes c.self.inside.kinds) c.args.slot c.args.kind) c.fit_lanes-self-inside.ensures.marks refl
+    same_maps (contents c.fit_lanes-self-inside.result (slice_set c.self.inside.kinds c.args.slot c.args.kind))
+    (set_slot (contents c.self.inside.lanes c.self.inside.kinds) c.args.slot c.args.kind) c.fit_lanes-self-inside.ensures.marks refl
     ∙ ap (λ (map : Contents). set_slot map c.args.slot c.args.kind) c.self.view_is
 
 pub returns-clause-proper : goal.returns-clause-proper
 returns-clause-proper c =
-    subst IsProper (sym (returns-clause-value c)) (set_slot_is_proper c.args.self.now c.args.slot c.args.kind c.requires.proper c.requires.within c.requires.kind)
+    subst IsProper (sym (returns-clause-value c)) (set_slot_is_proper c.args.self.now c.args.slot c.args.kind c.requires.proper
+    c.requires.within c.requires.kind)

@@ -5,4 +5,4 @@ pub invariant_of-result : goal.invariant_of-result
 invariant_of-result c = and_are_lanes _ _ c.self.invariant c.other.invariant
 
 pub returns : goal.returns
-returns c = join_is _ _ _ _ _ _ _ c.self.invariant c.other.invariant c.join_each.ensures c.self.view_is c.other.view_is
+returns c = join_is _ _ c.self.invariant c.other.invariant c.join_each.ensures c.self.view_is c.other.view_is

@@ -10,5 +10,8 @@ returns-then-self-other-eq0 c =
 
 pub returns-else-self-other-eq0 : goal.returns-else-self-other-eq0
 returns-else-self-other-eq0 c =
-    let seen = within_seen _ _ _ _ _ _ c.self.view_is c.other.view_is in
-    (λ is. absurd (c.if-self-other-eq0.false (eqb-true _ _ is)), λ within. (leq_is _ _ c.self.invariant c.other.invariant).1 (seen.1 within).marks)
+    let seen = within_seen _ _ _ _ _ _ c.self.view_is c.other.view_is in (
+      λ is. absurd (c.if-self-other-eq0.false (eqb-true _ _ is)),
+      λ within.
+          (leq_is _ _ c.self.invariant c.other.invariant).1 (seen.1 within).marks,
+    )

@@ -8,4 +8,6 @@ pub returns : goal.returns
 returns c =
     let same = ap (λ (frame : FrameContents). frame.bytes) c.self.view_is in
     ap not c.contains.ensures.value
-    ∙ all_written-marks _ c.self.inside.marks c.self.inside.bytes c.args.self.now.bytes c.args.at c.args.count (c.args.at + c.args.count - c.args.at) refl refl (omega arith) (omega arith) same
+    ∙ all_written-marks c.self.inside.marks c.self.inside.bytes (omega arith) same c.args.at c.args.count
+    (c.args.at + c.args.count - c.args.at)
+    (omega arith) _ refl refl

@@ -5,5 +5,6 @@ use Rattle.bpf_meaning.proofs.frame.Frame.keep_pointer.Goals as goal
 
 pub returns : goal.returns
 returns c =
-    keep_writes c.self.inside.marks c.self.inside.bytes c.self.inside.slots c.args.self.now c.args.slot (SLOT_LENGTH * c.args.slot + SLOT_LENGTH - SLOT_LENGTH * c.args.slot) c.args.pointer
-    c.fill.new.self (omega arith) (omega arith) (omega arith) c.self.view_is (c.fill.ensures.after (λ (y : Bool) e. e))
+    keep_writes c.self.inside.marks c.self.inside.bytes (omega arith) c.args.slot
+    (SLOT_LENGTH * c.args.slot + SLOT_LENGTH - SLOT_LENGTH * c.args.slot)
+    c.args.pointer (omega arith) (omega arith) c.self.view_is (c.fill.ensures.after (λ (y : Bool) e. e))

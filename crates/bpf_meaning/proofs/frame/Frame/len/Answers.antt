@@ -5,5 +5,6 @@ use Rattle.bpf_meaning.proofs.frame.Frame.len.Goals as goal
 
 pub returns-clause-value : goal.returns-clause-value
 returns-clause-value c =
-    ap (λ (bytes : List ℕ). length bytes) c.as_slice.ensures ∙ sym (length-frame_bytes c.self.inside.marks c.self.inside.bytes (omega arith))
+    ap (λ (bytes : List ℕ). length bytes) c.as_slice.ensures ∙ sym
+    (length-frame_bytes c.self.inside.marks c.self.inside.bytes (omega arith))
     ∙ ap (λ (frame : FrameContents). length frame.bytes) c.self.view_is

@@ -7,11 +7,15 @@ pub returns-then-contains : goal.returns-then-contains
 returns-then-contains c =
     let any = sym c.contains.ensures.value ∙ c.if-contains.true in
     let same = ap (λ (frame : FrameContents). frame.bytes) c.self.view_is in
-    sym (unwritten_is_none _ c.self.inside.marks c.self.inside.bytes c.args.self.now.bytes c.args.at c.args.count (c.args.at + c.args.count - c.args.at) refl (omega arith) (omega arith) same any)
+    sym (unwritten_is_none c.self.inside.marks c.self.inside.bytes (omega arith) same c.args.at c.args.count
+    (c.args.at + c.args.count - c.args.at)
+    (omega arith) _ refl any)
 
 pub returns : goal.returns
 returns c =
     let any = sym c.contains.ensures.value ∙ c.if-contains.false in
     let same = ap (λ (frame : FrameContents). frame.bytes) c.self.view_is in
     c.little_endian.ensures
-    ∙ sym (written_is_number _ c.self.inside.marks c.self.inside.bytes c.args.self.now.bytes c.args.at c.args.count (c.args.at + c.args.count - c.args.at) refl refl (omega arith) (omega arith) same any)
+    ∙ sym (written_is_number c.self.inside.marks c.self.inside.bytes (omega arith) same c.args.at c.args.count
+    (c.args.at + c.args.count - c.args.at)
+    (omega arith) _ refl refl any)

@@ -7,7 +7,8 @@ pub returns : goal.returns
 returns c =
     let marks = c.fill.ensures.after (λ (y : Bool) e. e) in
     c.clear_slots.ensures
-    ∙ ap (λ (frame : FrameContents). let new : FrameContents = record frame { slots = overwrite_slots None frame.slots c.args.at c.args.count } in new)
-    (store_writes c.self.inside.marks c.self.inside.bytes c.self.inside.slots c.args.self.now c.args.at c.args.count (c.args.at + c.args.count - c.args.at) c.args.number
-    c.copy_from_slice.new.self c.fill.new.self (omega arith) (omega arith) (omega arith) c.requires.count c.self.view_is
+    ∙ ap (λ (frame : FrameContents). let new : FrameContents = record frame
+    { slots = overwrite_slots None frame.slots c.args.at c.args.count } in new)
+    (store_writes c.self.inside.marks c.self.inside.bytes (omega arith) c.args.at c.args.count (c.args.at + c.args.count - c.args.at)
+    (omega arith) (omega arith) c.requires.count c.args.number c.self.view_is
     (c.copy_from_slice.ensures.after ∙ ap (take c.args.count) c.to_le_bytes-bytes.ensures) marks)

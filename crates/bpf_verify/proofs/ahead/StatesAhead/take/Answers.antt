@@ -14,22 +14,28 @@ overflow_add-self g c =
     let sized = c.requires.sized.1 in omega (arith, at)
 
 pub meet-requires-clause-there : goal.meet-requires-clause-there
-meet-requires-clause-there g c = found_proper c.self.inside.waiting.entries c.self.inside.place c.remove-there.result c.self.invariant.proper c.remove-there.ensures.value
+meet-requires-clause-there g c = found_proper c.self.inside.waiting.entries c.self.inside.place c.remove-there.result
+    c.self.invariant.proper c.remove-there.ensures.value
 
 pub invariant_of-self : goal.invariant_of-self
 invariant_of-self g c =
     let stands = subst (λ (a : Ahead). instruction_at a.code a.place ≡ Some c.args.insn) (sym c.self.view_is) c.requires.stands in
-    rw (c.take.ensures.after) (moved_ahead _ (states_in c.remove-there.new.self.entries) (c.self.inside.place + c.words.result) c.args.insn c.self.invariant stands (ap (λ n. c.self.inside.place + n) c.words.ensures) (waits_after c.self.inside.waiting c.remove-there.new.self c.self.inside.place _ c.remove-there.ensures.updates))
+    rw (c.take.ensures.after) (moved_ahead _ (states_in c.remove-there.new.self.entries)
+    (c.self.inside.place + c.words.result) c.args.insn c.self.invariant stands (ap (λ n. c.self.inside.place + n) c.words.ensures)
+    (waits_after c.self.inside.waiting c.remove-there.new.self c.self.inside.place _ c.remove-there.ensures.updates))
 
 pub returns-in_default-clause-value : goal.returns-in_default-clause-value
 returns-in_default-clause-value g c =
     sym (join-bottom (state_of c.remove-there.result))
-    ∙ here_is (states_ahead c.self.inside.flow.now.code c.self.inside.place c.self.inside.straight c.self.inside.waiting.entries) (state_of c.remove-there.result) Unreached (ap state_of c.remove-there.ensures.value ∙ sym (waits c.self.inside.waiting.entries c.self.inside.place))
+    ∙ here_is (states_ahead c.self.inside.flow.now.code c.self.inside.place c.self.inside.straight c.self.inside.waiting.entries)
+    (state_of c.remove-there.result) Unreached (ap state_of c.remove-there.ensures.value
+    ∙ sym (waits c.self.inside.waiting.entries c.self.inside.place))
     (sym (ap state_of c.in_default.is) ∙ ap state_of c.take.ensures.value)
     ∙ ap (λ (a : Ahead). kept a a.place) c.self.view_is
 
 pub returns-in_default-clause-proper : goal.returns-in_default-clause-proper
-returns-in_default-clause-proper g c = found_proper c.self.inside.waiting.entries c.self.inside.place c.remove-there.result c.self.invariant.proper c.remove-there.ensures.value
+returns-in_default-clause-proper g c = found_proper c.self.inside.waiting.entries c.self.inside.place c.remove-there.result
+    c.self.invariant.proper c.remove-there.ensures.value
 
 pub returns-in_default-clause-proper_states : goal.returns-in_default-clause-proper_states
 returns-in_default-clause-proper_states g c = kept_proper _ (invariant_of-self g c)
@@ -37,18 +43,22 @@ returns-in_default-clause-proper_states g c = kept_proper _ (invariant_of-self g
 pub returns-in_default-clause-waiting : goal.returns-in_default-clause-waiting
 returns-in_default-clause-waiting g c = λ other past.
     let at = ap (λ (a : Ahead). a.place) c.self.view_is in
-    left_behind _ _ c.self.inside.place other (waits_after c.self.inside.waiting c.remove-there.new.self c.self.inside.place _ c.remove-there.ensures.updates) (omega (arith, at))
+    left_behind _ _ c.self.inside.place other (waits_after c.self.inside.waiting c.remove-there.new.self c.self.inside.place _
+    c.remove-there.ensures.updates) (omega (arith, at))
     ∙ ap (λ (a : Ahead). waiting_at a.waiting other) c.self.view_is
 
 pub invariant_of-self-2 : goal.invariant_of-self-2
 invariant_of-self-2 g c =
     let stands = subst (λ (a : Ahead). instruction_at a.code a.place ≡ Some c.args.insn) (sym c.self.view_is) c.requires.stands in
-    rw (c.take.ensures.after) (moved_ahead _ (states_in c.remove-there.new.self.entries) (c.self.inside.place + c.words.result) c.args.insn c.self.invariant stands (ap (λ n. c.self.inside.place + n) c.words.ensures) (waits_after c.self.inside.waiting c.remove-there.new.self c.self.inside.place _ c.remove-there.ensures.updates))
+    rw (c.take.ensures.after) (moved_ahead _ (states_in c.remove-there.new.self.entries)
+    (c.self.inside.place + c.words.result) c.args.insn c.self.invariant stands (ap (λ n. c.self.inside.place + n) c.words.ensures)
+    (waits_after c.self.inside.waiting c.remove-there.new.self c.self.inside.place _ c.remove-there.ensures.updates))
 
 pub returns-clause-value : goal.returns-clause-value
 returns-clause-value g c =
     c.meet.ensures.value
-    ∙ here_is (states_ahead c.self.inside.flow.now.code c.self.inside.place c.self.inside.straight c.self.inside.waiting.entries) (state_of c.remove-there.result) (Reached c.in-Some.known.value)
+    ∙ here_is (states_ahead c.self.inside.flow.now.code c.self.inside.place c.self.inside.straight c.self.inside.waiting.entries)
+    (state_of c.remove-there.result) (Reached c.in-Some.known.value)
     (ap state_of c.remove-there.ensures.value ∙ sym (waits c.self.inside.waiting.entries c.self.inside.place))
     (sym (ap state_of c.in-Some.is) ∙ ap state_of c.take.ensures.value)
     ∙ ap (λ (a : Ahead). kept a a.place) c.self.view_is
@@ -59,5 +69,6 @@ returns-clause-proper_states g c = kept_proper _ (invariant_of-self-2 g c)
 pub returns-clause-waiting : goal.returns-clause-waiting
 returns-clause-waiting g c = λ other past.
     let at = ap (λ (a : Ahead). a.place) c.self.view_is in
-    left_behind _ _ c.self.inside.place other (waits_after c.self.inside.waiting c.remove-there.new.self c.self.inside.place _ c.remove-there.ensures.updates) (omega (arith, at))
+    left_behind _ _ c.self.inside.place other (waits_after c.self.inside.waiting c.remove-there.new.self c.self.inside.place _
+    c.remove-there.ensures.updates) (omega (arith, at))
     ∙ ap (λ (a : Ahead). waiting_at a.waiting other) c.self.view_is

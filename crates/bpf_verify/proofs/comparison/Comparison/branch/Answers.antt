@@ -5,5 +5,6 @@ use Rattle.bpf_verify.proofs.comparison.Comparison.branch.Goals as goal
 
 pub returns-in-Some-clause-proper : goal.returns-in-Some-clause-proper
 returns-in-Some-clause-proper c =
-    let both = refine-within c.args.self.condition c.args.self.width c.args.x c.args.y c.args.taken c.in-Some.both c.requires.left c.requires.right (sym c.refine.ensures.value ∙ c.in-Some.is) in
+    let both = refine-within c.args.self.condition c.args.self.width c.args.taken c.requires.left c.requires.right
+    (sym c.refine.ensures.value ∙ c.in-Some.is) in
     with_narrowed_is_proper c.args.known.now c.args.self.left.number c.args.self.right c.in-Some.both c.requires.known both.0 both.1

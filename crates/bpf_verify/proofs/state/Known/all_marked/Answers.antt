@@ -7,14 +7,16 @@ use Rattle.bpf_verify.specs.declared.state.Known.{Known}
 use Rattle.bpf_verify.proofs.state.Known.all_marked.Goals as goal
 
 -- the first and the last of some bytes, at least one
-marked_is : (known : Known) (offsets : Offsets) (offset : ℤ) (count first last : ℕ) → 1 ≤ count → first ≡ unsigned_abs (offsets.low +ℤ offset) → last ≡ unsigned_abs (offsets.high +ℤ offset) + count - 1
+marked_is : (known : Known) (offsets : Offsets) (offset : ℤ) {first last : ℕ} (count : ℕ) → 1 ≤ count
+    → first ≡ unsigned_abs (offsets.low +ℤ offset) → last ≡ unsigned_abs (offsets.high +ℤ offset) + count - 1
     → all_written known.frame.marks first last ≡ all_marked known offsets offset count
-marked_is known offsets offset zero first last some is_first is_last = absurd (omega arith)
-marked_is known offsets offset (suc more) first last some is_first is_last =
+marked_is known offsets offset zero some is_first is_last = absurd (omega arith)
+marked_is known offsets offset {last} (suc more) some is_first is_last =
     let behind : last ≡ unsigned_abs (offsets.high +ℤ offset) + more = omega arith in rw (is_first, behind) refl
 
 pub returns : goal.returns
 returns c =
     let first : c.byte_at-2.result ≡ unsigned_abs (c.args.offsets.low +ℤ c.args.offset) = omega (arith, ints) in
-    let last : c.byte_at.result + c.args.count - 1 ≡ unsigned_abs (c.args.offsets.high +ℤ c.args.offset) + c.args.count - 1 = omega (arith, ints) in
-    c.all_written.ensures.value ∙ marked_is c.args.self.now c.args.offsets c.args.offset c.args.count _ _ (omega arith) first last
+    let last : c.byte_at.result + c.args.count - 1 ≡ unsigned_abs (c.args.offsets.high +ℤ c.args.offset) + c.args.count - 1 =
+    omega (arith, ints) in
+    c.all_written.ensures.value ∙ marked_is c.args.self.now c.args.offsets c.args.offset c.args.count (omega arith) first last

@@ -8,7 +8,8 @@ use Rattle.bpf_verify.proofs.state.Known.join_with.Given as goal
 abbrev pub invariant-loop-register : goal.invariant-loop-register
 invariant-loop-register l = record {
   count : length l.self.registers ≡ REGISTERS;
-  joined : (register : ℕ) → register < l.register → kind_of l.self register ≡ kind.join (kind_of l.initial.self register) (kind_of l.other register);
+  joined : (register : ℕ) → register < l.register → kind_of l.self register ≡ kind.join (kind_of l.initial.self register)
+      (kind_of l.other register);
   rest : (register : ℕ) → l.register ≤ register → kind_of l.self register ≡ kind_of l.initial.self register;
   frame : l.self.frame ≡ l.initial.self.frame;
 }

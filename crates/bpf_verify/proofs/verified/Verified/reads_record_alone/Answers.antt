@@ -8,5 +8,7 @@ use Rattle.bpf_verify.proofs.verified.Verified.reads_record_alone.Goals as goal
 
 pub returns : goal.returns
 returns g c =
-    c.read_record_alone.ensures ∙ ap (λ (entries : List Entry). list_all (λ (entry : Entry). instruction_reads_record_alone entry.insn) entries) c.as_slice.ensures.value
-    ∙ sym (list_all-map instruction_reads_record_alone (λ (entry : Entry). entry.insn) c.self.inside.entries.items) ∙ ap (λ (contents : Contents). reads_record_alone contents.code) c.self.view_is
+    c.read_record_alone.ensures ∙ ap (λ (entries : List Entry). list_all
+    (λ (entry : Entry). instruction_reads_record_alone entry.insn) entries) c.as_slice.ensures.value
+    ∙ sym (list_all-map instruction_reads_record_alone (λ (entry : Entry). entry.insn) c.self.inside.entries.items)
+    ∙ ap (λ (contents : Contents). reads_record_alone contents.code) c.self.view_is
