@@ -276,11 +276,13 @@ def reached(call, sweep):
 
 
 def is_made(call, crate, module, body):
-    """Whether the text of a function makes a call, in a file that names what it is of."""
+    """Whether the text of a function makes a call, in a file that names what it is of. `write!` makes calls of `write_str`."""
     file, name, owner = sources(crate)[module], call.name(), call.owner()
     source = call.path.split("::")[0]
     if owner:
         made = rf"\.{name}\(|\b{owner}(::<[^>]*>)?::{name}\b"
+        if name == "write_str":
+            made += r"|\bwrite!\("
         return bool(re.search(made, body) and re.search(rf"\b{owner}\b", file))
     if crate == source:
         return bool(re.search(rf"(?<![.\w]){name}\(", body))

@@ -69,6 +69,20 @@ stop_server() {
     server=""
 }
 
+# listens_here: the server's port is open at 127.0.0.1 alone. The addresses of open ports are in hexadecimal, the last byte first.
+listens_here() {
+    local file address state open="" wanted
+    [ -r /proc/net/tcp ] || return 0
+    wanted=$(printf '0100007F:%04X' "$port")
+    for file in /proc/net/tcp /proc/net/tcp6; do
+        [ -r $file ] || continue
+        while read -r _ address _ state _; do
+            [ "$state" = 0A ] && [[ $address == *":${wanted#*:}" ]] && open+=$address
+        done < $file
+    done
+    if [ "$open" = "$wanted" ]; then pass; else fail "the server should listen at $wanted alone, and listens at $open"; fi
+}
+
 # start_server FOLDER: serves its county at a free port.
 start_server() {
     for _ in {1..20}; do
@@ -77,7 +91,7 @@ start_server() {
         extractd serve --data "$1" --port $port 01001 > "$scratch/said" 2> "$scratch/said.err" < /dev/null &
         server=$!
         for _ in {1..100}; do
-            [ "$(cat "$scratch/said")" = "listening 127.0.0.1:$port" ] && return
+            [ "$(cat "$scratch/said")" = "listening 127.0.0.1:$port" ] && { listens_here; return; }
             kill -0 $server 2> /dev/null || break
             sleep 0.1
         done

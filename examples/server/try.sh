@@ -5,7 +5,9 @@
 # - nginx.conf: nginx (1.19.5 or later) and openssl, which makes a certificate that is good for a day;
 # - extractd.service: systemd-analyze, of systemd 249 or later;
 # - ../job.py: python3 (3.8 or later).
+# With REQUIRE_ALL set, as .ci/run sets it, what isn't there is installed by apt-get, and what is left out all the same is a failure.
 #
+# The server may listen at 127.0.0.1 alone. A client whose request was refused before its end may go on sending for a while, and gets its reply.
 # It serves the example county at a free port, and asks each route, with status and body compared: directly, and through nginx where it's there. Then what
 # nginx is there for: a body in chunks, many header lines, a client that sends slowly, several clients at once. What it started it ends, and its
 # folder, in that of temporary files, is removed.
@@ -26,7 +28,17 @@ tried=0 failed=0
 
 pass() { tried=$((tried + 1)); }
 fail() { failed=$((failed + 1)); printf 'FAILED: '; printf '%s\n' "$@"; }
-skip() { printf 'left out: %s\n' "$1"; }
+skip() {
+    if [ -n "${REQUIRE_ALL-}" ]; then fail "left out: $1"; else printf 'left out: %s\n' "$1"; fi
+}
+
+# has COMMAND PACKAGE: whether there is such a command, which the package has.
+has() {
+    command -v "$1" > /dev/null && return
+    [ -n "${REQUIRE_ALL-}" ] || return
+    { apt-get update && DEBIAN_FRONTEND=noninteractive apt-get install -y --no-install-recommends "$2"; } > "$scratch/apt" 2>&1 || tail -n 3 "$scratch/apt"
+    command -v "$1" > /dev/null
+}
 
 finish() {
     echo "$tried passed, $failed failed"
@@ -50,7 +62,7 @@ cd "$scratch" || exit 1
 # No settings of the user's.
 export HOME=$scratch
 
-if ! command -v curl > /dev/null; then
+if ! has curl curl; then
     fail 'there is no curl here'
     finish
 fi
@@ -160,6 +172,35 @@ try_job() {
     done
 }
 
+# connects ADDRESS: whether something listens at the server's port there.
+connects() { timeout 5 bash -c 'exec 3<> "/dev/tcp/$1/$2"' - "$1" "$port" 2> /dev/null; }
+
+# try_address: the server listens at 127.0.0.1, and at no other of this machine's addresses.
+try_address() {
+    local address
+    if connects 127.0.0.1; then pass; else fail 'nothing listens at 127.0.0.1'; fi
+    for address in 127.0.0.2 $(hostname -I 2> /dev/null); do
+        [[ $address == *:* ]] && continue
+        if connects "$address"; then fail "the server listens at $address, too"; else pass; fi
+    done
+}
+
+# try_refused_client: a body that is too long is refused at its head. Its client goes on sending for a second, and then reads the reply.
+try_refused_client() {
+    local reply
+    reply=$(timeout 30 bash -c '
+        exec 3<> "/dev/tcp/127.0.0.1/$1"
+        printf "POST /verify HTTP/1.1\r\nContent-Length: 2000000\r\n\r\n" >&3
+        for piece in 1 2 3 4; do
+            head -c 50000 /dev/zero >&3 || exit
+            sleep 0.3
+        done
+        head -n 1 <&3' - "$port" 2> refused.err)
+    if [[ $reply == 'HTTP/1.1 413 '* ]] && [ ! -s refused.err ]; then pass; else
+        fail 'a client that is refused while it sends' "gets: $reply $(cat refused.err)"
+    fi
+}
+
 # try_proxy: what nginx is there for.
 try_proxy() {
     local client lines=()
@@ -207,12 +248,14 @@ if ! start "$examples"; then
     finish
 fi
 url=http://127.0.0.1:$port
+try_address
 try_routes "$url"
-if command -v python3 > /dev/null; then try_job "$url" --server "$url"; else skip 'job.py (there is no python3 here)'; fi
+try_refused_client
+if has python3 python3; then try_job "$url" --server "$url"; else skip 'job.py (there is no python3 here)'; fi
 
-if ! command -v nginx > /dev/null; then
+if ! has nginx nginx-light; then
     skip 'nginx.conf (there is no nginx here); the server was tried without it'
-elif ! command -v openssl > /dev/null; then
+elif ! has openssl openssl; then
     skip 'nginx.conf (there is no openssl here, for a certificate); the server was tried without it'
 else
     mkdir proxy
@@ -238,7 +281,7 @@ else
     if [ -z "$url" ]; then fail "nginx doesn't start: $(cat nginx.err proxy/error.log 2> /dev/null)"; finish; fi
     try_routes "$url"
     try_proxy
-    if command -v python3 > /dev/null; then
+    if has python3 python3; then
         try_job "$url" --server "$url" --insecure
         try_job "$url" --server "$url" --ca proxy/server.crt
         python3 "$examples/job.py" --server "$url" all.bpf > job.rows 2> job.err
@@ -246,7 +289,7 @@ else
     fi
 fi
 
-if ! command -v systemd-analyze > /dev/null; then
+if ! has systemd-analyze systemd; then
     skip 'extractd.service (there is no systemd-analyze here)'
 else
     mkdir unit

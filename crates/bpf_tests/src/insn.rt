@@ -2,6 +2,7 @@
 use bpf_insn::{
     Code, CodeBuilder, CodeFault, Insn, Register, WORD_LIMIT, WritableRegister, decode, encode,
 };
+use refusals::Fault;
 use std::alloc::Global;
 
 // The opcodes of the instruction table, class by class.

@@ -87,7 +87,7 @@ pub fn comes_to<A: Allocator, B: Allocator>(
     match trace(code, segment, limit) {
         Outcome::Running => said == "running",
         Outcome::Exit { answer, score } => is_exit(said, answer, score),
-        Outcome::Stuck { place, cause } => cause.line(place).as_str() == said,
+        Outcome::Stuck { place, cause } => cause.refusal().at_place(place).line().as_str() == said,
     }
 }
 

@@ -5,6 +5,7 @@ use bpf_insn::{Area, Code, CodeBuilder, CodeFault, Insn, Register, decode, encod
 use bpf_text::{SourceFault, assemble, assemble_source, disassemble, disassemble_program};
 use bpf_verify::{Verified, verify};
 use fixtures::{Refusing, bytes, cell, program, table};
+use refusals::Fault;
 use std::alloc::{AllocError, Global};
 use std::test::Fail;
 
@@ -179,7 +180,6 @@ fn is_source(heap: &Heap, program: &Program, said: &str) -> bool {
     match assemble_source(heap, &program.text) {
         Ok(words) => said == "accepted" && is_same(heap, Ok(words), &program.words),
         Err(SourceFault::Text(fault)) => fault.line().as_str() == due(heap, said),
-        Err(SourceFault::Memory) => heap.was_refused(),
         Err(SourceFault::NotUtf8) => said == "not UTF-8",
     }
 }

@@ -84,6 +84,7 @@ impl<'a> Case<'a> {
             name: faults.name,
             access: faults.access,
             failed_opens: 0,
+            failed_reads: 0,
             opened: ArrayString::new(),
         };
         let mut out = writer(alloc, faults.out);

@@ -28,6 +28,7 @@ pub struct MemoryFiles<'a> {
     pub name: &'a str,
     pub access: Access,
     pub failed_opens: u64,
+    pub failed_reads: u64,
     /// The names that were to be opened, with a blank after each.
     pub opened: ArrayString<128>,
 }
@@ -36,6 +37,8 @@ impl<'a> Files for MemoryFiles<'a> {
     type Reader = Reader<'a>;
 
     ghost failed_opens = { λ files. files.failed_opens };
+
+    ghost failed_reads = { λ files. files.failed_reads };
 
     fn open(&mut self, name: &str) -> io::Result<Reader<'a>> {
         match self.open_if_there(name) {
@@ -70,6 +73,12 @@ impl<'a> Files for MemoryFiles<'a> {
             count_one(&mut self.failed_opens);
         }
         Err(io::Error::from(kind))
+    }
+
+    fn close(&mut self, reader: Reader<'a>) {
+        if reader.failed_reads() != 0 {
+            count_one(&mut self.failed_reads);
+        }
     }
 }
 

@@ -1,28 +1,28 @@
 //! Each read and each growth of a program and of another file fails in turn: no read is tried again.
-use commands::{FileFault, read_program, read_to_end};
+use bpf_insn::CodeFault;
+use commands::{FileFault, ProgramInputFault, read_program, read_to_end};
 use fixtures::{Device, Refusing, bytes, cell, reader};
 use std::alloc::Global;
 use std::test::Fail;
 
-// How a file is read, how many bytes it has, how many of the first of these are kept, how many reads there are, one of
-// which finds the end, and how many growths, or `+` for some. Of a program that is too long 65,536 words are kept, and
-// a further one, or the part of one that it ends with.
+// How a file is read, how many bytes it has, what comes of it, how many reads there are, one of which finds the end, and
+// how many growths, or `+` for some. A program that is longer than 65,536 words is read to its end and refused.
 const FILES: &str = "\
-program; 0; 0; 1; 1
-program; 7; 7; 2; 1
-program; 4096; 4096; 2; 1
-program; 32776; 32776; 10; 1
-program; 524288; 524288; 129; 1
-program; 524289; 524289; 130; 1
-program; 524296; 524296; 130; 1
-program; 524297; 524289; 130; 1
-program; 600000; 524296; 148; 1
-program; 600001; 524289; 148; 1
-file; 0; 0; 1; 0
-file; 1; 1; 2; +
-file; 4096; 4096; 2; +
-file; 4097; 4097; 3; +
-file; 100001; 100001; 26; +";
+program; 0; kept; 1; 1
+program; 7; kept; 2; 1
+program; 4096; kept; 2; 1
+program; 32776; kept; 10; 1
+program; 524288; kept; 129; 1
+program; 524289; not whole; 130; 1
+program; 524296; too long; 130; 1
+program; 524297; not whole; 130; 1
+program; 600000; too long; 148; 1
+program; 600001; not whole; 148; 1
+file; 0; kept; 1; 0
+file; 1; kept; 2; +
+file; 4096; kept; 2; +
+file; 4097; kept; 3; +
+file; 100001; kept; 26; +";
 
 // More bytes than any file has, in lines that no read ends with.
 const BYTES: &str = r"{0123456789\n*60000}";
@@ -32,24 +32,25 @@ const WAYS: &str = "pipe, interrupted, blocked, late";
 // Where there are more reads, only so many of the last ones fail.
 const MOST_READS: u64 = 10;
 
-/// What comes of reading a file by such a device: `kept`, if it is kept as its row says, `memory` or `unusable`.
+/// What comes of reading a file by such a device: `kept`, if all of its bytes are, or why they aren't.
 fn outcome(heap: &Refusing<Global>, row: &str, bytes: &[u8], device: Device) -> &'static str {
     let mut input = reader(bytes, device);
     let read = match cell(row, 0) {
         "program" => read_program(heap, &mut input),
-        _ => read_to_end(heap, &mut input),
+        _ => match read_to_end(heap, &mut input) {
+            Ok(kept) => Ok(kept),
+            Err(fault) => Err(ProgramInputFault::File(fault)),
+        },
     };
     match read {
-        Ok(kept) if is_kept(&kept, bytes, row) => "kept",
+        Ok(kept) if kept.as_slice() == bytes => "kept",
         Ok(_) => "altered",
-        Err(FileFault::Memory) => "memory",
-        Err(FileFault::Unusable(_)) => "unusable",
+        Err(ProgramInputFault::File(FileFault::Memory)) => "memory",
+        Err(ProgramInputFault::File(FileFault::Unusable(_))) => "unusable",
+        Err(ProgramInputFault::Code(CodeFault::NotWhole)) => "not whole",
+        Err(ProgramInputFault::Code(CodeFault::TooLong)) => "too long",
+        Err(ProgramInputFault::Code(_)) => "another fault",
     }
-}
-
-/// Tells whether as many of the first bytes are kept as a row says.
-fn is_kept(kept: &[u8], bytes: &[u8], row: &str) -> bool {
-    Ok(kept.len()) == cell(row, 2).parse() && bytes.starts_with(kept)
 }
 
 /// Tells whether each read fails in turn in each way, and one more changes nothing.
@@ -59,7 +60,11 @@ fn are_reads(alloc: Global, row: &str, bytes: &[u8]) -> bool {
     for way in WAYS.split(", ") {
         for call in reads.saturating_sub(MOST_READS)..=reads {
             let device = Device::new(way).at_call(call.wrapping_add(1));
-            let expected = if call < reads { "unusable" } else { "kept" };
+            let expected = if call < reads {
+                "unusable"
+            } else {
+                cell(row, 2)
+            };
             if outcome(&heap, row, bytes, device) != expected {
                 return false;
             }
@@ -71,7 +76,7 @@ fn are_reads(alloc: Global, row: &str, bytes: &[u8]) -> bool {
 /// Tells whether a row's number of growths are refused in turn.
 fn are_growths(alloc: Global, row: &str, bytes: &[u8]) -> bool {
     let (heap, sound) = (Refusing::new(alloc), Device::new(""));
-    let is_kept = outcome(&heap, row, bytes, sound) == "kept";
+    let is_right = outcome(&heap, row, bytes, sound) == cell(row, 2);
     let growths = heap.count();
     for nth in 1..=growths {
         heap.refuse(nth);
@@ -79,7 +84,7 @@ fn are_growths(alloc: Global, row: &str, bytes: &[u8]) -> bool {
             return false;
         }
     }
-    is_kept && (cell(row, 4).parse() == Ok(growths) || cell(row, 4) == "+" && growths > 0)
+    is_right && (cell(row, 4).parse() == Ok(growths) || cell(row, 4) == "+" && growths > 0)
 }
 
 #[test]

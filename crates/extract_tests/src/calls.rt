@@ -3,6 +3,7 @@ use bpf_machine::Bare;
 use bpf_verify::Verified;
 use extract::{accept, row, row_text, score_if_chosen};
 use fixtures::{RT1, Refusing, bytes, cell, is_refusal, program};
+use refusals::Fault;
 use std::alloc::Global;
 use tl_fields::Counting;
 use tl_segments::Segment;

@@ -1,6 +1,7 @@
 //! Extracts of the rows of tables, in a given memory and over given devices.
 use extract::extract;
 use fixtures::{Device, Files, Readers, bytes, cell, is_outcome, program, taken, writer};
+use refusals::Fault;
 use std::alloc::{Allocator, Global};
 use tl_segments::CountyFile;
 

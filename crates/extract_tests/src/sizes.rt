@@ -3,6 +3,7 @@ use crate::extracts::Case;
 use extract::extract;
 use fixtures::{cell, is_outcome, table};
 use linked_list_allocator::LocalHeap;
+use refusals::Fault;
 use std::alloc::Global;
 use std::test::Fail;
 use tl_fields::{Buffered, Counting};

@@ -64,12 +64,12 @@ rt6; pipe; 156 157; ok 2; 462; 848; 6
 rt1; pipe; 460 461; ok 2; 462; 848; 6";
 
 fn file_named(name: &str) -> CountyFile {
-    for file in [CountyFile::Rt4, CountyFile::Rt5, CountyFile::Rt6] {
-        if file.name() == name {
-            return file;
-        }
+    match name {
+        "rt4" => CountyFile::Rt4,
+        "rt5" => CountyFile::Rt5,
+        "rt6" => CountyFile::Rt6,
+        _ => CountyFile::Rt1,
     }
-    CountyFile::Rt1
 }
 
 /// The number of a cell, which counts from a place if it begins with `+`.

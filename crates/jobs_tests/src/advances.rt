@@ -81,7 +81,8 @@ fn names(rt: HostRuntime) {
         Err(fault) => JobFault::from(fault),
         Ok(_) => full,
     };
-    assert!(rt; full.number() == Some(70) && full.name() == "Full");
-    assert!(rt; missing.number() == Some(71) && missing.name() == "NoJob");
-    assert!(rt; refused.number() == Some(72) && refused.name() == "Refused");
+    assert!(rt; full.line().as_str() == "refused 70 Full");
+    assert!(rt; missing.line().as_str() == "refused 71 NoJob");
+    assert!(rt; refused.line().as_str() == "refused 10 Empty");
+    assert!(rt; refused.refusal().line().as_str() == "refused 72 Refused");
 }

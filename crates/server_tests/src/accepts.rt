@@ -1,11 +1,13 @@
 //! Accepts that fail, and connections behind one another.
 use crate::exchange::{Exchange, Exchanges, client_that, name_of, receive, short_limits};
-use server::{Close, serve_next};
+use crate::faults::FailingClock;
+use server::{Acceptor, Close, Tally, serve_all, serve_next};
 use std::cell::Cell;
 use std::io;
 use std::io::ErrorKind;
 use std::net::{OpenListener, SocketAddr, TcpListener, TcpStream};
 use std::test::Fail;
+use std::time::Clock;
 
 const EXCHANGE: Exchange = Exchange {
     request: 10,
@@ -15,38 +17,40 @@ const EXCHANGE: Exchange = Exchange {
     close: Close::AtOnce,
 };
 
-/// A listener some of whose connections end before they are accepted.
+/// A listener at which some accepts fail, for a connection that ends before it is accepted and for a signal by turns.
 #[derive(Drop)]
 struct Aborting {
     listener: TcpListener,
-    aborted: Cell<u64>,
+    failing: Cell<u64>,
 }
 
 impl OpenListener for Aborting {
     type Stream = TcpStream;
 
     fn accept(&self) -> io::Result<(TcpStream, SocketAddr)> {
-        let left = self.aborted.get();
+        let left = self.failing.get();
         if left > 0 {
-            self.aborted.set(left.wrapping_sub(1));
-            return Err(io::Error::from(ErrorKind::ConnectionAborted));
+            self.failing.set(left.wrapping_sub(1));
+            let kinds = [ErrorKind::ConnectionAborted, ErrorKind::Interrupted];
+            return Err(io::Error::from(kinds[usize::from(left % 2 == 0)]));
         }
         self.listener.accept()
     }
 }
 
-/// A client is served behind connections that were aborted.
+/// A client is served behind accepts that failed for one connection or for a signal.
 #[test]
 fn aborted(rt: HostRuntime) -> Result<(), Fail> {
     let listener = Aborting {
         listener: TcpListener::bind(&rt, "127.0.0.1:0")?,
-        aborted: Cell::new(3),
+        failing: Cell::new(3),
     };
     let address = listener.listener.local_addr()?;
     let mut service = Exchanges::new(EXCHANGE, &[b'r'; 50]);
+    let mut acceptor = Acceptor::new(&listener);
     for count in 1..=2 {
         let client = client_that(TcpStream::connect(&rt, address)?, 10, "ends")?;
-        serve_next(&listener, &rt, &short_limits(), &mut service)?;
+        serve_next(&mut acceptor, &rt, &short_limits(), &mut service)?;
         let received = client.map(|client| receive(&client));
         assert_eq!(rt; received, Some((50, None)));
         assert_eq!(rt; (service.served, service.turns), (count, count));
@@ -60,8 +64,39 @@ fn failed(rt: HostRuntime) -> Result<(), Fail> {
     let listener = TcpListener::bind(&rt, "127.0.0.1:0")?;
     listener.set_nonblocking(true)?;
     let mut service = Exchanges::new(EXCHANGE, &[b'r'; 50]);
-    let fault = serve_next(&listener, &rt, &short_limits(), &mut service).err();
+    let mut acceptor = Acceptor::new(&listener);
+    let fault = serve_next(&mut acceptor, &rt, &short_limits(), &mut service).err();
     assert_eq!(rt; name_of(fault.map(|error| error.kind())), "blocked");
     assert_eq!(rt; (service.served, service.turns), (0, 0));
+    Ok(())
+}
+
+/// Whether two clients are served, each once with a turn behind it, up to the accept that fails: of this listener one would wait.
+fn serves_two<C: Clock>(rt: &HostRuntime, clock: &C) -> io::Result<bool> {
+    let listener = TcpListener::bind(rt, "127.0.0.1:0")?;
+    listener.set_nonblocking(true)?;
+    let address = listener.local_addr()?;
+    let _first = client_that(TcpStream::connect(rt, address)?, 10, "ends")?;
+    let _second = client_that(TcpStream::connect(rt, address)?, 10, "ends")?;
+    let mut service = Tally::new(Exchanges::new(EXCHANGE, &[b'r'; 50]));
+    let error = serve_all(
+        &mut Acceptor::new(&listener),
+        clock,
+        &short_limits(),
+        &mut service,
+    );
+    Ok(name_of(Some(error.kind())) == "blocked" && (service.served(), service.turns()) == (2, 2))
+}
+
+/// The loop goes on behind a connection of which a read or a write fails.
+#[test]
+fn until_failure(rt: HostRuntime) -> Result<(), Fail> {
+    for call in 1..=usize::MAX {
+        let clock = FailingClock::new(call, ErrorKind::TimedOut);
+        assert!(rt; serves_two(&rt, &clock)?, "{call}");
+        if !clock.has_failed() {
+            break;
+        }
+    }
     Ok(())
 }

@@ -3,7 +3,7 @@ use crate::exchange::{
     Exchange, Exchanges, client_that, close_of, name_of, number, receive, short_limits,
 };
 use fixtures::cell;
-use server::serve_next;
+use server::{Acceptor, serve_next};
 use std::io;
 use std::net::{TcpListener, TcpStream};
 use std::test::Fail;
@@ -43,7 +43,12 @@ fn is_right(rt: &HostRuntime, row: &str) -> io::Result<bool> {
     let client = TcpStream::connect(rt, listener.local_addr()?)?;
     let client = client_that(client, number(row, 0), cell(row, 1))?;
     let mut service = Exchanges::new(exchange_of(row), &[b'r'; 4096]);
-    serve_next(&listener, rt, &short_limits(), &mut service)?;
+    serve_next(
+        &mut Acceptor::new(&listener),
+        rt,
+        &short_limits(),
+        &mut service,
+    )?;
     let (received, fault) = match client {
         Some(client) => receive(&client),
         None => (0, None),
@@ -74,11 +79,12 @@ fn left(rt: HostRuntime) -> Result<(), Fail> {
     let address = listener.local_addr()?;
     let exchange = exchange_of("10; leaves; 10; 1000000; at once");
     let mut service = Exchanges::new(exchange, &[b'r'; 4096]);
+    let mut acceptor = Acceptor::new(&listener);
     let _none = client_that(TcpStream::connect(&rt, address)?, 10, "leaves")?;
-    serve_next(&listener, &rt, &short_limits(), &mut service)?;
+    serve_next(&mut acceptor, &rt, &short_limits(), &mut service)?;
     assert_eq!(rt; name_of(service.fault), "gone");
     let client = client_that(TcpStream::connect(&rt, address)?, 9, "ends")?;
-    serve_next(&listener, &rt, &short_limits(), &mut service)?;
+    serve_next(&mut acceptor, &rt, &short_limits(), &mut service)?;
     assert_eq!(rt; client.map(|client| receive(&client)), Some((0, None)));
     assert_eq!(rt; name_of(service.fault), "end");
     assert_eq!(rt; (service.served, service.turns), (2, 2));

@@ -3,7 +3,7 @@ use crate::exchange::{
     Exchange, Exchanges, SteppingClock, client_that, name_of, number, short_limits,
 };
 use fixtures::cell;
-use server::{Limits, serve_next};
+use server::{Acceptor, Limits, serve_next};
 use std::io;
 use std::net::{TcpListener, TcpStream};
 use std::test::Fail;
@@ -32,7 +32,12 @@ fn serve<'a>(rt: &HostRuntime, row: &str, text: &'a [u8]) -> io::Result<Exchange
     let _client = client_that(client, number(row, 2), "stays")?;
     let mut service = Exchanges::new(Exchange::new(row, 2), text);
     let clock = SteppingClock::new(number(row, 1) as u64);
-    serve_next(&listener, &clock, &limits_of(row), &mut service)?;
+    serve_next(
+        &mut Acceptor::new(&listener),
+        &clock,
+        &limits_of(row),
+        &mut service,
+    )?;
     Ok(service)
 }
 

@@ -153,6 +153,11 @@ impl SteppingClock {
             now: Cell::new(0),
         }
     }
+
+    /// How many milliseconds have passed.
+    pub fn passed(&self) -> u64 {
+        self.now.get()
+    }
 }
 
 impl Clock for SteppingClock {

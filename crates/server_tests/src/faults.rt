@@ -1,7 +1,7 @@
 //! Each read and each write of a connection going wrong in turn.
 use crate::exchange::{Exchange, Exchanges, client_that, close_of, number, receive, short_limits};
 use fixtures::cell;
-use server::serve_next;
+use server::{Acceptor, serve_next};
 use std::cell::Cell;
 use std::io;
 use std::io::ErrorKind;
@@ -99,7 +99,12 @@ fn received<C: Clock>(
 ) -> io::Result<Option<usize>> {
     let client = TcpStream::connect(rt, listener.local_addr()?)?;
     let client = client_that(client, number(row, 0), "ends")?;
-    serve_next(listener, clock, &short_limits(), service)?;
+    serve_next(
+        &mut Acceptor::new(listener),
+        clock,
+        &short_limits(),
+        service,
+    )?;
     let received = client.map(|client| receive(&client));
     Ok(received.and_then(|(count, fault)| fault.is_none().then_some(count)))
 }

@@ -2,7 +2,7 @@
 use crate::exchange::{client_that, number, short_limits};
 use fixtures::{Files, bytes, cell, county, table};
 use jobs::COUNTY_LIMIT;
-use server::serve_next;
+use server::{Acceptor, serve_next};
 use std::alloc::{AllocError, Global};
 use std::io;
 use std::io::{Read, Write};
@@ -59,7 +59,7 @@ pub fn serve<C: Clock>(
     let mut client = TcpStream::connect(rt, listener.local_addr()?)?;
     client.write_all(request)?;
     let client = client_that(client, 0, word)?;
-    serve_next(listener, clock, &short_limits(), state)?;
+    serve_next(&mut Acceptor::new(listener), clock, &short_limits(), state)?;
     let mut reply = Vec::new(rt.alloc());
     if let Some(mut client) = client {
         client.read_to_end(&mut reply)?;

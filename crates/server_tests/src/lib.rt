@@ -9,6 +9,8 @@ mod clients;
 #[cfg(test)]
 mod clocks;
 #[cfg(test)]
+mod closes;
+#[cfg(test)]
 mod exchange;
 #[cfg(test)]
 mod faults;

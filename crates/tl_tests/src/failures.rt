@@ -2,6 +2,7 @@
 use crate::counties::load;
 use crate::seen::Seen;
 use fixtures::{Device, Files, Readers, cell, is_refusal};
+use refusals::Fault;
 use std::alloc::Global;
 use tl_segments::{CountyFile, LoadFault};
 

@@ -109,7 +109,7 @@ equals; 0; 'Abcdefghijklmnopqrstuvwxyzabcd'; 'abcdefghijklmnopqrstuvwxyzabce'
 equals; 0; 'Abcdefghijklmnopqrstuvwxyzabcd'; 'abcdefghijklmnopqrstuvwxyzabc'";
 
 /// Gives a text between quotes in a row, the first one by 1, the second one by 3, and so on.
-pub fn quoted(row: &str, number: usize) -> Option<&[u8]> {
+fn quoted(row: &str, number: usize) -> Option<&[u8]> {
     let text = row.split('\'').nth(number)?;
     Some(text.as_bytes())
 }

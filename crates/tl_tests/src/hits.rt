@@ -1,92 +1,91 @@
 //! Hits of house numbers on streets, worked by hand.
-use crate::fields::quoted;
 use crate::sweep::growths;
 use fixtures::{Files, bytes, cell, county};
 use geocode::{Query, QueryFault, hit_lines};
 use std::alloc::{Allocator, Global};
 use tl_segments::{County, LoadFault};
 
-// The house number, the name, and the ZIP code if one is asked for; the lines of the hits, or which of the texts isn't
-// in its form; and the files of types 1, 4, 5 and 6 of a county, and of a second one.
+// The house number, the name, and the ZIP code or `-` where none is asked for; the lines of the hits, or which of these
+// isn't in its form; and the files of types 1, 4, 5 and 6 of a county, and of a second one.
 const HITS: &str = r"
-'151' 'main' '36067'; 123456789\tL\t-86494898\t32405102\n; {rt1}\n
-'150' 'main' '36067'; 123456789\tR\t-86494898\t32405102\n; {rt1}\n
-'00000000150' 'MAIN' '00000036067'; 123456789\tR\t-86494898\t32405102\n; {rt1}\n
-'151' 'main' '36068';; {rt1}\n
-'101' 'MAIN'; 123456789\tL\t-86500000\t32400000\n; {rt1}\n
-'199' 'MAIN'; 123456789\tL\t-86490000\t32410000\n; {rt1}\n
-'151' 'mai';; {rt1}\n
-'151' 'main                          '; 123456789\tL\t-86494898\t32405102\n; {rt1}\n
-'151' 'mainX                         ';; {rt1}\n
-'151' ' ';; {rt1}\n
-'151' ' '; 123456789\tL\t-86494898\t32405102\n; {rt1 FENAME=}\n
-'151' 'cAFé'; 123456789\tL\t-86494898\t32405102\n; {rt1 FENAME=Caf\xc3\xa9}\n
-'151' 'cAFÉ';; {rt1 FENAME=Caf\xc3\xa9}\n
-'151' 'name of street with 30 letters';; {rt1}\n
-'0' 'main';; {rt1}\n
-'1510' 'main';; {rt1}\n
-'99999999999' 'main';; {rt1}\n
-'151' 'main' '0';; {rt1}\n
-'151' 'main' '3606';; {rt1}\n
-'151' 'main' '360670';; {rt1}\n
-'151' 'main' '501'; 123456789\tL\t-86494898\t32405102\n; {rt1 ZIPL=00501}\n
-'151' 'main' '36067';; {rt1 ZIPL=}\n
-'151' 'main' '0';; {rt1 ZIPL=}\n
-'151' 'main'; 123456789\tL\t-86494898\t32405102\n; {rt1 ZIPL=}\n
-'150' 'main' '36067'; 123456789\tR\t-86494898\t32405102\n; {rt1 ZIPL=}\n
-'151' 'main'; 123456789\tL\t-86495103\t32404897\n; {rt1 FRADDL=199 TOADDL=101}\n
-'151' 'main'; 123456789\tL\t-86495102\t32404898\n;
+151; main; 36067; 123456789\tL\t-86494898\t32405102\n; {rt1}\n
+150; main; 36067; 123456789\tR\t-86494898\t32405102\n; {rt1}\n
+00000000150; MAIN; 00000036067; 123456789\tR\t-86494898\t32405102\n; {rt1}\n
+151; main; 36068;; {rt1}\n
+101; MAIN; -; 123456789\tL\t-86500000\t32400000\n; {rt1}\n
+199; MAIN; -; 123456789\tL\t-86490000\t32410000\n; {rt1}\n
+151; mai; -;; {rt1}\n
+151; main{\x20*26}; -; 123456789\tL\t-86494898\t32405102\n; {rt1}\n
+151; mainX{\x20*25}; -;; {rt1}\n
+151; \x20; -;; {rt1}\n
+151; \x20; -; 123456789\tL\t-86494898\t32405102\n; {rt1 FENAME=}\n
+151; cAFé; -; 123456789\tL\t-86494898\t32405102\n; {rt1 FENAME=Caf\xc3\xa9}\n
+151; cAFÉ; -;; {rt1 FENAME=Caf\xc3\xa9}\n
+151; name of street with 30 letters; -;; {rt1}\n
+0; main; -;; {rt1}\n
+1510; main; -;; {rt1}\n
+99999999999; main; -;; {rt1}\n
+151; main; 0;; {rt1}\n
+151; main; 3606;; {rt1}\n
+151; main; 360670;; {rt1}\n
+151; main; 501; 123456789\tL\t-86494898\t32405102\n; {rt1 ZIPL=00501}\n
+151; main; 36067;; {rt1 ZIPL=}\n
+151; main; 0;; {rt1 ZIPL=}\n
+151; main; -; 123456789\tL\t-86494898\t32405102\n; {rt1 ZIPL=}\n
+150; main; 36067; 123456789\tR\t-86494898\t32405102\n; {rt1 ZIPL=}\n
+151; main; -; 123456789\tL\t-86495103\t32404897\n; {rt1 FRADDL=199 TOADDL=101}\n
+151; main; -; 123456789\tL\t-86495102\t32404898\n;
   {rt1 FRLONG=-086490000 FRLAT=+32410000 TOLONG=-086500000 TOLAT=+32400000}\n
-'151' 'main'; 123456789\tL\t-\t-\n; {rt1 FRLAT=}\n
-'150' 'main'; 123456789\tR\t-\t-\n; {rt1 FRLONG=}\n
-'151' 'main'; 123456789\tL\t-\t-\n; {rt1 TOLONG=}\n
-'151' 'main'; 123456789\tL\t-\t-\n; {rt1 TOLAT=}\n
-'151' 'main'; 123456789\tL\t86494898\t32405102\n; {rt1 FRLONG=_086500000 TOLONG=_086490000}\n
-'101' 'main'; 123456789\tL\t0\t0\n; {rt1 FRLONG=-0 FRLAT=+0}\n
-'151' 'main'; 123456789\tL\t-86500000\t32400000\n; {rt1 FRADDL=151 TOADDL=151}\n
-'150' 'main'; 123456789\tR\t-86494898\t32405102\n; {rt1 FRADDL=151 TOADDL=151}\n
-'164' 'main'; 123456789\tR\t-86493470\t32406530\n; {rt1 FRADDL=164-20}\n
-'151' 'main';; {rt1 FRADDL=}\n
-'151' 'main';; {rt1 TOADDL=}\n
-'150' 'main'; 123456789\tL\t-86494950\t32405050\n123456789\tR\t-86494898\t32405102\n; {rt1 FRADDL=100}\n
-'151' 'main'; 123456789\tL\t-86494849\t32405151\n; {rt1 FRADDL=100}\n
-'150' 'main'; 123456789\tL\t-86494898\t32405102\n123456789\tR\t-86494898\t32405102\n; {rt1 FRADDL=100 TOADDL=198}\n
-'50000000001' 'main'; 123456789\tL\t0\t0\n;
+151; main; -; 123456789\tL\t-\t-\n; {rt1 FRLAT=}\n
+150; main; -; 123456789\tR\t-\t-\n; {rt1 FRLONG=}\n
+151; main; -; 123456789\tL\t-\t-\n; {rt1 TOLONG=}\n
+151; main; -; 123456789\tL\t-\t-\n; {rt1 TOLAT=}\n
+151; main; -; 123456789\tL\t86494898\t32405102\n; {rt1 FRLONG=_086500000 TOLONG=_086490000}\n
+101; main; -; 123456789\tL\t0\t0\n; {rt1 FRLONG=-0 FRLAT=+0}\n
+151; main; -; 123456789\tL\t-86500000\t32400000\n; {rt1 FRADDL=151 TOADDL=151}\n
+150; main; -; 123456789\tR\t-86494898\t32405102\n; {rt1 FRADDL=151 TOADDL=151}\n
+164; main; -; 123456789\tR\t-86493470\t32406530\n; {rt1 FRADDL=164-20}\n
+151; main; -;; {rt1 FRADDL=}\n
+151; main; -;; {rt1 TOADDL=}\n
+150; main; -; 123456789\tL\t-86494950\t32405050\n123456789\tR\t-86494898\t32405102\n; {rt1 FRADDL=100}\n
+151; main; -; 123456789\tL\t-86494849\t32405151\n; {rt1 FRADDL=100}\n
+150; main; -; 123456789\tL\t-86494898\t32405102\n123456789\tR\t-86494898\t32405102\n; {rt1 FRADDL=100 TOADDL=198}\n
+50000000001; main; -; 123456789\tL\t0\t0\n;
   {rt1 FRADDL=00000000000 TOADDL=99999999999 FRLONG=-999999999 FRLAT=-99999999 TOLONG=+999999999 TOLAT=+99999999}\n
-'99999999999' 'main'; 123456789\tL\t999999999\t99999999\n;
+99999999999; main; -; 123456789\tL\t999999999\t99999999\n;
   {rt1 FRADDL=00000000000 TOADDL=99999999999 FRLONG=-999999999 FRLAT=-99999999 TOLONG=+999999999 TOLAT=+99999999}\n
-'1' 'main'; 123456789\tL\t999999998\t99999998\n;
+1; main; -; 123456789\tL\t999999998\t99999998\n;
   {rt1 FRADDL=99999999999 TOADDL=00000000000 FRLONG=-999999999 FRLAT=-99999999 TOLONG=+999999999 TOLAT=+99999999}\n
-'151' 'main'; 123456789\tL\t-86494898\t32405102\n123456789\tL\t-86494898\t32405102\n;
-  {rt1}\n;;; {rt6 FRADDL=101 TOADDL=199 ZIPL=}\n
-'151' 'main' '36067'; 123456789\tL\t-86494898\t32405102\n; {rt1}\n;;; {rt6 FRADDL=101 TOADDL=199 ZIPL=}\n
-'151' 'main' '36068'; 123456789\tL\t-86494898\t32405102\n123456789\tR\t-86500000\t32400000\n; {rt1}\n;;;
+151; main; -; 123456789\tL\t-86494898\t32405102\n123456789\tL\t-86494898\t32405102\n; {rt1}\n;;;
+  {rt6 FRADDL=101 TOADDL=199 ZIPL=}\n
+151; main; 36067; 123456789\tL\t-86494898\t32405102\n; {rt1}\n;;; {rt6 FRADDL=101 TOADDL=199 ZIPL=}\n
+151; main; 36068; 123456789\tL\t-86494898\t32405102\n123456789\tR\t-86500000\t32400000\n; {rt1}\n;;;
   {rt6 FRADDL=101 TOADDL=199 ZIPL=36068}\n{rt6 FRADDL= TOADDL= ZIPL= FRADDR=151 TOADDR=151 ZIPR=36068}\n
-'151' 'main'; 123456789\tL\t-86494898\t32405102\n; {rt1}\n;;; {rt6 TLID=5 FRADDL=101 TOADDL=199}\n
-'151' 'OAK'; 123456789\tL\t-86494898\t32405102\n; {rt1}\n; {rt4}\n; {rt5}\n
-'151' 'elm';; {rt1}\n; {rt4}\n; {rt5}\n
-'151' 'main'; 123456789\tL\t-86494898\t32405102\n; {rt1}\n; {rt4}\n; {rt5 FENAME=main}\n
-'151' 'main'; 9\tL\t-86494898\t32405102\n7\tL\t-86494898\t32405102\n5\tL\t-86494898\t32405102\n;
+151; main; -; 123456789\tL\t-86494898\t32405102\n; {rt1}\n;;; {rt6 TLID=5 FRADDL=101 TOADDL=199}\n
+151; OAK; -; 123456789\tL\t-86494898\t32405102\n; {rt1}\n; {rt4}\n; {rt5}\n
+151; elm; -;; {rt1}\n; {rt4}\n; {rt5}\n
+151; main; -; 123456789\tL\t-86494898\t32405102\n; {rt1}\n; {rt4}\n; {rt5 FENAME=main}\n
+151; main; -; 9\tL\t-86494898\t32405102\n7\tL\t-86494898\t32405102\n5\tL\t-86494898\t32405102\n;
   {rt1 TLID=9}\n{rt1 TLID=7}\n{rt1 FENAME=Oak}\n{rt1 TLID=0000000005}\n
-'151' 'main'; 9\tL\t-86494898\t32405102\n7\tL\t-86494898\t32405102\n; {rt1 TLID=9}\n;;;; {rt1 TLID=7}\n
-'151' 'main';;;;;; {rt1 FENAME=Elm}\n
-'151' 'elm'; 123456789\tL\t-86494898\t32405102\n; {rt1}\n;;;; {rt1 FENAME=Elm}\n
-'151' 'main'; {7\tL\t-86494898\t32405102\n*800}{5\tL\t-86494898\t32405102\n*800};
-  {rt1 TLID=7\n*800};;;; {rt1 TLID=5\n*800}
-'' 'main'; number; {rt1}\n
-'+151' 'main'; number; {rt1}\n
-' 151' 'main'; number; {rt1}\n
-'151 ' 'main'; number; {rt1}\n
-'15x' 'main'; number; {rt1}\n
-'000000000151' 'main'; number; {rt1}\n
-'151' ''; name; {rt1}\n
-'151' 'name of a street of 31 letters.'; name; {rt1}\n
-'151' 'main' ''; zip; {rt1}\n
-'151' 'main' '-1'; zip; {rt1}\n
-'151' 'main' '36067 '; zip; {rt1}\n
-'151' 'main' '000000036067'; zip; {rt1}\n
-'' '' 'x'; number; {rt1}\n
-'151' '' 'x'; name; {rt1}\n
+151; main; -; 9\tL\t-86494898\t32405102\n7\tL\t-86494898\t32405102\n; {rt1 TLID=9}\n;;;; {rt1 TLID=7}\n
+151; main; -;;;;;; {rt1 FENAME=Elm}\n
+151; elm; -; 123456789\tL\t-86494898\t32405102\n; {rt1}\n;;;; {rt1 FENAME=Elm}\n
+151; main; -; {7\tL\t-86494898\t32405102\n*800}{5\tL\t-86494898\t32405102\n*800}; {rt1 TLID=7\n*800};;;;
+  {rt1 TLID=5\n*800}
+; main; -; number; {rt1}\n
++151; main; -; number; {rt1}\n
+\x20151; main; -; number; {rt1}\n
+151\x20; main; -; number; {rt1}\n
+15x; main; -; number; {rt1}\n
+000000000151; main; -; number; {rt1}\n
+151;; -; name; {rt1}\n
+151; name of a street of 31 letters.; -; name; {rt1}\n
+151; main;; zip; {rt1}\n
+151; main; -1; zip; {rt1}\n
+151; main; 36067\x20; zip; {rt1}\n
+151; main; 000000036067; zip; {rt1}\n
+;; x; number; {rt1}\n
+151;; x; name; {rt1}\n
 ";
 
 /// Tells whether what a row asks for is answered as it says.
@@ -102,7 +101,7 @@ fn counties_of<A: Allocator + Copy>(
     row: &str,
 ) -> Result<Vec<County<A>>, LoadFault> {
     let mut counties = Vec::new(alloc);
-    for first in [2, 6] {
+    for first in [4, 8] {
         let files = Files::new(alloc, row, first)?;
         counties.push(county(heap, &files)?)?;
     }
@@ -115,9 +114,11 @@ fn is_found_in<A: Allocator + Copy>(
     counties: &[County<A>],
     row: &str,
 ) -> Result<bool, LoadFault> {
-    let (number, name) = (quoted(row, 1).unwrap_or(b""), quoted(row, 3).unwrap_or(b""));
-    let answer = cell(row, 1);
-    match Query::of(number, name, quoted(row, 5)) {
+    let (number, name) = (bytes(alloc, cell(row, 0))?, bytes(alloc, cell(row, 1))?);
+    let zip = bytes(alloc, cell(row, 2))?;
+    let zip = (cell(row, 2) != "-").then_some(zip.as_slice());
+    let answer = cell(row, 3);
+    match Query::of(&number, &name, zip) {
         Ok(query) => has_hits(alloc, heap, counties, query, answer),
         Err(QueryFault::Number) => Ok(answer == "number"),
         Err(QueryFault::Name) => Ok(answer == "name"),

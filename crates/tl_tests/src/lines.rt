@@ -31,6 +31,11 @@ a\n{x*233}\nab\n; a\nWrongLength\nxx\nab\n
 // A buffer of each size, 0 where there is none: from one byte at a time to more than a line has.
 const SIZES: &str = "0 1 3 100 230 231 232 8192";
 
+/// The name in a refusal's line that has no position.
+fn name_of(line: &str) -> &str {
+    line.rsplit(' ').next().unwrap_or("")
+}
+
 /// Tells whether these lines and faults are read in turn, each with the next number, and no more.
 fn are_lines<R: CountedRead>(reader: &mut R, expected: &[u8]) -> bool {
     let mut line = Line::new();
@@ -41,9 +46,9 @@ fn are_lines<R: CountedRead>(reader: &mut R, expected: &[u8]) -> bool {
             Ok(Some(())) if line.number() == next => rest.strip_prefix(line.bytes()),
             Ok(Some(())) => None,
             Ok(None) => return rest.is_empty() && line.bytes().is_empty(),
-            Err(fault) if fault.line == u64::from(next) => rest.strip_prefix(
-                fault.name().as_bytes(),
-            ),
+            Err(fault) if fault.line == u64::from(next) => rest.strip_prefix(name_of(
+                &fault.flaw.refusal().line(),
+            ).as_bytes()),
             Err(_) => None,
         };
         let Some([b'\n', after @ ..]) = after else {

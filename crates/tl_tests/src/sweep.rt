@@ -2,6 +2,7 @@
 use crate::counties::load_row;
 use crate::hits::is_found;
 use fixtures::{Refusing, cell, is_refusal, table};
+use refusals::Fault;
 use std::alloc::Global;
 use std::process::Abort;
 use tl_segments::LoadFault;

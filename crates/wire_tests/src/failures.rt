@@ -32,8 +32,16 @@ POST /jobs HTTP/1.1\r\nTransfer-Encoding: chunked\r\n\r\n => 411
 POST /jobs HTTP/1.1\r\nContent-Length: 16\r\nContent-Length: 16\r\n\r\n => 400
 POST /jobs HTTP/1.1\r\nContent-Length: 1048577\r\n\r\n => 413";
 
-// Requests that are decided before their body, or what is to be a head, has come.
+// Requests that are decided before their body, or what is to be a head, has come. A head is refused at the first byte that no head has there.
 const DECIDED: &str = r"-
+GET /x HTTP/2 => 400
+GET /x HTTP/1.1x => 400
+GET /x HTTP/1.1\rx => 400
+GET /x HTTP/1.1\r\nA: b\rx => 400
+GET /x HTTP/1.1\r\nA x => 400
+\rx => 400
+GET /\x7f => 400
+GET /x HTTP/1.1\r\n{A:\r\n*65} => 400
 {\n*8192} => 400
 {A*8192} => 400
 POST /verify HTTP/1.1\r\nContent-Length: 16\r\nX: {a*8146} => 400
@@ -96,6 +104,7 @@ const GROWTHS: &str = r"{rt1\n*2}
 - turn => none
 - GET /jobs/2{end} => 200 octets 2 2\n{0\trt1\n*2}
 + POST /verify HTTP/1.1\r\nContent-Length: 17\r\n\r\n{every} => 400
+- POST /verify HTTP/1.1\r\nContent-Length: 1048576\r\n\r\n => 400
 - PUT /verify{end} => 405 POST
 - POST /verify{end} => 411
 - POST /verify HTTP/1.1\r\nContent-Length: 1048577\r\n\r\n => 413

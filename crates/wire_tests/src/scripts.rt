@@ -124,6 +124,31 @@ turn => none
 GET /jobs/2{end} => 200 octets 600 600\n{18446744073709551615\trt1\n*600}
 POST /extract HTTP/1.1 >> {every} => 200 octets {0\trt1\n*600}";
 
+// A job with more than a mebibyte of rows.
+pub const ROWS: &str = r"{rt1\n*4608}
+POST /jobs HTTP/1.1 >> {every} => 200 text 1\n
+turn => 256 4608
+turn => 512 4608
+turn => 768 4608
+turn => 1024 4608
+turn => 1280 4608
+turn => 1536 4608
+turn => 1792 4608
+turn => 2048 4608
+turn => 2304 4608
+turn => 2560 4608
+turn => 2816 4608
+turn => 3072 4608
+turn => 3328 4608
+turn => 3584 4608
+turn => 3840 4608
+turn => 4096 4608
+turn => 4352 4608
+turn => 4608 4608
+turn => none
+GET /jobs/1{end} => 200 octets 4608 4608\n{0\trt1\n*4608}
+POST /extract HTTP/1.1 >> {every} => 200 octets {0\trt1\n*4608}";
+
 // A program of as many words as one may have.
 pub const LONG: &str = r"{rt1\n*2}
 POST /jobs HTTP/1.1 >> {asm mov r0, 1 *65535 | exit} => 200 text 1\n

@@ -102,3 +102,9 @@ fn scripts(rt: HostRuntime) {
         );
     }
 }
+
+#[test]
+fn rows_of_more_than_a_mebibyte(rt: HostRuntime) {
+    let wrong = wrong_in(rt.alloc(), scripts::ROWS, "cut", 1, 1);
+    assert_eq!(rt; wrong, Ok(None));
+}

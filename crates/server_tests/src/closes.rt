@@ -1,0 +1,64 @@
+//! How connections are closed, by limits of an hour but for the one that a row is of: a test that waits for another one doesn't end.
+use crate::exchange::{Exchange, Exchanges, SteppingClock, client_that, close_of, number, receive};
+use fixtures::cell;
+use server::{Acceptor, Limits, serve_next};
+use std::io;
+use std::net::{TcpListener, TcpStream};
+use std::test::Fail;
+use std::time::{Clock, Duration, Instant};
+
+// How many bytes a client sends, which then stays, and of how many the request is; how the service has the connection closed; the limit of what comes
+// behind the request and the step of the clock, in milliseconds; by how much the clock has gone on at the end: a step a call.
+const CLOSES: &str = "\
+10; 10; at once; 3600000; 100; 200
+5; 5; lingering; 200; 0; 0
+300000; 5; lingering; 200; 100; 500
+300000; 5; lingering; 200; 199; 995
+300000; 5; lingering; 200; 200; 800
+300000; 5; at once; 200; 100; 500";
+
+/// Serves a client of a row, of a service that replies with 50 bytes, and tells how many of these the client got, if nothing failed for it.
+fn received<C: Clock>(rt: &HostRuntime, clock: &C, row: &str) -> io::Result<Option<usize>> {
+    let listener = TcpListener::bind(rt, "127.0.0.1:0")?;
+    let client = TcpStream::connect(rt, listener.local_addr()?)?;
+    let client = client_that(client, number(row, 0), "stays")?;
+    let exchange = Exchange {
+        request: number(row, 1),
+        per_read: 4096,
+        reply: 50,
+        per_write: 50,
+        close: close_of(cell(row, 2)),
+    };
+    let hour = Duration::from_secs(3600);
+    let limits = Limits {
+        silence: hour,
+        request: hour,
+        reply: hour,
+        linger: Duration::from_millis(number(row, 3) as u64),
+    };
+    let mut service = Exchanges::new(exchange, &[b'r'; 50]);
+    serve_next(&mut Acceptor::new(&listener), clock, &limits, &mut service)?;
+    let received = client.map(|client| receive(&client));
+    Ok(received.map(|(count, _fault)| count))
+}
+
+/// A client that has sent all of its request isn't waited for, and one that may still be sending for as long as its own limit says.
+#[test]
+fn closes(rt: HostRuntime) -> Result<(), Fail> {
+    for row in CLOSES.lines() {
+        let clock = SteppingClock::new(number(row, 4) as u64);
+        let received = received(&rt, &clock, row)?;
+        assert_eq!(rt; received, Some(50), "{row}");
+        assert_eq!(rt; clock.passed(), number(row, 5) as u64, "{row}");
+    }
+    Ok(())
+}
+
+/// What a client may still be sending is read until the limit, and not refused before. The system may wake a little before its timeout.
+#[test]
+fn lingers(rt: HostRuntime) -> Result<(), Fail> {
+    let start = Instant::now(&rt)?;
+    assert_eq!(rt; received(&rt, &rt, "5; 5; lingering; 200")?, Some(50));
+    assert!(rt; start.elapsed(&rt)? >= Duration::from_millis(150));
+    Ok(())
+}
