@@ -138,7 +138,7 @@ within bytes place insn below begins =
     ∙ length-append (spelling insn) begins.0 in
     omega arith
 
--- an instruction behind those so far
+-- an instruction after those so far
 module _ (bytes : List ℕ) (place : ℕ) (code : List Insn) (insn : Insn) (below : place < length bytes / 8)
     (so_far : first_words place bytes ≡ code_words code) (begins : BeginsAt bytes place insn) where
   -- the words so far, with the instruction's
@@ -156,7 +156,7 @@ module _ (bytes : List ℕ) (place : ℕ) (code : List Insn) (insn : Insn) (belo
       words_split place words bytes ∙ ap (λ (ws : List Word). ws ++ first_words words here) so_far
       ∙ ap (λ (ws : List Word). code_words code ++ ws) front ∙ flat_map_more spelling [] code insn
 
-  -- instructions of so few bytes fit, so only memory can be wanting
+  -- instructions of so few bytes fit, so only an allocation can fail
   pub push_fault : (fault : CodeFault) → length bytes ≤ 8 * WORD_LIMIT → IsPushFault code insn fault → IsFirstFault bytes fault
   push_fault fault small (inl (late, long)) =
       let fits = within bytes place insn below begins in

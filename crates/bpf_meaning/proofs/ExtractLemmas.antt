@@ -8,7 +8,7 @@ use Rattle.bpf_meaning.specs.Run.{Answers}
 use Rattle.bpf_meaning.proofs.RunLemmas.{one_answer_lem}
 
 module _ (code : List Insn) where
-  -- the extract of segments one behind the other
+  -- the extract of segments, one after the other
   pub extract_append : (front back : List Contents) (text more : List ℕ) (rows others : ℕ) → IsExtract code front text rows
       → IsExtract code back more others → IsExtract code (front ++ back) (text ++ more) (rows + others)
   extract_append [] back text more rows others is next =

@@ -229,7 +229,7 @@ here_is ahead there straight waits edge =
 at_other : (ahead : Ahead) (other : ℕ) → ahead.place < other → waiting_at ahead.waiting other ≡ kept ahead other
 at_other ahead other past = sym (joined-other (waiting_at ahead.waiting) ahead.place ahead.straight other (λ same. absurd (omega arith)))
 
--- behind the place the states are those from before it, with those on the edges propagated
+-- past the place the states are those from before it, with those on the edges propagated
 abbrev pub ArePropagated : Ahead → Ahead → Option ℕ → Edges → Type 0
 ArePropagated before after target edges =
     (other : ℕ) → before.place < other → kept after other ≡ propagated (kept before) after.place target edges other

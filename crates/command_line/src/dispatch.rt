@@ -14,8 +14,8 @@ use tl_fields::CountedWrite;
 /// Does what the arguments after the program's name ask for, and answers the exit status.
 ///
 /// 0 is done, also where no row was chosen; 1 refused; 2 usage, also a call for help, and a line that the file doesn't have; 3 a file or an
-/// output that can't be used, also a source that isn't UTF-8; 4 want of memory. But for 2, and arguments for which memory was wanting, a flush
-/// of `out` has been tried by then. What is wrong stands on `errors`; a write to it that fails changes nothing.
+/// output that can't be used, also a source that isn't UTF-8; 4 out of memory. But for 2, and arguments that ran out of memory, a flush
+/// of `out` has been tried by then. Diagnostics go to `errors`; a write to it that fails changes nothing.
 pub fn command<F: Files, W: CountedWrite, E: CountedWrite>(
     alloc: Global,
     arguments: &[&str],
@@ -34,7 +34,7 @@ pub fn command<F: Files, W: CountedWrite, E: CountedWrite>(
         (disk F.bytes F.failed_opens F.failed_reads files.old) (disk F.bytes F.failed_opens F.failed_reads files.new)
         (writer W.contents W.counts out.old) (writer W.contents W.counts out.new)
         (writer E.contents E.counts errors.old) (writer E.contents E.counts errors.new) }
-    // Nothing is written where memory is wanting for the arguments.
+    // Nothing is written if the arguments run out of memory.
     ensures memory { result ≡ 4 → (out.new ≡ out.old) ⊎ ((request : Request) × IsOutOfMemory request (F.bytes files.old)
         (writer W.contents W.counts out.old) (writer W.contents W.counts out.new)
         (writer E.contents E.counts errors.old) (writer E.contents E.counts errors.new)) }

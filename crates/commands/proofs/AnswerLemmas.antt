@@ -41,7 +41,7 @@ write_counts (Verify asked) known fault out out' is = is.written.1
 write_counts (Assemble asked) known fault out out' is = is.written.1
 write_counts (Disassemble asked) known fault out out' is = is.written.1
 
--- behind any other failure a flush was tried, which keeps what was written
+-- after any other failure a flush was tried, which keeps what was written
 module _ (request : Request) (disk disk' : Disk) (out unflushed out' errors errors' : Writer) (kept : Keeps unflushed.held out'.held) where
   unwritten : unflushed ≡ out → Keeps out.held out'.held
   unwritten same = subst (λ (writer : Writer). Keeps writer.held out'.held) same kept
@@ -59,7 +59,7 @@ module _ (request : Request) (disk disk' : Disk) (out unflushed out' errors erro
   }
   refused_said failure carried said one = absurd (omega (arith, one))
 
-  -- memory is wanting
+  -- out of memory
   pub memory_said : (failure : Failure) → CarriesOut request (Err failure) disk disk' out unflushed → Says failure errors errors'
       → status failure ≡ 4 → IsOutOfMemory request disk.known out out' errors errors'
   memory_said (Refusal refusal) carried said four = of_library (record {

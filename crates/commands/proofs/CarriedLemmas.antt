@@ -77,7 +77,7 @@ module _ (request : Request) (disk disk' : Disk) (out out' : Writer) where
       })
 
 module _ (request : Request) (disk disk' : Disk) (out : Writer) where
-  -- memory is wanting
+  -- out of memory
   pub memory_carried : (failure : Failure) → failure ≡ Memory → IsUnfailed disk disk' → CarriesOut request (Err failure) disk disk' out out
   memory_carried failure is counts = subst (λ (failure : Failure). CarriesOut request (Err failure) disk disk' out out) (sym is)
       (record { outcome = refl; counts = λ no. counts; unflushed = refl })

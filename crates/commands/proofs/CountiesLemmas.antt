@@ -116,7 +116,7 @@ load_usage IsRefusedSo disk disk' Memory told two = absurd (omega (arith, two))
 load_usage IsRefusedSo disk disk' (CountyFile folder code file error) told two = absurd (omega (arith, two))
 load_usage IsRefusedSo disk disk' failure told two = absurd told
 
--- want of memory tells nothing of counties
+-- out of memory says nothing of counties
 pub memory_told : {T : Type 0} (result : Result T Failure) (IsRefusedSo : RefusalParts → Type 0) (disk disk' : Disk)
     → IsErrAnd result (λ failure. failure ≡ Memory) → IfErr result (TellsLoad IsRefusedSo disk disk')
 memory_told (Ok value) IsRefusedSo disk disk' is = tt

@@ -34,6 +34,6 @@ module _ (disk disk' : Disk) (before after between : ℕ) (opens : disk'.failed_
   used_program (Err (input.File of)) reads closes = file_used of reads closes
   used_program (Err (input.Code code)) reads closes = record { opens = opens; reads = sound reads closes }
 
--- what is behind the close leaves the count
+-- what follows the close leaves the count
 pub closes_behind : (reads a b b' : ℕ) → b' ≡ b → CountsClose reads a b → CountsClose reads a b'
 closes_behind reads a b b' same closes = subst (λ (failed : ℕ). CountsClose reads a failed) (sym same) closes

@@ -58,7 +58,7 @@ pub record IsNotUtf8 (request : Request) (known : List ℕ → Option (List ℕ)
 
 -- How a request is carried out. It is written, whole or up to a fault of the output. Or a library refuses it, and where the status is 3 a
 -- read
--- failed. Or nothing was written, since a file can't be used, or memory is wanting, or what was asked for isn't there. The output isn't
+-- failed. Or nothing was written, since a file can't be used, or memory ran out, or what was asked for isn't there. The output isn't
 -- flushed.
 abbrev pub IsCarriedOut : Request → Result (Unit {0}) Failure → Disk → Disk → Writer → Writer → Type 0
 IsCarriedOut request (Ok done) disk disk' out out' = Writes request disk.known (Ok done) out out'
@@ -100,7 +100,7 @@ pub record IsRefusalOf (status : ℕ) (request : Request) (known : List ℕ → 
   pub kept : Keeps unflushed.held out'.held
   pub said : SaysLine (line refusal) errors errors'
 
--- what was asked for was refused, neither for a device's failure nor for want of memory
+-- what was asked for was refused, and no device failed nor did an allocation
 abbrev pub IsRefusal : Request → (List ℕ → Option (List ℕ)) → Writer → Writer → Writer → Writer → Type 0
 IsRefusal request known out out' errors errors' = IsRefusalOf 1 request known out out' errors errors'
 
@@ -109,7 +109,7 @@ abbrev pub IsLackOfLine : Request → (List ℕ → Option (List ℕ)) → Write
 IsLackOfLine request known errors errors' = (number : ℕ) × LacksLine request known number
     × SaysText (codes "error: the type 1 file has no line " ++ decimal number ++ 10 ∷ []) errors errors'
 
--- Memory is wanting, which was said: for a library, which refused what was asked for so; or for something else, and nothing was written.
+-- An allocation failed, which was said: of a library, which refused what was asked for so; or for something else, and nothing was written.
 pub data IsOutOfMemory (request : Request) (known : List ℕ → Option (List ℕ)) (out out' errors errors' : Writer) : Type 0 where
   of_library : IsRefusalOf 4 request known out out' errors errors' → IsOutOfMemory request known out out' errors errors'
   of_other : Keeps out.held out'.held → SaysLine (line memory) errors errors'

@@ -42,8 +42,8 @@ pub record HaveRefusedCounty (known : List ℕ → Option (List ℕ)) (folder : 
   pub loaded : AreCountiesOf known folder before counties
   pub refused : IsRefusedCounty known folder code refusal
 
--- Why counties aren't loaded: one is refused so, and where the status is 3 a read failed; or a file of theirs can't be opened; or memory is
--- wanting.
+-- Why counties aren't loaded: one is refused so, and where the status is 3 a read failed; or a file of theirs can't be opened; or an
+-- allocation fails.
 abbrev pub TellsLoad : (RefusalParts → Type 0) → Disk → Disk → Failure → Type 0
 TellsLoad IsRefusedSo disk disk' (Refusal refusal) =
     IsRefusedSo refusal × (refusal_status refusal ≡ 3 → disk'.failed_reads ≢ disk.failed_reads)

@@ -17,7 +17,7 @@ pub record HoldTooLong (name folder code : List ℕ) (known : List ℕ → Optio
   pub readers : CountyReaders
   pub hold : HoldCounty known folder code readers
 
--- why a program and a county can't be read: the program is too long, or a file can't be used, or memory is wanting
+-- why a program and a county can't be read: the program is too long, or a file can't be used, or an allocation fails
 abbrev pub TellsInputs : List ℕ → List ℕ → List ℕ → Disk → Disk → Failure → Type 0
 TellsInputs name folder code disk disk' (Refusal refusal) = HoldTooLong name folder code disk.known refusal
 TellsInputs name folder code disk disk' (File of error) = IsFailed disk disk'

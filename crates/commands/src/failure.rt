@@ -32,9 +32,9 @@ pub const OUT_OF_MEMORY: u8 = 4;
 /// Why a command isn't done.
 #[derive(Drop)]
 pub enum Failure<'a> {
-    /// A library refuses, or memory is wanting for it.
+    /// A library refuses, or runs out of memory.
     Refusal(Refusal),
-    /// Memory is wanting for something else, before anything is written.
+    /// Another allocation fails, before anything is written.
     Memory,
     /// The output isn't written whole.
     Write(WriteFault),

@@ -36,7 +36,7 @@ impl From<AllocError> for FileFault {
 /// Why a program's bytes aren't there.
 #[derive(Clone, Copy)]
 pub enum ProgramInputFault {
-    /// Its file can't be opened or read, or memory is wanting.
+    /// Its file can't be opened or read, or an allocation fails.
     File(FileFault),
     /// It is longer than the limit, and this is its first fault: it has too many words, or its last one isn't whole.
     Code(CodeFault),

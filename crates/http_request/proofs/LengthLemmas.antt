@@ -37,7 +37,7 @@ values_in-append name front rest =
 
 -- a name, the headers, and how many of them were gone through
 module _ {X : Type 0} (name : List ℕ) (f : X → List ℕ × List ℕ) (xs : List X) (i : ℕ) where
-  -- the value of a header with the name comes behind those so far
+  -- the value of a header with the name comes after those so far
   values_in-named : (d : X) → i < length xs → is_named name (f (get_or xs i d)) ≡ true
       → values_in name (map f (take (i + 1) xs)) ≡ values_in name (map f (take i xs)) ++ (f (get_or xs i d)).1 ∷ []
   values_in-named d inside named =

@@ -45,7 +45,7 @@ pub record IsClosed (old new : Reader) : Type 0 where
   pub takes : Takes [] old new
   pub ended : IsAtEnd new.left
 
--- A read failed while the head wasn't whole, and more bytes might have made it so: none is read behind what can't begin a head.
+-- A read failed while the head wasn't whole, and more bytes might have made it so: nothing is read after what can't begin a head.
 pub record FailsInHead (old new : Reader) : Type 0 where
   pub taken : List ℕ
   pub fails : FailsBehind taken old new

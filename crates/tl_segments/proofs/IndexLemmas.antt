@@ -97,7 +97,7 @@ module _ {A : Type 0} (index : Index A) (line : LineParts) (number tlid : ℕ) (
   segment_read made =
       (good_line, λ lines of_lines. segment_from_index index lines segment.bytes tlid segment of_lines numbered made)
 
-  -- memory is wanting for a name or a range
+  -- out of memory for a name or a range
   pub wants_names : 1 ≤ length (names_in index tlid) → IsSegmentRead index line number segment old new (Err Memory)
   wants_names some = (good_line, λ lines of_lines. names_joined index lines segment.bytes tlid of_lines numbered some)
 

@@ -108,7 +108,7 @@ pub counts-push : {T A : Type 0} (file : CountyFile) {old new : Counts T A} (lin
 counts-push file lines line {number} is keeps adds q =
     adds.counts q ∙ ap (λ n. n + cond (nat_eq number q) 1 0) (keeps q) ∙ sym (length_with-push file lines line number q is)
 
--- a line with this number comes behind lines within the limits, in a file that has a limit
+-- a line with this number comes after lines within the limits, in a file that has a limit
 pub record Follows (file : CountyFile) (lines : List (List ℕ)) (line : List ℕ) (number : ℕ) : Type 0 where
   pub numbered : number_in file line ≡ Some number
   pub within : IsWithinLimits file lines

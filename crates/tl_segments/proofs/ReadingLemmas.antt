@@ -168,7 +168,7 @@ none_read file line input zeroth = record {
 
 module _ (file : CountyFile) (lines : List (List ℕ)) (line new_line : LineParts) (old now new : Reader)
     (read : IsReadSoFar file lines line old now) where
-  -- what the bytes behind these lines are says this of all bytes
+  -- what the bytes after these lines are says this of all bytes
   known_behind : (Q R : List ℕ → List ℕ → Type 0)
       → ((file mid rest : List ℕ) → AreFirstLines file lines mid → Q mid rest → R file rest) → WhereKnown now.left new.left Q
       → WhereKnown old.left new.left R

@@ -81,7 +81,7 @@ module _ {Y : Type 0} (xs : List Y) (y : Y) (first : ℕ) where
       ≡ (if nat_eq (first + length xs) q then Some y else (if nat_le first q then slice_get xs (q - first) else None))
   following-push q = following_by q (nat_le first q) refl
 
-  -- names of FEATs that follow the first one, and those of others, where the FEAT behind the former gets a name and had none
+  -- names of FEATs that follow the first one, and those of others, where the FEAT after the former gets a name and had none
   pub follows-push : (known others : ℕ → Option Y) (feat : ℕ)
       → ((q : ℕ) → option_or (if nat_le first q then slice_get xs (q - first) else None) (others q) ≡ known q)
       → known feat ≡ None → feat ≡ first + length xs → (q : ℕ)

@@ -21,7 +21,7 @@ pub record IsNextOf (file : CountyFile) (lines : List (List ℕ)) (line : LinePa
   pub good : IsGoodLine (layout file) line.bytes
   pub within : IsWithinLimits file (lines ++ line.bytes ∷ [])
 
--- a line is kept behind these, or with it they are beyond the limits
+-- a line is kept after these, or with it they are beyond the limits
 abbrev pub IsAdded : CountyFile → List (List ℕ) → List ℕ → (List (List ℕ) → Type 0) → Bool → Type 0
 IsAdded file lines line keeps true = IsWithinLimits file (lines ++ line ∷ []) × keeps (lines ++ line ∷ [])
 IsAdded file lines line keeps false = ¬ IsWithinLimits file (lines ++ line ∷ [])

@@ -79,7 +79,7 @@ pub(crate) trait Table {
     // it keeps these lines
     ghost keeps: { Self → List (List ℕ) → Type 0 };
 
-    /// Keeps a line more, behind those that it has, and answers whether there was room for it.
+    /// Keeps a line more, after those that it has, and answers whether there was room for it.
     fn add(&mut self, rt: &Record<'_, Self::Lines>) -> Result<bool, AllocError>
         ensures { (lines : List (List ℕ)) → keeps self.old lines → IsWithinLimits Self.Lines.FILE lines
             → IfOk result (IsAdded Self.Lines.FILE lines rt.now.bytes (keeps self.new)) };
@@ -111,7 +111,7 @@ pub(crate) fn read_file<T: Table, R: CountedRead>(
     }
 }
 
-/// Keeps a line more, behind those that the table has, or answers the fault that it is.
+/// Keeps a line more, after those that the table has, or answers the fault that it is.
 fn take<T: Table>(table: &mut T, line: &Line) -> Result<(), LoadFault>
     ensures { (lines : List (List ℕ)) → T.keeps table.old lines → IsWithinLimits T.Lines.FILE lines
         → IsTaken T.Lines.FILE lines line.now result (T.keeps table.new) }

@@ -23,7 +23,7 @@ impl<V: Drop, A: Allocator + Copy> Grouped<V, A> {
         }
     }
 
-    /// Adds a value behind those that have this number, if there is room for it.
+    /// Adds a value after those with this number, if there is room for it.
     pub(crate) fn push(&mut self, number: u64, value: V) -> Result<bool, AllocError>
         ensures { IfOk result (λ added.
             MatchBool added (AddsAt self.old self.new number value) (LINE_LIMIT ≤ length (list_at self.old number))) }

@@ -1,4 +1,4 @@
--- The same input gets one reply, and leaves one state, want of memory aside.
+-- The same input gets one reply, and leaves one state, out of memory aside.
 use Rattle.std.proofs.Common.{◌≡◌, ◌≢◌, ◌<◌, ℕ, List, All, Option, Some, None, inl, inr, refl, sym, ap, ◌∙◌, subst}
 use Rattle.std.specs.Borrow.{Bor}
 use Rattle.bpf_insn.proofs.CodeLemmas as code_of
@@ -43,7 +43,7 @@ IsOne reply other new again = (reply ≡ other) × (new ≡ again)
 abbrev pub AreBytes : ReplyParts → Type 0
 AreBytes reply = All (λ byte. byte < 256) reply.body
 
--- Replies that aren't that memory was wanting, and are of bytes.
+-- Replies other than out of memory, and of bytes.
 module _ (reply other : ReplyParts) (known : reply ≢ memory_reply) (given : other ≢ memory_reply) where
   one_source : (source : List ℕ) → AreBytes reply → AreBytes other → AssemblesTo source reply → AssemblesTo source other → reply ≡ other
   one_source source small little (inl is) (inl also) =

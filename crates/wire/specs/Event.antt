@@ -67,7 +67,7 @@ IsExchange (Replied input reply) exchange = Requests input exchange.event × (re
 IsExchange (Turned id reply) exchange = exchange ≡ record { event = Turn id; reply = reply }
 IsExchange Rested exchange = ⊥
 
--- an act is none: nothing is asked of the table, or memory is wanting before it is told
+-- an act is none: nothing is asked of the table, or an allocation fails before it is told
 abbrev pub IsNoExchange : Act → Type 0
 IsNoExchange (Replied input reply) = (event : Event) → Requests input event → reply ≡ memory_reply
 IsNoExchange (Turned id reply) = ⊥
