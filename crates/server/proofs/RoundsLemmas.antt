@@ -1,4 +1,4 @@
--- Rounds behind rounds.
+-- Rounds after rounds.
 use Rattle.std.proofs.Common.{ℕ, zero, suc, refl, subst}
 use Rattle.std.specs.declared.io.Error.{Error}
 use Rattle.server.specs.Rounds.{AreRounds, HasEnded, IsRound, Serves, Serving, ServesUntilFailure}

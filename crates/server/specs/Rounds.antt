@@ -1,5 +1,5 @@
 -- What a server does, connection by connection.
-use Rattle.std.specs.Prelude.{◌≡◌, ℕ, zero, suc, Result, Ok, Err}
+use Rattle.std.specs.Prelude.{◌≡◌, ℕ, zero, suc}
 use Rattle.std.specs.declared.io.Error.{Error}
 use Rattle.tl_fields.specs.Device.{Reader, Writer}
 use Rattle.server.specs.Acceptor.{Accepts, FailsOne, TakesOne}
@@ -27,12 +27,7 @@ pub record HasEnded {S : Type 0} (error : Error) (old new : Serving S) : Type 0 
   pub fails : FailsOne error old.accepts new.accepts
   pub service : new.service ≡ old.service
 
--- one round, or the end
-abbrev pub IsNext : {S : Type 0} → Serves S → (S → S → Type 0) → {T : Type 0} → Result T Error → Serving S → Serving S → Type 0
-IsNext serves turns (Ok done) old new = IsRound serves turns old new
-IsNext serves turns (Err error) old new = HasEnded error old new
-
--- so many rounds, one after the other
+-- `count` rounds, one after the other
 abbrev pub AreRounds : {S : Type 0} → Serves S → (S → S → Type 0) → ℕ → Serving S → Serving S → Type 0
 AreRounds serves turns zero old new = new ≡ old
 AreRounds {S} serves turns (suc count) old new =

@@ -1,6 +1,6 @@
 //! One connection after the other, each from its accept to its close.
-ghost use Rattle.std.specs.Prelude.{◌≡◌};
-ghost use Rattle.server.specs.Rounds.{IsNext, ServesUntilFailure};
+ghost use Rattle.std.specs.Prelude.{◌≡◌, IfErr, OnOk};
+ghost use Rattle.server.specs.Rounds.{HasEnded, IsRound, ServesUntilFailure};
 ghost use Rattle.server.specs.Service.{ServesSome};
 ghost use Rattle.server.specs.Tally.{ServesTallied, TurnsTallied};
 
@@ -42,9 +42,10 @@ pub fn serve_next<L: OpenListener<Stream = TcpStream>, C: Clock, S: Service>(
     limits: &Limits,
     service: &mut S,
 ) -> io::Result<()>
-    ensures { IsNext S.serves S.turns result
-        (record { accepts = acceptor.old; service = service.old })
-        (record { accepts = acceptor.new; service = service.new }) }
+    ensures round { OnOk result (IsRound S.serves S.turns (record { accepts = acceptor.old; service = service.old })
+        (record { accepts = acceptor.new; service = service.new })) }
+    ensures end { IfErr result (λ error. HasEnded error (record { accepts = acceptor.old; service = service.old })
+        (record { accepts = acceptor.new; service = service.new })) }
 {
     let stream = acceptor.accept()?;
     serve_client(stream, clock, limits, service);
@@ -78,7 +79,7 @@ fn has_unread(stream: &TcpStream) -> bool {
     stream.peek(&mut [0]).is_ok_and(|count| count > 0)
 }
 
-// So much is read behind a request at most.
+// At most this much is read after a request.
 const LINGER_BYTES: u64 = 1_048_576;
 
 /// Ends the sending side, and drops what the client still sends, so that it comes to read the reply before it hears of a reset.
