@@ -38,7 +38,7 @@ impl OpenListener for Aborting {
     }
 }
 
-/// A client is served behind accepts that failed for one connection or for a signal.
+/// A client is served after accepts that failed for one connection or for a signal.
 #[test]
 fn aborted(rt: HostRuntime) -> Result<(), Fail> {
     let listener = Aborting {
@@ -71,7 +71,7 @@ fn failed(rt: HostRuntime) -> Result<(), Fail> {
     Ok(())
 }
 
-/// Whether two clients are served, each once with a turn behind it, up to the accept that fails: of this listener one would wait.
+/// Whether two clients are served, each once with a turn after it, up to the accept that fails: of this listener one would wait.
 fn serves_two<C: Clock>(rt: &HostRuntime, clock: &C) -> io::Result<bool> {
     let listener = TcpListener::bind(rt, "127.0.0.1:0")?;
     listener.set_nonblocking(true)?;
@@ -88,7 +88,7 @@ fn serves_two<C: Clock>(rt: &HostRuntime, clock: &C) -> io::Result<bool> {
     Ok(name_of(Some(error.kind())) == "blocked" && (service.served(), service.turns()) == (2, 2))
 }
 
-/// The loop goes on behind a connection of which a read or a write fails.
+/// The loop goes on after a connection of which a read or a write fails.
 #[test]
 fn until_failure(rt: HostRuntime) -> Result<(), Fail> {
     for call in 1..=usize::MAX {

@@ -8,7 +8,7 @@ use std::test::Fail;
 use std::time::{Clock, Duration, Instant};
 
 // How many bytes a client sends, which then stays, and of how many the request is; how the service has the connection closed; the limit of what comes
-// behind the request and the step of the clock, in milliseconds; by how much the clock has gone on at the end: a step a call.
+// after the request and the step of the clock, in milliseconds; by how much the clock has gone on at the end: a step a call.
 const CLOSES: &str = "\
 10; 10; at once; 3600000; 100; 200
 5; 5; lingering; 200; 0; 0
