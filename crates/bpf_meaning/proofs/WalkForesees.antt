@@ -1,6 +1,5 @@
 -- One domain foresees another: where each step of an instruction over the first is sound for that over the second, so is the whole walk.
--- The
--- checks of an instruction are gone through here alone.
+-- The checks of an instruction are gone through here alone.
 use Rattle.std.proofs.Common.{◌≡◌, ℕ, ℤ, Option, Some, None, Result, refl}
 use Rattle.std.specs.Int.{cast_unsigned, w32}
 use Rattle.bpf_insn.specs.Jump.{jump_distance, words}
@@ -46,8 +45,7 @@ InsnFits Fits insn = Unit {0}
 -- A domain foresees another at an instruction: their parts are related, and each step of the instruction keeps that.
 pub record Foresees (A B : Domain) (insn : Insn) : Type 1 where
   -- immediates of which this is so; what is read from a register, of which more is known than of any value; and what is stored, which is
-  -- read
-  -- or an immediate
+  -- read or an immediate
   pub Fits : ℤ → Type 0
   pub Read : ℕ → A.Value → B.Value → Type 0
   pub Values : A.Value → B.Value → Type 0

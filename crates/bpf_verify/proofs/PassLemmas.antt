@@ -299,8 +299,7 @@ module _ (code passed : List Insn) (insn : Insn) (before after : Ahead) (areas :
       ∙ sym (areas_from-more annotation 0 passed insn)
 
   -- Below every other annotation that is good so far: its state here is above ours, so are its edges, and what is kept where they lead
-  -- stays
-  -- below it.
+  -- stays below it.
   module _ (other : Annotation) (good : IsGoodUpTo code next other) where
     good_before : IsGoodUpTo code place other
     good_before = record {

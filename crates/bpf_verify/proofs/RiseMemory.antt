@@ -271,8 +271,7 @@ frame_offsets_lower p q are =
     (frame_only_lower p.area p.offsets q.offsets are.offsets)
 
 -- Bytes that are written: of slots that may have been written over nothing is known above, and those that were written in any case have
--- their
--- marks below.
+-- their marks below.
 
 -- what is known once the bytes of a frame that are touched have their marks
 abbrev marks : Known → Offsets → ℤ → ℕ → Bool → Known

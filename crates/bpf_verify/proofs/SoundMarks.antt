@@ -1,6 +1,5 @@
 -- What is known of the frame is sound: bytes that have their marks are written, those that get them were written, and of slots that may
--- have
--- been written over nothing is known.
+-- have been written over nothing is known.
 use Rattle.std.proofs.Common.{◌≡◌, ℕ, zero, suc, ◌+◌, ◌<◌, ◌≤◌, ℤ, pos, ◌+ℤ◌, ◌≤ℤ◌, ◌&&◌, int_le, unsigned_abs, Bool, true, false, IsTrue}
 use Rattle.std.proofs.Common.{List, if◌then◌else◌, refl, subst, arith}
 use Rattle.std.specs.Ordering.{int_eq}

@@ -13,8 +13,7 @@ use Rattle.tl_fields.specs.declared.writing.WriteFault.{WriteFault}
 use Rattle.commands.specs.declared.assemble.Assemble.{Assemble}
 
 -- The source, which holds the bytes that are known of it, is UTF-8 and means a code, whose words were written, or a beginning of them up to
--- the
--- fault of the output.
+-- the fault of the output.
 pub record Writes (assemble : Assemble) (known : List ℕ → Option (List ℕ)) (result : Result (Unit {0}) WriteFault)
     (out out' : Writer) : Type 0 where
   pub source : List ℕ

@@ -57,8 +57,7 @@ pub record IsNotUtf8 (request : Request) (known : List ℕ → Option (List ℕ)
   pub no_text : ¬ IsUtf8 source
 
 -- How a request is carried out. It is written, whole or up to a fault of the output. Or a library refuses it, and where the status is 3 a
--- read
--- failed. Or nothing was written, since a file can't be used, or memory ran out, or what was asked for isn't there. The output isn't
+-- read failed. Or nothing was written, since a file can't be used, or memory ran out, or what was asked for isn't there. The output isn't
 -- flushed.
 abbrev pub IsCarriedOut : Request → Result (Unit {0}) Failure → Disk → Disk → Writer → Writer → Type 0
 IsCarriedOut request (Ok done) disk disk' out out' = Writes request disk.known (Ok done) out out'

@@ -13,10 +13,8 @@ use Rattle.commands.specs.Files.{Disk, IsFailed}
 use Rattle.commands.specs.declared.request.Request.{Request}
 
 -- Why a request isn't answered, where the status is 3. An open of a file failed, or a read, and nothing was written. A read of a county's
--- file
--- failed, and a library refused what was asked for. A source isn't UTF-8, and nothing was written. A write failed or took no byte: a
--- beginning was
--- written, and a flush was tried. Each of these was said. Or what was asked for was written whole, and the flush failed.
+-- file failed, and a library refused what was asked for. A source isn't UTF-8, and nothing was written. A write failed or took no byte: a
+-- beginning was written, and a flush was tried. Each of these was said. Or what was asked for was written whole, and the flush failed.
 pub data IsUnusable (request : Request) (disk disk' : Disk) (out out' errors errors' : Writer) : Type 0 where
   of_file : (name : List ℕ) → IsFailed disk disk' → Keeps out.held out'.held → SaysFile name errors errors'
       → IsUnusable request disk disk' out out' errors errors'

@@ -34,8 +34,7 @@ use Rattle.extract.specs.declared.program.ProgramFault.TheVariants as program_fa
 use Rattle.extract.proofs.RowLemmas.{chosen_count-le, extract_alike, row_alike}
 
 -- Lines were read so far, all good, segments made of them with what the index has, and all of the extract of these written: so many rows,
--- at
--- most one a line. Nothing failed.
+-- at most one a line. Nothing failed.
 pub record IsExtractedSoFar {A : Type 0} (index : Index A) (code : List Insn) (rows : ℕ) (line : LineParts) (rt1 rt1' : Reader)
     (out out' : Writer) : Type 0 where
   pub lines : List (List ℕ)
