@@ -54,12 +54,10 @@ whole_taken old new front count within taken =
 
 -- The content of a line as IsContentRead has it, but that the input has ended is said where its bytes are known.
 abbrev pub IsStopped : List ℕ → Reader → Reader → Stop → Type 0
-IsStopped content old new LineFeed = IsContentRead content old new LineFeed
 IsStopped content old new EndOfInput =
     (new.failed ≡ old.failed) × HasNoLineFeed content × (length content ≤ 230) × Consumes old.left new.left content
     × OnSome old.left (IsAtEnd new.left)
-IsStopped content old new TooLong = IsContentRead content old new TooLong
-IsStopped content old new ReadFailed = IsContentRead content old new ReadFailed
+IsStopped content old new stop = IsContentRead content old new stop
 
 -- the input has ended, where its bytes were known before
 end_known : (old now new : Option (List ℕ)) (content : List ℕ) → Consumes old now content → OnSome now (IsAtEnd new)
@@ -108,24 +106,16 @@ unknown input = record input { left = None }
 
 without_bytes : (content : List ℕ) (old new : Reader) (stop : Stop) → IsStopped content old new stop
     → IsContentRead content (unknown old) (unknown new) stop
-without_bytes content old new LineFeed read = (read.0, read.1, read.2, tt)
 without_bytes content old new EndOfInput read = (read.0, read.1, read.2, tt, tt)
 without_bytes content old new TooLong read = (read.0, read.1, read.2, read.3, tt)
-without_bytes content old new ReadFailed read = (read.0, read.1, read.2, tt)
-
-with_bytes : (content file : List ℕ) (failed : ℕ) (new : Reader) (stop : Stop)
-    → IsStopped content (record { left = Some file; failed = failed }) new stop
-    → IsContentRead content (record { left = Some file; failed = failed }) new stop
-with_bytes content file failed new LineFeed read = read
-with_bytes content file failed new EndOfInput read = read
-with_bytes content file failed new TooLong read = read
-with_bytes content file failed new ReadFailed read = read
+without_bytes content old new stop read = (read.0, read.1, read.2, tt)
 
 where_known : (content : List ℕ) (left : Option (List ℕ)) (failed : ℕ) (new : Reader) (stop : Stop)
     → IsStopped content (record { left = left; failed = failed }) new stop
     → OnSome left (IsContentRead content (record { left = left; failed = failed }) new stop)
 where_known content None failed new stop read = tt
-where_known content (Some file) failed new stop read = with_bytes content file failed new stop read
+where_known content (Some file) failed new EndOfInput read = read
+where_known content (Some file) failed new stop read = read
 
 -- the line has stopped: what is said of any reader, and of one whose bytes are known
 pub stopped_unknown : (content new_content : List ℕ) (old now new : Reader) (stop : Stop) → IsSoFar content old now

@@ -18,12 +18,6 @@ Appends-append (Some us) (Some vs) None xs ys first second = absurd second
 Appends-append (Some us) (Some vs) (Some ws) xs ys first second =
     second ∙ ap (λ front. front ++ ys) first ∙ append_assoc us xs ys
 
--- a failed write added no byte
-pub Appends-from_keeps : (a b : Option (List ℕ)) → Keeps a b → Appends a b []
-Appends-from_keeps None b kept = tt
-Appends-from_keeps (Some us) None kept = absurd kept
-Appends-from_keeps (Some us) (Some vs) kept = kept ∙ sym (append-nil us)
-
 -- where nothing was read, no byte was taken
 pub Consumes-refl : (known : Option (List ℕ)) → Consumes known known []
 Consumes-refl None = tt

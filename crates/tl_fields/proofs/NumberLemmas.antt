@@ -1,6 +1,6 @@
 -- What follows from the digits of a field.
 use Rattle.std.proofs.Common.{◌≡◌, ℕ, Bool, ◌&&◌, ◌==◌, nat_le, ◌+◌, ◌-◌, ◌*◌, ◌^◌, ◌<◌, ◌≤◌, true, false, List, [], ◌∷◌, length, get_or}
-use Rattle.std.proofs.Common.{take, drop, reverse, if◌then◌else◌, Some, None, IfSome, refl, subst, arith, rules}
+use Rattle.std.proofs.Common.{take, drop, reverse, if◌then◌else◌, Some, None, IfSome, refl, arith, rules}
 use Rattle.std.specs.List.{list_all}
 use Rattle.std.specs.Char.{is_ascii_digit, digit_value}
 use Rattle.std.specs.Str.Parse.{digits_value}
@@ -32,21 +32,21 @@ pub list_all-next : (ds : List ℕ) (i : ℕ) → i < length ds → is_ascii_dig
     → list_all is_ascii_digit (take i ds) ≡ true → list_all is_ascii_digit (take (i + 1) ds) ≡ true
 list_all-next ds i inside digit so_far = rw (list_all_more is_ascii_digit ds i 0 inside, so_far, digit) refl
 
-decimal_in-lt-by : (most : ℕ) (ds : List ℕ) (b : Bool) → is_decimal most ds ≡ b
-    → IfSome (if b then Some (digits_value 10 ds) else None) (λ n. n < 10 ^ most)
-decimal_in-lt-by most ds true is =
-    let parts = and_parts (nat_le 1 (length ds) && nat_le (length ds) most) _ is in
-    digits_value-lt ds most parts.1 (leb-true _ _ (and_parts (nat_le 1 (length ds)) _ parts.0).1)
-decimal_in-lt-by most ds false is = tt
-
 -- bytes of a length that a number may have
 pub decimal_in-few : (most : ℕ) (ds : List ℕ) → 1 ≤ length ds → length ds ≤ most
     → decimal_in most ds ≡ (if list_all is_ascii_digit ds then Some (digits_value 10 ds) else None)
 decimal_in-few most ds some few = rw (le-leb 1 (length ds) some, le-leb (length ds) most few) refl
 
+decimal_in-below_by : (most k : ℕ) (ds : List ℕ) (b : Bool) → (length ds ≤ most → length ds ≤ k) → is_decimal most ds ≡ b
+    → IfSome (if b then Some (digits_value 10 ds) else None) (λ n. n < 10 ^ k)
+decimal_in-below_by most k ds true fits is =
+    let parts = and_parts (nat_le 1 (length ds) && nat_le (length ds) most) _ is in
+    digits_value-lt ds k parts.1 (fits (leb-true _ _ (and_parts (nat_le 1 (length ds)) _ parts.0).1))
+decimal_in-below_by most k ds false fits is = tt
+
 -- so many digits write a number below that power of ten
 pub decimal_in-lt : (most : ℕ) (ds : List ℕ) → IfSome (decimal_in most ds) (λ n. n < 10 ^ most)
-decimal_in-lt most ds = decimal_in-lt-by most ds _ refl
+decimal_in-lt most ds = decimal_in-below_by most most ds _ (λ fits. fits) refl
 
 without_blanks_before-le_by : (b : ℕ) (bs : List ℕ) (t : Bool) → length (without_blanks_before bs) ≤ length bs
     → length (if t then without_blanks_before bs else b ∷ bs) ≤ length (b ∷ bs)
@@ -68,18 +68,10 @@ trim-le bytes =
       length-reverse (without_blanks_before (reverse front)),
     )
 
-decimal_in-short_by : (most k n : ℕ) (ds : List ℕ) (b : Bool) → length ds ≤ k → is_decimal most ds ≡ b
-    → (if b then Some (digits_value 10 ds) else None) ≡ Some n → n < 10 ^ k
-decimal_in-short_by most k n ds true short is e =
-    let parts = and_parts (nat_le 1 (length ds) && nat_le (length ds) most) _ is in
-    let same : digits_value 10 ds ≡ n = cc in
-    subst (λ n. n < 10 ^ k) same (digits_value-lt ds k parts.1 short)
-decimal_in-short_by most k n ds false short is e = cc
-
 number_of-short : (field : List ℕ) (k n : ℕ) → length field ≤ k → number_of field ≡ Some n → n < 10 ^ k
 unfolding number_of
 number_of-short field k n short e =
-    decimal_in-short_by 11 k n (trim field) _ (omega (arith, trim-le field)) refl e
+    rw e at (decimal_in-below_by 11 k (trim field) _ (λ fits. omega (arith, trim-le field)) refl)
 
 -- the number of a field has no more digits than the field has places
 pub number_of_lt : (line : List ℕ) (first last n : ℕ) → number_of (field_of line first last) ≡ Some n → n < 10 ^ (last + 1 - first)

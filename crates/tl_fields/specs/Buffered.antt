@@ -10,8 +10,8 @@ use Rattle.tl_fields.specs.declared.content.Stop.TheVariants.{LineFeed, EndOfInp
 abbrev pub GrowsBy : List ℕ → List ℕ → List ℕ → Type 0
 GrowsBy content new_content part = (new_content ≡ content ++ part) × HasNoLineFeed part × (length new_content ≤ 230)
 
--- The content grows by bytes that the buffer shows, and they are taken: the line goes on behind them, or it stops, and why. That the input has
--- ended is said where its bytes are known.
+-- The content grows by bytes that the buffer shows, and they are taken: the line goes on after them, or it stops, and why. That the input
+-- has ended is said where its bytes are known.
 abbrev pub IsFrontRead : List ℕ → List ℕ → Reader → Reader → Option Stop → Type 0
 IsFrontRead content new_content old new None =
     (new.failed ≡ old.failed) × (part : List ℕ) × GrowsBy content new_content part × (0 < length part) × Consumes old.left new.left part

@@ -26,7 +26,7 @@ GoesWrong TakesNothing result = result ≡ Ok 0
 abbrev pub room : {T : Type 0} → Fuse T → ℕ → ℕ
 room fuse bytes = if fuse.is_blown then bytes else min bytes fuse.bytes_left
 
--- how many bytes are left to take behind a write
+-- how many bytes are left to take after a write
 abbrev pub left_behind : {T E : Type 0} → Fuse T → Result ℕ E → ℕ
 left_behind fuse (Ok taken) = fuse.bytes_left - taken
 left_behind fuse (Err error) = fuse.bytes_left

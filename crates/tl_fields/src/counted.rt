@@ -27,7 +27,7 @@ pub trait CountedRead: Read {
         ensures failures { CountsFailure result (failed_reads self.old) (failed_reads self.new) };
 
     /// Reads a line's bytes up to its LF into `content`, in place of what it held, as if one byte a read. The LF is taken and left out of
-    /// the content. Nothing is read behind a failure, and a line of more than 230 bytes is left after its 231st.
+    /// the content. Nothing is read after a failure, and a line of more than 230 bytes is left after its 231st.
     ///
     /// There is no body to fall back on: what wraps a reader hands the call on, so that a reader with a buffer can search it.
     fn read_content(&mut self, content: &mut ArrayVec<u8, LONGEST_CONTENT>) -> Stop

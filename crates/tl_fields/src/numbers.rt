@@ -19,6 +19,7 @@ const MOST_COORDINATE_DIGITS: usize = 9;
 /// In the TIGER/Line 2006 record layouts a number stands at the left or the right end of its field,
 /// and blanks fill the rest; a field without a number is blank. Only the byte 32 is a blank. A house
 /// number that is no plain number, as `164-20`, and more than 11 digits are no number.
+#[tactic(auto, unfolding(crate::specs::Number::number_of))]
 pub fn number(field: &[u8]) -> Option<u64>
     ensures value { result ≡ number_of field.now }
     ensures small { IfSome result (λ n. n < 10 ^ 11) }
@@ -28,6 +29,7 @@ pub fn number(field: &[u8]) -> Option<u64>
 
 /// The coordinate of a field in millionths of a degree, or `None` where it has none: 1 to 9 digits between blanks, before which a sign may
 /// stand, as in `-086500000`. A blank between the sign and the digits isn't taken off.
+#[tactic(auto, unfolding(crate::specs::Coordinate::coordinate_of))]
 pub fn coordinate(field: &[u8]) -> Option<i64>
     ensures value { result ≡ coordinate_of field.now }
     ensures small { IfSome result (λ millionths. nat_abs millionths < 10 ^ 9) }
