@@ -6,12 +6,14 @@ ghost use Rattle.tl_records.specs.Lines.{AreLines};
 use crate::layout::{Type1, Type4, Type5, Type6};
 
 /// A file has at most one list of lines.
+#[tactic(auto, using(crate::proofs::LineLemmas::one_list_of_lines_lem))]
 pub fn one_list_of_lines()
     ensures { (file : List ℕ) (lines others : List (List ℕ))
         → AreLines file lines → AreLines file others → lines ≡ others }
 {}
 
 /// Every file has lines.
+#[tactic(auto, using(crate::proofs::LineLemmas::every_file_has_lines_lem))]
 pub fn every_file_has_lines()
     ensures { (file : List ℕ) → (lines : List (List ℕ)) × AreLines file lines }
 {}

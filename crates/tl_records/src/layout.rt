@@ -81,7 +81,7 @@ impl Type1 {
     pub const FENAME: Places = Places(20, 49);
     /// The feature's type.
     pub const FETYPE: Places = Places(50, 53);
-    /// The direction behind the feature's name.
+    /// The direction after the feature's name.
     pub const FEDIRS: Places = Places(54, 55);
     /// The census feature class code.
     pub const CFCC: Places = Places(56, 58);
@@ -197,7 +197,7 @@ impl Type5 {
     pub const FENAME: Places = Places(21, 50);
     /// The feature's type.
     pub const FETYPE: Places = Places(51, 54);
-    /// The direction behind the feature's name.
+    /// The direction after the feature's name.
     pub const FEDIRS: Places = Places(55, 56);
 }
 

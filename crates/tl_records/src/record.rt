@@ -82,6 +82,7 @@ impl<'a, T: RecordType> Record<'a, T> {
 
     /// The number of the field that has one in each line of the record type: of TLID, in type 5 of FEAT.
     #[inline]
+    #[tactic(auto, using(tl_fields::proofs::NumberLemmas::number_of_lt))]
     pub fn number(&self) -> u64
         ensures value { number_of (field_at T.LAYOUT.number self.now.bytes) ≡ Some result }
         ensures small { result < 10 ^ (T.LAYOUT.number.1 + 1 - T.LAYOUT.number.0) }
