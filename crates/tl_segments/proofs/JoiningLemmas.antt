@@ -18,7 +18,7 @@ use Rattle.tl_segments.specs.Tables.{AddsAt, AddsNameAt, CountsAt, KeepsCounts, 
 use Rattle.tl_segments.specs.Taking.{IsAdded}
 use Rattle.tl_segments.specs.declared.checked.Counts.{Counts}
 use Rattle.tl_segments.specs.declared.fault.CountyFile.{CountyFile}
-use Rattle.tl_segments.specs.declared.fault.CountyFile.TheVariants.{Rt1, Rt4, Rt5, Rt6}
+use Rattle.tl_segments.specs.declared.fault.CountyFile.TheVariants.{Rt4, Rt5, Rt6}
 use Rattle.tl_segments.specs.declared.feature_names.FeatureNames.{FeatureNames}
 use Rattle.tl_segments.specs.declared.grouped.Grouped.{Grouped}
 use Rattle.tl_segments.specs.declared.segment.TheConstants.{LINE_LIMIT}
@@ -116,10 +116,9 @@ pub record Follows (file : CountyFile) (lines : List (List ℕ)) (line : List �
 
 with_room : (file : CountyFile) (lines : List (List ℕ)) (line : List ℕ) (number : ℕ) → Follows file lines line number
     → length (lines_with file number lines) < LINE_LIMIT → IsWithinLimits file (lines ++ line ∷ [])
-with_room Rt1 lines line number follows room = tt
 with_room Rt4 lines line number follows room = few-push Rt4 lines line number follows.numbered follows.within room
-with_room Rt5 lines line number follows room = tt
 with_room Rt6 lines line number follows room = few-push Rt6 lines line number follows.numbered follows.within room
+with_room otherwise lines line number follows room = tt
 
 module _ (file : CountyFile) (lines : List (List ℕ)) (line : List ℕ) (number : ℕ) (follows : Follows file lines line number) where
   -- it is added where its number has room, and else the lines are beyond the limits with it

@@ -13,7 +13,7 @@ use Rattle.tl_records.specs.Lines.{IsNextLine, BeginsTooLong, FailsWithin, most_
 use Rattle.tl_records.specs.Records.{IsGoodLine, IsLineFault, line_flaw}
 use Rattle.tl_records.specs.declared.fault.LineFault.{LineFault}
 use Rattle.tl_records.specs.declared.fault.LineFlaw.{LineFlaw}
-use Rattle.tl_records.specs.declared.fault.LineFlaw.TheVariants.{WrongLength, WrongType, BadTlid, BadFeature, Read, TooManyLines}
+use Rattle.tl_records.specs.declared.fault.LineFlaw.TheVariants.{WrongLength, WrongType, Read, TooManyLines}
 use Rattle.tl_records.specs.declared.layout.Layout.{Layout}
 use Rattle.tl_records.proofs.LineLemmas.{cr_lf, has_first_line}
 use Rattle.tl_segments.specs.CountyFile.{layout}
@@ -23,7 +23,7 @@ use Rattle.tl_segments.specs.Loading.{ReadsFile, ReadsLines, HasMoreAfter, HasFl
 use Rattle.tl_segments.specs.Loading.{IsOneTooMany, IsFileFault}
 use Rattle.tl_segments.specs.Taking.{IsBeyond, IsNextOf, IsTaken}
 use Rattle.tl_segments.specs.declared.fault.CountyFile.{CountyFile}
-use Rattle.tl_segments.specs.declared.fault.CountyFile.TheVariants.{Rt1, Rt4, Rt5, Rt6}
+use Rattle.tl_segments.specs.declared.fault.CountyFile.TheVariants.{Rt1, Rt4, Rt6}
 use Rattle.tl_segments.specs.declared.fault.LoadFault.{LoadFault}
 use Rattle.tl_segments.specs.declared.fault.LoadFault.TheVariants.{Line, TooManyNames, TooManyRanges, Memory}
 
@@ -73,9 +73,7 @@ long_line taken after p e long (missing f g n) =
 -- each record type's lines are shorter than the longest content
 layout_short : (file : CountyFile) → (layout file).length < 230
 layout_short Rt1 = omega arith
-layout_short Rt4 = omega arith
-layout_short Rt5 = omega arith
-layout_short Rt6 = omega arith
+layout_short otherwise = omega arith
 
 wrong_length_of : (row : Layout) (line : List ℕ) → row.length < 230 → 230 ≤ length line → line_flaw row line ≡ Some WrongLength
 wrong_length_of row line short long = grind (arith, nat_tests)
@@ -98,21 +96,11 @@ may_have file line flaw e =
     (is_some (number_of (field_at (layout file).number line))) e
 
 -- none of them is a read that failed, or a line that is too many
-not_read : (file : CountyFile) → MayHave file Read → ⊥
-not_read file (inl e) = cc
-not_read file (inr (inl e)) = cc
-not_read Rt1 (inr (inr e)) = cc
-not_read Rt4 (inr (inr e)) = cc
-not_read Rt5 (inr (inr e)) = cc
-not_read Rt6 (inr (inr e)) = cc
-
-not_too_many : (file : CountyFile) → MayHave file TooManyLines → ⊥
-not_too_many file (inl e) = cc
-not_too_many file (inr (inl e)) = cc
-not_too_many Rt1 (inr (inr e)) = cc
-not_too_many Rt4 (inr (inr e)) = cc
-not_too_many Rt5 (inr (inr e)) = cc
-not_too_many Rt6 (inr (inr e)) = cc
+of_its_own : (file : CountyFile) (flaw : LineFlaw) → MayHave file flaw → (flaw ≢ Read) × (flaw ≢ TooManyLines)
+of_its_own file flaw (inl e) = (λ read. cc, λ more. cc)
+of_its_own file flaw (inr (inl e)) = (λ read. cc, λ more. cc)
+of_its_own Rt1 flaw (inr (inr e)) = (λ read. cc, λ more. cc)
+of_its_own otherwise flaw (inr (inr e)) = (λ read. cc, λ more. cc)
 
 not_empty : (file taken rest : List ℕ) → file ≡ taken ++ rest → length taken ≡ 231 → file ≢ []
 not_empty file taken rest e long none = omega (arith, length-append taken rest, ap length (sym none ∙ e))
@@ -150,10 +138,9 @@ known_start (Some file) = refl
 
 -- no lines are within the limits
 none_beyond : (file : CountyFile) → IsWithinLimits file []
-none_beyond Rt1 = tt
 none_beyond Rt4 = λ number. omega arith
-none_beyond Rt5 = tt
 none_beyond Rt6 = λ number. omega arith
+none_beyond otherwise = tt
 
 pub none_read : (file : CountyFile) (line : LineParts) (input : Reader) → line.number ≡ 0 → IsReadSoFar file [] line input input
 none_read file line input zeroth = record {
@@ -169,10 +156,10 @@ none_read file line input zeroth = record {
 module _ (file : CountyFile) (lines : List (List ℕ)) (line new_line : LineParts) (old now new : Reader)
     (read : IsReadSoFar file lines line old now) where
   -- what the bytes after these lines are says this of all bytes
-  known_behind : (Q R : List ℕ → List ℕ → Type 0)
+  known_after : (Q R : List ℕ → List ℕ → Type 0)
       → ((file mid rest : List ℕ) → AreFirstLines file lines mid → Q mid rest → R file rest) → WhereKnown now.left new.left Q
       → WhereKnown old.left new.left R
-  known_behind Q R joined =
+  known_after Q R joined =
       known_both (λ bytes rest. AreFirstLines bytes lines rest) Q old.left now.left new.left R joined read.reads.known
 
   -- a good line more
@@ -186,7 +173,7 @@ module _ (file : CountyFile) (lines : List (List ℕ)) (line new_line : LinePart
             good.within;
       };
       known =
-          known_behind (IsNextLine new_line.bytes) (λ bytes rest. AreFirstLines bytes (lines ++ new_line.bytes ∷ []) rest)
+          known_after (IsNextLine new_line.bytes) (λ bytes rest. AreFirstLines bytes (lines ++ new_line.bytes ∷ []) rest)
           (λ bytes mid rest a b. AreFirstLines-push lines bytes mid new_line.bytes rest a b.0) next.3;
       reads = next.0 ∙ read.reads.reads;
     };
@@ -213,7 +200,7 @@ module _ (file : CountyFile) (lines : List (List ℕ)) (line new_line : LinePart
   flaw_after flaw number done next at flawed = (
     omega (arith, at, next.1, next.2),
     may_have file new_line.bytes flaw flawed,
-    known_behind (IsNextLine new_line.bytes) (HasFlawAfter file flaw lines) (λ bytes mid rest a b. record {
+    known_after (IsNextLine new_line.bytes) (HasFlawAfter file flaw lines) (λ bytes mid rest a b. record {
       after = mid;
       line = new_line.bytes;
       rest = rest;
@@ -227,12 +214,10 @@ module _ (file : CountyFile) (lines : List (List ℕ)) (line new_line : LinePart
 
   flaw_comes : (flaw : LineFlaw) (number : ℕ) (done : Unit {0}) → IsLineRead line new_line now new (Ok (Some done))
       → number ≡ new_line.number → line_flaw (layout file) new_line.bytes ≡ Some flaw → ComesAfter file flaw number lines old new
-  flaw_comes WrongLength number done next at flawed = flaw_after WrongLength number done next at flawed
-  flaw_comes WrongType number done next at flawed = flaw_after WrongType number done next at flawed
-  flaw_comes BadTlid number done next at flawed = flaw_after BadTlid number done next at flawed
-  flaw_comes BadFeature number done next at flawed = flaw_after BadFeature number done next at flawed
-  flaw_comes Read number done next at flawed = absurd (not_read file (may_have file new_line.bytes Read flawed))
-  flaw_comes TooManyLines number done next at flawed = absurd (not_too_many file (may_have file new_line.bytes TooManyLines flawed))
+  flaw_comes Read number done next at flawed = absurd ((of_its_own file Read (may_have file new_line.bytes Read flawed)).0 refl)
+  flaw_comes TooManyLines number done next at flawed =
+      absurd ((of_its_own file TooManyLines (may_have file new_line.bytes TooManyLines flawed)).1 refl)
+  flaw_comes flaw number done next at flawed = flaw_after flaw number done next at flawed
 
   pub at_flaw : (fault : LineFault) (done : Unit {0}) → IsLineRead line new_line now new (Ok (Some done))
       → IsLineFault (layout file) new_line fault → IsFirstFault file fault lines old new
@@ -254,7 +239,7 @@ module _ (file : CountyFile) (lines : List (List ℕ)) (line new_line : LinePart
     counted = omega (arith, at, next.2, read.counted);
     small = omega (arith, at, next.1, next.2);
     known =
-        known_behind (IsNextLine new_line.bytes) (λ bytes rest. AreFirstLines bytes (lines ++ new_line.bytes ∷ []) rest)
+        known_after (IsNextLine new_line.bytes) (λ bytes rest. AreFirstLines bytes (lines ++ new_line.bytes ∷ []) rest)
         (λ bytes mid rest a b. AreFirstLines-push lines bytes mid new_line.bytes rest a b.0) next.3;
     reads = next.0 ∙ read.reads.reads;
   }
@@ -273,24 +258,22 @@ module _ (file : CountyFile) (lines : List (List ℕ)) (line new_line : LinePart
   unread_comes WrongLength number at unread = (
     omega (arith, at, unread.1),
     inl refl,
-    known_behind BeginsTooLong (HasFlawAfter file WrongLength lines)
+    known_after BeginsTooLong (HasFlawAfter file WrongLength lines)
         (λ bytes mid rest a b. too_long_after file bytes mid rest lines a b) unread.2,
     unread.0 ∙ read.reads.reads,
   )
   unread_comes Read number at unread = (
     omega (arith, at, read.small),
-    known_behind (FailsWithin (most_bytes line.number)) (FailsAfter lines)
+    known_after (FailsWithin (most_bytes line.number)) (FailsAfter lines)
         (λ bytes mid rest a b. (mid, a, subst (λ (n : ℕ). FailsWithin (most_bytes n) mid rest) read.counted b)) unread.1,
     λ e. unread.0 (e ∙ sym read.reads.reads),
   )
   unread_comes TooManyLines number at unread = (
     omega (arith, at, unread.1),
-    known_behind HasOneMore (HasMoreAfter lines) (λ bytes mid rest a b. (mid, a, b)) unread.2,
+    known_after HasOneMore (HasMoreAfter lines) (λ bytes mid rest a b. (mid, a, b)) unread.2,
     unread.0 ∙ read.reads.reads,
   )
-  unread_comes WrongType number at unread = absurd unread
-  unread_comes BadTlid number at unread = absurd unread
-  unread_comes BadFeature number at unread = absurd unread
+  unread_comes flaw number at unread = absurd unread
 
   pub at_fault : (fault : LineFault) → IsLineRead line new_line now new (Err fault) → IsFirstFault file fault lines old new
   at_fault fault next = record {

@@ -1,29 +1,17 @@
--- Parts of a segment by their numbers, and fields of its record.
-use Rattle.std.proofs.Common.{◌≡◌, ℕ, ◌+◌, ◌-◌, ◌<◌, ◌≤◌, zero, suc, add-one, List, [], ◌∷◌, length, get_or, take, drop, slice_index, Some}
-use Rattle.std.proofs.Common.{None, slice_get, ◌∙◌, ap, sym, refl, arith}
+-- Fields of the record of a segment.
+use Rattle.std.proofs.Common.{◌≡◌, ℕ, ◌+◌, ◌-◌, ◌<◌, ◌≤◌, zero, suc, List, [], ◌∷◌, take, drop, slice_index, Some}
+use Rattle.std.proofs.Common.{slice_get, arith}
 use Rattle.std.proofs.lemmas.Grind.{common_steps}
 use Rattle.std.proofs.lemmas.List.{get_or-drop}
-use Rattle.std.proofs.lemmas.Option.{slice_get_past, slice_get-get_or}
 use Rattle.tl_fields.specs.Field.{field_of}
 use Rattle.tl_segments.specs.Range.{AreBytes, IsRange, own_range}
 
 -- part 0 is the record's own
-pub slice_get-own : {X : Type 0} (own : X) (further : List X) (n : ℕ) → n < 1 → slice_get (own ∷ further) n ≡ Some own
-slice_get-own own further n first = grind (arith, common_steps)
+pub slice_get_own : {X : Type 0} (own : X) (further : List X) (n : ℕ) → n < 1 → slice_get (own ∷ further) n ≡ Some own
+slice_get_own own further n first = grind (arith, common_steps)
 
--- the parts behind it are the further ones
-pub slice_get-further : {X : Type 0} (own part : X) (further : List X) (n index : ℕ) → n ≡ index + 1 → index < length further
-    → part ≡ get_or further index part → slice_get (own ∷ further) n ≡ Some part
-slice_get-further own part further n index is inside same =
-    let behind : slice_get (own ∷ further) (index + 1) ≡ slice_get further index = rw add-one refl in
-    rw is (behind ∙ slice_get-get_or further index part inside ∙ ap (λ part. Some part) (sym same))
-
--- and there are no more
-pub slice_get-beyond : {X : Type 0} (own : X) (further : List X) (n index : ℕ) → n ≡ index + 1 → length further ≤ index
-    → slice_get (own ∷ further) n ≡ None
-slice_get-beyond own further n index is past = slice_get_past (own ∷ further) n (omega arith)
-
-below-take : (n : ℕ) (bytes : List ℕ) → ((i : ℕ) → slice_index bytes i < 256) → (i : ℕ) → slice_index (take n bytes) i < 256
+-- bytes at the beginning and at the end of bytes
+pub below-take : (n : ℕ) (bytes : List ℕ) → ((i : ℕ) → slice_index bytes i < 256) → (i : ℕ) → slice_index (take n bytes) i < 256
 below-take zero bytes below i = omega arith
 below-take (suc n) [] below i = omega arith
 below-take (suc n) (byte ∷ bytes) below zero = below 0

@@ -13,8 +13,8 @@ use Rattle.tl_segments.specs.Tables.{HasShortLists, list_at}
 use Rattle.tl_segments.specs.declared.grouped.Grouped.{Grouped}
 
 -- where no number has a value, all lists are short
-pub HasShortLists-none : {V A : Type 0} (table : Grouped V A) → ((number : ℕ) → list_at table number ≡ []) → HasShortLists table
-HasShortLists-none table none number = rw (none number) (omega arith)
+pub no_lists_short : {V A : Type 0} (table : Grouped V A) → ((number : ℕ) → list_at table number ≡ []) → HasShortLists table
+no_lists_short table none number = rw (none number) (omega arith)
 
 -- what a map has at a number where a list was written, which is the list from before with one value more
 pub added_at : {V A : Type 0} (old : Grouped V A) (found : Option (Vec V A)) (number : ℕ) (value : V) (list : Vec V A) (q : ℕ)
@@ -41,7 +41,7 @@ filter_map-some {Y = Y} h (x ∷ xs) (suc i) d y inside is = with_first (h x) (f
     with_first None others some = some
     with_first (Some first) others some = omega arith
 
--- names that were added behind names
+-- names that were added after names
 pub names-more : {now next : Contents} (start : Contents) {all : List (List ℕ)} (names more : List (List ℕ))
     → now ≡ record start { names = start.names ++ names } → next ≡ record now { names = now.names ++ more } → all ≡ names ++ more
     → next ≡ record start { names = start.names ++ all }
@@ -57,7 +57,7 @@ slice_get-push [] y (suc k) = grind (arith, nat_tests)
 slice_get-push (x ∷ xs) y zero = grind (arith, nat_tests)
 slice_get-push (x ∷ xs) y (suc k) = slice_get-push xs y k ∙ grind (arith, nat_tests)
 
--- the number behind those that follow a first one is the first one's distance from the end of the list
+-- the number after those that follow a first one is the first one's distance from the end of the list
 end_of : (first length q : ℕ) → first ≤ q → nat_eq length (q - first) ≡ nat_eq (first + length) q
 end_of first length q e = grind (arith, nat_tests)
 

@@ -47,7 +47,7 @@ pub record LoadsCounty (county : CountyParts) (old new : CountyReaders) : Type 0
   pub reads_joined : ReadsJoined joined old.joined new.joined
   pub rt1 : ReadsFile Rt1 lines old.rt1 new.rt1
 
--- why a county can't be loaded: type 1 is read behind the others
+-- why a county can't be loaded: type 1 is read after the others
 pub data IsCountyFault (fault : LoadFault) (old new : CountyReaders) : Type 0 where
   before_rt1 : IsJoinedFault fault old.joined new.joined → new.rt1 ≡ old.rt1 → IsCountyFault fault old new
   in_rt1 : (lines : JoinedLines) → ReadsJoined lines old.joined new.joined → IsFileFault Rt1 fault old.rt1 new.rt1 → IsCountyFault fault old new

@@ -55,7 +55,8 @@ IsRecordRead line number segment old new result =
     ((bytes : List ℕ) × IsRt1Read line (record { number = number; bytes = bytes }) old new result) × (segment ≡ blank_segment)
 
 -- What reading the next segment does to the number of lines, the segment and the reader: its line was read and is good, and it has what the
--- index's lines give it; or it is blank, at the end of the input or after a fault. Memory is wanting only where something is joined to the line.
+-- index's lines give it; or it is blank, at the end of the input or after a fault. It runs out of memory only if something is joined to the
+-- line.
 abbrev pub IsSegmentRead : {A : Type 0} → Index A → LineParts → ℕ → Contents → Reader → Reader → Result (Option (Unit {0})) LoadFault → Type 0
 IsSegmentRead index line number segment old new (Ok (Some done)) =
     ReadsGoodLine line (line_of number segment) old new × ((lines : JoinedLines) → IsIndexOf index lines → segment ≡ segment_of lines segment.bytes)

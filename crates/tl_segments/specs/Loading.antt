@@ -39,12 +39,12 @@ pub record ReadsLines (file : CountyFile) (lines : List (List ℕ)) (old new : R
 abbrev pub HasNoFault : CountyFile → Reader → Reader → Type 0
 HasNoFault file old new = (lines : List (List ℕ)) × ReadsFile file lines old new
 
--- behind these first lines of a file's bytes comes one byte more, of a line that is too many
+-- after these first lines of a file's bytes comes one byte more, of a line that is too many
 abbrev pub HasMoreAfter : List (List ℕ) → List ℕ → List ℕ → Type 0
 HasMoreAfter lines bytes rest = (after : List ℕ) × AreFirstLines bytes lines after × HasOneMore after rest
 
--- Behind these first lines of a file's bytes comes a line with this flaw, and this is left: what stands behind the line, where it ends within
--- 231 bytes, or else behind its 231st byte, where it's refused as too long.
+-- After these first lines of a file's bytes comes a line with this flaw, and this is left: what follows the line, if it ends within 231
+-- bytes, or else what follows its 231st byte, where it's refused as too long.
 pub record HasFlawAfter (file : CountyFile) (flaw : LineFlaw) (lines : List (List ℕ)) (bytes left : List ℕ) : Type 0 where
   pub after : List ℕ
   pub line : List ℕ
@@ -54,7 +54,7 @@ pub record HasFlawAfter (file : CountyFile) (flaw : LineFlaw) (lines : List (Lis
   pub flawed : line_flaw (layout file) line ≡ Some flaw
   pub stands : ((left ≡ rest) × (length after ≤ length rest + 231)) ⊎ BeginsTooLong after left
 
--- behind these first lines of a file's bytes a read failed, in the line that comes next
+-- after these first lines of a file's bytes a read failed, in the line that comes next
 abbrev pub FailsAfter : List (List ℕ) → List ℕ → List ℕ → Type 0
 FailsAfter lines bytes rest = (after : List ℕ) × AreFirstLines bytes lines after × FailsWithin (most_bytes (length lines)) after rest
 
@@ -62,9 +62,9 @@ FailsAfter lines bytes rest = (after : List ℕ) × AreFirstLines bytes lines af
 abbrev pub MayHave : CountyFile → LineFlaw → Type 0
 MayHave file flaw = (flaw ≡ WrongLength) ⊎ (flaw ≡ WrongType) ⊎ (flaw ≡ (layout file).without_number)
 
--- What holds where the line of this number, behind these lines, has this flaw. Lines are numbered below 2^32: only a read fails there too,
--- and the line that is too many stands there. Where the reader's bytes are known they have the line, and nothing was read behind the fault. A
--- read has failed where that is the flaw, and nowhere else.
+-- What holds where the line of this number, after these lines, has this flaw. Lines are numbered below 2^32: only a read fails there too,
+-- and the line that is too many stands there. Where the reader's bytes are known they have the line, and nothing was read after the fault.
+-- A read has failed where that is the flaw, and nowhere else.
 abbrev pub ComesAfter : CountyFile → LineFlaw → ℕ → List (List ℕ) → Reader → Reader → Type 0
 ComesAfter file Read number lines old new =
     (number ≤ 2 ^ 32) × WhereKnown old.left new.left (FailsAfter lines) × (new.failed ≢ old.failed)
@@ -92,7 +92,7 @@ pub record IsOneTooMany (file : CountyFile) (number : ℕ) (old new : Reader) : 
   pub known : WhereKnown old.left new.left (λ bytes rest. AreFirstLines bytes (lines ++ line ∷ []) rest)
   pub reads : new.failed ≡ old.failed
 
--- why a file can't be loaded: this is its first fault, or memory is wanting and no read failed
+-- why a file can't be loaded: this is its first fault, or memory ran out and no read failed
 abbrev pub IsFileFault : CountyFile → LoadFault → Reader → Reader → Type 0
 IsFileFault file (Line of_file fault) old new = (of_file ≡ file) × (lines : List (List ℕ)) × IsFirstFault file fault lines old new
 IsFileFault file (TooManyNames line) old new = (file ≡ Rt4) × IsOneTooMany file line old new

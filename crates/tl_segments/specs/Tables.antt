@@ -19,7 +19,7 @@ use Rattle.tl_segments.specs.declared.segment.TheConstants.{LINE_LIMIT}
 abbrev pub list_at : {V A : Type 0} → Grouped V A → ℕ → List V
 list_at grouped number = option_map_or (λ list. list.items) (get nat_eq grouped.lists number) []
 
--- a value was added behind those of a number, which had room
+-- a value was added after those of a number, which had room
 pub record AddsAt {V A : Type 0} (old new : Grouped V A) (number : ℕ) (value : V) : Type 0 where
   pub room : length (list_at old number) < LINE_LIMIT
   pub lists : (q : ℕ) → list_at new q ≡ (if nat_eq number q then list_at old q ++ value ∷ [] else list_at old q)

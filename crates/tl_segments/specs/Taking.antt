@@ -26,7 +26,7 @@ abbrev pub IsAdded : CountyFile → List (List ℕ) → List ℕ → (List (List
 IsAdded file lines line keeps true = IsWithinLimits file (lines ++ line ∷ []) × keeps (lines ++ line ∷ [])
 IsAdded file lines line keeps false = ¬ IsWithinLimits file (lines ++ line ∷ [])
 
--- the line behind these is kept with them, or refused by the fault that it has
+-- the line after these is kept with them, or refused by the fault that it has
 abbrev pub IsTaken : CountyFile → List (List ℕ) → LineParts → Result (Unit {0}) LoadFault → (List (List ℕ) → Type 0) → Type 0
 IsTaken file lines line (Ok done) keeps = IsNextOf file lines line × keeps (lines ++ line.bytes ∷ [])
 IsTaken file lines line (Err (Line of_file fault)) keeps = (of_file ≡ file) × IsLineFault (layout file) line fault

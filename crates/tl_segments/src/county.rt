@@ -59,6 +59,7 @@ impl<A: Allocator + Copy> County<A> {
 
 impl<A: Allocator> County<A> {
     /// The segments, in the order of the type 1 lines.
+    #[tactic(auto, using(crate::proofs::IndexLemmas::has_tlids))]
     pub fn segments(&self) -> &[Segment<A>]
         ensures value { result.now ≡ self.now.segments }
         ensures tlids { HasTlids result.now }
@@ -99,7 +100,7 @@ fn read_segments<A: Allocator + Copy, R: CountedRead>(
     }
 }
 
-/// Adds the segment of a type 1 line and the number of its TLID behind those that there are, or answers the fault that the line is.
+/// Appends the segment of a type 1 line and the number of its TLID, or returns the fault of the line.
 fn push_segment<A: Allocator + Copy>(
     index: &Index<A>,
     line: &Line,

@@ -36,6 +36,7 @@ impl<A: Allocator + Copy> Index<A> {
     ghost use Rattle.tl_segments.specs.Indexing.{IsIndexOf, IsSegmentRead, LoadsIndex, names_in};
 
     /// The index of files without a line: a segment that it makes is the type 1 record alone, and takes no memory.
+    #[tactic(auto, using(crate::proofs::TableLemmas::no_lists_short))]
     pub fn new(alloc: A) -> Self
         ensures { IsIndexOf result no_lines }
     {
@@ -116,7 +117,7 @@ impl<A: Allocator + Copy> Index<A> {
 
     /// Reads the next line of a type 1 file, and makes the segment that of this line; `None` at the end of the input. `number` is that of the line
     /// before, 0 before the first one, and then of this line. A line without an alternate name and a further range takes no memory. At the end and
-    /// after a fault the segment is blank; where memory is wanting it has the line's bytes.
+    /// after a fault the segment is blank; if memory runs out it has the line's bytes.
     #[inline(always)]
     pub fn next_segment<R: CountedRead>(
         &self,

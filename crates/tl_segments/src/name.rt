@@ -4,7 +4,7 @@ ghost use Rattle.tl_segments.specs.Name.{name_equals};
 
 use tl_fields::blank;
 
-/// How many bytes a name has, the blanks behind it counted.
+/// How many bytes a name has, including the blanks after it.
 pub const NAME_LENGTH: usize = 30;
 
 /// Whether a name equals the wanted bytes: each of them is the name's byte at its place, where ASCII letters are compared without case, and

@@ -101,7 +101,7 @@ impl<A: Allocator> Segment<A> {
         }
     }
 
-    /// Adds an alternate name behind the others.
+    /// Adds an alternate name after the others.
     pub fn push_name(&mut self, name: &[u8]) -> Result<(), AllocError>
         requires length { length name.now ≡ NAME_LENGTH }
         requires room { length self.old.names < NAME_LIMIT }
@@ -112,7 +112,7 @@ impl<A: Allocator> Segment<A> {
         Ok(())
     }
 
-    /// Adds a further range behind the others.
+    /// Adds a further range after the others.
     pub fn push_range(&mut self, range: Range<'_>) -> Result<(), AllocError>
         requires lengths { HasFieldLengths (fields_of range) }
         requires room { length self.old.ranges < RANGE_LIMIT }
@@ -145,10 +145,17 @@ impl<A: Allocator> Segment<A> {
         ensures value { option_copied result ≡ slice_get (names_of self.now) n }
         ensures bytes { IfSome result (λ name. AreBytes NAME_LENGTH name.now) }
     {
-        let Some(further) = n.checked_sub(1) else {
-            return Some(Type1::FENAME.of(self.record.as_slice()));
-        };
-        let name = self.names.get(further as usize)?;
+        match n.checked_sub(1) {
+            Some(further) => self.further_name(further),
+            None => Some(Type1::FENAME.of(self.record.as_slice())),
+        }
+    }
+
+    fn further_name(&self, index: u64) -> Option<&[u8]>
+        ensures value { option_copied result ≡ slice_get self.now.names index }
+        ensures bytes { IfSome result (λ name. AreBytes NAME_LENGTH name.now) }
+    {
+        let name = self.names.get(index as usize)?;
         Some(name)
     }
 
@@ -163,14 +170,22 @@ impl<A: Allocator> Segment<A> {
 
     /// The range with a number, counted from 0: range 0 is the record's own, and the further ranges follow it. None where it has no such
     /// range.
+    #[tactic(auto, using(crate::proofs::SegmentLemmas::slice_get_own))]
     pub fn range(&self, n: u64) -> Option<Range<'_>>
         ensures value { option_map fields_of result ≡ slice_get (ranges_of self.now) n }
         ensures fields { IfSome result (λ range. IsRange (fields_of range)) }
     {
-        let Some(further) = n.checked_sub(1) else {
-            return Some(own_range(self.record.as_slice()));
-        };
-        let fields = self.ranges.get(further as usize)?;
+        match n.checked_sub(1) {
+            Some(further) => self.further_range(further),
+            None => Some(own_range(self.record.as_slice())),
+        }
+    }
+
+    fn further_range(&self, index: u64) -> Option<Range<'_>>
+        ensures value { option_map fields_of result ≡ slice_get self.now.ranges index }
+        ensures fields { IfSome result (λ range. IsRange (fields_of range)) }
+    {
+        let fields = self.ranges.get(index as usize)?;
         Some(fields.as_range())
     }
 }
