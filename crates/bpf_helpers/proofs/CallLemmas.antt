@@ -1,6 +1,6 @@
 -- What calls of the helper functions answer, write and set.
 use Rattle.std.proofs.Common.{◌≡◌, ◌≢◌, ℕ, pos, option_map, ◌==◌, if◌then◌else◌, Bool, true, false, cond, ◌^◌, ◌<◌, ◌≤◌, zero, suc, List}
-use Rattle.std.proofs.Common.{[], ◌∷◌, All, length, get_or, take, drop, replicate, slice_index, slice_get, Option, Some, None, IfSome}
+use Rattle.std.proofs.Common.{[], ◌∷◌, All, length, get_or, drop, replicate, slice_index, slice_get, Option, Some, None, IfSome}
 use Rattle.std.proofs.Common.{is_some, refl, ap, sym, ◌∙◌, subst, arith}
 use Rattle.std.specs.List.{find}
 use Rattle.std.proofs.lemmas.Bool.{eqb-true}
@@ -14,7 +14,7 @@ use Rattle.tl_fields.specs.Field.{field_of}
 use Rattle.tl_segments.specs.Range.{AreBytes, lies_on}
 use Rattle.tl_segments.specs.Segment.{Contents, IsSegment, names_of, ranges_of}
 use Rattle.tl_segments.specs.declared.range.RangeFields.{RangeFields}
-use Rattle.tl_segments.proofs.SegmentLemmas.{AreBytes-field_of}
+use Rattle.tl_segments.proofs.SegmentLemmas.{AreBytes-field_of, below-take}
 use Rattle.bpf_kinds.specs.Interval.{Admits, between, single}
 use Rattle.bpf_kinds.specs.declared.interval.Interval.{Interval}
 use Rattle.bpf_helpers.specs.Call.{Meaning, MeetsSignature, call, does, first, meaning, second, shape_of, third, written_length}
@@ -29,7 +29,6 @@ use Rattle.bpf_helpers.specs.declared.helper.TheConstants.{HELPERS}
 use Rattle.bpf_helpers.specs.declared.signature.Argument.TheVariants.{Unused, Number, Frame}
 use Rattle.bpf_helpers.specs.declared.signature.FrameUse.TheVariants.{Nothing, Writes}
 use Rattle.bpf_helpers.specs.declared.signature.Shape.{Shape}
-use Rattle.bpf_helpers.specs.declared.signature.Shape.TheVariants as shape
 
 -- what is found is the first element or passes the test further on
 found-by : {X : Type 0} (p : X → Bool) (y : X) (ys : List X) (x : X) (b : Bool) → p y ≡ b → (find p ys ≡ Some x → p x ≡ true)
@@ -43,22 +42,22 @@ found-passes p [] x e = cc
 found-passes p (y ∷ ys) x e = found-by p y ys x (p y) refl (found-passes p ys x) e
 
 -- a number that finds a helper function is the table's number of it
-pub by_number-own : (number : ℕ) (helper : Helper) → by_number number ≡ Some helper → (signature helper).number ≡ number
-by_number-own number helper found =
+pub by_number_own : (number : ℕ) (helper : Helper) → by_number number ≡ Some helper → (signature helper).number ≡ number
+by_number_own number helper found =
     eqb-true (signature helper).number number (found-passes (λ helper. (signature helper).number == number) HELPERS helper found)
 
 -- What holds of each row of the table: a clause for all others is checked of each of them.
 
 -- a call that reads or writes the frame wants a pointer into it as its second argument, and as its third how many bytes
 
-pub frame-pointer : (helper : Helper) → frame_use (signature helper).shape ≢ Nothing → get_or (signature helper).arguments 1 Unused ≡ Frame
-frame-pointer Field uses = absurd (uses refl)
-frame-pointer otherwise uses = grind arith
+pub frame_pointer : (helper : Helper) → frame_use (signature helper).shape ≢ Nothing → get_or (signature helper).arguments 1 Unused ≡ Frame
+frame_pointer Field uses = absurd (uses refl)
+frame_pointer otherwise uses = grind arith
 
-pub frame-length : (helper : Helper) → frame_use (signature helper).shape ≢ Nothing
+pub frame_length : (helper : Helper) → frame_use (signature helper).shape ≢ Nothing
     → get_or (signature helper).arguments 2 Unused ≡ Number (between 1 30)
-frame-length Field uses = absurd (uses refl)
-frame-length otherwise uses = grind arith
+frame_length Field uses = absurd (uses refl)
+frame_length otherwise uses = grind arith
 
 -- there are three arguments
 pub three-wanted : (helper : Helper) → get_or (signature helper).arguments 0 Unused ∷ get_or (signature helper).arguments 1 Unused ∷ get_or
@@ -89,8 +88,8 @@ unfolding number_of
 number-digits field = or_zero-digits (number_of field) (decimal_in-lt 11 (trim field))
 
 -- no field's number has more digits
-pub number-below : (field : List ℕ) (n : ℕ) → number_of field ≡ Some n → n ≤ 99999999999
-number-below field n is = let digits = number-digits field in (rw is at digits).below
+pub number_below : (field : List ℕ) (n : ℕ) → number_of field ≡ Some n → n ≤ 99999999999
+number_below field n is = let digits = number-digits field in (rw is at digits).below
 
 sides-bits : (house : ℕ) (range : Option RangeFields) → Admits (between 0 3) (sides house range)
 sides-bits house None = record { above = omega arith; below = omega arith }
@@ -134,19 +133,13 @@ replicate-bytes zero i = omega arith
 replicate-bytes (suc count) zero = omega arith
 replicate-bytes (suc count) (suc i) = replicate-bytes count i
 
-take-bytes : (count : ℕ) (bytes : List ℕ) → ((i : ℕ) → slice_index bytes i < 2 ^ 8) → (i : ℕ) → slice_index (take count bytes) i < 2 ^ 8
-take-bytes zero bytes below i = omega arith
-take-bytes (suc count) [] below i = omega arith
-take-bytes (suc count) (byte ∷ bytes) below zero = below 0
-take-bytes (suc count) (byte ∷ bytes) below (suc i) = take-bytes count bytes (λ j. below (suc j)) i
-
 AreBytes-none : AreBytes 0 []
 AreBytes-none = record { length = refl; bytes = λ i. omega arith }
 
 AreBytes-first : (count : ℕ) (name : Option (List ℕ)) → IfSome name (AreBytes 30) → count ≤ 30 → AreBytes count (first_bytes count name)
 AreBytes-first count None are few = record { length = length-replicate count 32; bytes = replicate-bytes count }
 AreBytes-first count (Some name) are few = let long = are.length in
-    record { length = grind (arith, common_steps); bytes = take-bytes count name are.bytes }
+    record { length = grind (arith, common_steps); bytes = below-take count name are.bytes }
 
 -- What a helper function does keeps within bounds: its answer, what it copies, and the score that it sets.
 
@@ -232,31 +225,3 @@ pub written-nothing : (helper : Helper) (segment : Contents) (arguments bytes : 
     → frame_use (signature helper).shape ≢ Writes → (call helper segment arguments bytes score).written ≡ []
 written-nothing helper segment arguments bytes score not =
     does-write-nothing (meaning helper) segment arguments bytes score (λ writes. not (ap frame_use (sym (shape-is helper)) ∙ writes))
-
--- the score stays, but for the one call that sets it
-
-does-keep-score : (m : Meaning) (segment : Contents) (arguments bytes : List ℕ) (score : ℕ) → shape_of m ≢ shape.SetsScore
-    → (does m segment arguments bytes score).score ≡ score
-does-keep-score (SetsScore set) segment arguments bytes score not = absurd (not refl)
-does-keep-score otherwise segment arguments bytes score not = refl
-
-sets-score : (helper : Helper) → shape_of (meaning helper) ≡ shape.SetsScore → helper ≡ Emit
-sets-score Emit is = refl
-sets-score otherwise is = cc
-
-pub score-stays : (helper : Helper) (segment : Contents) (arguments bytes : List ℕ) (score : ℕ) → helper ≢ Emit
-    → (call helper segment arguments bytes score).score ≡ score
-score-stays helper segment arguments bytes score not = does-keep-score (meaning helper) segment arguments bytes score
-    (λ is. not (sets-score helper is))
-
--- and is a word
-
-does-fit : (m : Meaning) (answer : Interval) (segment : Contents) (arguments bytes : List ℕ) (score : ℕ) → IsBounded m answer arguments
-    → score < 2 ^ 64 → (does m segment arguments bytes score).score < 2 ^ 64
-does-fit (SetsScore set) answer segment arguments bytes score bounded fits = bounded.1
-does-fit otherwise answer segment arguments bytes score bounded fits = fits
-
-pub score-fits : (helper : Helper) (segment : Contents) (arguments bytes : List ℕ) (score : ℕ) → MeetsSignature helper arguments
-    → score < 2 ^ 64 → (call helper segment arguments bytes score).score < 2 ^ 64
-score-fits helper segment arguments bytes score meets = does-fit (meaning helper) (signature helper).answer segment arguments bytes score
-    (is-bounded helper arguments meets)

@@ -29,7 +29,7 @@ pub get_or-write_before : {A : Type 0} (memory bytes : List A) (at index : ℕ) 
     → get_or (write memory at bytes) index d ≡ get_or memory index d
 get_or-write_before memory bytes at index d within before = grind (arith, common_steps)
 
--- and those behind them
+-- and those after them
 pub get_or-write_behind : {A : Type 0} (memory bytes : List A) (at index : ℕ) (d : A) → at + length bytes ≤ length memory
     → at + length bytes ≤ index → get_or (write memory at bytes) index d ≡ get_or memory index d
 get_or-write_behind memory bytes at index d within behind = grind (arith, common_steps)

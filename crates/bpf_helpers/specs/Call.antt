@@ -1,4 +1,5 @@
--- Calls of helper functions: what their arguments must be, and what they leave behind. Arguments are words; a pointer into the frame is its offset.
+-- Calls of helper functions: what their arguments must be, and what they leave. Arguments are words; a pointer into the frame is its
+-- offset.
 use Rattle.std.specs.Prelude.{◌≡◌, ℕ, ◌+◌, ◌≤◌, Bool, List, [], ◌++◌, Option, length, take, drop, slice_get, get_or, is_some}
 use Rattle.tl_segments.specs.Segment.{Contents, names_of, ranges_of}
 use Rattle.bpf_insn.specs.declared.memory.TheConstants.{FRAME_LENGTH}
@@ -57,7 +58,7 @@ written_length otherwise arguments = 0
 abbrev pub write : {A : Type 0} → List A → ℕ → List A → List A
 write memory at bytes = take at memory ++ bytes ++ drop (at + length bytes) memory
 
--- what a call leaves behind: its answer, the bytes that it writes into the frame from where its second argument points, and the score
+-- what a call leaves: its answer, the bytes that it writes into the frame from where its second argument points, and the score
 pub record Called : Type 0 where
   pub answer : ℕ
   pub written : List ℕ
@@ -95,7 +96,7 @@ meaning NameIs = ComparesFrame (λ segment arguments bytes. is_name bytes (slice
 meaning Emit = SetsScore (λ arguments. first arguments)
 meaning Coord = TellsRecord (λ line arguments. coordinate line (first arguments))
 
--- what a call leaves behind, by what the helper function does
+-- what a call leaves, by what the helper function does
 abbrev pub does : Meaning → Contents → List ℕ → List ℕ → ℕ → Called
 does (TellsRecord told) segment arguments bytes score = answers score (told segment.bytes arguments)
 does (TellsSegment told) segment arguments bytes score = answers score (told segment arguments)
@@ -107,6 +108,6 @@ does (CopiesIntoFrame copied) segment arguments bytes score = record {
 }
 does (SetsScore set) segment arguments bytes score = answers (set arguments) 0
 
--- what a call with these arguments leaves behind on a segment, where it reads these bytes of the frame and the score is this one
+-- what a call with these arguments leaves on a segment, where it reads these bytes of the frame and the score is this one
 abbrev pub call : Helper → Contents → List ℕ → List ℕ → ℕ → Called
 call helper segment arguments bytes score = does (meaning helper) segment arguments bytes score

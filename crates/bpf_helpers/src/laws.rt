@@ -16,6 +16,7 @@ use crate::fields::{COORDINATES, FIELDS};
 use tl_segments::{NAME_LENGTH, NAME_LIMIT, RANGE_LIMIT};
 
 /// Each helper function is found by its own number, and by no other; any other number finds none.
+#[tactic(auto, using(crate::proofs::CallLemmas::by_number_own))]
 pub fn numbers()
     ensures own { (helper : Helper) → by_number (signature helper).number ≡ Some helper }
     ensures only { (number : ℕ) (helper : Helper) → by_number number ≡ Some helper → (signature helper).number ≡ number }
@@ -66,6 +67,7 @@ pub fn coordinates()
 {}
 
 /// The bounds in the table of prototypes are those of records and segments.
+#[tactic(auto, using(crate::proofs::CallLemmas::number_below), unfolding(tl_fields::specs::Number::number_of))]
 pub fn bounds()
     ensures ids { get_or (signature Field).arguments 0 Unused ≡ Number (between 0 (length FIELDS - 1)) }
     ensures same_ids { (signature Has).arguments ≡ (signature Field).arguments }
@@ -84,6 +86,7 @@ pub fn shapes()
 {}
 
 /// A call that does something with the frame wants, as its second and third argument, a pointer into the frame and a length of 1 to 30 bytes.
+#[tactic(auto, using(crate::proofs::CallLemmas::frame_pointer, crate::proofs::CallLemmas::frame_length))]
 pub fn frame_uses()
     ensures pointer { (helper : Helper) → frame_use (signature helper).shape ≢ Nothing
         → get_or (signature helper).arguments 1 Unused ≡ Frame }
@@ -121,6 +124,7 @@ pub fn scores()
 {}
 
 /// A helper function that reads the record alone answers alike on segments of the same record.
+#[tactic(auto, using(crate::proofs::RecordLemmas::calls_alike))]
 pub fn record_alone()
     ensures { (helper : Helper) (segment other : Contents) (arguments bytes : List ℕ) (score : ℕ) → IsTrue (reads_record_alone helper)
         → segment.bytes ≡ other.bytes → call helper segment arguments bytes score ≡ call helper other arguments bytes score }
