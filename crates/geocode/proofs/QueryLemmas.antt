@@ -31,6 +31,6 @@ trim-digits digits all =
     rw (no-blanks-before digits all, no-blanks-before (reverse digits) (digits-reversed digits all)) (reverse-reverse digits)
 
 -- the number of a field of digits alone
-pub number_of-digits : (digits : List ℕ) → list_all is_ascii_digit digits ≡ true → number_of digits ≡ decimal_in 11 digits
+pub number_of_digits : (digits : List ℕ) → list_all is_ascii_digit digits ≡ true → number_of digits ≡ decimal_in 11 digits
 unfolding number_of
-number_of-digits digits all = ap (decimal_in 11) (trim-digits digits all)
+number_of_digits digits all = ap (decimal_in 11) (trim-digits digits all)

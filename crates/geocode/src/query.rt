@@ -66,6 +66,7 @@ impl<'a> Query<'a> {
 }
 
 /// The number of a house or of a ZIP code that a text writes: digits, without a sign or blanks.
+#[tactic(auto, using(crate::proofs::QueryLemmas::number_of_digits))]
 fn house_number(text: &[u8]) -> Option<u64>
     ensures { result ≡ house_number text.now }
 {
