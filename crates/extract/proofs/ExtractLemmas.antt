@@ -1,5 +1,5 @@
 -- Extracting line by line: what was read and written so far, and the outcome at each end.
-use Rattle.std.proofs.Common.{◌≡◌, ◌≢◌, ℕ, ◌+◌, ◌<◌, ◌≤◌, ◌^◌, inl, inr, List, [], ◌∷◌, ◌++◌, Some, None, Ok, Err, refl, sym, ap, ◌∙◌}
+use Rattle.std.proofs.Common.{◌≡◌, ◌≢◌, ℕ, ◌+◌, ◌≤◌, inl, inr, List, [], ◌∷◌, ◌++◌, Some, None, Ok, Err, refl, sym, ap, ◌∙◌}
 use Rattle.std.proofs.Common.{subst, arith}
 use Rattle.std.specs.Io.KnownBytes.{Appends}
 use Rattle.std.specs.Prelude.{◌⊎◌, IsTrue, Option}
@@ -9,7 +9,6 @@ use Rattle.tl_fields.specs.declared.writing.WriteFault.{WriteFault}
 use Rattle.tl_fields.proofs.KnownBytesLemmas.{Appends-refl, Appends-append}
 use Rattle.tl_records.specs.Lines.{LineParts}
 use Rattle.bpf_insn.specs.declared.instruction.Insn.{Insn}
-use Rattle.tl_segments.specs.County.{CountyReaders}
 use Rattle.tl_segments.specs.Indexing.{IsIndexOf, IsSegmentRead}
 use Rattle.tl_segments.specs.Joining.{JoinedLines, alternate_names, further_ranges, no_lines, number_in, segment_of, segments_of}
 use Rattle.tl_segments.specs.Loading.{Readers, ReadsJoined, IsJoinedFault, in_rt4, in_rt5, in_rt6}
@@ -24,13 +23,11 @@ use Rattle.bpf_meaning.specs.Extract.{IsExtract, row_if_chosen}
 use Rattle.bpf_meaning.specs.RecordAlone.{reads_record_alone}
 use Rattle.bpf_meaning.proofs.ExtractLemmas.{extract_push}
 use Rattle.bpf_meaning.proofs.RecordLemmas.{answers_alike}
-use Rattle.extract.specs.ExtractFault.{of_program, of_load}
+use Rattle.extract.specs.ExtractFault.{of_load}
 use Rattle.extract.specs.Extracting.{AnswersAlike, HasWritten, AreUnfailed, before_rt1, in_rt1, IsOutcome}
-use Rattle.extract.specs.Program.{IsSafeProgram, IsProgramFault}
+use Rattle.extract.specs.Program.{IsSafeProgram}
 use Rattle.extract.specs.Rows.{WritesRow}
-use Rattle.extract.specs.declared.fault.ExtractFault.TheVariants.{Program, Write}
-use Rattle.extract.specs.declared.program.ProgramFault.{ProgramFault}
-use Rattle.extract.specs.declared.program.ProgramFault.TheVariants as program_fault
+use Rattle.extract.specs.declared.fault.ExtractFault.TheVariants.{Write}
 use Rattle.extract.proofs.RowLemmas.{chosen_count-le, extract_alike, row_alike}
 
 -- Lines were read so far, all good, segments made of them with what the index has, and all of the extract of these written: so many rows,
@@ -78,22 +75,7 @@ alike_alone code joined alone = record {
 pub alike_itself : (code : List Insn) (joined : JoinedLines) → AnswersAlike code joined joined
 alike_itself code joined = record { same = λ line answer score answers. answers; more = λ line some. some }
 
--- a refused program
-pub program_outcome : (program : List ℕ) (fault : ProgramFault) (readers : CountyReaders) (out : Writer) → IsProgramFault program fault
-    → IsOutcome program (Err (of_program fault)) readers readers out out
-program_outcome program (program_fault.Code fault) readers out is =
-    record { first = is; has_number = λ e. cc; unread = refl; unwritten = refl }
-program_outcome program (program_fault.Flow fault) readers out is =
-    record { first = is; has_number = λ e. cc; unread = refl; unwritten = refl }
-program_outcome program (program_fault.Verify fault) readers out is =
-    record { first = is; has_number = λ e. cc; unread = refl; unwritten = refl }
-program_outcome program program_fault.Memory readers out is = record {
-  written = inl (refl, refl);
-  counts = refl;
-  reads = record { rt1 = refl; rt4 = refl; rt5 = refl; rt6 = refl };
-}
-
--- where memory is wanting for what is joined to type 1 lines, no read failed
+-- where memory runs out for what is joined to type 1 lines, no read failed
 joined_unfailed : (rt1 : Reader) (old new : Readers) → IsJoinedFault load_fault.Memory old new
     → AreUnfailed (record { rt1 = rt1; joined = old }) (record { rt1 = rt1; joined = new })
 joined_unfailed rt1 old new (in_rt4 wants rt5 rt6) =
@@ -107,21 +89,9 @@ joined_unfailed rt1 old new (in_rt6 rt4 rt5 wants) =
 pub joined_outcome : {program : List ℕ} {code : List Insn} (fault : LoadFault) (rt1 : Reader) {old new : Readers} (out : Writer)
     → IsSafeProgram program code → IsJoinedFault fault old new
     → IsOutcome program (Err (of_load fault)) (record { rt1 = rt1; joined = old }) (record { rt1 = rt1; joined = new }) out out
-joined_outcome {code} (load_fault.Line file fault) rt1 out safe is =
-    before_rt1 (code, safe) (λ e. cc) is refl refl
-joined_outcome {code} (load_fault.TooManyNames line) rt1 out safe is =
-    before_rt1 (code, safe) (λ e. cc) is refl refl
-joined_outcome {code} (load_fault.TooManyRanges line) rt1 out safe is =
-    before_rt1 (code, safe) (λ e. cc) is refl refl
 joined_outcome load_fault.Memory rt1 {old} {new} out safe is =
     record { written = inl (refl, refl); counts = refl; reads = joined_unfailed rt1 old new is }
-
--- a file's fault is none of the program
-pub of_load-not_program : (fault : LoadFault) (of : ProgramFault) → of_load fault ≢ Program of
-of_load-not_program (load_fault.Line file fault) of e = cc
-of_load-not_program (load_fault.TooManyNames line) of e = cc
-of_load-not_program (load_fault.TooManyRanges line) of e = cc
-of_load-not_program load_fault.Memory of e = cc
+joined_outcome {code} fault rt1 out safe is = before_rt1 (code, safe) (λ e. cc) is refl refl
 
 module _ {A : Type 0} (index : Index A) (code : List Insn) (rows : ℕ) (line : LineParts) (rt1 now rt1' : Reader) (out between : Writer)
     (so_far : IsExtractedSoFar index code rows line rt1 now out between) (number : ℕ) (segment : Contents) where
@@ -145,12 +115,6 @@ module _ {A : Type 0} (index : Index A) (code : List Insn) (rows : ℕ) (line : 
     written = Appends-append out.held between.held out'.held so_far.text (row_if_chosen answer score segment) so_far.written appended;
     counts = counts ∙ so_far.counts;
   }
-
-  -- a row more can still be counted
-  pub fits : (more : ℕ) (out' : Writer) → IsSegmentRead index line number segment now rt1' (Ok (Some tt))
-      → WritesRow code segment (Ok more) between out' → rows + more < 2 ^ 64
-  fits more out' next (answer, score, answers, counted, appended, counts) =
-      omega (arith, so_far.few, next.0.0.1, counted, chosen_count-le answer)
 
   module _ (program : List ℕ) (safe : IsSafeProgram program code) (own joined : JoinedLines) (of_own : IsIndexOf index own)
       (alike : AnswersAlike code own joined) (old new : Readers) (reads_joined : ReadsJoined joined old new) where

@@ -10,7 +10,7 @@ use Rattle.tl_segments.specs.declared.fault.LoadFault.TheVariants as load_varian
 use Rattle.extract.specs.declared.fault.ExtractFault.{ExtractFault}
 use Rattle.extract.specs.declared.fault.ExtractFault.TheVariants.{Program, Load, Write, Memory}
 
--- want of memory is one fault, wherever it came from
+-- out of memory is one fault, wherever it came from
 abbrev pub of_program : ProgramFault → ExtractFault
 of_program program_variant.Memory = Memory
 of_program fault = Program fault

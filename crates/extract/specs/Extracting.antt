@@ -24,7 +24,7 @@ use Rattle.extract.specs.declared.program.ProgramFault.{ProgramFault}
 use Rattle.extract.specs.declared.program.ProgramFault.TheVariants as program_fault
 
 -- The program is safe, and for the segments of the county's files, which were all read to their ends, exactly the rows that the program's
--- meaning chooses were written, in file order with their scores, behind what the writer held, so many. Nothing failed.
+-- meaning chooses were written, in file order with their scores, after what the writer held, so many. Nothing failed.
 pub record IsExtracted (program : List ℕ) (rows : ℕ) (old new : CountyReaders) (out out' : Writer) : Type 0 where
   pub code : List Insn
   pub is_program : IsSafeProgram program code
@@ -72,7 +72,7 @@ pub record HasWritten (program : List ℕ) (joined : JoinedLines) (lines : List 
   pub counts : out'.counts ≡ out.counts
 
 -- A file is refused, by the first fault of the county's files in the order in which they are read: of type 4, 5 or 6, where nothing of type
--- 1 was read and nothing was written; or of type 1, behind good lines of which all of the extract was written.
+-- 1 was read and nothing was written; or of type 1, after good lines of which all of the extract was written.
 pub data IsLoadRefusal (program : List ℕ) (fault : LoadFault) (old new : CountyReaders) (out out' : Writer) : Type 0 where
   before_rt1 : HasSafeCode program → fault ≢ load_fault.Memory → IsJoinedFault fault old.joined new.joined → new.rt1 ≡ old.rt1 → out' ≡ out
       → IsLoadRefusal program fault old new out out'
@@ -80,8 +80,8 @@ pub data IsLoadRefusal (program : List ℕ) (fault : LoadFault) (old new : Count
       → ReadsJoined joined old.joined new.joined → IsFirstFault Rt1 line lines old.rt1 new.rt1 → HasWritten program joined lines out out'
       → IsLoadRefusal program fault old new out out'
 
--- A write failed: all of the extract of good lines was written, and then a beginning of the row of the line behind them, which is good as
--- well. Nothing was read behind that line, and no read failed.
+-- A write failed: all of the extract of good lines was written, and then a beginning of the row of the line after them, which is good as
+-- well. Nothing was read after that line, and no read failed.
 pub record IsWriteRefusal (program : List ℕ) (fault : WriteFault) (old new : CountyReaders) (out out' : Writer) : Type 0 where
   pub joined : JoinedLines
   pub reads_joined : ReadsJoined joined old.joined new.joined
@@ -92,8 +92,8 @@ pub record IsWriteRefusal (program : List ℕ) (fault : WriteFault) (old new : C
   pub before : HasWritten program joined lines out between
   pub row : WritesRow before.code (segment_of joined line) (Err fault) between out'
 
--- Memory is wanting for the segment of a good line of type 1, to which something is joined: all of the extract of the good lines before it was
--- written, and nothing was read behind it.
+-- Memory runs out for the segment of a good line of type 1, to which something is joined: all of the extract of the good lines before it
+-- was written, and nothing was read after it.
 pub record StopsAtLine (program : List ℕ) (old new : CountyReaders) (out out' : Writer) : Type 0 where
   pub joined : JoinedLines
   pub reads_joined : ReadsJoined joined old.joined new.joined
@@ -110,7 +110,7 @@ pub record AreUnfailed (old new : CountyReaders) : Type 0 where
   pub rt5 : new.joined.rt5.failed ≡ old.joined.rt5.failed
   pub rt6 : new.joined.rt6.failed ≡ old.joined.rt6.failed
 
--- Memory is wanting: nothing of type 1 was read and nothing was written, or it stops at a line of type 1. No read or write failed.
+-- Memory runs out: nothing of type 1 was read and nothing was written, or it stops at a line of type 1. No read or write failed.
 pub record IsMemoryRefusal (program : List ℕ) (old new : CountyReaders) (out out' : Writer) : Type 0 where
   pub written : (new.rt1 ≡ old.rt1) × (out' ≡ out) ⊎ StopsAtLine program old new out out'
   pub counts : out'.counts ≡ out.counts

@@ -12,32 +12,28 @@ use Rattle.bpf_verify.specs.declared.fault.VerifyFault.TheVariants as verify_fau
 use Rattle.extract.specs.declared.program.ProgramFault.{ProgramFault}
 use Rattle.extract.specs.declared.program.ProgramFault.TheVariants.{Code, Flow, Verify, Memory}
 
--- The bytes have this code, which is forward: its jumps go forward, and its last instruction is EXIT. It is accepted: what is known before
--- each instruction makes every check pass. So it is safe: on every segment whatever no run ends stuck, and some run exits in at most as
--- many steps as the code has instructions.
-pub record IsSafeProgram (program : List ℕ) (code : List Insn) : Type 0 where
-  pub is_code : IsCodeOf program code
-  pub forward : IsForward code
-  pub accepted : HasGoodAnnotation code
-  pub safe : IsSafe code
-
--- The same of a code alone, whatever bytes it's of.
+-- The code is forward: its jumps go forward, and its last instruction is EXIT. It is accepted: what is known before each instruction makes
+-- every check pass. So it is safe: on every segment whatever no run ends stuck, and some run exits in at most as many steps as the code has
+-- instructions.
 pub record IsSafeCode (code : List Insn) : Type 0 where
   pub forward : IsForward code
   pub accepted : HasGoodAnnotation code
   pub safe : IsSafe code
 
--- 10 to 18 are the first fault of the bytes, 30 to 33 the first fault of their code; 40 to 51 come of a forward code alone
-abbrev pub IsProgramFault : List ℕ → ProgramFault → Type 0
-IsProgramFault program (Code fault) = code.IsFirstFault program fault × (fault ≢ code_fault.Memory)
-IsProgramFault program (Flow fault) = (code : List Insn) × IsCodeOf program code × flow.IsFirstFault code fault
-IsProgramFault program (Verify fault) =
-    (code : List Insn) × IsCodeOf program code × IsForward code × IsVerifyFault code fault × (fault ≢ verify_fault.Memory)
-IsProgramFault program Memory = Unit {0}
+-- the bytes have this code, which is safe
+pub record IsSafeProgram (program : List ℕ) (code : List Insn) : Type 0 where
+  pub is_code : IsCodeOf program code
+  pub safe_code : IsSafeCode code
 
--- the same of a code alone, which has no fault of the bytes
+-- 30 to 33 are the first fault of a code, and 40 to 51 come of a forward code alone; 10 to 18 are faults of bytes
 abbrev pub IsFaultOfCode : List Insn → ProgramFault → Type 0
 IsFaultOfCode code (Code fault) = ⊥
 IsFaultOfCode code (Flow fault) = flow.IsFirstFault code fault
 IsFaultOfCode code (Verify fault) = IsForward code × IsVerifyFault code fault × (fault ≢ verify_fault.Memory)
 IsFaultOfCode code Memory = Unit {0}
+
+-- the first fault of the bytes, or a fault of the code that they have
+abbrev pub IsProgramFault : List ℕ → ProgramFault → Type 0
+IsProgramFault program (Code fault) = code.IsFirstFault program fault × (fault ≢ code_fault.Memory)
+IsProgramFault program Memory = Unit {0}
+IsProgramFault program fault = (code : List Insn) × IsCodeOf program code × IsFaultOfCode code fault

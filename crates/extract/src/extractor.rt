@@ -20,10 +20,10 @@ use tl_segments::{Index, LoadFault};
 /// Writes the rows of the segments of a county's files that a program chooses, in the order of the type 1 file, and answers their number.
 ///
 /// The program is accepted first. Then the files of types 4, 5 and 6 are read, in this order, each to its end, and kept as far as segments
-/// need them for the program. The type 1 file is then read line by line: a line's row is handed to the writer before the next line is read, and
-/// nothing of a line is kept behind its row. So the first fault is answered of the program, of type 4, 5, 6, and of type 1, in this order; with a
-/// fault of line n of type 1 the rows of all lines before it were written, and with any fault before that nothing was. Nothing is flushed, and no
-/// read or write is tried again, not after `Interrupted` either.
+/// need them for the program. The type 1 file is then read line by line: a line's row is handed to the writer before the next line is read,
+/// and nothing of a line is kept after its row. So the first fault is answered of the program, of type 4, 5, 6, and of type 1, in this
+/// order; with a fault of line n of type 1 the rows of all lines before it were written, and with any fault before that nothing was.
+/// Nothing is flushed, and no read or write is tried again, not after `Interrupted` either.
 pub fn extract<A: Allocator + Copy, R: CountedRead, W: CountedWrite>(
     alloc: A,
     program: &[u8],

@@ -9,7 +9,8 @@ use thiserror::Error;
 use tl_fields::WriteFault;
 use tl_segments::LoadFault;
 
-/// Why there is no extract, or no whole one: each branch is the fault of one part of the work, and none is want of memory.
+/// Why there is no extract, or no whole one: each branch is the fault of one part of the work, and running out of memory is a branch of its
+/// own.
 #[derive(Clone, Copy, Debug, PartialEq, Eq, Error)]
 pub enum ExtractFault {
     #[error("{0}")]

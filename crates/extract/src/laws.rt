@@ -5,7 +5,8 @@ ghost use Rattle.extract.specs.Program.{IsSafeProgram, IsProgramFault};
 ghost use Rattle.extract.specs.declared.program.ProgramFault.{ProgramFault};
 ghost use Rattle.extract.specs.declared.program.ProgramFault.TheVariants.{Memory};
 
-/// A program has at most one verdict, want of memory aside: one that is accepted has no fault, and any other has at most one.
+/// A program has at most one verdict, out of memory aside: one that is accepted has no fault, and any other has at most one.
+#[tactic(auto, using(crate::proofs::VerdictLemmas::no_fault, crate::proofs::VerdictLemmas::one_fault))]
 pub fn verdicts()
     ensures accepted { (program : List ℕ) (code : List Insn) (fault : ProgramFault) → IsSafeProgram program code
         → IsProgramFault program fault → fault ≡ Memory }

@@ -74,10 +74,11 @@ impl Fault for ProgramFault {
 
 /// Accepts a program, which `bpf_machine::run` then takes, or refuses it: its bytes are looked at first, and then its code, as `accept_code`
 /// does. What is accepted keeps the allocator, and nothing of `program`.
+#[tactic(auto, using(crate::proofs::VerdictLemmas::refused_by_code, crate::proofs::VerdictLemmas::refused_for_memory))]
 pub fn accept<A: Allocator + Copy>(alloc: A, program: &[u8]) -> Result<Verified<A>, ProgramFault>
     ensures ok { IfOk result (λ verified. IsSafeProgram program.now verified.code) }
     ensures err { IfErr result (IsProgramFault program.now) }
-    // A program that has a safe code is refused for want of memory alone.
+    // A program that has a safe code is refused only if memory runs out.
     ensures only { (code : List Insn) → IsSafeProgram program.now code → IfErr result (λ fault. fault ≡ ProgramFault.Memory) }
 {
     let code = decode(alloc, program)?;
@@ -92,7 +93,7 @@ pub fn accept_code<A: Allocator + Copy>(
 ) -> Result<Verified<A>, ProgramFault>
     ensures ok { IfOk result (λ verified. (verified.code ≡ code) × IsSafeCode code) }
     ensures err { IfErr result (IsFaultOfCode code) }
-    // A safe code is refused for want of memory alone.
+    // A safe code is refused only if memory runs out.
     ensures only { IsSafeCode code → IfErr result (λ fault. fault ≡ ProgramFault.Memory) }
 {
     let flow = Flow::of(code)?;

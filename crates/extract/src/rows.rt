@@ -44,8 +44,7 @@ pub fn row<A: Allocator, W: CountedWrite>(
 {
     write_whole(out, row_start(score).as_slice())?;
     write_whole(out, segment.bytes())?;
-    write_whole(out, b"\n")?;
-    Ok(())
+    write_whole(out, b"\n")
 }
 
 /// The score with which a code chooses a segment, `None` where it doesn't choose it. The code runs in the machine, whatever it holds. It takes
@@ -65,7 +64,7 @@ pub fn score_if_chosen<A: Allocator, B: Allocator>(
     Some(answer.score)
 }
 
-/// Appends the row of a segment if the code chooses it. Where memory is wanting the rows stay as they were.
+/// Appends the row of a segment if the code chooses it. If memory runs out the rows stay as they were.
 #[inline]
 pub fn push_row_if_chosen<A: Allocator, B: Allocator, C: Allocator>(
     verified: &Verified<A>,

@@ -1,4 +1,4 @@
-use Rattle.std.proofs.Common.{Ok, Err, refl, ◌∙◌}
+use Rattle.std.proofs.Common.{refl, ◌∙◌}
 use Rattle.std.proofs.lemmas.Result.{err_from_is_err_and}
 use Rattle.extract.proofs.RowLemmas.{start_failed, record_failed, end_written}
 use Rattle.extract.proofs.rows.row.Goals as goal
@@ -17,16 +17,8 @@ returns-in_err-write_whole-2 g c =
     rw (returned.1, returned.2) (record_failed c.args.score c.args.segment.now c.as_slice.result.now c.bytes.result.now begins
     c.bytes.ensures.value _ c.in_err-write_whole-2.field-0.0 _ _ c.in_ok-write_whole.ensures c.in_err-write_whole-2.ensures)
 
-pub returns-in_err-write_whole-3 : goal.returns-in_err-write_whole-3
-returns-in_err-write_whole-3 g c =
-    let begins = c.as_slice.ensures.value ∙ c.row_start.ensures in
-    let returned = err_from_is_err_and c.from_residual-in_err-write_whole-3.result c.from_residual-in_err-write_whole-3.ensures.1 in
-    rw (returned.1, returned.2) (end_written c.args.score c.args.segment.now c.as_slice.result.now c.bytes.result.now begins
-    c.bytes.ensures.value _ (Err c.in_err-write_whole-3.field-0.0) _ _ _ c.in_ok-write_whole.ensures c.in_ok-write_whole-2.ensures
-    c.in_err-write_whole-3.ensures)
-
 pub returns : goal.returns
 returns g c =
     let begins = c.as_slice.ensures.value ∙ c.row_start.ensures in
-    end_written c.args.score c.args.segment.now c.as_slice.result.now c.bytes.result.now begins c.bytes.ensures.value _
-    (Ok tt) _ _ _ c.in_ok-write_whole.ensures c.in_ok-write_whole-2.ensures c.in_ok-write_whole-3.ensures
+    end_written c.args.score c.args.segment.now c.as_slice.result.now c.bytes.result.now begins c.bytes.ensures.value _ _ _ _ _
+    c.in_ok-write_whole.ensures c.in_ok-write_whole-2.ensures c.write_whole-3.ensures
