@@ -44,24 +44,24 @@ filter-next test xs i x inside is =
     ∙ ap (λ x. filter test (take i xs) ++ cond (test x) (x ∷ []) []) (sym is)
 
 -- one more of the elements, and what those before it give that pass the test
-module _ {X Y : Type 0} (test : X → Bool) (f : X → List Y) (start : List Y) (xs : List X) (i : ℕ) (inside : i < length xs) where
+module _ {X Y : Type 0} (test : X → Bool) (f : X → List Y) (start : List Y) (xs : List X) (i : ℕ) where
   -- with one that passes it
-  pub flat_map-passes : {now : List Y} {x : X} → x ≡ get_or xs i x → test x ≡ true → now ≡ start ++ flat_map f (filter test (take i xs))
-      → now ++ f x ≡ start ++ flat_map f (filter test (take (i + 1) xs))
+  pub flat_map-passes : {now : List Y} {x : X} → (i < length xs) × (x ≡ get_or xs i x) → test x ≡ true
+      → now ≡ start ++ flat_map f (filter test (take i xs)) → now ++ f x ≡ start ++ flat_map f (filter test (take (i + 1) xs))
   flat_map-passes {x} is passes so_far =
       ap (λ now. now ++ f x) so_far
       ∙ flat_map_more f start (filter test (take i xs)) x
       ∙ ap (λ b. start ++ flat_map f (filter test (take i xs) ++ cond b (x ∷ []) [])) (sym passes)
-      ∙ ap (λ xs. start ++ flat_map f xs) (sym (filter-next test xs i x inside is))
+      ∙ ap (λ xs. start ++ flat_map f xs) (sym (filter-next test xs i x is.0 is.1))
 
   -- and with one that doesn't
-  pub flat_map-fails : {now : List Y} {x : X} → x ≡ get_or xs i x → test x ≡ false → now ≡ start ++ flat_map f (filter test (take i xs))
-      → now ≡ start ++ flat_map f (filter test (take (i + 1) xs))
+  pub flat_map-fails : {now : List Y} {x : X} → (i < length xs) × (x ≡ get_or xs i x) → test x ≡ false
+      → now ≡ start ++ flat_map f (filter test (take i xs)) → now ≡ start ++ flat_map f (filter test (take (i + 1) xs))
   flat_map-fails {x} is fails so_far =
       so_far
       ∙ ap (λ xs. start ++ flat_map f xs) (sym (append-nil (filter test (take i xs))))
       ∙ ap (λ b. start ++ flat_map f (filter test (take i xs) ++ cond b (x ∷ []) [])) (sym fails)
-      ∙ ap (λ xs. start ++ flat_map f xs) (sym (filter-next test xs i x inside is))
+      ∙ ap (λ xs. start ++ flat_map f xs) (sym (filter-next test xs i x is.0 is.1))
 
 -- the number of the TLID at an index
 pub tlid_at : (tlids : List ℕ) (segments : List Contents) {tlid : ℕ} (i : ℕ) {segment : Contents} → AreTlids tlids segments

@@ -1,5 +1,5 @@
 -- What several reads, or several writes, do to known bytes one after the other.
-use Rattle.std.proofs.Common.{◌≡◌, ℕ, ◌+◌, List, [], ◌++◌, length, take, drop, Option, None, Some, sym, subst, ◌∙◌, ap, append_assoc, refl}
+use Rattle.std.proofs.Common.{ℕ, ◌+◌, List, [], ◌++◌, length, take, drop, Option, None, Some, sym, ◌∙◌, ap, append_assoc, refl}
 use Rattle.std.proofs.Math.Seq.{take-add, take-append-add}
 use Rattle.std.proofs.lemmas.List.{append-nil}
 use Rattle.std.specs.Io.KnownBytes.{Appends, Consumes, Keeps}
@@ -39,11 +39,10 @@ Consumes-from_keeps (Some us) (Some vs) kept = sym kept
 
 module _ (old now new : Option (List ℕ)) where
   -- a further piece of a text was written
-  pub Appends-further : {rest : List ℕ} (text : List ℕ) (count more : ℕ) → rest ≡ drop count text → Appends old now (take count text)
-      → Appends now new (take more rest) → Appends old new (take (count + more) text)
-  Appends-further text count more is so_far next =
-      let piece : Appends now new (take more (drop count text)) = subst (λ (xs : List ℕ). Appends now new (take more xs)) is next in
-      rw take-add (Appends-append old now new (take count text) (take more (drop count text)) so_far piece)
+  pub Appends-further : (text : List ℕ) (count more : ℕ) → Appends old now (take count text)
+      → Appends now new (take more (drop count text)) → Appends old new (take (count + more) text)
+  Appends-further text count more so_far next =
+      rw take-add (Appends-append old now new (take count text) (take more (drop count text)) so_far next)
 
   -- a beginning of a further text was written
   pub AppendsBeginning-further : (text more : List ℕ) → Appends old now text → AppendsBeginning now new more

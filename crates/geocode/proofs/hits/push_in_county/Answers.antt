@@ -20,8 +20,8 @@ loop-segment-preserved-in-Continue-1 g c =
     (cc) c.loop-segment.yielded_by (c.in-Some.segment, c.in-Some.tlid) c.in-Some.is c.next.ensures.steps in
     rw (length-append yielded ((c.in-Some.segment, c.in-Some.tlid) ∷ [])) (
     c.in_ok-push_on_segment.ensures
-    ∙ flat_map-passes (has_name c.args.name.now) (hits_on_segment c.args.house) c.args.hits.now.items segments (length yielded) turn.0
-    (turn.2 _) (sym c.has_name.ensures ∙ c.if-has_name.true) c.loop-segment.invariant)
+    ∙ flat_map-passes (has_name c.args.name.now) (hits_on_segment c.args.house) c.args.hits.now.items segments (length yielded)
+    (turn.0, turn.2 _) (sym c.has_name.ensures ∙ c.if-has_name.true) c.loop-segment.invariant)
 
 pub loop-segment-preserved : goal.loop-segment-preserved
 loop-segment-preserved g c =
@@ -30,8 +30,8 @@ loop-segment-preserved g c =
     let turn = zip_turn segments c.tlids.result.now yielded c.into_iter-segment-iterator.result _ c.next.new.self _ (cc)
     (cc) c.loop-segment.yielded_by (c.in-Some.segment, c.in-Some.tlid) c.in-Some.is c.next.ensures.steps in
     rw (length-append yielded ((c.in-Some.segment, c.in-Some.tlid) ∷ []))
-    (flat_map-fails (has_name c.args.name.now) (hits_on_segment c.args.house) c.args.hits.now.items segments (length yielded) turn.0
-    (turn.2 _) (sym c.has_name.ensures ∙ c.if-has_name.false) c.loop-segment.invariant)
+    (flat_map-fails (has_name c.args.name.now) (hits_on_segment c.args.house) c.args.hits.now.items segments (length yielded)
+    (turn.0, turn.2 _) (sym c.has_name.ensures ∙ c.if-has_name.false) c.loop-segment.invariant)
 
 pub returns : goal.returns
 returns g c =

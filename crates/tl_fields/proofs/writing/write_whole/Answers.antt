@@ -13,6 +13,6 @@ loop-rest-preserved g c =
       i.0 + n,
       omega arith,
       take_rest c.loop-rest.rest.now n ∙ ap (drop n) i.2 ∙ drop-drop n i.0 c.args.text.now,
-      Appends-further _ _ _ c.args.text.now i.0 n i.2 i.3 w.bytes,
+      Appends-further _ _ _ c.args.text.now i.0 n i.3 (rw (i.2) at w.bytes),
       w.counts.0 some ∙ i.4,
     )
