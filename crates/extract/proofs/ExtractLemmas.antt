@@ -2,7 +2,7 @@
 use Rattle.std.proofs.Common.{◌≡◌, ◌≢◌, ℕ, ◌+◌, ◌≤◌, inl, inr, List, [], ◌∷◌, ◌++◌, Some, None, Ok, Err, refl, sym, ap, ◌∙◌}
 use Rattle.std.proofs.Common.{subst, arith}
 use Rattle.std.specs.Io.KnownBytes.{Appends}
-use Rattle.std.specs.Prelude.{◌⊎◌, IsTrue, Option}
+use Rattle.std.specs.Prelude.{◌⊎◌, IsTrue, Option, Result}
 use Rattle.std.specs.Option.{option_map_or}
 use Rattle.tl_fields.specs.Device.{Reader, Writer}
 use Rattle.tl_fields.specs.declared.writing.WriteFault.{WriteFault}
@@ -11,7 +11,7 @@ use Rattle.tl_records.specs.Lines.{LineParts}
 use Rattle.bpf_insn.specs.declared.instruction.Insn.{Insn}
 use Rattle.tl_segments.specs.Indexing.{IsIndexOf, IsSegmentRead}
 use Rattle.tl_segments.specs.Joining.{JoinedLines, alternate_names, further_ranges, no_lines, number_in, segment_of, segments_of}
-use Rattle.tl_segments.specs.Loading.{Readers, ReadsJoined, IsJoinedFault, in_rt4, in_rt5, in_rt6}
+use Rattle.tl_segments.specs.Loading.{Readers, IsJoinedFault, in_rt4, in_rt5, in_rt6}
 use Rattle.tl_segments.specs.Segment.{Contents, line_of}
 use Rattle.tl_segments.specs.declared.fault.CountyFile.TheVariants.{Rt1}
 use Rattle.tl_segments.specs.declared.fault.LoadFault.{LoadFault}
@@ -24,7 +24,7 @@ use Rattle.bpf_meaning.specs.RecordAlone.{reads_record_alone}
 use Rattle.bpf_meaning.proofs.ExtractLemmas.{extract_push}
 use Rattle.bpf_meaning.proofs.RecordLemmas.{answers_alike}
 use Rattle.extract.specs.ExtractFault.{of_load}
-use Rattle.extract.specs.Extracting.{AnswersAlike, HasWritten, AreUnfailed, before_rt1, in_rt1, IsOutcome}
+use Rattle.extract.specs.Extracting.{AnswersAlike, HasWritten, AreUnfailed, ServesCode, before_rt1, in_rt1, IsOutcome}
 use Rattle.extract.specs.Program.{IsSafeProgram}
 use Rattle.extract.specs.Rows.{WritesRow}
 use Rattle.extract.specs.declared.fault.ExtractFault.TheVariants.{Write}
@@ -93,110 +93,115 @@ joined_outcome load_fault.Memory rt1 {old} {new} out safe is =
     record { written = inl (refl, refl); counts = refl; reads = joined_unfailed rt1 old new is }
 joined_outcome {code} fault rt1 out safe is = before_rt1 (code, safe) (λ e. cc) is refl refl
 
-module _ {A : Type 0} (index : Index A) (code : List Insn) (rows : ℕ) (line : LineParts) (rt1 now rt1' : Reader) (out between : Writer)
-    (so_far : IsExtractedSoFar index code rows line rt1 now out between) (number : ℕ) (segment : Contents) where
+-- the next segment of a type 1 file was read from a reader, with this result
+pub record ReadsNext {A : Type 0} (index : Index A) (line : LineParts) (now : Reader) (result : Result (Option (Unit {0})) LoadFault)
+    : Type 0 where
+  pub number : ℕ
+  pub segment : Contents
+  pub after : Reader
+  pub is : IsSegmentRead index line number segment now after result
+
+module _ {A : Type 0} {index : Index A} {code : List Insn} {rows : ℕ} {line : LineParts} {rt1 now : Reader} {out between : Writer}
+    (so_far : IsExtractedSoFar index code rows line rt1 now out between) where
   -- a segment more, and its row if it is chosen
-  pub one_row_more : (more : ℕ) (out' : Writer) → IsSegmentRead index line number segment now rt1' (Ok (Some tt))
-      → WritesRow code segment (Ok more) between out' → IsExtractedSoFar index code (rows + more) (line_of number segment) rt1 rt1' out out'
-  one_row_more more out' next (answer, score, answers, counted, appended, counts) = record {
-    lines = so_far.lines ++ segment.bytes ∷ [];
-    read = good_line_more so_far.lines line (line_of number segment) rt1 now rt1' so_far.read next.0;
-    segments = so_far.segments ++ segment ∷ [];
-    made = λ joined of_joined.
-        ap (λ segments. segments ++ segment ∷ []) (so_far.made joined of_joined)
-        ∙ ap (λ segment. segments_of joined so_far.lines ++ segment ∷ []) (next.1 joined of_joined)
-        ∙ sym (segments_push joined so_far.lines segment.bytes);
-    text = so_far.text ++ row_if_chosen answer score segment;
-    is_extract =
-        subst (λ (n : ℕ). IsExtract code (so_far.segments ++ segment ∷ []) (so_far.text ++ row_if_chosen answer score segment) (rows + n))
-        (sym counted)
-        (extract_push code so_far.segments segment so_far.text rows answer score so_far.is_extract answers);
-    few = omega (arith, so_far.few, next.0.0.2, counted, chosen_count-le answer);
-    written = Appends-append out.held between.held out'.held so_far.text (row_if_chosen answer score segment) so_far.written appended;
-    counts = counts ∙ so_far.counts;
-  }
+  pub one_row_more : (next : ReadsNext index line now (Ok (Some tt))) (more : ℕ) (out' : Writer)
+      → WritesRow code next.segment (Ok more) between out'
+      → IsExtractedSoFar index code (rows + more) (line_of next.number next.segment) rt1 next.after out out'
+  one_row_more next more out' (answer, score, answers, counted, appended, counts) =
+      let segment = next.segment in
+      record {
+        lines = so_far.lines ++ segment.bytes ∷ [];
+        read = good_line_more so_far.read (line_of next.number segment) next.after next.is.0;
+        segments = so_far.segments ++ segment ∷ [];
+        made = λ joined of_joined.
+            ap (λ segments. segments ++ segment ∷ []) (so_far.made joined of_joined)
+            ∙ ap (λ segment. segments_of joined so_far.lines ++ segment ∷ []) (next.is.1 joined of_joined)
+            ∙ sym (segments_push joined so_far.lines segment.bytes);
+        text = so_far.text ++ row_if_chosen answer score segment;
+        is_extract =
+            subst (λ (n : ℕ). IsExtract code (so_far.segments ++ segment ∷ []) (so_far.text ++ row_if_chosen answer score segment)
+            (rows + n)) (sym counted)
+            (extract_push code so_far.segments segment so_far.text rows answer score so_far.is_extract answers);
+        few = omega (arith, so_far.few, next.is.0.0.2, counted, chosen_count-le answer);
+        written = Appends-append out.held between.held out'.held so_far.text (row_if_chosen answer score segment) so_far.written appended;
+        counts = counts ∙ so_far.counts;
+      }
 
-  module _ (program : List ℕ) (safe : IsSafeProgram program code) (own joined : JoinedLines) (of_own : IsIndexOf index own)
-      (alike : AnswersAlike code own joined) (old new : Readers) (reads_joined : ReadsJoined joined old new) where
-    extract_so_far : IsExtract code (segments_of joined so_far.lines) so_far.text rows
-    extract_so_far =
-        extract_alike code own joined so_far.lines so_far.text rows alike
-        (subst (λ (segments : List Contents). IsExtract code segments so_far.text rows) (so_far.made own of_own) so_far.is_extract)
-
-    has_written : HasWritten program joined so_far.lines out between
+  module _ {program : List ℕ} (safe : IsSafeProgram program code) {old new : Readers} (serves : ServesCode code index old new) where
+    has_written : HasWritten program serves.joined so_far.lines out between
     has_written = record {
       code = code;
       is_program = safe;
       text = so_far.text;
       rows = rows;
-      is_extract = extract_so_far;
+      is_extract =
+          extract_alike code serves.own serves.joined so_far.lines so_far.text rows serves.alike
+          (subst (λ (segments : List Contents). IsExtract code segments so_far.text rows) (so_far.made serves.own serves.index_of)
+          so_far.is_extract);
       written = so_far.written;
       counts = so_far.counts;
     }
 
     -- the file ended
-    pub end_outcome : IsSegmentRead index line number segment now rt1' (Ok None)
-        → IsOutcome program (Ok rows) (record { rt1 = rt1; joined = old }) (record { rt1 = rt1'; joined = new }) out between
+    pub end_outcome : (next : ReadsNext index line now (Ok None))
+        → IsOutcome program (Ok rows) (record { rt1 = rt1; joined = old }) (record { rt1 = next.after; joined = new }) out between
+    unfolding has_written
     end_outcome next = record {
       code = code;
       is_program = safe;
-      county = record { segments = segments_of joined so_far.lines };
+      county = record { segments = segments_of serves.joined so_far.lines };
       loads = record {
-        joined = joined;
+        joined = serves.joined;
         lines = so_far.lines;
         segments = refl;
-        reads_joined = reads_joined;
-        rt1 = all_read Rt1 so_far.lines line (record { number = number; bytes = next.0.0 }) rt1 now rt1' so_far.read next.0.1;
+        reads_joined = serves.reads;
+        rt1 = all_read so_far.read (record { number = next.number; bytes = next.is.0.0 }) next.after next.is.0.1;
       };
       text = so_far.text;
-      is_extract = extract_so_far;
+      is_extract = has_written.is_extract;
       written = so_far.written;
       counts = so_far.counts;
     }
 
     -- the next segment can't be made
-    pub fault_outcome : (fault : LoadFault) → IsSegmentRead index line number segment now rt1' (Err fault)
-        → IsOutcome program (Err (of_load fault)) (record { rt1 = rt1; joined = old }) (record { rt1 = rt1'; joined = new }) out between
+    pub fault_outcome : (fault : LoadFault) (next : ReadsNext index line now (Err fault))
+        → IsOutcome program (Err (of_load fault)) (record { rt1 = rt1; joined = old }) (record { rt1 = next.after; joined = new })
+        out between
     fault_outcome (load_fault.Line file fault) next =
-        in_rt1 joined so_far.lines fault (ap (λ file. load_fault.Line file fault) next.0) reads_joined
-        (at_next_fault so_far.lines line (record { number = number; bytes = next.1.0 }) rt1 now rt1' so_far.read fault next.1.1) has_written
-    fault_outcome (load_fault.TooManyNames number) next = absurd next
-    fault_outcome (load_fault.TooManyRanges number) next = absurd next
+        in_rt1 serves.joined so_far.lines fault (ap (λ file. load_fault.Line file fault) next.is.0) serves.reads
+        (at_next_fault so_far.read (record { number = next.number; bytes = next.is.1.0 }) next.after fault next.is.1.1) has_written
+    fault_outcome (load_fault.TooManyNames number) next = absurd next.is
+    fault_outcome (load_fault.TooManyRanges number) next = absurd next.is
     fault_outcome load_fault.Memory next =
-        let more = good_line_more so_far.lines line (line_of number segment) rt1 now rt1' so_far.read next.0 in
+        let more = good_line_more so_far.read (line_of next.number next.segment) next.after next.is.0 in
+        let joined = serves.reads in
         record {
           written = inr (record {
-            joined = joined;
-            reads_joined = reads_joined;
+            joined = serves.joined;
+            reads_joined = serves.reads;
             lines = so_far.lines;
-            line = segment.bytes;
+            line = next.segment.bytes;
             reads = more.reads;
-            more = alike.more segment.bytes (next.1 own of_own);
+            more = serves.alike.more next.segment.bytes (next.is.1 serves.own serves.index_of);
             before = has_written;
           });
           counts = so_far.counts;
-          reads = record {
-            rt1 = more.reads.reads;
-            rt4 = reads_joined.rt4.reads;
-            rt5 = reads_joined.rt5.reads;
-            rt6 =
-                reads_joined.rt6.reads;
-          };
+          reads = record { rt1 = more.reads.reads; rt4 = joined.rt4.reads; rt5 = joined.rt5.reads; rt6 = joined.rt6.reads };
         }
 
     -- the writer fails
-    pub write_outcome : (fault : WriteFault) (out' : Writer) → IsSegmentRead index line number segment now rt1' (Ok (Some tt))
-        → WritesRow code segment (Err fault) between out' → IsOutcome program (Err (Write fault)) (record { rt1 = rt1; joined = old })
-        (record { rt1 = rt1'; joined = new }) out out'
+    pub write_outcome : (next : ReadsNext index line now (Ok (Some tt))) (fault : WriteFault) (out' : Writer)
+        → WritesRow code next.segment (Err fault) between out' → IsOutcome program (Err (Write fault)) (record { rt1 = rt1; joined = old })
+        (record { rt1 = next.after; joined = new }) out out'
     unfolding has_written
-    write_outcome fault out' next row = record {
-      joined = joined;
-      reads_joined = reads_joined;
+    write_outcome next fault out' row = record {
+      joined = serves.joined;
+      reads_joined = serves.reads;
       lines = so_far.lines;
-      line = segment.bytes;
-      reads = (good_line_more so_far.lines line (line_of number segment) rt1 now rt1' so_far.read next.0).reads;
+      line = next.segment.bytes;
+      reads = (good_line_more so_far.read (line_of next.number next.segment) next.after next.is.0).reads;
       between = between;
       before = has_written;
-      row = row_alike segment.bytes fault between out' alike
-          (subst (λ (s : Contents). WritesRow code s (Err fault) between out') (next.1 own of_own) row);
+      row = row_alike next.segment.bytes fault between out' serves.alike
+          (subst (λ (s : Contents). WritesRow code s (Err fault) between out') (next.is.1 serves.own serves.index_of) row);
     }

@@ -62,13 +62,16 @@ then_written part more (Err fault) old now new first next = (
 )
 
 -- a row is written in three parts: the score and the tab, the record, the line feed
-module _ (score : ℕ) (segment : Contents) (start bytes : List ℕ) (begins : start ≡ decimal score ++ 9 ∷ []) (is : bytes ≡ segment.bytes)
-    (old : Writer) where
+pub record IsRow (score : ℕ) (segment : Contents) (start bytes : List ℕ) : Type 0 where
+  pub begins : start ≡ decimal score ++ 9 ∷ []
+  pub is : bytes ≡ segment.bytes
+
+module _ {score : ℕ} {segment : Contents} {start bytes : List ℕ} (row : IsRow score segment start bytes) (old : Writer) where
   row_is : start ++ bytes ++ 10 ∷ [] ≡ row_of score segment
   row_is =
       ap (λ (front : List ℕ). front ++ 10 ∷ [])
-      (ap (λ (start : List ℕ). start ++ bytes) begins ∙ append_assoc (decimal score) (9 ∷ []) bytes
-      ∙ ap (λ (bytes : List ℕ). decimal score ++ 9 ∷ bytes) is)
+      (ap (λ (start : List ℕ). start ++ bytes) row.begins ∙ append_assoc (decimal score) (9 ∷ []) bytes
+      ∙ ap (λ (bytes : List ℕ). decimal score ++ 9 ∷ bytes) row.is)
 
   pub start_failed : (fault : WriteFault) (new : Writer) → WritesText start (Err fault) old new
       → WritesText (row_of score segment) (Err fault) old new
@@ -82,8 +85,8 @@ module _ (score : ℕ) (segment : Contents) (start bytes : List ℕ) (begins : s
       subst (λ text. WritesText text (Err fault) old new) row_is
       (first_failed (start ++ bytes) (10 ∷ []) fault old new (then_written start bytes (Err fault) old now new first failed))
 
-  pub end_written : (result : Result (Unit {0}) WriteFault) (now then new : Writer) → WritesText start (Ok tt) old now
-      → WritesText bytes (Ok tt) now then → WritesText (10 ∷ []) result then new → WritesText (row_of score segment) result old new
-  end_written result now then new first second third =
-      subst (λ text. WritesText text result old new) row_is
-      (then_written (start ++ bytes) (10 ∷ []) result old then new (then_written start bytes (Ok tt) old now then first second) third)
+  -- the score, the tab and the record were written
+  pub end_written : (result : Result (Unit {0}) WriteFault) (now new : Writer) → WritesText (start ++ bytes) (Ok tt) old now
+      → WritesText (10 ∷ []) result now new → WritesText (row_of score segment) result old new
+  end_written result now new front last =
+      subst (λ text. WritesText text result old new) row_is (then_written (start ++ bytes) (10 ∷ []) result old now new front last)

@@ -1,10 +1,8 @@
 //! The extract of a county's files.
 ghost use Rattle.std.specs.Prelude.{◌≡◌, ◌≢◌, ℕ, List, Err, IfErr, IfOk};
 ghost use Rattle.tl_fields.specs.Device.{reader, writer};
-ghost use Rattle.tl_segments.specs.Indexing.{IsIndexOf};
-ghost use Rattle.tl_segments.specs.Joining.{JoinedLines};
-ghost use Rattle.tl_segments.specs.Loading.{IsJoinedFault, Readers, ReadsJoined, readers};
-ghost use Rattle.extract.specs.Extracting.{AnswersAlike, IsOutcome, ServesCode};
+ghost use Rattle.tl_segments.specs.Loading.{IsJoinedFault, Readers, readers};
+ghost use Rattle.extract.specs.Extracting.{IsOutcome, ServesCode};
 ghost use Rattle.extract.specs.Program.{IsSafeProgram};
 ghost use Rattle.extract.specs.declared.program.ProgramFault.{ProgramFault};
 
@@ -75,9 +73,8 @@ fn write_rows<A: Allocator + Copy, R: CountedRead, W: CountedWrite>(
     rt1: &mut R,
     out: &mut W,
 ) -> Result<u64, ExtractFault>
-    ensures outcome { (program : List ℕ) → IsSafeProgram program verified.now.code
-        → (own joined : JoinedLines) → IsIndexOf index.now own → AnswersAlike verified.now.code own joined
-        → (old new : Readers) → ReadsJoined joined old new → IsOutcome program result
+    ensures outcome { (program : List ℕ) (old new : Readers) → IsSafeProgram program verified.now.code
+        → ServesCode verified.now.code index.now old new → IsOutcome program result
         (record { rt1 = reader R.remaining R.failed_reads rt1.old; joined = old })
         (record { rt1 = reader R.remaining R.failed_reads rt1.new; joined = new })
         (writer W.contents W.counts out.old) (writer W.contents W.counts out.new) }

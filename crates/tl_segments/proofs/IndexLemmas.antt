@@ -82,27 +82,33 @@ module _ {A : Type 0} (index : Index A) (lines : JoinedLines) (line : List ℕ) 
   ranges_joined some = inr (λ none. let same = ap (λ (segment : Contents). length segment.ranges) from_index in let no = ap length none in
       omega (arith, some, same, no))
 
--- what is so of the line that was read into a segment, where the segment still has its bytes
-module _ {A : Type 0} (index : Index A) (line : LineParts) (number tlid : ℕ) (read : Contents) (old new : Reader)
-    (is : IsRecordRead line number read old new (Ok (Some tlid))) (segment : Contents) (same : segment.bytes ≡ read.bytes) where
-  good_line : ReadsGoodLine line (line_of number segment) old new
-  good_line = subst (λ bytes. ReadsGoodLine line (record { number = number; bytes = bytes }) old new) (sym same) is.0.0
+-- the next line is good and was read into the segment, and its TLID has this number
+pub record HasLine (line : LineParts) (number tlid : ℕ) (old new : Reader) (segment : Contents) : Type 0 where
+  pub good : ReadsGoodLine line (line_of number segment) old new
+  pub numbered : number_in Rt1 segment.bytes ≡ Some tlid
 
-  numbered : number_in Rt1 segment.bytes ≡ Some tlid
-  numbered = ap (number_in Rt1) same ∙ is.0.1
+-- so it is of a segment that has the bytes of the one that the line was read into
+pub has_line : {segment : Contents} (line : LineParts) (number tlid : ℕ) (read : Contents) (old new : Reader)
+    → IsRecordRead line number read old new (Ok (Some tlid)) → segment.bytes ≡ read.bytes → HasLine line number tlid old new segment
+has_line line number tlid read old new is same = record {
+  good = subst (λ bytes. ReadsGoodLine line (record { number = number; bytes = bytes }) old new) (sym same) is.0.0;
+  numbered = ap (number_in Rt1) same ∙ is.0.1;
+}
 
+module _ {A : Type 0} (index : Index A) {line : LineParts} {number tlid : ℕ} {old new : Reader} {segment : Contents}
+    (has : HasLine line number tlid old new segment) where
   -- it has what the index has of its TLID
   pub segment_read : segment ≡ record { bytes = segment.bytes; names = names_in index tlid; ranges = list_at index.ranges tlid }
       → IsSegmentRead index line number segment old new (Ok (Some tt))
   segment_read made =
-      (good_line, λ lines of_lines. segment_from_index index lines segment.bytes tlid segment of_lines numbered made)
+      (has.good, λ lines of_lines. segment_from_index index lines segment.bytes tlid segment of_lines has.numbered made)
 
   -- out of memory for a name or a range
   pub wants_names : 1 ≤ length (names_in index tlid) → IsSegmentRead index line number segment old new (Err Memory)
-  wants_names some = (good_line, λ lines of_lines. names_joined index lines segment.bytes tlid of_lines numbered some)
+  wants_names some = (has.good, λ lines of_lines. names_joined index lines segment.bytes tlid of_lines has.numbered some)
 
   pub wants_ranges : 1 ≤ length (list_at index.ranges tlid) → IsSegmentRead index line number segment old new (Err Memory)
-  wants_ranges some = (good_line, λ lines of_lines. ranges_joined index lines segment.bytes tlid of_lines numbered some)
+  wants_ranges some = (has.good, λ lines of_lines. ranges_joined index lines segment.bytes tlid of_lines has.numbered some)
 
 -- segments with these numbers for TLIDs have numbers for TLIDs
 pub has_tlids : (tlids : List ℕ) (segments : List Contents) → AreTlids tlids segments → HasTlids segments

@@ -120,7 +120,7 @@ with_room Rt4 lines line number follows room = few-push Rt4 lines line number fo
 with_room Rt6 lines line number follows room = few-push Rt6 lines line number follows.numbered follows.within room
 with_room otherwise lines line number follows room = tt
 
-module _ (file : CountyFile) (lines : List (List ℕ)) (line : List ℕ) (number : ℕ) (follows : Follows file lines line number) where
+module _ {file : CountyFile} {lines : List (List ℕ)} {line : List ℕ} {number : ℕ} (follows : Follows file lines line number) where
   -- it is added where its number has room, and else the lines are beyond the limits with it
   added_by : {Adds : Type 0} (keeps : List (List ℕ) → Type 0) (count : ℕ) → count ≡ length (lines_with file number lines)
       → (Adds → (count < LINE_LIMIT) × keeps (lines ++ line ∷ [])) → (result : Result Bool AllocError)

@@ -31,20 +31,20 @@ use Rattle.tl_segments.specs.declared.fault.LoadFault.TheVariants.{Line, TooMany
 module _ (P Q : List ℕ → List ℕ → Type 0) where
   -- says this of those before both
   known_then : (bytes now left : Option (List ℕ)) (R : List ℕ → Type 0)
-      → ((file mid rest : List ℕ) → P file mid → Q mid rest → R file) → WhereKnown bytes now P → WhereKnown now left Q → IfSome bytes R
-  known_then None now left R f p q = tt
-  known_then (Some file) None left R f p q = absurd p
-  known_then (Some file) (Some mid) None R f p q = absurd q
-  known_then (Some file) (Some mid) (Some rest) R f p q = f file mid rest p q
+      → ((file mid rest : List ℕ) → P file mid → Q mid rest → R file) → WhereKnown bytes now P × WhereKnown now left Q → IfSome bytes R
+  known_then None now left R f both = tt
+  known_then (Some file) None left R f both = absurd both.0
+  known_then (Some file) (Some mid) None R f both = absurd both.1
+  known_then (Some file) (Some mid) (Some rest) R f both = f file mid rest both.0 both.1
 
   -- says this of both together
   known_both : (bytes now left : Option (List ℕ)) (R : List ℕ → List ℕ → Type 0)
-      → ((file mid rest : List ℕ) → P file mid → Q mid rest → R file rest) → WhereKnown bytes now P → WhereKnown now left Q
+      → ((file mid rest : List ℕ) → P file mid → Q mid rest → R file rest) → WhereKnown bytes now P × WhereKnown now left Q
       → WhereKnown bytes left R
-  known_both None now left R f p q = tt
-  known_both (Some file) None left R f p q = absurd p
-  known_both (Some file) (Some mid) None R f p q = absurd q
-  known_both (Some file) (Some mid) (Some rest) R f p q = f file mid rest p q
+  known_both None now left R f both = tt
+  known_both (Some file) None left R f both = absurd both.0
+  known_both (Some file) (Some mid) None R f both = absurd both.1
+  known_both (Some file) (Some mid) (Some rest) R f both = f file mid rest both.0 both.1
 
 -- one first line more
 pub AreFirstLines-push : (lines : List (List ℕ)) (file mid line rest : List ℕ) → AreFirstLines file lines mid → IsFirstLine mid line rest
@@ -153,19 +153,19 @@ none_read file line input zeroth = record {
   small = omega arith;
 }
 
-module _ (file : CountyFile) (lines : List (List ℕ)) (line new_line : LineParts) (old now new : Reader)
-    (read : IsReadSoFar file lines line old now) where
+module _ {file : CountyFile} {lines : List (List ℕ)} {line : LineParts} {old now : Reader} (read : IsReadSoFar file lines line old now)
+    (new_line : LineParts) (new : Reader) where
   -- what the bytes after these lines are says this of all bytes
   known_after : (Q R : List ℕ → List ℕ → Type 0)
       → ((file mid rest : List ℕ) → AreFirstLines file lines mid → Q mid rest → R file rest) → WhereKnown now.left new.left Q
       → WhereKnown old.left new.left R
-  known_after Q R joined =
-      known_both (λ bytes rest. AreFirstLines bytes lines rest) Q old.left now.left new.left R joined read.reads.known
+  known_after Q R joined known =
+      known_both (λ bytes rest. AreFirstLines bytes lines rest) Q old.left now.left new.left R joined (read.reads.known, known)
 
   -- a good line more
-  pub one_line_more : (done : Unit {0}) → IsLineRead line new_line now new (Ok (Some done)) → IsNextOf file lines new_line
+  pub one_line_more : IsLineRead line new_line now new (Ok (Some tt)) → IsNextOf file lines new_line
       → IsReadSoFar file (lines ++ new_line.bytes ∷ []) new_line old new
-  one_line_more done next good = record {
+  one_line_more next good = record {
     reads = record {
       good = record {
         good = All-push (IsGoodLine (layout file)) lines new_line.bytes read.reads.good.good good.good;
@@ -188,16 +188,17 @@ module _ (file : CountyFile) (lines : List (List ℕ)) (line new_line : LinePart
     few = omega (arith, read.counted, read.small);
     known =
         known_then (λ bytes rest. AreFirstLines bytes lines rest) (λ bytes rest. bytes ≡ []) old.left now.left new.left
-        (λ bytes. AreLines bytes lines) (λ bytes mid rest a b. subst (λ rest. AreFirstLines bytes lines rest) b a) read.reads.known next.3;
+        (λ bytes. AreLines bytes lines) (λ bytes mid rest a b. subst (λ rest. AreFirstLines bytes lines rest) b a)
+        (read.reads.known, next.3);
     at_end = next.2;
     reads = next.0 ∙ read.reads.reads;
   }
 
   -- a line with a flaw
-  flaw_after : (flaw : LineFlaw) (number : ℕ) (done : Unit {0}) → IsLineRead line new_line now new (Ok (Some done))
+  flaw_after : (flaw : LineFlaw) (number : ℕ) → IsLineRead line new_line now new (Ok (Some tt))
       → number ≡ new_line.number → line_flaw (layout file) new_line.bytes ≡ Some flaw → (number < 2 ^ 32) × MayHave file flaw
       × WhereKnown old.left new.left (HasFlawAfter file flaw lines) × (new.failed ≡ old.failed)
-  flaw_after flaw number done next at flawed = (
+  flaw_after flaw number next at flawed = (
     omega (arith, at, next.1, next.2),
     may_have file new_line.bytes flaw flawed,
     known_after (IsNextLine new_line.bytes) (HasFlawAfter file flaw lines) (λ bytes mid rest a b. record {
@@ -212,25 +213,25 @@ module _ (file : CountyFile) (lines : List (List ℕ)) (line new_line : LinePart
     next.0 ∙ read.reads.reads,
   )
 
-  flaw_comes : (flaw : LineFlaw) (number : ℕ) (done : Unit {0}) → IsLineRead line new_line now new (Ok (Some done))
+  flaw_comes : (flaw : LineFlaw) (number : ℕ) → IsLineRead line new_line now new (Ok (Some tt))
       → number ≡ new_line.number → line_flaw (layout file) new_line.bytes ≡ Some flaw → ComesAfter file flaw number lines old new
-  flaw_comes Read number done next at flawed = absurd ((of_its_own file Read (may_have file new_line.bytes Read flawed)).0 refl)
-  flaw_comes TooManyLines number done next at flawed =
+  flaw_comes Read number next at flawed = absurd ((of_its_own file Read (may_have file new_line.bytes Read flawed)).0 refl)
+  flaw_comes TooManyLines number next at flawed =
       absurd ((of_its_own file TooManyLines (may_have file new_line.bytes TooManyLines flawed)).1 refl)
-  flaw_comes flaw number done next at flawed = flaw_after flaw number done next at flawed
+  flaw_comes flaw number next at flawed = flaw_after flaw number next at flawed
 
-  pub at_flaw : (fault : LineFault) (done : Unit {0}) → IsLineRead line new_line now new (Ok (Some done))
+  pub at_flaw : (fault : LineFault) → IsLineRead line new_line now new (Ok (Some tt))
       → IsLineFault (layout file) new_line fault → IsFirstFault file fault lines old new
-  at_flaw fault done next flawed = record {
+  at_flaw fault next flawed = record {
     good = read.reads.good;
     counted = omega (arith, flawed.0, next.2, read.counted);
-    follows = flaw_comes fault.flaw fault.line done next flawed.0 flawed.1;
+    follows = flaw_comes fault.flaw fault.line next flawed.0 flawed.1;
   }
 
   -- a line with which the lines are beyond the limits
-  pub at_beyond : (number : ℕ) (done : Unit {0}) → IsLineRead line new_line now new (Ok (Some done)) → number ≡ new_line.number
+  pub at_beyond : (number : ℕ) → IsLineRead line new_line now new (Ok (Some tt)) → number ≡ new_line.number
       → IsBeyond file lines new_line → IsOneTooMany file number old new
-  at_beyond number done next at beyond = record {
+  at_beyond number next at beyond = record {
     lines = lines;
     line = new_line.bytes;
     good = read.reads.good;
@@ -245,12 +246,12 @@ module _ (file : CountyFile) (lines : List (List ℕ)) (line new_line : LinePart
   }
 
   -- a line that isn't taken
-  pub not_taken : (keeps : List (List ℕ) → Type 0) (fault : LoadFault) (done : Unit {0}) → IsLineRead line new_line now new (Ok (Some done))
+  pub not_taken : (keeps : List (List ℕ) → Type 0) (fault : LoadFault) → IsLineRead line new_line now new (Ok (Some tt))
       → IsTaken file lines new_line (Err fault) keeps → IsFileFault file fault old new
-  not_taken keeps (Line of_file fault) done next taken = (taken.0, lines, at_flaw fault done next taken.1)
-  not_taken keeps (TooManyNames number) done next taken = (taken.0, at_beyond number done next taken.1 taken.2)
-  not_taken keeps (TooManyRanges number) done next taken = (taken.0, at_beyond number done next taken.1 taken.2)
-  not_taken keeps Memory done next taken = next.0 ∙ read.reads.reads
+  not_taken keeps (Line of_file fault) next taken = (taken.0, lines, at_flaw fault next taken.1)
+  not_taken keeps (TooManyNames number) next taken = (taken.0, at_beyond number next taken.1 taken.2)
+  not_taken keeps (TooManyRanges number) next taken = (taken.0, at_beyond number next taken.1 taken.2)
+  not_taken keeps Memory next taken = next.0 ∙ read.reads.reads
 
   -- a line that couldn't be read
   unread_comes : (flaw : LineFlaw) (number : ℕ) → number ≡ line.number + 1 → IsUnreadLine line.number flaw now new
@@ -282,12 +283,13 @@ module _ (file : CountyFile) (lines : List (List ℕ)) (line new_line : LinePart
     follows = unread_comes fault.flaw fault.line next.1 next.2;
   }
 
-module _ (lines : List (List ℕ)) (line new_line : LineParts) (old now new : Reader) (read : IsReadSoFar Rt1 lines line old now) where
+module _ {lines : List (List ℕ)} {line : LineParts} {old now : Reader} (read : IsReadSoFar Rt1 lines line old now) (new_line : LineParts)
+    (new : Reader) where
   -- a good line of type 1 more
   pub good_line_more : ReadsGoodLine line new_line now new → IsReadSoFar Rt1 (lines ++ new_line.bytes ∷ []) new_line old new
-  good_line_more next = one_line_more Rt1 lines line new_line old now new read tt next.0 (record { good = next.1; within = tt })
+  good_line_more next = one_line_more read new_line new next.0 (record { good = next.1; within = tt })
 
   -- the next line has a fault
   pub at_next_fault : (fault : LineFault) → IsNextFault fault line new_line now new → IsFirstFault Rt1 fault lines old new
-  at_next_fault fault (inl next) = at_fault Rt1 lines line new_line old now new read fault next
-  at_next_fault fault (inr (next, flawed)) = at_flaw Rt1 lines line new_line old now new read fault tt next flawed
+  at_next_fault fault (inl next) = at_fault read new_line new fault next
+  at_next_fault fault (inr (next, flawed)) = at_flaw read new_line new fault next flawed

@@ -67,6 +67,10 @@ named_by_push : {Y : Type 0} (same : Bool) (found other before : Option Y) (name
 named_by_push true found other before name none is = ap (λ b. Some (unwrap_or b name)) (sym (none refl))
 named_by_push false found other before name none is = is
 
+-- the names of numbers: of those that follow a first one, and of others
+pub record AreNames {Y : Type 0} (xs : List Y) (first : ℕ) (others known : ℕ → Option Y) : Type 0 where
+  pub are : (q : ℕ) → option_or (if nat_le first q then slice_get xs (q - first) else None) (others q) ≡ known q
+
 -- a list of names that follow a first number, where one more is pushed
 module _ {Y : Type 0} (xs : List Y) (y : Y) (first : ℕ) where
   following_by : (q : ℕ) (reaches : Bool) → nat_le first q ≡ reaches
@@ -82,14 +86,13 @@ module _ {Y : Type 0} (xs : List Y) (y : Y) (first : ℕ) where
   following-push q = following_by q (nat_le first q) refl
 
   -- names of FEATs that follow the first one, and those of others, where the FEAT after the former gets a name and had none
-  pub follows-push : (known others : ℕ → Option Y) (feat : ℕ)
-      → ((q : ℕ) → option_or (if nat_le first q then slice_get xs (q - first) else None) (others q) ≡ known q)
-      → known feat ≡ None → feat ≡ first + length xs → (q : ℕ)
+  pub follows-push : {others known : ℕ → Option Y} → AreNames xs first others known → (feat : ℕ) → known feat ≡ None
+      → feat ≡ first + length xs → (q : ℕ)
       → option_or (if nat_le first q then slice_get (xs ++ y ∷ []) (q - first) else None) (others q)
       ≡ (if nat_eq feat q then Some (unwrap_or (known q) y) else known q)
-  follows-push known others feat before none next q =
+  follows-push {others} {known} before feat none next q =
       let found : Option Y = if nat_le first q then slice_get xs (q - first) else None in
       ap (λ found. option_or found (others q)) (following-push q)
       ∙ ap (λ n. option_or (if nat_eq n q then Some y else found) (others q)) (sym next)
       ∙ named_by_push (nat_eq feat q) found (others q) (known q) y
-      (λ is. subst (λ n. known n ≡ None) (grind (arith, nat_tests)) none) (before q)
+      (λ is. subst (λ n. known n ≡ None) (grind (arith, nat_tests)) none) (before.are q)

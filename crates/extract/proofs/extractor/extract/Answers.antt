@@ -9,9 +9,7 @@ returns-in_err-index-clause-outcome g c =
 
 pub returns-clause-outcome : goal.returns-clause-outcome
 returns-clause-outcome g c =
-    let serves = c.in_ok-index.ensures.ok in
-    c.write_rows.ensures.outcome c.args.program.now c.in_ok-verified.ensures.ok serves.own serves.joined serves.index_of serves.alike _ _
-    serves.reads
+    c.write_rows.ensures.outcome c.args.program.now _ _ c.in_ok-verified.ensures.ok c.in_ok-index.ensures.ok
 
 pub returns-clause-untouched : goal.returns-clause-untouched
 returns-clause-untouched g c = λ fault given. absurd (c.write_rows.ensures.not_program fault given)

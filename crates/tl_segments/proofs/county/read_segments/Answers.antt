@@ -1,7 +1,6 @@
 use Rattle.std.proofs.Common.{[], ◌∷◌, ◌++◌, refl}
 use Rattle.std.proofs.lemmas.Result.{err_from_is_err_and}
 use Rattle.tl_segments.specs.County.{KeepsSegments}
-use Rattle.tl_segments.specs.declared.fault.CountyFile.TheVariants.{Rt1}
 use Rattle.tl_segments.proofs.ReadingLemmas.{one_line_more, not_taken, at_fault}
 use Rattle.tl_segments.proofs.county.read_segments.Goals as goal
 
@@ -14,7 +13,7 @@ loop-line-preserved g c =
     record {
       lines = so_far.lines ++ line.bytes ∷ [];
       kept = taken.1;
-      read = one_line_more _ _ _ line _ _ _ so_far.read tt next taken.0;
+      read = one_line_more so_far.read line _ next taken.0;
     }
 
 pub returns-in_err-push_segment-in-Ok-Some-clause-err : goal.returns-in_err-push_segment-in-Ok-Some-clause-err
@@ -25,9 +24,9 @@ returns-in_err-push_segment-in-Ok-Some-clause-err g c =
     let fault = c.in_err-push_segment-in-Ok-Some.field-0.0 in
     let taken = c.in_err-push_segment-in-Ok-Some.ensures so_far.lines so_far.kept in
     let keeps = KeepsSegments c.args.index.now c.push_segment.new.segments.items c.push_segment.new.tlids.items in
-    rw (returned.1, returned.2) (not_taken Rt1 so_far.lines _ c.read_line.new.line _ _ _ so_far.read keeps fault tt next taken)
+    rw (returned.1, returned.2) (not_taken so_far.read c.read_line.new.line _ keeps fault next taken)
 
 pub returns-in-Err-clause-err : goal.returns-in-Err-clause-err
 returns-in-Err-clause-err g c =
     let so_far = c.loop-line.invariant in
-    rw c.rt1_fault.ensures (refl, so_far.lines, at_fault _ _ _ c.read_line.new.line _ _ _ so_far.read _ c.in-Err.ensures)
+    rw c.rt1_fault.ensures (refl, so_far.lines, at_fault so_far.read c.read_line.new.line _ _ c.in-Err.ensures)

@@ -12,7 +12,7 @@ loop-table-preserved g c =
     record {
       lines = so_far.lines ++ line.bytes ∷ [];
       kept = taken.1;
-      read = one_line_more _ _ _ line _ _ _ so_far.read tt next taken.0;
+      read = one_line_more so_far.read line _ next taken.0;
     }
 
 pub returns-in_err-take-in-Ok-Some-clause-err : goal.returns-in_err-take-in-Ok-Some-clause-err
@@ -23,10 +23,9 @@ returns-in_err-take-in-Ok-Some-clause-err g c =
     let fault = c.in_err-take-in-Ok-Some.field-0.0 in
     let taken = c.in_err-take-in-Ok-Some.ensures so_far.lines so_far.kept so_far.read.reads.good.within in
     rw (returned.1, returned.2)
-    (not_taken g.T.Lines.FileType.FILE so_far.lines _ c.read_line.new.line _ _ _ so_far.read
-    (g.T.Table.keeps c.take.new.table) fault tt next taken)
+    (not_taken so_far.read c.read_line.new.line _ (g.T.Table.keeps c.take.new.table) fault next taken)
 
 pub returns-in-Err-clause-err : goal.returns-in-Err-clause-err
 returns-in-Err-clause-err g c =
     let so_far = c.loop-table.invariant in
-    (c.FILE.ensures, so_far.lines, at_fault _ _ _ c.read_line.new.line _ _ _ so_far.read _ c.in-Err.ensures)
+    (c.FILE.ensures, so_far.lines, at_fault so_far.read c.read_line.new.line _ _ c.in-Err.ensures)

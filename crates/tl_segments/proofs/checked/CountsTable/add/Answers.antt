@@ -10,4 +10,4 @@ returns g c = λ lines keeps within.
     let is = ap (λ layout. number_of (field_at layout.number line)) (sym g.met.T.FileType.layout_is) ∙ c.number.ensures.value in
     let follows : Follows g.T.FileType.FILE lines line c.number.result =
     record { numbered = is; within = within; limited = g.met.T.Limited.limited } in
-    count_added g.T.FileType.FILE lines line _ follows c.args.self.now c.count.new.self keeps c.count.result c.count.ensures
+    count_added follows c.args.self.now c.count.new.self keeps c.count.result c.count.ensures

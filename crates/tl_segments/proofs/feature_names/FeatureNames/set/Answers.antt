@@ -4,7 +4,7 @@ use Rattle.std.proofs.lemmas.Grind.{common_steps}
 use Rattle.std.specs.HashMap.{get}
 use Rattle.std.specs.Option.{option_or}
 use Rattle.tl_segments.specs.Tables.{name_at}
-use Rattle.tl_segments.proofs.TableLemmas.{follows-push}
+use Rattle.tl_segments.proofs.TableLemmas.{AreNames, follows-push}
 use Rattle.tl_segments.proofs.feature_names.FeatureNames.set.Goals as goal
 use Rattle.tl_segments.proofs.feature_names.FeatureNames.set.Goals.{then-is_empty, else-is_empty}
 
@@ -21,7 +21,8 @@ returns-then-eq g c =
     let name = c.args.name.now in
     let pushed : c.push.new.self.items ≡ now.following.items ++ name ∷ [] =
     c.in_ok-push.ensures.items ∙ ap (λ name. now.following.items ++ name ∷ []) c.copy_of.ensures.value in
-    let follows = follows-push now.following.items name now.first (name_at old) (get nat_eq now.others) c.args.feat before none next in
+    let names : AreNames now.following.items now.first (get nat_eq now.others) (name_at old) = record { are = before } in
+    let follows = follows-push now.following.items name now.first names c.args.feat none next in
     record {
       ok = λ q. ap (λ names. option_or (if nat_le now.first q then slice_get names (q - now.first) else None)
           (get nat_eq now.others q)) pushed ∙ follows q;

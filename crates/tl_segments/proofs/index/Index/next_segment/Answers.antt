@@ -3,7 +3,7 @@ use Rattle.std.proofs.lemmas.Result.{err_from_is_err_and}
 use Rattle.tl_segments.specs.Indexing.{names_in}
 use Rattle.tl_segments.specs.Segment.{Contents, line_of}
 use Rattle.tl_segments.specs.Tables.{list_at}
-use Rattle.tl_segments.proofs.IndexLemmas.{segment_read, wants_names, wants_ranges}
+use Rattle.tl_segments.proofs.IndexLemmas.{has_line, segment_read, wants_names, wants_ranges}
 use Rattle.tl_segments.proofs.index.Index.next_segment.Goals as goal
 
 pub returns : goal.returns
@@ -16,20 +16,22 @@ returns g c =
     let same = c.push_ranges.ensures.bytes ∙ c.push_names.ensures.bytes in
     let made = c.in_ok-push_ranges.ensures.ranges ∙ ap (λ (segment : Contents). record segment { ranges = ranges })
     c.in_ok-push_names.ensures.names in
-    segment_read index (line_of c.args.number.now c.args.segment.now) _ tlid c.read_record.new.self _ _ is c.push_ranges.new.segment same
+    segment_read index (has_line (line_of c.args.number.now c.args.segment.now) _ tlid c.read_record.new.self _ _ is same)
     (made ∙ ap (λ bytes. record { bytes = bytes; names = names; ranges = ranges }) (sym same))
 
 pub returns-in_err-push_names : goal.returns-in_err-push_names
 returns-in_err-push_names g c =
     let is = rw c.in-Ok-Some.field-0-is at c.in-Ok-Some.ensures in
     let returned = err_from_is_err_and c.from_residual.result c.from_residual.ensures.1 in
-    rw (returned.1, returned.2) (wants_names c.args.self.now (line_of c.args.number.now c.args.segment.now) _ c.in-Ok-Some.tlid
-    c.read_record.new.self _ _ is c.push_names.new.segment c.push_names.ensures.bytes c.in_err-push_names.ensures.some)
+    let has = has_line {segment = c.push_names.new.segment} (line_of c.args.number.now c.args.segment.now) _ c.in-Ok-Some.tlid
+    c.read_record.new.self _ _ is c.push_names.ensures.bytes in
+    rw (returned.1, returned.2) (wants_names c.args.self.now has c.in_err-push_names.ensures.some)
 
 pub returns-in_err-push_ranges : goal.returns-in_err-push_ranges
 returns-in_err-push_ranges g c =
     let is = rw c.in-Ok-Some.field-0-is at c.in-Ok-Some.ensures in
     let same = c.push_ranges.ensures.bytes ∙ c.push_names.ensures.bytes in
     let returned = err_from_is_err_and c.from_residual-in_err-push_ranges.result c.from_residual-in_err-push_ranges.ensures.1 in
-    rw (returned.1, returned.2) (wants_ranges c.args.self.now (line_of c.args.number.now c.args.segment.now) _ c.in-Ok-Some.tlid
-    c.read_record.new.self _ _ is c.push_ranges.new.segment same c.in_err-push_ranges.ensures.some)
+    let has = has_line {segment = c.push_ranges.new.segment} (line_of c.args.number.now c.args.segment.now) _ c.in-Ok-Some.tlid
+    c.read_record.new.self _ _ is same in
+    rw (returned.1, returned.2) (wants_ranges c.args.self.now has c.in_err-push_ranges.ensures.some)

@@ -7,5 +7,5 @@ pub returns : goal.returns
 returns g c = λ lines keeps within.
     let follows : Follows Rt4 lines c.args.rt4.now.bytes c.number.result =
     record { numbered = c.number.ensures.value; within = within; limited = λ lines few. few } in
-    list_added Rt4 lines _ _ follows feature_numbers c.args.self.now c.push.new.self keeps _
+    list_added follows feature_numbers c.args.self.now c.push.new.self keeps _
     (rw c.feature_numbers.ensures at c.push.ensures)

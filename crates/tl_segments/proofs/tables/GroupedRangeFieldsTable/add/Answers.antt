@@ -7,4 +7,4 @@ pub returns : goal.returns
 returns g c = λ lines keeps within.
     let follows : Follows Rt6 lines c.args.rt6.now.bytes c.number.result =
     record { numbered = c.number.ensures.value; within = within; limited = λ lines few. few } in
-    list_added Rt6 lines _ _ follows further_range c.args.self.now c.push.new.self keeps _ (rw c.further_range.ensures at c.push.ensures)
+    list_added follows further_range c.args.self.now c.push.new.self keeps _ (rw c.further_range.ensures at c.push.ensures)
