@@ -113,30 +113,24 @@ pub one_fault : (bytes : List ℕ) (a b : CodeFault) → IsFirstFault bytes a �
     → b ≢ code_fault.Memory → a ≡ b
 one_fault bytes code_fault.Empty code_fault.Empty h k m n = refl
 one_fault bytes code_fault.Empty code_fault.NotWhole h k m n = absurd (k (omega arith))
-one_fault bytes code_fault.Empty code_fault.TooLong h k m n = absurd (omega arith)
 one_fault bytes code_fault.Empty (code_fault.InWord q y) h k m n = absurd (has_words bytes q y k.2 (omega arith))
 one_fault bytes code_fault.NotWhole code_fault.Empty h k m n = absurd (h (omega arith))
 one_fault bytes code_fault.NotWhole code_fault.NotWhole h k m n = refl
 one_fault bytes code_fault.NotWhole code_fault.TooLong h k m n = absurd (h k.0)
 one_fault bytes code_fault.NotWhole (code_fault.InWord q y) h k m n = absurd (h k.0)
-one_fault bytes code_fault.TooLong code_fault.Empty h k m n = absurd (omega arith)
 one_fault bytes code_fault.TooLong code_fault.NotWhole h k m n = absurd (k h.0)
 one_fault bytes code_fault.TooLong code_fault.TooLong h k m n = refl
-one_fault bytes code_fault.TooLong (code_fault.InWord q y) h k m n = absurd (omega arith)
 one_fault bytes (code_fault.InWord p x) code_fault.Empty h k m n = absurd (has_words bytes p x h.2 (omega arith))
 one_fault bytes (code_fault.InWord p x) code_fault.NotWhole h k m n = absurd (k h.0)
-one_fault bytes (code_fault.InWord p x) code_fault.TooLong h k m n = absurd (omega arith)
 one_fault bytes (code_fault.InWord p x) (code_fault.InWord q y) h k m n = same_place bytes p q x y h.2 k.2
 one_fault bytes code_fault.Memory b h k m n = absurd (m refl)
 one_fault bytes a code_fault.Memory h k m n = absurd (n refl)
+one_fault bytes a b h k m n = absurd (omega arith)
 
 -- a refusal is for memory, or it isn't
 for_memory_or_not : (fault : CodeFault) → (fault ≢ code_fault.Memory) ⊎ (fault ≡ code_fault.Memory)
-for_memory_or_not code_fault.Empty = inl (λ e. cc)
-for_memory_or_not code_fault.NotWhole = inl (λ e. cc)
-for_memory_or_not code_fault.TooLong = inl (λ e. cc)
-for_memory_or_not (code_fault.InWord place fault) = inl (λ e. cc)
 for_memory_or_not code_fault.Memory = inr refl
+for_memory_or_not fault = inl (λ e. cc)
 
 -- so a reader that gives a code or the first fault names the one first fault, where there is one
 pub names_the_fault : (bytes : List ℕ) (result : Result (List Insn) CodeFault) → IfOk result (IsCodeOf bytes)

@@ -9,8 +9,8 @@ use Rattle.bpf_insn.specs.Form.{spelling}
 use Rattle.bpf_insn.specs.Row.{fault}
 use Rattle.bpf_insn.specs.Opcode.{row, form_of}
 use Rattle.bpf_insn.specs.Fault.{first_fault, wide_fault, form_fault}
-use Rattle.bpf_insn.specs.declared.form.Form.{Form}
-use Rattle.bpf_insn.specs.declared.form.Form.TheVariants.{WideLoad}
+use Rattle.bpf_insn.specs.declared.opcode_form.OpcodeForm.{OpcodeForm}
+use Rattle.bpf_insn.specs.declared.opcode_form.OpcodeForm.TheVariants.{WideLoad}
 use Rattle.bpf_insn.specs.Reading.{Begins, BeginsAt, IsFaultAt}
 use Rattle.bpf_insn.specs.Code.{code_words, HasFaultAt, IsFirstFault, IsPushFault}
 use Rattle.bpf_insn.specs.declared.code.TheConstants.{WORD_LIMIT}
@@ -62,7 +62,7 @@ wide_alone : (found : Option WordFault) (word : Word) (more : List Word) → wid
 wide_alone None word more = refl
 wide_alone (Some found) word more = refl
 
-second_alone : (form : Option Form) (first word : Word) (more : List Word)
+second_alone : (form : Option OpcodeForm) (first word : Word) (more : List Word)
     → form_fault form first (word ∷ []) ≡ form_fault form first (word ∷ more)
 second_alone None first word more = refl
 second_alone (Some WideLoad) first word more = wide_alone (fault (row WideLoad) first) word more

@@ -9,7 +9,7 @@ use Rattle.bpf_insn.proofs.FormLemmas.{insn_form, unsigned, has_form}
 use Rattle.bpf_insn.specs.declared.row.Destination.TheVariants.{Read, Written}
 use Rattle.bpf_insn.specs.declared.row.Use.{Use}
 use Rattle.bpf_insn.specs.declared.row.Use.TheVariants.{Unused, Any, MoveBits, SwapBits}
-use Rattle.bpf_insn.specs.declared.form.Form.{Form}
+use Rattle.bpf_insn.specs.declared.opcode_form.OpcodeForm.{OpcodeForm}
 use Rattle.bpf_insn.specs.declared.word.Word.{Word}
 use Rattle.bpf_insn.specs.declared.register.Register.{Register as RegisterNumber}
 use Rattle.bpf_insn.specs.declared.register.WritableRegister.{WritableRegister}
@@ -83,16 +83,14 @@ by_form (Negate width d) rest = writes Unused Unused d (pos 0) (pos 0) (refl, re
 by_form (ByteSwap order width d) rest = writes Unused SwapBits d (pos 0) (swap_bits width) (refl, refl) (swap_width width)
 by_form (JumpIf condition width r (Immediate v) z) rest = reads r z v
 by_form (JumpIf condition width r (Register s) z) rest = reads_with r s z
-by_form (Jump (Short distance)) rest = refl
-by_form (Jump (Long distance)) rest = refl
-by_form (Call v) rest = refl
-by_form Exit rest = refl
 by_form (Load format d b z) rest = writes_with Any d b z (refl, refl)
 by_form (StoreImmediate size b z v) rest = reads b z v
 by_form (Store size b z s) rest = reads_with b s z
 by_form (WideLoad d v next) rest = rw (writes Unused Any d (pos 0) v (refl, refl) (refl, refl)) refl
+by_form (Jump (Short distance)) rest = refl
+by_form insn rest = refl
 
 -- what an instruction is written in has no fault, whatever follows
 pub no_fault : (insn : Insn) (rest : List Word) → first_fault (first_word insn) (further_words insn ++ rest) ≡ None
-no_fault insn rest = ap (λ (f : Option Form). form_fault f (first_word insn) (further_words insn ++ rest)) (has_form insn)
+no_fault insn rest = ap (λ (f : Option OpcodeForm). form_fault f (first_word insn) (further_words insn ++ rest)) (has_form insn)
     ∙ by_form insn rest

@@ -2,8 +2,8 @@
 use Rattle.std.proofs.Common.{◌≡◌, true, Some, refl}
 use Rattle.bpf_insn.specs.Form.{extension_width, first_word, is_register}
 use Rattle.bpf_insn.specs.Opcode.{form_of}
-use Rattle.bpf_insn.specs.declared.form.Form.{Form}
-use Rattle.bpf_insn.specs.declared.form.Form.TheVariants as form
+use Rattle.bpf_insn.specs.declared.opcode_form.OpcodeForm.{OpcodeForm}
+use Rattle.bpf_insn.specs.declared.opcode_form.OpcodeForm.TheVariants as form
 use Rattle.bpf_insn.specs.declared.instruction.Insn.{Insn}
 use Rattle.bpf_insn.specs.declared.instruction.Insn.TheVariants.{Alu, MoveSignExtended, Negate, ByteSwap, JumpIf, Jump, Call, Exit, Load}
 use Rattle.bpf_insn.specs.declared.instruction.Insn.TheVariants.{StoreImmediate, Store, WideLoad}
@@ -23,7 +23,7 @@ unsigned SignedDivide = Divide
 unsigned SignedModulo = Modulo
 unsigned operation = operation
 
-abbrev pub insn_form : Insn → Form
+abbrev pub insn_form : Insn → OpcodeForm
 insn_form (Alu operation width destination source) = form.Alu (unsigned operation) width (is_register source)
 insn_form (MoveSignExtended extension destination source) = form.Alu Move (extension_width extension) true
 insn_form (Negate width destination) = form.Negate width
@@ -42,34 +42,15 @@ insn_form (WideLoad destination immediate next_immediate) = form.WideLoad
 pub has_form : (insn : Insn) → form_of (first_word insn).opcode ≡ Some (insn_form insn)
 has_form (Alu Add Bits32 d (Immediate v)) = refl
 has_form (Alu operation Bits32 d (Immediate v)) = refl
-has_form (Alu Add Bits64 d (Immediate v)) = refl
-has_form (Alu operation Bits64 d (Immediate v)) = refl
-has_form (Alu Add Bits32 d (Register s)) = refl
-has_form (Alu operation Bits32 d (Register s)) = refl
-has_form (Alu Add Bits64 d (Register s)) = refl
-has_form (Alu operation Bits64 d (Register s)) = refl
+has_form (Alu operation width d (Immediate v)) = refl
 has_form (MoveSignExtended Bits8To32 d s) = refl
-has_form (MoveSignExtended extension d s) = refl
 has_form (Negate Bits32 d) = refl
-has_form (Negate Bits64 d) = refl
 has_form (ByteSwap LittleEndian width d) = refl
-has_form (ByteSwap order width d) = refl
 has_form (JumpIf Equal Bits32 l (Immediate v) z) = refl
 has_form (JumpIf condition Bits32 l (Immediate v) z) = refl
-has_form (JumpIf Equal Bits64 l (Immediate v) z) = refl
-has_form (JumpIf condition Bits64 l (Immediate v) z) = refl
-has_form (JumpIf Equal Bits32 l (Register s) z) = refl
-has_form (JumpIf condition Bits32 l (Register s) z) = refl
-has_form (JumpIf Equal Bits64 l (Register s) z) = refl
-has_form (JumpIf condition Bits64 l (Register s) z) = refl
+has_form (JumpIf condition width l (Immediate v) z) = refl
 has_form (Jump (Short distance)) = refl
-has_form (Jump (Long distance)) = refl
-has_form (Call v) = refl
-has_form Exit = refl
 has_form (Load load.Word d b z) = refl
-has_form (Load format d b z) = refl
 has_form (StoreImmediate store.Word b z v) = refl
-has_form (StoreImmediate size b z v) = refl
 has_form (Store store.Word b z s) = refl
-has_form (Store size b z s) = refl
-has_form (WideLoad d v n) = refl
+has_form insn = refl

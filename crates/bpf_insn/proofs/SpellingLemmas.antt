@@ -7,8 +7,8 @@ use Rattle.std.specs.Coded.{le_prop}
 use Rattle.bpf_insn.specs.Form.{first_word, further_words, spelling}
 use Rattle.bpf_insn.specs.Opcode.{form_of}
 use Rattle.bpf_insn.proofs.FormLemmas.{insn_form, has_form}
-use Rattle.bpf_insn.specs.declared.form.Form.{Form}
-use Rattle.bpf_insn.specs.declared.form.Form.TheVariants as form
+use Rattle.bpf_insn.specs.declared.opcode_form.OpcodeForm.{OpcodeForm}
+use Rattle.bpf_insn.specs.declared.opcode_form.OpcodeForm.TheVariants as form
 use Rattle.bpf_insn.specs.declared.word.Word.{Word}
 use Rattle.bpf_insn.specs.declared.register.Register.{Register as RegisterNumber}
 use Rattle.bpf_insn.specs.declared.register.WritableRegister.{WritableRegister}
@@ -88,7 +88,7 @@ second_read (Store size b z s) = s
 second_read insn = no_register
 
 -- whether the destination's field is that of a register that is written
-abbrev writes : Form → Bool
+abbrev writes : OpcodeForm → Bool
 writes (form.JumpIf condition width from_register) = false
 writes (form.StoreImmediate size) = false
 writes (form.Store size) = false
@@ -97,26 +97,21 @@ writes form = true
 writes_number : (insn : Insn) → (written insn).number ≡ (if writes (insn_form insn) then (first_word insn).destination else 0)
 writes_number (Alu operation width d source) = refl
 writes_number (Jump (Short distance)) = refl
-writes_number (Jump (Long distance)) = refl
 writes_number insn = refl
 
 reads_first : (insn : Insn) → (first_read insn).number ≡ (if writes (insn_form insn) then 0 else (first_word insn).destination)
 reads_first (Alu operation width d source) = refl
 reads_first (Jump (Short distance)) = refl
-reads_first (Jump (Long distance)) = refl
 reads_first insn = refl
 
 reads_second : (insn : Insn) → (second_read insn).number ≡ (first_word insn).source
 reads_second (Alu operation width d (Immediate v)) = refl
-reads_second (Alu operation width d (Register s)) = refl
 reads_second (JumpIf condition width l (Immediate v) z) = refl
-reads_second (JumpIf condition width l (Register s) z) = refl
 reads_second (Jump (Short distance)) = refl
-reads_second (Jump (Long distance)) = refl
 reads_second insn = refl
 
 -- the second immediate
-abbrev next_of : Form → List Word → ℤ
+abbrev next_of : OpcodeForm → List Word → ℤ
 next_of form.WideLoad (next ∷ rest) = next.immediate
 next_of form words = pos 0
 
@@ -125,7 +120,7 @@ source_from true s v = Register s
 source_from false s v = Immediate v
 
 -- the instruction of a form, with these registers and numbers
-abbrev made : Form → WritableRegister → RegisterNumber → RegisterNumber → ℤ → ℤ → ℤ → Insn
+abbrev made : OpcodeForm → WritableRegister → RegisterNumber → RegisterNumber → ℤ → ℤ → ℤ → Insn
 made (form.Alu Move width true) d l s z v n = if int_eq z (pos 0) then Alu Move width d (Register s) else MoveSignExtended
     (extension_in width z) d s
 made (form.Alu operation width from_register) d l s z v n = Alu (signed_by operation z) width d (source_from from_register s v)
@@ -146,16 +141,10 @@ is_made : (insn : Insn) (rest : List Word) → insn ≡ made (insn_form insn) (w
     (first_word insn).offset (first_word insn).immediate (next_of (insn_form insn) (further_words insn ++ rest))
 is_made (Alu Move width d (Immediate v)) rest = refl
 is_made (Alu operation width d (Immediate v)) rest = refl
-is_made (Alu operation width d (Register s)) rest = refl
 is_made (MoveSignExtended Bits8To32 d s) rest = refl
-is_made (MoveSignExtended extension d s) rest = refl
 is_made (ByteSwap order swap.Bits16 d) rest = refl
-is_made (ByteSwap order swap.Bits32 d) rest = refl
-is_made (ByteSwap order swap.Bits64 d) rest = refl
 is_made (JumpIf condition width l (Immediate v) z) rest = refl
-is_made (JumpIf condition width l (Register s) z) rest = refl
 is_made (Jump (Short distance)) rest = refl
-is_made (Jump (Long distance)) rest = refl
 is_made insn rest = refl
 
 -- what the first word of a list is, and what the others are
@@ -174,10 +163,10 @@ one_instruction a b xs ys e =
     let both : Some (insn_form a) ≡ Some (insn_form b) = sym (has_form a) ∙ ap (λ (w : Word). form_of w.opcode) first ∙ has_form b in
     let forms : insn_form a ≡ insn_form b = cc in
     let d = same_writable (written a) (written b) (writes_number a
-    ∙ ap (λ (f : Form). if writes f then (first_word a).destination else 0) forms
+    ∙ ap (λ (f : OpcodeForm). if writes f then (first_word a).destination else 0) forms
     ∙ ap (λ (w : Word). if writes (insn_form b) then w.destination else 0) first ∙ sym (writes_number b)) in
     let l = same_register (first_read a) (first_read b)
-    (reads_first a ∙ ap (λ (f : Form). if writes f then 0 else (first_word a).destination) forms
+    (reads_first a ∙ ap (λ (f : OpcodeForm). if writes f then 0 else (first_word a).destination) forms
     ∙ ap (λ (w : Word). if writes (insn_form b) then 0 else w.destination) first ∙ sym (reads_first b)) in
     let s = same_register (second_read a) (second_read b) (reads_second a ∙ ap (λ (w : Word). w.source) first ∙ sym (reads_second b)) in
     is_made a xs ∙ (let parts : made (insn_form a) (written a) (first_read a) (second_read a) (first_word a).offset (first_word a).immediate

@@ -3,8 +3,8 @@ use Rattle.std.specs.Prelude.{◌==◌, ◌&&◌, pos, List, [], ◌∷◌, Opti
 use Rattle.std.specs.Ordering.{int_eq}
 use Rattle.bpf_insn.specs.Row.{fault}
 use Rattle.bpf_insn.specs.Opcode.{form_of, row}
-use Rattle.bpf_insn.specs.declared.form.Form.{Form}
-use Rattle.bpf_insn.specs.declared.form.Form.TheVariants.{WideLoad}
+use Rattle.bpf_insn.specs.declared.opcode_form.OpcodeForm.{OpcodeForm}
+use Rattle.bpf_insn.specs.declared.opcode_form.OpcodeForm.TheVariants.{WideLoad}
 use Rattle.bpf_insn.specs.declared.word.Word.{Word}
 use Rattle.bpf_insn.specs.declared.fault.WordFault.{WordFault}
 use Rattle.bpf_insn.specs.declared.fault.WordFault.TheVariants.{UnknownOpcode, UnusedNotZero, CutWide}
@@ -20,7 +20,7 @@ wide_fault first [] = Some CutWide
 wide_fault None (next ∷ rest) = second_fault next
 wide_fault (Some fault) (next ∷ rest) = Some fault
 
-abbrev pub form_fault : Option Form → Word → List Word → Option WordFault
+abbrev pub form_fault : Option OpcodeForm → Word → List Word → Option WordFault
 form_fault None word rest = Some UnknownOpcode
 form_fault (Some WideLoad) word rest = wide_fault (fault (row WideLoad) word) rest
 form_fault (Some form) word rest = fault (row form) word

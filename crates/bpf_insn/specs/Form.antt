@@ -1,8 +1,8 @@
 -- The instruction table (RFC 9669, sections 3 to 5): how each instruction is written, one line a row.
 use Rattle.std.specs.Prelude.{ℕ, ◌+◌, ◌*◌, ℤ, pos, Bool, true, false, if◌then◌else◌, List, [], ◌∷◌}
 use Rattle.bpf_insn.specs.declared.word.Word.{Word}
-use Rattle.bpf_insn.specs.declared.form.Form.{Form}
-use Rattle.bpf_insn.specs.declared.form.Form.TheVariants as form
+use Rattle.bpf_insn.specs.declared.opcode_form.OpcodeForm.{OpcodeForm}
+use Rattle.bpf_insn.specs.declared.opcode_form.OpcodeForm.TheVariants as form
 use Rattle.bpf_insn.specs.declared.instruction.Insn.{Insn}
 use Rattle.bpf_insn.specs.declared.instruction.Insn.TheVariants.{Alu, MoveSignExtended, Negate, ByteSwap, JumpIf, Jump, Call, Exit, Load, StoreImmediate, Store, WideLoad}
 use Rattle.bpf_insn.specs.declared.instruction.Operation.{Operation}
@@ -132,7 +132,7 @@ bit from_register = if from_register then 1 else 0
 
 -- The opcode of a form: the jumps JA, calls and EXIT (section 4.3), stores of an immediate in the class ST and of a register in STX
 -- (section 5.1), the wide load (section 5.4).
-abbrev pub form_opcode : Form → ℕ
+abbrev pub form_opcode : OpcodeForm → ℕ
 form_opcode (form.Alu operation width from_register) = opcode_of (operation_code operation) (bit from_register) (arithmetic_class width)
 form_opcode (form.Negate width) = opcode_of 0x8 0 (arithmetic_class width)
 form_opcode (form.ByteSwap order) = swap_opcode order

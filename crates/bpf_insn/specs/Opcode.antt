@@ -2,9 +2,9 @@
 use Rattle.std.specs.Prelude.{ℕ, ◌/◌, ◌%◌, ◌==◌, Bool, true, find, Option, Some, None, option_map, if◌then◌else◌, false}
 use Rattle.bpf_insn.specs.Form.{operation_code, condition_code, form_opcode}
 use Rattle.bpf_insn.specs.Row.{uses}
-use Rattle.bpf_insn.specs.declared.form.Form.{Form}
-use Rattle.bpf_insn.specs.declared.form.Form.TheVariants.{Alu, Negate, ByteSwap, JumpIf, ShortJump, LongJump, Call, Exit, Load, StoreImmediate, Store, WideLoad}
-use Rattle.bpf_insn.specs.declared.form.TheConstants.{OPERATIONS, CONDITIONS, FORMS}
+use Rattle.bpf_insn.specs.declared.opcode_form.OpcodeForm.{OpcodeForm}
+use Rattle.bpf_insn.specs.declared.opcode_form.OpcodeForm.TheVariants.{Alu, Negate, ByteSwap, JumpIf, ShortJump, LongJump, Call, Exit, Load, StoreImmediate, Store, WideLoad}
+use Rattle.bpf_insn.specs.declared.opcode_form.TheConstants.{OPERATIONS, CONDITIONS, FORMS}
 use Rattle.bpf_insn.specs.declared.row.Row.{Row}
 use Rattle.bpf_insn.specs.declared.row.Destination.TheVariants.{Nothing, Read, Written}
 use Rattle.bpf_insn.specs.declared.row.Use.{Use}
@@ -15,7 +15,7 @@ use Rattle.bpf_insn.specs.declared.instruction.Width.{Width}
 use Rattle.bpf_insn.specs.declared.instruction.Width.TheVariants.{Bits32, Bits64}
 
 -- instructions with two operands, by their class: ALU, ALU64, JMP32 and JMP (section 3.3)
-abbrev pub operand_form : ℕ → ℕ → Bool → Option Form
+abbrev pub operand_form : ℕ → ℕ → Bool → Option OpcodeForm
 operand_form class code from_register =
     if class == 4 then option_map (λ operation. Alu operation Bits32 from_register) (find (λ o. operation_code o == code) OPERATIONS)
     else (if class == 7 then option_map (λ operation. Alu operation Bits64 from_register) (find (λ o. operation_code o == code) OPERATIONS)
@@ -23,13 +23,13 @@ operand_form class code from_register =
     else (if class == 5 then option_map (λ condition. JumpIf condition Bits64 from_register) (find (λ c. condition_code c == code) CONDITIONS)
     else None)))
 
-abbrev pub or_else : Option Form → Option Form → Option Form
+abbrev pub or_else : Option OpcodeForm → Option OpcodeForm → Option OpcodeForm
 or_else None form = form
 or_else (Some form) other = Some form
 
 -- the form of an opcode, if it has one: with two operands, where the source bit chooses the second one, 0 (K) the immediate and 1 (X) the
 -- source register (section 4), or one of the others
-abbrev pub form_of : ℕ → Option Form
+abbrev pub form_of : ℕ → Option OpcodeForm
 form_of opcode = or_else (operand_form (opcode % 8) (opcode / 16) (opcode / 8 % 2 == 1)) (find (λ form. form_opcode form == opcode) FORMS)
 
 -- the use that an operation has for the offset: it tells signed from unsigned division, and how many bits of a register are moved
@@ -46,7 +46,7 @@ abbrev pub immediate_use : Bool → Use
 immediate_use from_register = if from_register then Unused else Any
 
 -- the fields that a form uses: the destination, whether the source, the offset and the immediate
-abbrev pub row : Form → Row
+abbrev pub row : OpcodeForm → Row
 row (Alu operation width from_register) = uses Written from_register (offset_use operation width from_register) (immediate_use from_register)
 row (Negate width) = uses Written false Unused Unused
 row (ByteSwap order) = uses Written false Unused SwapBits

@@ -6,7 +6,7 @@ use Rattle.bpf_insn.specs.Row.{Fits, IsInUse}
 use Rattle.bpf_insn.specs.Opcode.{row, offset_use, immediate_use}
 use Rattle.bpf_insn.specs.Fault.{first_fault}
 use Rattle.bpf_insn.specs.declared.fault.WordFault.{WordFault}
-use Rattle.bpf_insn.specs.declared.form.Form.{Form}
+use Rattle.bpf_insn.specs.declared.opcode_form.OpcodeForm.{OpcodeForm}
 use Rattle.bpf_insn.specs.declared.word.Word.{Word}
 use Rattle.bpf_insn.specs.declared.instruction.Insn.{Insn}
 use Rattle.bpf_insn.specs.declared.instruction.Operation.{Operation}
@@ -19,7 +19,7 @@ Begins insn first next =
     (spelling insn ≡ first ∷ []) ⊎ ((second : Word) × (next ≡ Some second) × (spelling insn ≡ first ∷ second ∷ []))
 
 -- a word of this form whose fields fit
-pub record HasForm (form : Form) (word : Word) : Type 0 where
+pub record HasForm (form : OpcodeForm) (word : Word) : Type 0 where
   pub opcode : form_opcode form ≡ word.opcode
   pub fits : Fits (row form) word
 

@@ -3,7 +3,7 @@ ghost use Rattle.std.specs.Prelude.{◌≡◌, ◌≤◌, length, option_to_list
 ghost use Rattle.bpf_insn.specs.Form.{first_word, further_words, is_register, source_field, source_immediate, spelling};
 ghost use Rattle.bpf_insn.specs.Jump.{words, jump_distance};
 
-use crate::form::{Form, opcode};
+use crate::opcode_form::{OpcodeForm, opcode};
 use crate::register::{Register, WritableRegister};
 use crate::word::Word;
 
@@ -283,26 +283,26 @@ impl Insn {
                 width,
                 source,
                 ..
-            } => Form::Alu(operation, width, source.fields().0).opcode(),
+            } => OpcodeForm::Alu(operation, width, source.fields().0).opcode(),
             Insn::MoveSignExtended { extension, .. } => {
                 opcode(Operation::Move as u8, true, (extension as u16 % 256) as u8)
             }
-            Insn::Negate { width, .. } => Form::Negate(width).opcode(),
-            Insn::ByteSwap { order, .. } => Form::ByteSwap(order).opcode(),
+            Insn::Negate { width, .. } => OpcodeForm::Negate(width).opcode(),
+            Insn::ByteSwap { order, .. } => OpcodeForm::ByteSwap(order).opcode(),
             Insn::JumpIf {
                 condition,
                 width,
                 right,
                 ..
-            } => Form::JumpIf(condition, width, right.fields().0).opcode(),
-            Insn::Jump(JumpDistance::Short(_)) => Form::ShortJump.opcode(),
-            Insn::Jump(JumpDistance::Long(_)) => Form::LongJump.opcode(),
-            Insn::Call { .. } => Form::Call.opcode(),
-            Insn::Exit => Form::Exit.opcode(),
-            Insn::Load { format, .. } => Form::Load(format).opcode(),
-            Insn::StoreImmediate { size, .. } => Form::StoreImmediate(size).opcode(),
-            Insn::Store { size, .. } => Form::Store(size).opcode(),
-            Insn::WideLoad { .. } => Form::WideLoad.opcode(),
+            } => OpcodeForm::JumpIf(condition, width, right.fields().0).opcode(),
+            Insn::Jump(JumpDistance::Short(_)) => OpcodeForm::ShortJump.opcode(),
+            Insn::Jump(JumpDistance::Long(_)) => OpcodeForm::LongJump.opcode(),
+            Insn::Call { .. } => OpcodeForm::Call.opcode(),
+            Insn::Exit => OpcodeForm::Exit.opcode(),
+            Insn::Load { format, .. } => OpcodeForm::Load(format).opcode(),
+            Insn::StoreImmediate { size, .. } => OpcodeForm::StoreImmediate(size).opcode(),
+            Insn::Store { size, .. } => OpcodeForm::Store(size).opcode(),
+            Insn::WideLoad { .. } => OpcodeForm::WideLoad.opcode(),
         }
     }
 

@@ -8,10 +8,10 @@ ghost use Rattle.bpf_insn.specs.Reading.{Begins, HasForm, HasOffset, HasOperand,
 ghost use Rattle.bpf_insn.specs.declared.row.Use.TheVariants.{SwapBits};
 
 use crate::fault::WordFault;
-use crate::form::Form;
 use crate::instruction::{
     Insn, JumpDistance, Operation, SignExtension, Source, StoreSize, SwapWidth, Width,
 };
+use crate::opcode_form::OpcodeForm;
 use crate::register::{Register, WritableRegister};
 use byteorder::{ByteOrder, LittleEndian};
 
@@ -62,10 +62,10 @@ impl Word {
         ensures ok { IfOk result (λ insn. Begins insn self next) }
         ensures err { IfErr result (λ fault. first_fault self (option_to_list next) ≡ Some fault) }
     {
-        let Some(form) = Form::of(self.opcode) else {
+        let Some(form) = OpcodeForm::of(self.opcode) else {
             return Err(WordFault::UnknownOpcode);
         };
-        if let Form::WideLoad = form {
+        if let OpcodeForm::WideLoad = form {
             return self.wide_load(next);
         }
         match form.row().fault(self) {
@@ -83,7 +83,7 @@ impl Word {
         let Some(next) = next else {
             return Err(WordFault::CutWide);
         };
-        if let Some(fault) = Form::WideLoad.row().fault(self) {
+        if let Some(fault) = OpcodeForm::WideLoad.row().fault(self) {
             return Err(fault);
         }
         if next.opcode != 0 || next.destination != 0 || next.source != 0 || next.offset != 0 {
@@ -97,52 +97,52 @@ impl Word {
     }
 
     /// The instruction of a form that takes one word.
-    fn instruction_of(self, form: Form) -> Insn
+    fn instruction_of(self, form: OpcodeForm) -> Insn
         requires form { HasForm form self }
-        requires one_word { form ≢ Form.WideLoad }
+        requires one_word { form ≢ OpcodeForm.WideLoad }
         ensures { spelling result ≡ self ∷ [] }
     {
         match form {
-            Form::Alu(operation, width, from_register) => {
+            OpcodeForm::Alu(operation, width, from_register) => {
                 self.arithmetic(operation, width, from_register)
             }
-            Form::Negate(width) => Insn::Negate {
+            OpcodeForm::Negate(width) => Insn::Negate {
                 width,
                 destination: self.writable_destination(),
             },
-            Form::ByteSwap(order) => Insn::ByteSwap {
+            OpcodeForm::ByteSwap(order) => Insn::ByteSwap {
                 order,
                 width: swap_width(self.immediate),
                 destination: self.writable_destination(),
             },
-            Form::JumpIf(condition, width, from_register) => Insn::JumpIf {
+            OpcodeForm::JumpIf(condition, width, from_register) => Insn::JumpIf {
                 condition,
                 width,
                 left: self.read_destination(),
                 right: self.operand(from_register),
                 offset: self.offset,
             },
-            Form::ShortJump => Insn::Jump(JumpDistance::Short(self.offset)),
-            Form::LongJump => Insn::Jump(JumpDistance::Long(self.immediate)),
-            Form::Call => Insn::Call {
+            OpcodeForm::ShortJump => Insn::Jump(JumpDistance::Short(self.offset)),
+            OpcodeForm::LongJump => Insn::Jump(JumpDistance::Long(self.immediate)),
+            OpcodeForm::Call => Insn::Call {
                 immediate: self.immediate,
             },
-            Form::Exit => Insn::Exit,
-            Form::Load(format) => Insn::Load {
+            OpcodeForm::Exit => Insn::Exit,
+            OpcodeForm::Load(format) => Insn::Load {
                 format,
                 destination: self.writable_destination(),
                 base: self.source_register(),
                 offset: self.offset,
             },
-            Form::StoreImmediate(size) => self.store_immediate(size),
-            Form::Store(size) => self.store(size),
-            Form::WideLoad => unreachable!(),
+            OpcodeForm::StoreImmediate(size) => self.store_immediate(size),
+            OpcodeForm::Store(size) => self.store(size),
+            OpcodeForm::WideLoad => unreachable!(),
         }
     }
 
     /// Arithmetic with two operands. The offset of a move of a register says how many bits it takes.
     fn arithmetic(self, operation: Operation, width: Width, from_register: bool) -> Insn
-        requires { HasForm (Form.Alu operation width from_register) self }
+        requires { HasForm (OpcodeForm.Alu operation width from_register) self }
         ensures { spelling result ≡ self ∷ [] }
     {
         let destination = self.writable_destination();
@@ -169,7 +169,7 @@ impl Word {
     }
 
     fn store_immediate(self, size: StoreSize) -> Insn
-        requires { HasForm (Form.StoreImmediate size) self }
+        requires { HasForm (OpcodeForm.StoreImmediate size) self }
         ensures { spelling result ≡ self ∷ [] }
     {
         Insn::StoreImmediate {
@@ -181,7 +181,7 @@ impl Word {
     }
 
     fn store(self, size: StoreSize) -> Insn
-        requires { HasForm (Form.Store size) self }
+        requires { HasForm (OpcodeForm.Store size) self }
         ensures { spelling result ≡ self ∷ [] }
     {
         Insn::Store {

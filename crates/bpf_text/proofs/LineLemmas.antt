@@ -25,9 +25,8 @@ two-split left right operands first second is = with_two-split left right (split
 pub both-view : (source : Result Source TextFlaw) (target : Result (ℤ × Option (Bor (List ℕ))) TextFlaw)
     → comparand_view (both source target) ≡ both source (target_view target)
 both-view (Ok source) (Ok target) = refl
-both-view (Ok source) (Err fault) = refl
 both-view (Err fault) (Ok target) = refl
-both-view (Err fault) (Err other) = refl
+both-view source target = refl
 
 -- what isn't empty and doesn't end in a colon
 pub statement-of-instruction : (content : List ℕ) → (length content == 0) ≡ false → (slice_index content (length content - 1) ≡ 58 → ⊥)

@@ -20,7 +20,7 @@ use Rattle.bpf_insn.specs.declared.instruction.Source.TheVariants as source
 use Rattle.bpf_insn.specs.declared.instruction.Insn.{Insn}
 use Rattle.bpf_insn.specs.declared.instruction.Insn.TheVariants as insn
 use Rattle.bpf_insn.specs.declared.instruction.JumpDistance.TheVariants as distance
-use Rattle.bpf_text.specs.declared.form.Form.{Form}
+use Rattle.bpf_text.specs.declared.mnemonic_form.MnemonicForm.{MnemonicForm}
 use Rattle.bpf_text.specs.declared.fault.TextFlaw.{TextFlaw}
 use Rattle.bpf_text.specs.declared.fault.TextFlaw.TheVariants.{WritesFramePointer}
 use Rattle.bpf_text.specs.Number.{and_then, immediate_in, wide_in, limit_of_16_bits, limit_of_32_bits, IsWithin}
@@ -57,7 +57,7 @@ with-operands i ops operands text means =
       printed = ap (list_all (λ byte. nat_le 32 byte)) line ∙ all-by is_line_byte (λ byte. nat_le 32 byte) line-is-printed
           (name_of form ++ 32 ∷ ops) bytes;
       means = ap statement_in line ∙ read-line (name_of form) ops (leb-true 1 (length (name_of form)) table.0) table.1 operands
-          ∙ ap (λ (o : Option Form). instruction_with o ops) (named form) ∙ means;
+          ∙ ap (λ (o : Option MnemonicForm). instruction_with o ops) (named form) ∙ means;
     }
 
 -- a register that is written

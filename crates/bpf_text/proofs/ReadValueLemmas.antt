@@ -107,18 +107,8 @@ target-back limit value bound low high =
 
 -- a place in memory
 register-unsigned : (number : ℕ) → number ≤ 10 → list_all (λ byte. not (is_sign byte)) (register_name number) ≡ true
-register-unsigned zero within = refl
-register-unsigned (suc zero) within = refl
-register-unsigned (suc (suc zero)) within = refl
-register-unsigned (suc (suc (suc zero))) within = refl
-register-unsigned (suc (suc (suc (suc zero)))) within = refl
-register-unsigned (suc (suc (suc (suc (suc zero))))) within = refl
-register-unsigned (suc (suc (suc (suc (suc (suc zero)))))) within = refl
-register-unsigned (suc (suc (suc (suc (suc (suc (suc zero))))))) within = refl
-register-unsigned (suc (suc (suc (suc (suc (suc (suc (suc zero)))))))) within = refl
-register-unsigned (suc (suc (suc (suc (suc (suc (suc (suc (suc zero))))))))) within = refl
-register-unsigned (suc (suc (suc (suc (suc (suc (suc (suc (suc (suc zero)))))))))) within = refl
 register-unsigned (suc (suc (suc (suc (suc (suc (suc (suc (suc (suc (suc n))))))))))) within = absurd (omega arith)
+register-unsigned number within = refl
 
 offset-by : (sign : ℕ) (ds : List ℕ) → offset_in (sign ∷ ds) ≡ signed_in limit_of_16_bits (sign ∷ ds)
 offset-by sign ds = let some : (length (sign ∷ ds) == 0) ≡ false = grind (arith, nat_tests) in rw some refl

@@ -11,47 +11,30 @@ use Rattle.bpf_insn.specs.declared.instruction.ByteOrder.TheVariants.{LittleEndi
 use Rattle.bpf_insn.specs.declared.instruction.SwapWidth.TheVariants as swap
 use Rattle.bpf_insn.specs.declared.instruction.LoadFormat.TheVariants as load
 use Rattle.bpf_insn.specs.declared.instruction.StoreSize.TheVariants as store
-use Rattle.bpf_text.specs.declared.form.Form.{Form}
-use Rattle.bpf_text.specs.declared.form.Form.TheVariants.{Alu, MoveSignExtended, Negate, ByteSwap, JumpIf, Jump, LongJump, Call, Exit, Load}
-use Rattle.bpf_text.specs.declared.form.Form.TheVariants.{StoreImmediate, Store, WideLoad}
-use Rattle.bpf_text.specs.declared.form.TheConstants.{FORMS}
+use Rattle.bpf_text.specs.declared.mnemonic_form.MnemonicForm.{MnemonicForm}
+use Rattle.bpf_text.specs.declared.mnemonic_form.MnemonicForm.TheVariants.{Alu, MoveSignExtended, Negate, ByteSwap, JumpIf, Jump, LongJump, Call, Exit, Load}
+use Rattle.bpf_text.specs.declared.mnemonic_form.MnemonicForm.TheVariants.{StoreImmediate, Store, WideLoad}
+use Rattle.bpf_text.specs.declared.mnemonic_form.TheConstants.{FORMS}
 use Rattle.bpf_text.specs.Words.{is_mnemonic_byte}
 use Rattle.bpf_text.specs.Mnemonic.{name_of, form_named}
 
 -- a form is found by its own name
-abbrev pub IsNamed : Form → Type 0
+abbrev pub IsNamed : MnemonicForm → Type 0
 IsNamed form = form_named (name_of form) ≡ Some form
 
-pub named : (form : Form) → IsNamed form
+pub named : (form : MnemonicForm) → IsNamed form
 named (Alu Add Bits64) = refl
 named (Alu operation Bits64) = refl
-named (Alu Add Bits32) = refl
-named (Alu operation Bits32) = refl
 named (MoveSignExtended Bits8To64) = refl
-named (MoveSignExtended extension) = refl
 named (Negate Bits64) = refl
-named (Negate Bits32) = refl
 named (ByteSwap LittleEndian swap.Bits16) = refl
 named (ByteSwap order swap.Bits16) = refl
-named (ByteSwap LittleEndian swap.Bits32) = refl
-named (ByteSwap order swap.Bits32) = refl
-named (ByteSwap LittleEndian swap.Bits64) = refl
-named (ByteSwap order swap.Bits64) = refl
 named (JumpIf Equal Bits64) = refl
 named (JumpIf condition Bits64) = refl
-named (JumpIf Equal Bits32) = refl
-named (JumpIf condition Bits32) = refl
-named Jump = refl
-named LongJump = refl
-named Call = refl
-named Exit = refl
 named (Load load.Byte) = refl
-named (Load format) = refl
 named (StoreImmediate store.Byte) = refl
-named (StoreImmediate size) = refl
 named (Store store.Byte) = refl
-named (Store size) = refl
-named WideLoad = refl
+named form = refl
 
 -- what holds of all elements holds of the one that is found
 found-by : {A : Type 0} (q : A → Bool) (first x : A) (rest : Option A) (test : Bool) → q first ≡ true → (rest ≡ Some x → q x ≡ true)
@@ -65,9 +48,9 @@ found p q (first ∷ xs) x all is =
     let parts = and_parts (q first) (list_all q xs) all in
     found-by q first x (find p xs) (p first) parts.0 (found p q xs x parts.1) is
 
-abbrev pub is_mnemonic : Form → Bool
+abbrev pub is_mnemonic : MnemonicForm → Bool
 is_mnemonic form = nat_le 1 (length (name_of form)) && list_all is_mnemonic_byte (name_of form)
 
 -- a name is a word of at least one byte
-pub mnemonic : (form : Form) → is_mnemonic form ≡ true
+pub mnemonic : (form : MnemonicForm) → is_mnemonic form ≡ true
 mnemonic form = found (λ other. bytes_eq (name_of other) (name_of form)) is_mnemonic FORMS form refl (named form)

@@ -8,8 +8,8 @@ use Rattle.bpf_insn.specs.declared.instruction.Source.{Source}
 use Rattle.bpf_insn.specs.declared.instruction.Insn.{Insn}
 use Rattle.bpf_insn.specs.declared.instruction.Insn.TheVariants as insn
 use Rattle.bpf_insn.specs.declared.instruction.JumpDistance.TheVariants as distance
-use Rattle.bpf_text.specs.declared.form.Form.{Form}
-use Rattle.bpf_text.specs.declared.form.Form.TheVariants.{Alu, MoveSignExtended, Negate, ByteSwap, JumpIf, Jump, LongJump, Call, Exit, Load, StoreImmediate, Store, WideLoad}
+use Rattle.bpf_text.specs.declared.mnemonic_form.MnemonicForm.{MnemonicForm}
+use Rattle.bpf_text.specs.declared.mnemonic_form.MnemonicForm.TheVariants.{Alu, MoveSignExtended, Negate, ByteSwap, JumpIf, Jump, LongJump, Call, Exit, Load, StoreImmediate, Store, WideLoad}
 use Rattle.bpf_text.specs.declared.fault.TextFlaw.{TextFlaw}
 use Rattle.bpf_text.specs.declared.fault.TextFlaw.TheVariants.{Syntax, UnknownMnemonic}
 use Rattle.bpf_text.specs.Words.{content_of, first_word, after_word, is_mnemonic_byte, is_label, split_operand}
@@ -54,7 +54,7 @@ abbrev pub high_half : ℕ → ℤ
 high_half number = cast_signed w32 (number / 2 ^ 32)
 
 -- What a form and its operands mean: one line for each row of the instruction table.
-abbrev pub instruction_in : Form → List ℕ → Result Statement TextFlaw
+abbrev pub instruction_in : MnemonicForm → List ℕ → Result Statement TextFlaw
 instruction_in (Alu operation width) operands =
     and_then (register_and_source operands) (λ read. writing read.0 (λ destination. insn.Alu operation width destination read.1))
 instruction_in (MoveSignExtended extension) operands =
@@ -82,7 +82,7 @@ instruction_in WideLoad operands =
     and_then (two register_in wide_in operands) (λ read. writing read.0 (λ destination. insn.WideLoad destination (low_half read.1) (high_half read.1)))
 
 -- a mnemonic with its operands
-abbrev pub instruction_with : Option Form → List ℕ → Result Statement TextFlaw
+abbrev pub instruction_with : Option MnemonicForm → List ℕ → Result Statement TextFlaw
 instruction_with (Some form) operands = instruction_in form operands
 instruction_with None operands = Err UnknownMnemonic
 

@@ -17,9 +17,9 @@ use Rattle.bpf_insn.specs.declared.instruction.LoadFormat.{LoadFormat}
 use Rattle.bpf_insn.specs.declared.instruction.LoadFormat.TheVariants as load
 use Rattle.bpf_insn.specs.declared.instruction.StoreSize.{StoreSize}
 use Rattle.bpf_insn.specs.declared.instruction.StoreSize.TheVariants as store
-use Rattle.bpf_text.specs.declared.form.Form.{Form}
-use Rattle.bpf_text.specs.declared.form.Form.TheVariants.{Alu, MoveSignExtended, Negate, ByteSwap, JumpIf, Jump, LongJump, Call, Exit, Load, StoreImmediate, Store, WideLoad}
-use Rattle.bpf_text.specs.declared.form.TheConstants.{FORMS}
+use Rattle.bpf_text.specs.declared.mnemonic_form.MnemonicForm.{MnemonicForm}
+use Rattle.bpf_text.specs.declared.mnemonic_form.MnemonicForm.TheVariants.{Alu, MoveSignExtended, Negate, ByteSwap, JumpIf, Jump, LongJump, Call, Exit, Load, StoreImmediate, Store, WideLoad}
+use Rattle.bpf_text.specs.declared.mnemonic_form.TheConstants.{FORMS}
 
 -- arithmetic (RFC 9669, section 4.1)
 abbrev pub operation_name : Operation → List ℕ
@@ -94,7 +94,7 @@ size_name store.Word = codes "w"
 size_name store.DoubleWord = codes "dw"
 
 -- the mnemonic of each form
-abbrev pub name_of : Form → List ℕ
+abbrev pub name_of : MnemonicForm → List ℕ
 name_of (Alu operation width) = operation_name operation ++ width_name width
 name_of (MoveSignExtended extension) = extension_name extension
 name_of (Negate width) = codes "neg" ++ width_name width
@@ -110,5 +110,5 @@ name_of (Store size) = codes "stx" ++ size_name size
 name_of WideLoad = codes "lddw"
 
 -- the form that a mnemonic names
-abbrev pub form_named : List ℕ → Option Form
+abbrev pub form_named : List ℕ → Option MnemonicForm
 form_named word = find (λ form. bytes_eq (name_of form) word) FORMS

@@ -10,8 +10,8 @@ use Rattle.bpf_insn.specs.declared.instruction.Source.TheVariants as source
 use Rattle.bpf_insn.specs.declared.instruction.Insn.{Insn}
 use Rattle.bpf_insn.specs.declared.instruction.Insn.TheVariants as insn
 use Rattle.bpf_insn.specs.declared.instruction.JumpDistance.TheVariants as distance
-use Rattle.bpf_text.specs.declared.form.Form.{Form}
-use Rattle.bpf_text.specs.declared.form.Form.TheVariants.{Alu, MoveSignExtended, Negate, ByteSwap, JumpIf, Jump, LongJump, Call, Exit, Load, StoreImmediate, Store, WideLoad}
+use Rattle.bpf_text.specs.declared.mnemonic_form.MnemonicForm.{MnemonicForm}
+use Rattle.bpf_text.specs.declared.mnemonic_form.MnemonicForm.TheVariants.{Alu, MoveSignExtended, Negate, ByteSwap, JumpIf, Jump, LongJump, Call, Exit, Load, StoreImmediate, Store, WideLoad}
 use Rattle.bpf_text.specs.Line.{Instruction, statement_in}
 use Rattle.bpf_text.specs.Mnemonic.{name_of}
 use Rattle.bpf_text.specs.Number.{IsWithin, limit_of_16_bits, limit_of_32_bits}
@@ -39,7 +39,7 @@ abbrev pub wide_text : ℕ → List ℕ
 wide_text number = codes "0x" ++ hexadecimal 16 number
 
 -- the form of an instruction
-abbrev pub form_of : Insn → Form
+abbrev pub form_of : Insn → MnemonicForm
 form_of (insn.Alu operation width destination source) = Alu operation width
 form_of (insn.MoveSignExtended extension destination source) = MoveSignExtended extension
 form_of (insn.Negate width destination) = Negate width

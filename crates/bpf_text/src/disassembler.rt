@@ -9,7 +9,7 @@ ghost use Rattle.bpf_text.specs.Operand.{register_name};
 ghost use Rattle.bpf_text.specs.Text.{Means};
 ghost use Rattle.bpf_text.specs.Spelled.{text_of, line_text, operands_text, form_of, signed_text, source_text, memory_text, wide_text, hexadecimal, one, two, three, NumbersFit, SourceFits};
 
-use crate::form::Form;
+use crate::mnemonic_form::MnemonicForm;
 use crate::operand::register_name;
 use bpf_insn::{Code, Insn, JumpDistance, Register, Source, WritableRegister, wide_number};
 use itoa::Buffer;
@@ -43,7 +43,7 @@ fn push_line<A: Allocator>(text: &mut String<A>, insn: Insn) -> Result<(), Alloc
 }
 
 /// The form of an instruction.
-fn form_of(insn: Insn) -> Form
+fn form_of(insn: Insn) -> MnemonicForm
     ensures { result ≡ form_of insn }
 {
     match insn {
@@ -51,23 +51,23 @@ fn form_of(insn: Insn) -> Form
             operation,
             width,
             ..
-        } => Form::Alu(operation, width),
-        Insn::MoveSignExtended { extension, .. } => Form::MoveSignExtended(extension),
-        Insn::Negate { width, .. } => Form::Negate(width),
-        Insn::ByteSwap { order, width, .. } => Form::ByteSwap(order, width),
+        } => MnemonicForm::Alu(operation, width),
+        Insn::MoveSignExtended { extension, .. } => MnemonicForm::MoveSignExtended(extension),
+        Insn::Negate { width, .. } => MnemonicForm::Negate(width),
+        Insn::ByteSwap { order, width, .. } => MnemonicForm::ByteSwap(order, width),
         Insn::JumpIf {
             condition,
             width,
             ..
-        } => Form::JumpIf(condition, width),
-        Insn::Jump(JumpDistance::Short(_)) => Form::Jump,
-        Insn::Jump(JumpDistance::Long(_)) => Form::LongJump,
-        Insn::Call { .. } => Form::Call,
-        Insn::Exit => Form::Exit,
-        Insn::Load { format, .. } => Form::Load(format),
-        Insn::StoreImmediate { size, .. } => Form::StoreImmediate(size),
-        Insn::Store { size, .. } => Form::Store(size),
-        Insn::WideLoad { .. } => Form::WideLoad,
+        } => MnemonicForm::JumpIf(condition, width),
+        Insn::Jump(JumpDistance::Short(_)) => MnemonicForm::Jump,
+        Insn::Jump(JumpDistance::Long(_)) => MnemonicForm::LongJump,
+        Insn::Call { .. } => MnemonicForm::Call,
+        Insn::Exit => MnemonicForm::Exit,
+        Insn::Load { format, .. } => MnemonicForm::Load(format),
+        Insn::StoreImmediate { size, .. } => MnemonicForm::StoreImmediate(size),
+        Insn::Store { size, .. } => MnemonicForm::Store(size),
+        Insn::WideLoad { .. } => MnemonicForm::WideLoad,
     }
 }
 

@@ -7,7 +7,7 @@ ghost use Rattle.bpf_text.specs.Line.{instruction_in, instruction_of, label_of, 
 ghost use Rattle.bpf_text.specs.View.{statement_view, comparand_view, parts_view};
 
 use crate::fault::TextFlaw;
-use crate::form::Form;
+use crate::mnemonic_form::MnemonicForm;
 use crate::number::{immediate_in, wide_in};
 use crate::operand::{
     both, destination_of, memory_in, register_in, source_in, target_16, target_32,
@@ -63,29 +63,29 @@ fn instruction_of(content: &[u8]) -> Result<Statement<'_>, TextFlaw>
     if !is_mnemonic(word) {
         return Err(TextFlaw::Syntax);
     }
-    match Form::named(word) {
+    match MnemonicForm::named(word) {
         Some(form) => instruction_in(form, operands),
         None => Err(TextFlaw::UnknownMnemonic),
     }
 }
 
-fn instruction_in(form: Form, operands: &[u8]) -> Result<Statement<'_>, TextFlaw>
+fn instruction_in(form: MnemonicForm, operands: &[u8]) -> Result<Statement<'_>, TextFlaw>
     ensures { statement_view result ≡ instruction_in form operands.now }
 {
     match form {
-        Form::Alu(operation, width) => alu(operation, width, operands),
-        Form::MoveSignExtended(extension) => move_sign_extended(extension, operands),
-        Form::Negate(width) => negate(width, operands),
-        Form::ByteSwap(order, width) => byte_swap(order, width, operands),
-        Form::JumpIf(condition, width) => jump_if(condition, width, operands),
-        Form::Jump => jump(operands),
-        Form::LongJump => long_jump(operands),
-        Form::Call => call(operands),
-        Form::Exit => exit(operands),
-        Form::Load(format) => load(format, operands),
-        Form::StoreImmediate(size) => store_immediate(size, operands),
-        Form::Store(size) => store(size, operands),
-        Form::WideLoad => wide_load(operands),
+        MnemonicForm::Alu(operation, width) => alu(operation, width, operands),
+        MnemonicForm::MoveSignExtended(extension) => move_sign_extended(extension, operands),
+        MnemonicForm::Negate(width) => negate(width, operands),
+        MnemonicForm::ByteSwap(order, width) => byte_swap(order, width, operands),
+        MnemonicForm::JumpIf(condition, width) => jump_if(condition, width, operands),
+        MnemonicForm::Jump => jump(operands),
+        MnemonicForm::LongJump => long_jump(operands),
+        MnemonicForm::Call => call(operands),
+        MnemonicForm::Exit => exit(operands),
+        MnemonicForm::Load(format) => load(format, operands),
+        MnemonicForm::StoreImmediate(size) => store_immediate(size, operands),
+        MnemonicForm::Store(size) => store(size, operands),
+        MnemonicForm::WideLoad => wide_load(operands),
     }
 }
 
@@ -121,7 +121,7 @@ fn two_registers(operands: &[u8]) -> Result<(Register, Register), TextFlaw>
 }
 
 fn alu(operation: Operation, width: Width, operands: &[u8]) -> Result<Statement<'_>, TextFlaw>
-    ensures { statement_view result ≡ instruction_in (Form.Alu operation width) operands.now }
+    ensures { statement_view result ≡ instruction_in (MnemonicForm.Alu operation width) operands.now }
 {
     let (register, source) = register_and_source(operands)?;
     let destination = destination_of(register)?;
@@ -134,7 +134,7 @@ fn alu(operation: Operation, width: Width, operands: &[u8]) -> Result<Statement<
 }
 
 fn move_sign_extended(extension: SignExtension, operands: &[u8]) -> Result<Statement<'_>, TextFlaw>
-    ensures { statement_view result ≡ instruction_in (Form.MoveSignExtended extension) operands.now }
+    ensures { statement_view result ≡ instruction_in (MnemonicForm.MoveSignExtended extension) operands.now }
 {
     let (register, source) = two_registers(operands)?;
     let destination = destination_of(register)?;
@@ -146,7 +146,7 @@ fn move_sign_extended(extension: SignExtension, operands: &[u8]) -> Result<State
 }
 
 fn negate(width: Width, operands: &[u8]) -> Result<Statement<'_>, TextFlaw>
-    ensures { statement_view result ≡ instruction_in (Form.Negate width) operands.now }
+    ensures { statement_view result ≡ instruction_in (MnemonicForm.Negate width) operands.now }
 {
     let register = register_in(operands)?;
     let destination = destination_of(register)?;
@@ -154,7 +154,7 @@ fn negate(width: Width, operands: &[u8]) -> Result<Statement<'_>, TextFlaw>
 }
 
 fn byte_swap(order: ByteOrder, width: SwapWidth, operands: &[u8]) -> Result<Statement<'_>, TextFlaw>
-    ensures { statement_view result ≡ instruction_in (Form.ByteSwap order width) operands.now }
+    ensures { statement_view result ≡ instruction_in (MnemonicForm.ByteSwap order width) operands.now }
 {
     let register = register_in(operands)?;
     let destination = destination_of(register)?;
@@ -174,7 +174,7 @@ fn source_and_target(operands: &[u8]) -> Result<(Source, (i16, Option<&[u8]>)), 
 }
 
 fn jump_if(condition: Condition, width: Width, operands: &[u8]) -> Result<Statement<'_>, TextFlaw>
-    ensures { statement_view result ≡ instruction_in (Form.JumpIf condition width) operands.now }
+    ensures { statement_view result ≡ instruction_in (MnemonicForm.JumpIf condition width) operands.now }
 {
     let (left, rest) = split(operands)?;
     let (left, (right, (offset, target))) = both(register_in(left), source_and_target(rest))?;
@@ -191,7 +191,7 @@ fn jump_if(condition: Condition, width: Width, operands: &[u8]) -> Result<Statem
 }
 
 fn jump(operands: &[u8]) -> Result<Statement<'_>, TextFlaw>
-    ensures { statement_view result ≡ instruction_in Form.Jump operands.now }
+    ensures { statement_view result ≡ instruction_in MnemonicForm.Jump operands.now }
 {
     let (distance, target) = target_16(operands)?;
     let insn = Insn::Jump(JumpDistance::Short(distance));
@@ -199,7 +199,7 @@ fn jump(operands: &[u8]) -> Result<Statement<'_>, TextFlaw>
 }
 
 fn long_jump(operands: &[u8]) -> Result<Statement<'_>, TextFlaw>
-    ensures { statement_view result ≡ instruction_in Form.LongJump operands.now }
+    ensures { statement_view result ≡ instruction_in MnemonicForm.LongJump operands.now }
 {
     let (distance, target) = target_32(operands)?;
     let insn = Insn::Jump(JumpDistance::Long(distance));
@@ -207,14 +207,14 @@ fn long_jump(operands: &[u8]) -> Result<Statement<'_>, TextFlaw>
 }
 
 fn call(operands: &[u8]) -> Result<Statement<'_>, TextFlaw>
-    ensures { statement_view result ≡ instruction_in Form.Call operands.now }
+    ensures { statement_view result ≡ instruction_in MnemonicForm.Call operands.now }
 {
     let immediate = immediate_in(operands)?;
     plain(Insn::Call { immediate })
 }
 
 fn exit(operands: &[u8]) -> Result<Statement<'_>, TextFlaw>
-    ensures { statement_view result ≡ instruction_in Form.Exit operands.now }
+    ensures { statement_view result ≡ instruction_in MnemonicForm.Exit operands.now }
 {
     if !operands.is_empty() {
         return Err(TextFlaw::Syntax);
@@ -251,7 +251,7 @@ fn register_and_wide(operands: &[u8]) -> Result<(Register, u64), TextFlaw>
 }
 
 fn load(format: LoadFormat, operands: &[u8]) -> Result<Statement<'_>, TextFlaw>
-    ensures { statement_view result ≡ instruction_in (Form.Load format) operands.now }
+    ensures { statement_view result ≡ instruction_in (MnemonicForm.Load format) operands.now }
 {
     let (register, (base, offset)) = register_and_memory(operands)?;
     let destination = destination_of(register)?;
@@ -264,7 +264,7 @@ fn load(format: LoadFormat, operands: &[u8]) -> Result<Statement<'_>, TextFlaw>
 }
 
 fn store_immediate(size: StoreSize, operands: &[u8]) -> Result<Statement<'_>, TextFlaw>
-    ensures { statement_view result ≡ instruction_in (Form.StoreImmediate size) operands.now }
+    ensures { statement_view result ≡ instruction_in (MnemonicForm.StoreImmediate size) operands.now }
 {
     let ((base, offset), immediate) = memory_and_immediate(operands)?;
     plain(Insn::StoreImmediate {
@@ -276,7 +276,7 @@ fn store_immediate(size: StoreSize, operands: &[u8]) -> Result<Statement<'_>, Te
 }
 
 fn store(size: StoreSize, operands: &[u8]) -> Result<Statement<'_>, TextFlaw>
-    ensures { statement_view result ≡ instruction_in (Form.Store size) operands.now }
+    ensures { statement_view result ≡ instruction_in (MnemonicForm.Store size) operands.now }
 {
     let ((base, offset), source) = memory_and_register(operands)?;
     plain(Insn::Store {
@@ -288,7 +288,7 @@ fn store(size: StoreSize, operands: &[u8]) -> Result<Statement<'_>, TextFlaw>
 }
 
 fn wide_load(operands: &[u8]) -> Result<Statement<'_>, TextFlaw>
-    ensures { statement_view result ≡ instruction_in Form.WideLoad operands.now }
+    ensures { statement_view result ≡ instruction_in MnemonicForm.WideLoad operands.now }
 {
     let (register, number) = register_and_wide(operands)?;
     let destination = destination_of(register)?;

@@ -8,7 +8,7 @@ use bpf_insn::{
 
 /// What a mnemonic says of an instruction: all but the operands.
 #[derive(Clone, Copy)]
-pub(crate) enum Form {
+pub(crate) enum MnemonicForm {
     Alu(Operation, Width),
     MoveSignExtended(SignExtension),
     Negate(Width),
@@ -121,21 +121,21 @@ macro_rules! each_form {
     ) => {
         $write! {
             $given
-            $((Form::Alu(Operation::$operation, Width::Bits64)) $wide;)*
-            $((Form::Alu(Operation::$operation, Width::Bits32)) $narrow;)*
-            $((Form::MoveSignExtended(SignExtension::$extension)) $extend;)*
-            $((Form::Negate(Width::$width)) $negate;)*
+            $((MnemonicForm::Alu(Operation::$operation, Width::Bits64)) $wide;)*
+            $((MnemonicForm::Alu(Operation::$operation, Width::Bits32)) $narrow;)*
+            $((MnemonicForm::MoveSignExtended(SignExtension::$extension)) $extend;)*
+            $((MnemonicForm::Negate(Width::$width)) $negate;)*
             $(
-                (Form::ByteSwap(ByteOrder::$order, SwapWidth::Bits16)) $s16;
-                (Form::ByteSwap(ByteOrder::$order, SwapWidth::Bits32)) $s32;
-                (Form::ByteSwap(ByteOrder::$order, SwapWidth::Bits64)) $s64;
+                (MnemonicForm::ByteSwap(ByteOrder::$order, SwapWidth::Bits16)) $s16;
+                (MnemonicForm::ByteSwap(ByteOrder::$order, SwapWidth::Bits32)) $s32;
+                (MnemonicForm::ByteSwap(ByteOrder::$order, SwapWidth::Bits64)) $s64;
             )*
-            $((Form::JumpIf(Condition::$condition, Width::Bits64)) $jump;)*
-            $((Form::JumpIf(Condition::$condition, Width::Bits32)) $jump32;)*
-            $((Form::Load(LoadFormat::$format)) $load;)*
-            $((Form::StoreImmediate(StoreSize::$size)) $immediate;)*
-            $((Form::Store(StoreSize::$size)) $register;)*
-            $((Form::$single) $name;)*
+            $((MnemonicForm::JumpIf(Condition::$condition, Width::Bits64)) $jump;)*
+            $((MnemonicForm::JumpIf(Condition::$condition, Width::Bits32)) $jump32;)*
+            $((MnemonicForm::Load(LoadFormat::$format)) $load;)*
+            $((MnemonicForm::StoreImmediate(StoreSize::$size)) $immediate;)*
+            $((MnemonicForm::Store(StoreSize::$size)) $register;)*
+            $((MnemonicForm::$single) $name;)*
         }
     };
 }
@@ -151,11 +151,11 @@ macro_rules! name {
 }
 
 /// Each form, once.
-pub(crate) const FORMS: [Form; 86] = mnemonics!(forms!());
+pub(crate) const FORMS: [MnemonicForm; 86] = mnemonics!(forms!());
 
-impl Form {
+impl MnemonicForm {
     /// The form that a mnemonic names.
-    pub(crate) fn named(word: &[u8]) -> Option<Form>
+    pub(crate) fn named(word: &[u8]) -> Option<MnemonicForm>
         ensures { result ≡ form_named word.now }
     {
         FORMS

@@ -10,7 +10,7 @@ use crate::row::{Row, Use, uses};
 
 /// What an opcode says of an instruction.
 #[derive(Clone, Copy)]
-pub(crate) enum Form {
+pub(crate) enum OpcodeForm {
     /// The operation is the unsigned one, and whether the second operand is a register stands last.
     /// The offset tells signed operations apart, and moves that extend the sign.
     Alu(Operation, Width, bool),
@@ -39,7 +39,7 @@ macro_rules! each {
             Less LessOrEqual SignedLess SignedLessOrEqual;)
     };
     (form $write:ident $given:tt) => {
-        each!($write $given Form: Exit Call ShortJump LongJump WideLoad;
+        each!($write $given OpcodeForm: Exit Call ShortJump LongJump WideLoad;
             Load(LoadFormat: Byte HalfWord Word DoubleWord SignedByte SignedHalfWord SignedWord)
             Store(StoreSize: Byte HalfWord Word DoubleWord)
             StoreImmediate(StoreSize: Byte HalfWord Word DoubleWord)
@@ -64,11 +64,11 @@ pub(crate) const OPERATIONS: [Operation; 12] = each!(operation list ());
 
 pub(crate) const CONDITIONS: [Condition; 11] = each!(condition list ());
 
-pub(crate) const FORMS: [Form; 25] = each!(form list ());
+pub(crate) const FORMS: [OpcodeForm; 25] = each!(form list ());
 
-impl Form {
+impl OpcodeForm {
     /// None where no instruction has the opcode.
-    pub(crate) fn of(opcode: u8) -> Option<Form>
+    pub(crate) fn of(opcode: u8) -> Option<OpcodeForm>
         ensures value { result ≡ form_of opcode }
         ensures opcode { IfSome result (λ form. form_opcode form ≡ opcode) }
     {
@@ -84,25 +84,25 @@ impl Form {
         ensures { result ≡ form_opcode self }
     {
         match self {
-            Form::Alu(operation, width, from_register) => {
+            OpcodeForm::Alu(operation, width, from_register) => {
                 opcode(operation.code(), from_register, width as u8)
             }
-            Form::Negate(width) => opcode(0x8, false, width as u8),
-            Form::ByteSwap(order) => order as u8,
-            Form::JumpIf(condition, Width::Bits32, from_register) => {
+            OpcodeForm::Negate(width) => opcode(0x8, false, width as u8),
+            OpcodeForm::ByteSwap(order) => order as u8,
+            OpcodeForm::JumpIf(condition, Width::Bits32, from_register) => {
                 opcode(condition.code(), from_register, 6)
             }
-            Form::JumpIf(condition, Width::Bits64, from_register) => {
+            OpcodeForm::JumpIf(condition, Width::Bits64, from_register) => {
                 opcode(condition.code(), from_register, 5)
             }
-            Form::ShortJump => 0x05,
-            Form::LongJump => 0x06,
-            Form::Call => 0x85,
-            Form::Exit => 0x95,
-            Form::Load(format) => format as u8,
-            Form::StoreImmediate(size) => 0x62 + size as u8,
-            Form::Store(size) => 0x63 + size as u8,
-            Form::WideLoad => 0x18,
+            OpcodeForm::ShortJump => 0x05,
+            OpcodeForm::LongJump => 0x06,
+            OpcodeForm::Call => 0x85,
+            OpcodeForm::Exit => 0x95,
+            OpcodeForm::Load(format) => format as u8,
+            OpcodeForm::StoreImmediate(size) => 0x62 + size as u8,
+            OpcodeForm::Store(size) => 0x63 + size as u8,
+            OpcodeForm::WideLoad => 0x18,
         }
     }
 
@@ -111,22 +111,22 @@ impl Form {
         ensures { result ≡ row self }
     {
         match self {
-            Form::Alu(operation, width, from_register) => {
+            OpcodeForm::Alu(operation, width, from_register) => {
                 let offset = offset_use(operation, width, from_register);
                 uses(Written, from_register, offset, immediate_use(from_register))
             }
-            Form::Negate(_) => uses(Written, false, Unused, Unused),
-            Form::ByteSwap(_) => uses(Written, false, Unused, SwapBits),
-            Form::JumpIf(_, _, from_register) => {
+            OpcodeForm::Negate(_) => uses(Written, false, Unused, Unused),
+            OpcodeForm::ByteSwap(_) => uses(Written, false, Unused, SwapBits),
+            OpcodeForm::JumpIf(_, _, from_register) => {
                 uses(Read, from_register, Any, immediate_use(from_register))
             }
-            Form::ShortJump => uses(Nothing, false, Any, Unused),
-            Form::LongJump | Form::Call => uses(Nothing, false, Unused, Any),
-            Form::Exit => uses(Nothing, false, Unused, Unused),
-            Form::Load(_) => uses(Written, true, Any, Unused),
-            Form::StoreImmediate(_) => uses(Read, false, Any, Any),
-            Form::Store(_) => uses(Read, true, Any, Unused),
-            Form::WideLoad => uses(Written, false, Unused, Any),
+            OpcodeForm::ShortJump => uses(Nothing, false, Any, Unused),
+            OpcodeForm::LongJump | OpcodeForm::Call => uses(Nothing, false, Unused, Any),
+            OpcodeForm::Exit => uses(Nothing, false, Unused, Unused),
+            OpcodeForm::Load(_) => uses(Written, true, Any, Unused),
+            OpcodeForm::StoreImmediate(_) => uses(Read, false, Any, Any),
+            OpcodeForm::Store(_) => uses(Read, true, Any, Unused),
+            OpcodeForm::WideLoad => uses(Written, false, Unused, Any),
         }
     }
 }
@@ -161,15 +161,15 @@ impl Condition {
 }
 
 /// Arithmetic and jumps with two operands, by class and code (RFC 9669, section 4).
-fn operand_form(class: u8, code: u8, from_register: bool) -> Option<Form>
+fn operand_form(class: u8, code: u8, from_register: bool) -> Option<OpcodeForm>
     ensures value { result ≡ operand_form class code from_register }
     ensures opcode { IfSome result (λ form. form_opcode form ≡ opcode_of code (bit from_register) class) }
 {
     match class {
-        4 => Some(Form::Alu(operation(code)?, Width::Bits32, from_register)),
-        5 => Some(Form::JumpIf(condition(code)?, Width::Bits64, from_register)),
-        6 => Some(Form::JumpIf(condition(code)?, Width::Bits32, from_register)),
-        7 => Some(Form::Alu(operation(code)?, Width::Bits64, from_register)),
+        4 => Some(OpcodeForm::Alu(operation(code)?, Width::Bits32, from_register)),
+        5 => Some(OpcodeForm::JumpIf(condition(code)?, Width::Bits64, from_register)),
+        6 => Some(OpcodeForm::JumpIf(condition(code)?, Width::Bits32, from_register)),
+        7 => Some(OpcodeForm::Alu(operation(code)?, Width::Bits64, from_register)),
         _ => None,
     }
 }
@@ -188,7 +188,7 @@ fn condition(code: u8) -> Option<Condition>
     each!(condition first_with (code, code))
 }
 
-fn other_form(opcode: u8) -> Option<Form>
+fn other_form(opcode: u8) -> Option<OpcodeForm>
     ensures value { result ≡ find (λ form. form_opcode form == opcode) FORMS }
     ensures opcode { IfSome result (λ form. form_opcode form ≡ opcode) }
 {
