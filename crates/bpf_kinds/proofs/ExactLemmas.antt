@@ -45,16 +45,12 @@ signed_remainder-fits width m n below =
 
 pub operation-fits : (operation : Operation) (width : Width) (m n : ℕ) → m < 2 ^ bits (operand_bits width)
     → n < 2 ^ bits (operand_bits width) → arithmetic.operation_on operation (operand_bits width) m n < 2 ^ bits (operand_bits width)
-operation-fits Add width m n left right = low-fits (operand_bits width) _
-operation-fits Subtract width m n left right = low-fits (operand_bits width) _
-operation-fits Multiply width m n left right = low-fits (operand_bits width) _
 operation-fits Divide width m n left right = let less = zero_or_quotient m n in omega arith
 operation-fits SignedDivide width m n left right =
     cond_both (n == 0) 0 _ (λ z. z < 2 ^ bits (operand_bits width)) (λ none. pow_pos (bits (operand_bits width)))
     (λ some. signed_quotient-fits width m n left)
 operation-fits Or width m n left right = or_lt (bits (operand_bits width)) m n left right
 operation-fits And width m n left right = let less = and_le_l m n in omega arith
-operation-fits ShiftLeft width m n left right = low-fits (operand_bits width) _
 operation-fits ShiftRight width m n left right = let less = div-le_self m (2 ^ (n % bits (operand_bits width))) in omega arith
 operation-fits Modulo width m n left right = let less = remainder_le m n in omega arith
 operation-fits SignedModulo width m n left right =
@@ -62,3 +58,4 @@ operation-fits SignedModulo width m n left right =
 operation-fits ExclusiveOr width m n left right = xor_lt (bits (operand_bits width)) m n left right
 operation-fits Move width m n left right = right
 operation-fits ArithmeticShiftRight width m n left right = shift-fits (operand_bits width) m (n % bits (operand_bits width)) left
+operation-fits operation width m n left right = low-fits (operand_bits width) _

@@ -3,6 +3,7 @@ use Rattle.std.proofs.Common.{◌≡◌, rules}
 use Rattle.bpf_insn.specs.declared.value.Value.{Value}
 use Rattle.bpf_kinds.specs.Kind.{IsProper, Admits, IsWithin, join}
 use Rattle.bpf_kinds.specs.declared.kind.Kind.{Kind}
+use Rattle.bpf_kinds.specs.declared.kind.Kind.TheVariants.{Nothing}
 
 pub reflexive : (x : Kind) → IsWithin x x
 reflexive = search rules
@@ -28,12 +29,6 @@ join-least = search rules
 pub admits_more : (x y : Kind) (held : Value) → IsWithin x y → Admits x held → Admits y held
 admits_more = search rules
 
--- what one of two kinds admits, the least kind round both admits
-
-pub join-admits_left : (x y : Kind) (held : Value) → IsProper x → IsProper y → Admits x held → Admits (join x y) held
-join-admits_left x y held x_proper y_proper admitted =
-    admits_more x (join x y) held (left-within_join x y x_proper y_proper) admitted
-
-pub join-admits_right : (x y : Kind) (held : Value) → IsProper x → IsProper y → Admits y held → Admits (join x y) held
-join-admits_right x y held x_proper y_proper admitted =
-    admits_more y (join x y) held (right-within_join x y x_proper y_proper) admitted
+-- every kind lies within Nothing
+pub within-nothing : (x : Kind) → IsWithin x Nothing
+within-nothing = search rules

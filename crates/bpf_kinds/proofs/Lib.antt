@@ -8,7 +8,6 @@ pub mod AluLemmas
 pub mod ResultLemmas
 mod RiseLemmas
 pub mod ResultsRise
-mod TestLemmas
 pub mod NarrowingLaws
 pub mod NarrowingRises
 mod MovingLemmas

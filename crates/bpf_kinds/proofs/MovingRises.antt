@@ -2,11 +2,12 @@
 use Rattle.std.proofs.Common.{◌≡◌, ◌≤◌, ◌-◌, ◌^◌, true, ◌||◌, Some, None, refl, arith, subst}
 use Rattle.std.specs.Prelude.{◌≤ℤ◌, ◌+ℤ◌, ◌-ℤ◌, ◌&&◌, Bool, if◌then◌else◌, nat_lt, nat_le}
 use Rattle.std.specs.Int.{w64, cast_signed}
+use Rattle.std.proofs.lemmas.Bool.{and_parts}
 use Rattle.std.proofs.lemmas.Bool.Decides.{nat_tests}
 use Rattle.std.proofs.lemmas.Int.{ints}
+use Rattle.std.proofs.lemmas.Option.{cond_some}
 use Rattle.bpf_insn.specs.Pointer.{is_offset}
 use Rattle.bpf_kinds.proofs.MovingLaws.{near_above, near_below, is_offset-between, offset_ends}
-use Rattle.bpf_kinds.proofs.TestLemmas.{some_if, both}
 use Rattle.bpf_kinds.specs.Interval as interval
 use Rattle.bpf_kinds.specs.Moving.{near_distances, if_offsets, move_by, move_back_by}
 use Rattle.bpf_kinds.specs.Offsets as offsets
@@ -24,7 +25,7 @@ some_of test found is = rw is refl
 pub near_rises : (x a : Interval) (distances : Offsets) → x.low ≤ x.high → interval.IsWithin x a → near_distances a ≡ Some distances
     → (nearer : Offsets) × (near_distances x ≡ Some nearer) × offsets.IsWithin nearer distances × (nearer.low ≤ℤ nearer.high)
 near_rises x a distances ordered within is =
-    let parts = some_if _ _ _ is in
+    let parts = cond_some _ _ _ is in
     let near = near_test x a within parts.0 in
     let nearer : Offsets = between (cast_signed w64 x.low) (cast_signed w64 x.high) in
     let inside : IsWithin nearer (between (cast_signed w64 a.low) (cast_signed w64 a.high)) = record {
@@ -41,8 +42,8 @@ near_rises x a distances ordered within is =
 offsets_rise : (here there moved : Offsets) → here.low ≤ℤ here.high → IsWithin here there → if_offsets there ≡ Some moved
     → (nearer : Offsets) × (if_offsets here ≡ Some nearer) × IsWithin nearer moved × (nearer.low ≤ℤ nearer.high)
 offsets_rise here there moved ordered within is =
-    let parts = some_if _ _ _ is in
-    let ends = both _ _ parts.0 in
+    let parts = cond_some _ _ _ is in
+    let ends = and_parts _ _ parts.0 in
     let low = offset_ends there.low ends.0 in
     let high = offset_ends there.high ends.1 in
     let first : is_offset here.low ≡ true = is_offset-between here.low (omega (arith, ints, low.0)) (omega (arith, ints, high.1)) in

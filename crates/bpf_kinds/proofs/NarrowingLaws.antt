@@ -2,7 +2,9 @@
 use Rattle.std.proofs.Common.{◌≡◌, ◌≢◌, ℕ, ◌+◌, ◌-◌, ◌<◌, ◌≤◌, ◌^◌, Bool, true, false, Option, Some, None, refl, sym, ◌∙◌, subst, arith}
 use Rattle.std.specs.Prelude.{pos, IfSome, IsSomeAnd, ◌&&◌, ◌==◌, nat_lt, nat_le, if◌then◌else◌}
 use Rattle.std.specs.Int.{w32, w64, cast_signed}
+use Rattle.std.proofs.lemmas.Bool.{and_parts, eqb-false, eqb-true, leb-false, leb-true, ltb-false, ltb-true, not-false, not-true}
 use Rattle.std.proofs.lemmas.Bool.Decides.{nat_tests}
+use Rattle.std.proofs.lemmas.Option.{cond_some}
 use Rattle.std.proofs.lemmas.Int.{to_z_pos}
 use Rattle.std.proofs.Math.Nat.{mod-eq_of_lt}
 use mathlib.Core.Bool.{beq}
@@ -14,7 +16,7 @@ use Rattle.bpf_insn.specs.declared.instruction.Condition.TheVariants.{SignedGrea
 use Rattle.bpf_insn.specs.declared.instruction.Condition.TheVariants.{SignedLessOrEqual}
 use Rattle.bpf_insn.specs.declared.instruction.Width.{Width}
 use Rattle.bpf_insn.specs.declared.instruction.Width.TheVariants.{Bits32, Bits64}
-use Rattle.bpf_kinds.proofs.TestLemmas as test
+use Rattle.bpf_kinds.proofs.MovingLaws.{if_some}
 use Rattle.bpf_kinds.specs.Interval.{IsProper, Admits, IsWithin, is_single}
 use Rattle.bpf_kinds.specs.Narrowing.{relation_of, is_signed, plain_limit, is_plain, at_least, at_most, common, without, narrowed}
 use Rattle.bpf_kinds.specs.Narrowing.{if_reached, narrow, decide, refine_by, refine}
@@ -51,7 +53,7 @@ limit_fits false Bits32 = omega arith
 limit_fits false Bits64 = omega arith
 
 under : (n high limit : ℕ) → n ≤ high → nat_lt high limit ≡ true → n < limit
-under n high limit most is = let below = test.less high limit is in omega arith
+under n high limit most is = let below = ltb-true high limit is in omega arith
 
 whole : (n limit bound : ℕ) → n < limit → limit ≤ bound → n < bound
 whole n limit bound below most = omega arith
@@ -65,32 +67,32 @@ compared condition width m n below-m below-n =
 
 stand_where : (condition : Condition) (taken : Bool) (width : Width) (m n : ℕ) → m < plain_limit condition width
     → n < plain_limit condition width → is_met_on condition (operand_bits width) m n ≡ taken → StandIf (relation_of condition taken) m n
-stand_where Equal true width m n a b is = test.equal m n is
-stand_where Equal false width m n a b is = test.different m n is
-stand_where NotEqual true width m n a b is = test.different m n (test.not_true (m == n) is)
-stand_where NotEqual false width m n a b is = test.equal m n (test.not_false (m == n) is)
-stand_where Greater true width m n a b is = test.less n m is
-stand_where Greater false width m n a b is = test.not_less n m is
-stand_where GreaterOrEqual true width m n a b is = test.at_most n m is
-stand_where GreaterOrEqual false width m n a b is = test.more n m is
-stand_where Less true width m n a b is = test.less m n is
-stand_where Less false width m n a b is = test.not_less m n is
-stand_where LessOrEqual true width m n a b is = test.at_most m n is
-stand_where LessOrEqual false width m n a b is = test.more m n is
-stand_where SignedGreater true width m n a b is = test.less n m (rw (signed_number width n b, signed_number width m a) at is)
-stand_where SignedGreater false width m n a b is = test.not_less n m (rw (signed_number width n b, signed_number width m a) at is)
-stand_where SignedGreaterOrEqual true width m n a b is = test.at_most n m (rw (signed_number width n b, signed_number width m a) at is)
-stand_where SignedGreaterOrEqual false width m n a b is = test.more n m (rw (signed_number width n b, signed_number width m a) at is)
-stand_where SignedLess true width m n a b is = test.less m n (rw (signed_number width m a, signed_number width n b) at is)
-stand_where SignedLess false width m n a b is = test.not_less m n (rw (signed_number width m a, signed_number width n b) at is)
-stand_where SignedLessOrEqual true width m n a b is = test.at_most m n (rw (signed_number width m a, signed_number width n b) at is)
-stand_where SignedLessOrEqual false width m n a b is = test.more m n (rw (signed_number width m a, signed_number width n b) at is)
+stand_where Equal true width m n a b is = eqb-true m n is
+stand_where Equal false width m n a b is = eqb-false m n is
+stand_where NotEqual true width m n a b is = eqb-false m n (not-true (m == n) is)
+stand_where NotEqual false width m n a b is = eqb-true m n (not-false (m == n) is)
+stand_where Greater true width m n a b is = ltb-true n m is
+stand_where Greater false width m n a b is = ltb-false n m is
+stand_where GreaterOrEqual true width m n a b is = leb-true n m is
+stand_where GreaterOrEqual false width m n a b is = leb-false n m is
+stand_where Less true width m n a b is = ltb-true m n is
+stand_where Less false width m n a b is = ltb-false m n is
+stand_where LessOrEqual true width m n a b is = leb-true m n is
+stand_where LessOrEqual false width m n a b is = leb-false m n is
+stand_where SignedGreater true width m n a b is = ltb-true n m (rw (signed_number width n b, signed_number width m a) at is)
+stand_where SignedGreater false width m n a b is = ltb-false n m (rw (signed_number width n b, signed_number width m a) at is)
+stand_where SignedGreaterOrEqual true width m n a b is = leb-true n m (rw (signed_number width n b, signed_number width m a) at is)
+stand_where SignedGreaterOrEqual false width m n a b is = leb-false n m (rw (signed_number width n b, signed_number width m a) at is)
+stand_where SignedLess true width m n a b is = ltb-true m n (rw (signed_number width m a, signed_number width n b) at is)
+stand_where SignedLess false width m n a b is = ltb-false m n (rw (signed_number width m a, signed_number width n b) at is)
+stand_where SignedLessOrEqual true width m n a b is = leb-true m n (rw (signed_number width m a, signed_number width n b) at is)
+stand_where SignedLessOrEqual false width m n a b is = leb-false m n (rw (signed_number width m a, signed_number width n b) at is)
 stand_where SharesBit taken width m n a b is = tt
 
 stand_plain : (condition : Condition) (width : Width) {x y : Interval} {m n : ℕ} {taken : Bool} → Admits x m → Admits y n
     → is_met condition width m n ≡ taken → is_plain condition width x y ≡ true → StandIf (relation_of condition taken) m n
 stand_plain condition width {x} {y} {m} {n} {taken} left right answer plain =
-    let limits = test.both _ _ plain in
+    let limits = and_parts _ _ plain in
     let below-m : m < plain_limit condition width = under m x.high _ left.below limits.0 in
     let below-n : n < plain_limit condition width = under n y.high _ right.below limits.1 in
     let fits = limit_fits (is_signed condition) width in
@@ -128,7 +130,7 @@ high_below : (high m v : ℕ) → m ≤ high → m ≢ v → m ≤ (if high == v
 high_below high m v below other = grind (arith, nat_tests)
 
 only : (x : Interval) (n : ℕ) → Admits x n → is_single x ≡ true → n ≡ x.low
-only x n here single = let same = test.equal x.low x.high single in omega arith
+only x n here single = let same = eqb-true x.low x.high single in omega arith
 
 without-admits : (x y : Interval) (m n : ℕ) → Admits x m → Admits y n → m ≢ n → Admits (without x y) m
 without-admits x y m n here there other =
@@ -174,7 +176,7 @@ decide-keeps : (condition : Condition) (width : Width) {x y : Interval} {m n : �
     → is_met condition width m n ≡ taken → Keeps (decide condition width x y taken) m n
 decide-keeps condition width {x} {y} {m} {n} {taken} here there answer =
     let met : (is_single x && is_single y) ≡ true → beq (is_met condition width x.low y.low) taken ≡ true = λ single.
-    let singles = test.both (is_single x) (is_single y) single in
+    let singles = and_parts (is_single x) (is_single y) single in
     let e-m : x.low ≡ m = sym (only x m here singles.0) in
     let e-n : y.low ≡ n = sym (only y n there singles.1) in
     edge_of _ taken (rw (e-m, e-n) answer) in
@@ -209,13 +211,13 @@ record Narrows (both : Narrowed) (x y : Interval) : Type 0 where
 reached-within : (left right x y : Interval) (both : Narrowed) → IsWithin left x → IsWithin right y → if_reached left right ≡ Some both
     → Narrows both x y
 reached-within left right x y both within-x within-y is =
-    let parts = test.some_if _ _ _ is in
-    let ordered = test.both _ _ parts.0 in
+    let parts = cond_some _ _ _ is in
+    let ordered = and_parts _ _ parts.0 in
     let reached : Narrows (narrowed left right) x y = record {
       within = (within-x, within-y);
       proper = λ proper-x proper-y. (
-        record { ordered = test.at_most _ _ ordered.0; fits = omega arith },
-        record { ordered = test.at_most _ _ ordered.1; fits = omega arith },
+        record { ordered = leb-true _ _ ordered.0; fits = omega arith },
+        record { ordered = leb-true _ _ ordered.1; fits = omega arith },
       );
     } in
     subst (λ (z : Narrowed). Narrows z x y) parts.1 reached
@@ -262,8 +264,7 @@ narrow-within AtMost x y both is =
 
 undecided : (single edge : Bool) (z both : Narrowed) → (if single then (if edge then Some z else None) else Some z) ≡ Some both → z ≡ both
 undecided true true z both is = cc
-undecided true false z both is = cc
-undecided false edge z both is = cc
+undecided single edge z both is = cc
 
 decide-within : (condition : Condition) (width : Width) (x y : Interval) (taken : Bool) (both : Narrowed)
     → decide condition width x y taken ≡ Some both → Narrows both x y
@@ -298,10 +299,6 @@ refined-keeps condition width {taken} is m n left right answer =
     let kept = refine_by-keeps (relation_of condition taken) condition width left right answer
     (λ plain. stand_plain condition width left right answer plain) in
     subst (λ (o : Option Narrowed). IsSomeAnd o (λ both. Admits both.left m × Admits both.right n)) (sym (is ∙ kept.1)) (kept.2, kept.3)
-
-if_some : (result : Option Narrowed) (P : Narrowed → Type 0) → ((both : Narrowed) → result ≡ Some both → P both) → IfSome result P
-if_some None P holds = tt
-if_some (Some both) P holds = holds both refl
 
 pub refined-within : (condition : Condition) (width : Width) (x y : Interval) (taken : Bool) (result : Option Narrowed)
     → result ≡ refine condition width x y taken → IfSome result (λ both. IsWithin both.left x × IsWithin both.right y)

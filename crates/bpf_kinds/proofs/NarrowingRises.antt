@@ -1,13 +1,14 @@
 -- What narrowing leaves grows with what is known before it.
 use Rattle.std.proofs.Common.{◌≡◌, ℕ, ◌+◌, ◌-◌, ◌≤◌, Bool, true, false, Option, Some, None, refl, subst, arith}
 use Rattle.std.specs.Prelude.{IfSome, ◌&&◌, ◌==◌, nat_lt, nat_le, if◌then◌else◌}
+use Rattle.std.proofs.lemmas.Bool.{and_parts, eqb-true}
 use Rattle.std.proofs.lemmas.Bool.Decides.{nat_tests}
+use Rattle.std.proofs.lemmas.Option.{cond_some}
 use mathlib.Core.Bool.{beq}
 use Rattle.bpf_insn.specs.Arithmetic.{is_met}
 use Rattle.bpf_insn.specs.declared.instruction.Condition.{Condition}
 use Rattle.bpf_insn.specs.declared.instruction.Width.{Width}
 use Rattle.bpf_kinds.proofs.NarrowingLaws.{some_of, decided, without-within, refined-within}
-use Rattle.bpf_kinds.proofs.TestLemmas as test
 use Rattle.bpf_kinds.specs.Interval.{IsWithin, is_single}
 use Rattle.bpf_kinds.specs.Narrowing.{relation_of, is_plain, at_least, at_most, common, without, narrowed, if_reached, narrow, decide}
 use Rattle.bpf_kinds.specs.Narrowing.{refine_by, refine}
@@ -31,8 +32,8 @@ wider_test x a within is = grind (arith, nat_tests, within.low, within.high)
 reached-rises : (x y a b : Interval) (both : Narrowed) → IsWithin x a → IsWithin y b → if_reached x y ≡ Some both
     → Covers (if_reached a b) both
 reached-rises x y a b both left right is =
-    let parts = test.some_if _ _ _ is in
-    let ordered = test.both _ _ parts.0 in
+    let parts = cond_some _ _ _ is in
+    let ordered = and_parts _ _ parts.0 in
     let wider : if_reached a b ≡ Some (narrowed a b) = some_of _ _ (narrowed a b) (wider_test x a left ordered.0)
     (wider_test y b right ordered.1) in
     subst (λ (z : Narrowed). Covers (if_reached a b) z) parts.1 (narrowed a b, wider, left, right)
@@ -50,10 +51,10 @@ common-rises x y a b left right = record { low = omega arith; high = omega arith
 
 -- an interval within one number is this number
 single_within : (y b : Interval) → y.low ≤ y.high → IsWithin y b → is_single b ≡ true → (y.low ≡ b.low) × (y.high ≡ b.high)
-single_within y b ordered within single = let same = test.equal b.low b.high single in (omega arith, omega arith)
+single_within y b ordered within single = let same = eqb-true b.low b.high single in (omega arith, omega arith)
 
 is_single-within : (y b : Interval) → y.low ≤ y.high → IsWithin y b → is_single b ≡ true → is_single y ≡ true
-is_single-within y b ordered within single = let same = test.equal b.low b.high single in grind (arith, nat_tests, within.low, within.high)
+is_single-within y b ordered within single = let same = eqb-true b.low b.high single in grind (arith, nat_tests, within.low, within.high)
 
 low-rises : (low other v : ℕ) → other ≤ low → (if other == v then other + 1 else other) ≤ (if low == v then low + 1 else low)
 low-rises low other v below = grind (arith, nat_tests)
@@ -100,8 +101,7 @@ narrow-rises AtMost {x} {y} {a} {b} {both} ordered-x ordered-y left right is =
 answered : (single edge : Bool) (z both : Narrowed) → (if single then (if edge then Some z else None) else Some z) ≡ Some both
     → single ≡ true → edge ≡ true
 answered true true z both is single = refl
-answered true false z both is single = cc
-answered false edge z both is single = cc
+answered test edge z both is single = cc
 
 less_test : (m n limit : ℕ) → m ≤ n → nat_lt n limit ≡ true → nat_lt m limit ≡ true
 less_test m n limit most is = grind (arith, nat_tests)
@@ -122,7 +122,7 @@ module _ (condition : Condition) (width : Width) (x y a b : Interval) (taken : B
   decide-rises : decide condition width x y taken ≡ Some both → Covers (decide condition width a b taken) both
   decide-rises is =
       decide-covers (λ single.
-      let singles = test.both (is_single a) (is_single b) single in
+      let singles = and_parts (is_single a) (is_single b) single in
       let same-x = (single_within x a ordered-x left singles.0).0 in
       let same-y = (single_within y b ordered-y right singles.1).0 in
       let small : (is_single x && is_single y) ≡ true = rw
@@ -132,14 +132,14 @@ module _ (condition : Condition) (width : Width) (x y a b : Interval) (taken : B
   -- lower intervals are compared as they are where higher ones are
   plain_falls : is_plain condition width a b ≡ true → is_plain condition width x y ≡ true
   plain_falls plain =
-      let limits = test.both _ _ plain in
+      let limits = and_parts _ _ plain in
       rw (less_test x.high a.high _ left.high limits.0, less_test y.high b.high _ right.high limits.1) refl
 
   -- one number each is compared as it is whether it's known as a lower or a higher interval
   plain_single : is_plain condition width x y ≡ true → is_plain condition width a b ≡ false → (is_single a && is_single b) ≡ true
       → beq (is_met condition width a.low b.low) taken ≡ true
   plain_single small large single =
-      let singles = test.both (is_single a) (is_single b) single in
+      let singles = and_parts (is_single a) (is_single b) single in
       let same-x = (single_within x a ordered-x left singles.0).1 in
       let same-y = (single_within y b ordered-y right singles.1).1 in
       let same : is_plain condition width x y ≡ is_plain condition width a b = rw (same-x, same-y) refl in

@@ -90,42 +90,20 @@ negate-proper width x proper = proper_since _ _ (operands_wide width) (negate-ho
 
 -- sign extension
 
-pub extension-is : (extension : SignExtension) (n : ℕ) → extension_of extension n ≡ sign_extension (source_bits extension)
-    (target_bits extension) n
-extension-is Bits8To32 n = refl
-extension-is Bits16To32 n = refl
-extension-is Bits8To64 n = refl
-extension-is Bits16To64 n = refl
-extension-is Bits32To64 n = refl
+-- what is so of each sign extension: what it gives, and how wide its source and its target are
+pub record Extends (extension : SignExtension) : Type 0 where
+  pub is : (n : ℕ) → extension_of extension n ≡ sign_extension (source_bits extension) (target_bits extension) n
+  pub again : (n : ℕ) → low_bits (source_bits extension) (low_bits (target_bits extension) n) ≡ low_bits (source_bits extension) n
+  pub wider : 2 ^ bits (source_bits extension) ≤ 2 ^ bits (target_bits extension)
+  pub wide : 2 ^ bits (target_bits extension) ≤ 2 ^ 64
+  pub half : 2 ^ (bits (source_bits extension) - 1) ≡ 2 ^ hbits (source_bits extension)
 
-low-again : (extension : SignExtension) (n : ℕ) → low_bits (source_bits extension) (low_bits (target_bits extension) n) ≡ low_bits
-    (source_bits extension) n
-low-again Bits8To32 n = mod-mod-pow n 24 8
-low-again Bits16To32 n = mod-mod-pow n 16 16
-low-again Bits8To64 n = mod-mod-pow n 56 8
-low-again Bits16To64 n = mod-mod-pow n 48 16
-low-again Bits32To64 n = mod-mod-pow n 32 32
-
-pub wider : (extension : SignExtension) → 2 ^ bits (source_bits extension) ≤ 2 ^ bits (target_bits extension)
-wider Bits8To32 = lit≤ tt
-wider Bits16To32 = lit≤ tt
-wider Bits8To64 = lit≤ tt
-wider Bits16To64 = lit≤ tt
-wider Bits32To64 = lit≤ tt
-
-targets_wide : (extension : SignExtension) → 2 ^ bits (target_bits extension) ≤ 2 ^ 64
-targets_wide Bits8To32 = lit≤ tt
-targets_wide Bits16To32 = lit≤ tt
-targets_wide Bits8To64 = lit≤ tt
-targets_wide Bits16To64 = lit≤ tt
-targets_wide Bits32To64 = lit≤ tt
-
-source-half : (extension : SignExtension) → 2 ^ (bits (source_bits extension) - 1) ≡ 2 ^ hbits (source_bits extension)
-source-half Bits8To32 = refl
-source-half Bits16To32 = refl
-source-half Bits8To64 = refl
-source-half Bits16To64 = refl
-source-half Bits32To64 = refl
+pub extends : (extension : SignExtension) → Extends extension
+extends Bits8To32 = record { is = λ n. refl; again = λ n. mod-mod-pow n 24 8; wider = lit≤ tt; wide = lit≤ tt; half = refl }
+extends Bits16To32 = record { is = λ n. refl; again = λ n. mod-mod-pow n 16 16; wider = lit≤ tt; wide = lit≤ tt; half = refl }
+extends Bits8To64 = record { is = λ n. refl; again = λ n. mod-mod-pow n 56 8; wider = lit≤ tt; wide = lit≤ tt; half = refl }
+extends Bits16To64 = record { is = λ n. refl; again = λ n. mod-mod-pow n 48 16; wider = lit≤ tt; wide = lit≤ tt; half = refl }
+extends Bits32To64 = record { is = λ n. refl; again = λ n. mod-mod-pow n 32 32; wider = lit≤ tt; wide = lit≤ tt; half = refl }
 
 cast-fits : (from to : Bits) (n : ℕ) → n < 2 ^ bits from → 2 ^ bits from ≤ 2 ^ bits to → cast_unsigned to (cast_signed from n) < 2 ^ bits to
 cast-fits from to n below wide =
@@ -145,8 +123,8 @@ pub extend_low-holds : (extension : SignExtension) (low : Interval) (n : ℕ) �
 extend_low-holds extension low n held =
     let from = source_bits extension in
     let to = target_bits extension in
-    let half = source-half extension in
-    let wide = wider extension in
+    let half = (extends extension).half in
+    let wide = (extends extension).wider in
     if_lt-holds low.high (2 ^ (bits from - 1)) low (full to) (2 ^ bits to) (cast_unsigned to (cast_signed from n))
     (λ positive.
     let same : cast_unsigned to (cast_signed from n) ≡ n = ap (cast_unsigned to) (to_z_pos from n (omega arith)) in
@@ -160,15 +138,15 @@ extend-holds extension x n held =
     let to = target_bits extension in
     let limit = 2 ^ bits to in
     let value = λ (k : ℕ). cast_unsigned to (cast_signed from k) in
-    let again = low-again extension n in
-    let below : value (low_bits from n) < limit = cast-fits from to (low_bits from n) (mod-lt n (pow_pos (bits from))) (wider extension) in
+    let again = (extends extension).again n in
+    let below : value (low_bits from n) < limit = cast-fits from to (low_bits from n) (mod-lt n (pow_pos (bits from))) (extends extension).wider in
     let within = cut-holds to x n held in
     let P : ℕ → Type 0 = λ k. Holds limit (extend extension x) k in
-    subst P (sym (extension-is extension n))
+    subst P (sym ((extends extension).is n))
     (if_single-holds _ within
     (λ same.
     let one : value (low_bits from n) ≡ extension_of extension (cut to x).low =
-    ap value (sym again ∙ ap (low_bits from) same) ∙ sym (extension-is extension (cut to x).low) in
+    ap value (sym again ∙ ap (low_bits from) same) ∙ sym ((extends extension).is (cut to x).low) in
     let Q : ℕ → Type 0 = λ k. Holds limit (single k) (value (low_bits from n)) in
     subst Q one (single-holds limit (value (low_bits from n)) below))
     (let R : ℕ → Type 0 = λ k. Holds limit (extend_low from to (cut from (cut to x))) (value k) in
@@ -180,19 +158,17 @@ pub extend-admits : (extension : SignExtension) (x : Interval) (n : ℕ) → IsP
 extend-admits extension x n proper held = admits_held _ _ (extend-holds extension x n held)
 
 pub extend-proper : (extension : SignExtension) (x : Interval) → IsProper x → IsProper (extend extension x)
-extend-proper extension x proper = proper_since _ _ (targets_wide extension) (extend-holds extension x x.low (least x proper.ordered))
+extend-proper extension x proper = proper_since _ _ (extends extension).wide (extend-holds extension x x.low (least x proper.ordered))
 
 -- byte swaps
 
 swaps_wide : (width : SwapWidth) → 2 ^ bits (swap_bits width) ≤ 2 ^ 64
 swaps_wide Bits16 = lit≤ tt
-swaps_wide Bits32 = lit≤ tt
-swaps_wide Bits64 = lit≤ tt
+swaps_wide width = lit≤ tt
 
 swap_bytes-fits : (width : SwapWidth) (n : ℕ) → swap_bytes (swap_bits width) n < 2 ^ bits (swap_bits width)
 swap_bytes-fits Bits16 n = omega arith
-swap_bytes-fits Bits32 n = omega arith
-swap_bytes-fits Bits64 n = omega arith
+swap_bytes-fits width n = omega arith
 
 pub swap-fits : (order : ByteOrder) (width : SwapWidth) (n : ℕ) → arithmetic.byte_swap order width n < 2 ^ bits (swap_bits width)
 swap-fits LittleEndian width n = mod-lt n (pow_pos (bits (swap_bits width)))
@@ -242,12 +218,7 @@ load-admits SignedWord n below = full-admits w64 _ (signed_load-fits w32 n (lit�
 
 pub load-proper : (format : LoadFormat) → IsProper (load format)
 load-proper Byte = record { ordered = lit≤ tt; fits = lit< tt }
-load-proper HalfWord = record { ordered = lit≤ tt; fits = lit< tt }
-load-proper Word = record { ordered = lit≤ tt; fits = lit< tt }
-load-proper DoubleWord = record { ordered = lit≤ tt; fits = lit< tt }
-load-proper SignedByte = record { ordered = lit≤ tt; fits = lit< tt }
-load-proper SignedHalfWord = record { ordered = lit≤ tt; fits = lit< tt }
-load-proper SignedWord = record { ordered = lit≤ tt; fits = lit< tt }
+load-proper format = record { ordered = lit≤ tt; fits = lit< tt }
 
 -- numbers of immediates
 

@@ -24,7 +24,7 @@ use Rattle.bpf_kinds.specs.Results.{byte_swap}
 use Rattle.bpf_kinds.specs.declared.interval.Interval.{Interval}
 use Rattle.bpf_kinds.proofs.HoldLemmas.{Holds, quotient_le, cut-holds}
 use Rattle.bpf_kinds.proofs.AluLemmas.{some_bits, result_on-holds}
-use Rattle.bpf_kinds.proofs.ResultLemmas.{least, operands_wide, alu-holds, negate-holds, extension-is, wider, extend_low-holds}
+use Rattle.bpf_kinds.proofs.ResultLemmas.{least, operands_wide, alu-holds, negate-holds, extends, extend_low-holds}
 use Rattle.bpf_kinds.proofs.ResultLemmas.{extend-holds, swap-fits, byte_swap-holds}
 use Rattle.bpf_kinds.proofs.RiseLemmas.{Covers, holds_low, within_held, within_same, within_full, full_within, if_single-within}
 use Rattle.bpf_kinds.proofs.RiseLemmas.{sum_of-within, difference_of-within, product_of-within, quotient_of-within, remainder_of-within}
@@ -160,8 +160,8 @@ extend_on-within extension x a covers =
     let held = extend_low-holds extension (cut from a) (low_bits from x.low)
     (cut-holds from a x.low (low_admitted x a covers.ordered within)) in
     let P : ℕ → Type 0 = λ k. IsWithin (single k) ends in
-    subst P (sym (extension-is extension x.low)) (within_held ends _ _ held held))
-    (extend_low-within from to (cut from x) (cut from a) (wider extension) (cut_covers from x a covers.ordered within))
+    subst P (sym ((extends extension).is x.low)) (within_held ends _ _ held held))
+    (extend_low-within from to (cut from x) (cut from a) (extends extension).wider (cut_covers from x a covers.ordered within))
 
 pub extend_rises : (extension : SignExtension) (x a : Interval) → x.low ≤ x.high → IsWithin x a
     → IsWithin (extend extension x) (extend extension a)
