@@ -114,13 +114,10 @@ module _ {map : Contents} {before : FrameContents} (after : FrameContents) (prop
       → kind.Admits k (slot_value after slot) → at / SLOT_LENGTH ≡ slot → IsMarked (fit_marks k map.marks slot) at
       → IsTrue (is_written after.bytes at)
   written_here (Number x) {slot} at within whole known admits same marked = number_is_written x after slot at whole within admits same
-  written_here (Record x) {slot} at within whole known admits same marked =
-      let fits = slot_in_frame map slot proper within in
-      absurd (both_ways _ (get_or-with_marks false map.marks (SLOT_LENGTH * slot) SLOT_LENGTH at fits (omega arith) (omega arith)) marked)
-  written_here (Frame x) {slot} at within whole known admits same marked =
-      let fits = slot_in_frame map slot proper within in
-      absurd (both_ways _ (get_or-with_marks false map.marks (SLOT_LENGTH * slot) SLOT_LENGTH at fits (omega arith) (omega arith)) marked)
   written_here Nothing at within whole known admits same marked = absurd (known refl)
+  written_here pointer {slot} at within whole known admits same marked =
+      let fits = slot_in_frame map slot proper within in
+      absurd (both_ways _ (get_or-with_marks false map.marks (SLOT_LENGTH * slot) SLOT_LENGTH at fits (omega arith) (omega arith)) marked)
 
   -- and once a slot holds something of a kind, if it does
   pub set_slot_admits : (slot : ℕ) (k : Kind) → slot < SLOTS → FRAME_LENGTH ≤ length after.bytes → k ≢ Nothing

@@ -13,30 +13,22 @@ pub length-with_marks : (b : Bool) (marks : List Bool) (from len : ℕ) → from
     → length (with_marks b marks from len) ≡ length marks
 length-with_marks b marks from len within = length-filled b marks from len (from + len) refl within
 
--- the marks of the bytes that are meant, before them and behind them
+-- the marks of the bytes that are meant
 pub get_or-with_marks : (b : Bool) (marks : List Bool) (from len at : ℕ) → from + len ≤ length marks → from ≤ at → at < from + len
     → get_or (with_marks b marks from len) at false ≡ b
 get_or-with_marks b marks from len at within above below = get_or-filled_inside b marks from len (from + len) false at refl within above
     below
-
-pub get_or-before_marks : (b : Bool) (marks : List Bool) (from len at : ℕ) → from + len ≤ length marks → at < from
-    → get_or (with_marks b marks from len) at false ≡ get_or marks at false
-get_or-before_marks b marks from len at within before = get_or-filled_before b marks from len (from + len) false at refl within before
-
-pub get_or-behind_marks : (b : Bool) (marks : List Bool) (from len at : ℕ) → from + len ≤ length marks → from + len ≤ at
-    → get_or (with_marks b marks from len) at false ≡ get_or marks at false
-get_or-behind_marks b marks from len at within behind = get_or-filled_behind b marks from len (from + len) false at refl within behind
 
 -- the marks of all other bytes stay
 pub get_or-other_marks : (b : Bool) (marks : List Bool) (from len at : ℕ) → from + len ≤ length marks → (from ≤ at → at < from + len → ⊥)
     → get_or (with_marks b marks from len) at false ≡ get_or marks at false
 get_or-other_marks b marks from len at within outside =
     elim (cases_lt at from) [
-      | inl before ↦ get_or-before_marks b marks from len at within before
+      | inl before ↦ get_or-filled_before b marks from len (from + len) false at refl within before
       | inr above ↦
           elim (cases_lt at (from + len)) [
             | inl below ↦ absurd (outside above below)
-            | inr behind ↦ get_or-behind_marks b marks from len at within behind
+            | inr behind ↦ get_or-filled_behind b marks from len (from + len) false at refl within behind
           ]
     ]
 
@@ -45,30 +37,33 @@ pub marked_inside : (marks : List Bool) (from len at : ℕ) → from + len ≤ l
     → IsMarked (with_marks true marks from len) at
 marked_inside = get_or-with_marks true
 
+-- a byte is one of a range, or it isn't
+inside_or_not : (from end at : ℕ) → ((from ≤ at) × (at < end)) ⊎ (from ≤ at → at < end → ⊥)
+inside_or_not from end at =
+    elim (cases_lt at from) [
+      | inl before ↦ inr (λ above below. absurd (omega arith))
+      | inr above ↦ elim (cases_lt at end) [
+        | inl below ↦ inl (above, below)
+        | inr behind ↦ inr (λ first below. absurd (omega arith))
+      ]
+    ]
+
 -- a byte has its mark for one of two reasons: it had it before, or it's one of those that are marked
 pub marked_before_or_inside : (marks : List Bool) (from len at : ℕ) → from + len ≤ length marks
     → IsMarked (with_marks true marks from len) at → IsMarked marks at ⊎ ((from ≤ at) × (at < from + len))
 marked_before_or_inside marks from len at within marked =
-    elim (cases_lt at from) [
-      | inl before ↦ inl (sym (get_or-before_marks true marks from len at within before) ∙ marked)
-      | inr above ↦
-          elim (cases_lt at (from + len)) [
-            | inl below ↦ inr (above, below)
-            | inr behind ↦ inl (sym (get_or-behind_marks true marks from len at within behind) ∙ marked)
-          ]
+    elim (inside_or_not from (from + len) at) [
+      | inl inside ↦ inr inside
+      | inr outside ↦ inl (sym (get_or-other_marks true marks from len at within outside) ∙ marked)
     ]
 
 -- no mark is taken back
 pub mark_keeps : (marks : List Bool) (from len at : ℕ) → from + len ≤ length marks → IsMarked marks at
     → IsMarked (with_marks true marks from len) at
 mark_keeps marks from len at within marked =
-    elim (cases_lt at from) [
-      | inl before ↦ get_or-before_marks true marks from len at within before ∙ marked
-      | inr above ↦
-          elim (cases_lt at (from + len)) [
-            | inl below ↦ marked_inside marks from len at within above below
-            | inr behind ↦ get_or-behind_marks true marks from len at within behind ∙ marked
-          ]
+    elim (inside_or_not from (from + len) at) [
+      | inl inside ↦ marked_inside marks from len at within inside.0 inside.1
+      | inr outside ↦ get_or-other_marks true marks from len at within outside ∙ marked
     ]
 
 -- to mark no byte changes no mark
@@ -79,26 +74,18 @@ mark_none marks from within = simp (append-nil, add-zero, take-append-drop)
 pub length-fit_marks : (k : Kind) (marks : List Bool) (slot : ℕ) → SLOT_LENGTH * slot + SLOT_LENGTH ≤ length marks
     → length (fit_marks k marks slot) ≡ length marks
 length-fit_marks (Number x) marks slot within = length-with_marks true marks (SLOT_LENGTH * slot) SLOT_LENGTH within
-length-fit_marks (Record x) marks slot within = length-with_marks false marks (SLOT_LENGTH * slot) SLOT_LENGTH within
-length-fit_marks (Frame x) marks slot within = length-with_marks false marks (SLOT_LENGTH * slot) SLOT_LENGTH within
 length-fit_marks Nothing marks slot within = refl
+length-fit_marks pointer marks slot within = length-with_marks false marks (SLOT_LENGTH * slot) SLOT_LENGTH within
 
 pub get_or-unfit_marks : (k : Kind) (marks : List Bool) (slot at : ℕ) → SLOT_LENGTH * slot + SLOT_LENGTH ≤ length marks
     → at / SLOT_LENGTH ≢ slot → get_or (fit_marks k marks slot) at false ≡ get_or marks at false
 get_or-unfit_marks (Number x) marks slot at within other = get_or-other_marks true marks (SLOT_LENGTH * slot) SLOT_LENGTH at within
     (λ above below. other (omega arith))
-get_or-unfit_marks (Record x) marks slot at within other = get_or-other_marks false marks (SLOT_LENGTH * slot) SLOT_LENGTH at within
-    (λ above below. other (omega arith))
-get_or-unfit_marks (Frame x) marks slot at within other = get_or-other_marks false marks (SLOT_LENGTH * slot) SLOT_LENGTH at within
-    (λ above below. other (omega arith))
 get_or-unfit_marks Nothing marks slot at within other = refl
+get_or-unfit_marks pointer marks slot at within other = get_or-other_marks false marks (SLOT_LENGTH * slot) SLOT_LENGTH at within
+    (λ above below. other (omega arith))
 
 -- what says more has more bytes written
 pub all_written_within : (map other : Contents) (from to : ℕ) → IsWithin map other → AllWritten other.marks from to
     → AllWritten map.marks from to
 all_written_within map other from to within all = λ at above below. within.marks at (all at above below)
-
--- bytes that are marked are all written
-pub all_written_marked : (marks : List Bool) (from len to : ℕ) → from + len ≤ length marks → to < from + len
-    → AllWritten (with_marks true marks from len) from to
-all_written_marked marks from len to within short = λ at above below. marked_inside marks from len at within above (omega arith)

@@ -64,11 +64,9 @@ pub fit_here : (k : Kind) (marks : List Bool) (slot at : ℕ) → SLOT_LENGTH * 
     → FitsKind k (get_or (fit_marks k marks slot) at false)
 fit_here (Number x) marks slot at within same = get_or-with_marks true marks (SLOT_LENGTH * slot) SLOT_LENGTH at within (omega arith)
     (omega arith)
-fit_here (Record x) marks slot at within same = get_or-with_marks false marks (SLOT_LENGTH * slot) SLOT_LENGTH at within (omega arith)
-    (omega arith)
-fit_here (Frame x) marks slot at within same = get_or-with_marks false marks (SLOT_LENGTH * slot) SLOT_LENGTH at within (omega arith)
-    (omega arith)
 fit_here Nothing marks slot at within same = tt
+fit_here pointer marks slot at within same = get_or-with_marks false marks (SLOT_LENGTH * slot) SLOT_LENGTH at within (omega arith)
+    (omega arith)
 
 pub set_slot_is_proper : (map : Contents) (slot : ℕ) (k : Kind) → IsProper map → slot < SLOTS → kind.IsProper k
     → IsProper (set_slot map slot k)
@@ -114,9 +112,8 @@ IsNoPointer Nothing = Unit {0}
 
 no_pointer : (k : Kind) (mark : Bool) → FitsKind k mark → IsTrue mark → IsNoPointer k
 no_pointer (Number x) mark fits marked = tt
-no_pointer (Record x) mark fits marked = both_ways mark fits marked
-no_pointer (Frame x) mark fits marked = both_ways mark fits marked
 no_pointer Nothing mark fits marked = tt
+no_pointer pointer mark fits marked = both_ways mark fits marked
 
 -- a slot of which a byte has its mark holds no pointer
 pub no_pointer_at_mark : (map : Contents) (slot at : ℕ) → IsProper map → at / SLOT_LENGTH ≡ slot → IsMarked map.marks at
@@ -124,8 +121,3 @@ pub no_pointer_at_mark : (map : Contents) (slot at : ℕ) → IsProper map → a
 no_pointer_at_mark map slot at proper same marked =
     no_pointer (slot_kind map slot) _ (subst (λ (n : ℕ). FitsKind (slot_kind map n) (get_or map.marks at false)) same (proper.fit at))
     marked
-
-pub no_pointer_where_marked : (map : Contents) (slot : ℕ) → IsProper map
-    → AllWritten map.marks (SLOT_LENGTH * slot) (SLOT_LENGTH * slot + 7) → IsNoPointer (slot_kind map slot)
-no_pointer_where_marked map slot proper all =
-    no_pointer_at_mark map slot (SLOT_LENGTH * slot) proper (omega arith) (all (SLOT_LENGTH * slot) (omega arith) (omega arith))

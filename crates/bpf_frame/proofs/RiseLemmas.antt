@@ -9,21 +9,11 @@ use Rattle.bpf_frame.proofs.SlotLemmas.{slot_kind-touched, touch_each, mark_each
 use Rattle.bpf_frame.specs.FrameMap.{Contents, IsProper, IsMarked, IsWithin, slot_kind, all_written, mark, touch, set_slot, fit_marks}
 use Rattle.bpf_insn.specs.declared.memory.TheConstants.{FRAME_LENGTH, SLOT_LENGTH, SLOTS}
 use Rattle.bpf_kinds.specs.Kind as kind
+use Rattle.bpf_kinds.proofs.KindLemmas.{within-nothing}
 use Rattle.bpf_kinds.proofs.ListLemmas.{set_both}
 use Rattle.bpf_kinds.specs.declared.interval.Interval.{Interval}
 use Rattle.bpf_kinds.specs.declared.kind.Kind.{Kind}
 use Rattle.bpf_kinds.specs.declared.kind.Kind.TheVariants.{Number, Record, Frame, Nothing}
-
--- every kind lies within Nothing
-within_nothing : (k : Kind) → kind.IsWithin k Nothing
-within_nothing (Number x) = tt
-within_nothing (Record x) = tt
-within_nothing (Frame x) = tt
-within_nothing Nothing = tt
-
--- a slot of a map lies within the same slot of a map that it lies within
-pub slot_falls : (x a : Contents) (slot : ℕ) → IsWithin x a → kind.IsWithin (slot_kind x slot) (slot_kind a slot)
-slot_falls x a slot within = within.kinds slot
 
 -- a map that lies within another still does once bytes of the other are touched
 pub touch_widens : {x a : Contents} (low high : ℕ) → IsProper a → low ≤ high → high < FRAME_LENGTH → IsWithin x a
@@ -31,7 +21,7 @@ pub touch_widens : {x a : Contents} (low high : ℕ) → IsProper a → low ≤ 
 touch_widens {x} low high proper-a ordered short within = record {
   marks = λ at marked. within.marks at marked;
   kinds = touch_each low high proper-a ordered short (λ slot k. kind.IsWithin (slot_kind x slot) k)
-      (λ slot at above below same. within_nothing (slot_kind x slot)) (λ slot apart. within.kinds slot);
+      (λ slot at above below same. within-nothing (slot_kind x slot)) (λ slot apart. within.kinds slot);
 }
 
 -- a lower map and a higher one
@@ -51,18 +41,11 @@ module _ {x a : Contents} (proper-x : IsProper x) (proper-a : IsProper a) where
       → IsMarked (fit_marks l a.marks slot) at → IsMarked (fit_marks k x.marks slot) at
   fit_both (Number n) (Number m) {slot} at inside known below same marked =
       marked_inside x.marks (SLOT_LENGTH * slot) SLOT_LENGTH at (slot_in_frame x slot proper-x inside) (omega arith) (omega arith)
-  fit_both (Number n) (Record m) at inside known below same marked = absurd below
-  fit_both (Number n) (Frame m) at inside known below same marked = absurd below
-  fit_both (Record n) (Number m) at inside known below same marked = absurd below
-  fit_both (Frame n) (Number m) at inside known below same marked = absurd below
-  fit_both Nothing (Number m) at inside known below same marked = absurd below
-  fit_both k (Record m) {slot} at inside known below same marked =
-      let fits = slot_in_frame a slot proper-a inside in
-      absurd (both_ways _ (get_or-with_marks false a.marks (SLOT_LENGTH * slot) SLOT_LENGTH at fits (omega arith) (omega arith)) marked)
-  fit_both k (Frame m) {slot} at inside known below same marked =
-      let fits = slot_in_frame a slot proper-a inside in
-      absurd (both_ways _ (get_or-with_marks false a.marks (SLOT_LENGTH * slot) SLOT_LENGTH at fits (omega arith) (omega arith)) marked)
+  fit_both k (Number m) at inside known below same marked = absurd below
   fit_both k Nothing at inside known below same marked = absurd (known refl)
+  fit_both k l {slot} at inside known below same marked =
+      let fits = slot_in_frame a slot proper-a inside in
+      absurd (both_ways _ (get_or-with_marks false a.marks (SLOT_LENGTH * slot) SLOT_LENGTH at fits (omega arith) (omega arith)) marked)
 
   -- the lower one lies within the higher one once bytes of that are touched
   module _ (low high : ℕ) (short : high < FRAME_LENGTH) (within : IsWithin x (touch a low high)) where
@@ -70,7 +53,7 @@ module _ {x a : Contents} (proper-x : IsProper x) (proper-a : IsProper a) where
     within_touched : (k : Kind) (slot : ℕ) → low ≤ high → low / SLOT_LENGTH ≤ slot → slot ≤ high / SLOT_LENGTH
         → kind.IsWithin k (slot_kind (touch a low high) slot)
     within_touched k slot ordered above below =
-        subst (kind.IsWithin k) (sym (slot_kind-touched low high proper-a ordered short slot above below)) (within_nothing k)
+        subst (kind.IsWithin k) (sym (slot_kind-touched low high proper-a ordered short slot above below)) (within-nothing k)
 
     -- inside of these bytes, bytes may be touched in the lower one
     pub touch_lowers : (from to : ℕ) → low ≤ from → from ≤ to → to ≤ high → IsWithin (touch x from to) (touch a low high)
@@ -109,7 +92,7 @@ module _ {x a : Contents} (proper-x : IsProper x) (proper-a : IsProper a) where
       marks = λ at marked. marks_rise from len less at (omega arith) fewer within.marks marked;
       kinds = mark_each from less (touch_is_proper a low high proper-a ordered short) (omega arith)
           (λ slot k. kind.IsWithin (slot_kind (mark x from len) slot) k)
-          (λ slot at first last same. within_nothing (slot_kind (mark x from len) slot))
+          (λ slot at first last same. within-nothing (slot_kind (mark x from len) slot))
           (λ slot apart. (mark_lowers from len above below ordered).kinds slot);
     }
 

@@ -75,16 +75,7 @@ fit_join : (k l : Kind) (mark other : Bool) → FitsKind k mark → FitsKind l o
 fit_join (Number x) (Number y) mark other left right = and_from _ _ left right
 fit_join (Record x) (Record y) mark other left right = and_left _ _ left
 fit_join (Frame x) (Frame y) mark other left right = and_left _ _ left
-fit_join (Number x) (Record y) mark other left right = tt
-fit_join (Number x) (Frame y) mark other left right = tt
-fit_join (Number x) Nothing mark other left right = tt
-fit_join (Record x) (Number y) mark other left right = tt
-fit_join (Record x) (Frame y) mark other left right = tt
-fit_join (Record x) Nothing mark other left right = tt
-fit_join (Frame x) (Number y) mark other left right = tt
-fit_join (Frame x) (Record y) mark other left right = tt
-fit_join (Frame x) Nothing mark other left right = tt
-fit_join Nothing l mark other left right = tt
+fit_join k l mark other left right = tt
 
 pub join_is_proper : (x y : Contents) → IsProper x → IsProper y → IsProper (join x y)
 join_is_proper x y proper-x proper-y = record {

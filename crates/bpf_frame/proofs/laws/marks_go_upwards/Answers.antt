@@ -1,6 +1,6 @@
 use Rattle.std.proofs.Common.{arith}
 use Rattle.bpf_frame.proofs.MarkLemmas.{all_written_within}
-use Rattle.bpf_frame.proofs.RiseLemmas.{mark_rises, touch_rises, set_slot_rises, slot_falls}
+use Rattle.bpf_frame.proofs.RiseLemmas.{mark_rises, touch_rises, set_slot_rises}
 use Rattle.bpf_frame.proofs.laws.marks_go_upwards.Goals as goal
 
 pub returns-clause-mark : goal.returns-clause-mark
@@ -15,7 +15,7 @@ returns-clause-set_slot c = λ map other slot k l proper proper_other inside kno
     set_slot_rises proper proper_other within slot k l inside known below
 
 pub returns-clause-slot : goal.returns-clause-slot
-returns-clause-slot c = slot_falls
+returns-clause-slot c = λ map other slot within. within.kinds slot
 
 pub returns-clause-all_written : goal.returns-clause-all_written
 returns-clause-all_written c = all_written_within
