@@ -64,16 +64,14 @@ any_frame (Ok n) = tt
 any_frame (Err cause) = tt
 
 word_meets : (number : ℕ) (wanted : Argument) (value : Value) → IfPasses (Meets wanted) (argument_word number wanted value)
-word_meets number argument.Unused value = tt
 word_meets number argument.Frame value = any_frame (argument_word number argument.Frame value)
-word_meets number (argument.Number allowed) Empty = tt
-word_meets number (argument.Number allowed) (Pointer pointer) = tt
 word_meets number (argument.Number allowed) (Number n) = by_test (is_allowed allowed n) refl
   where
     by_test : (inside : Bool) → is_allowed allowed n ≡ inside → IfPasses (Meets (argument.Number allowed))
         (if inside then Ok n else Err (BadArgument number))
     by_test true is = allowed_admits allowed n is
     by_test false is = tt
+word_meets number wanted value = tt
 
 argument_meets : (state : State) (number : ℕ) (wanted : Argument) → IfPasses (Meets wanted) (argument_in state number wanted)
 argument_meets state number argument.Unused = tt

@@ -31,10 +31,9 @@ frame_bytes-nil (mark ∷ marks) = refl
 pub length-frame_bytes : (marks : List Bool) (bytes : List ℕ) → length marks ≡ length bytes
     → length (frame_bytes marks bytes) ≡ length bytes
 length-frame_bytes [] [] same = refl
-length-frame_bytes [] (byte ∷ bytes) same = absurd (omega arith)
-length-frame_bytes (mark ∷ marks) [] same = absurd (omega arith)
 length-frame_bytes (true ∷ marks) (byte ∷ bytes) same = let more = length-frame_bytes marks bytes (omega arith) in omega arith
 length-frame_bytes (false ∷ marks) (byte ∷ bytes) same = let more = length-frame_bytes marks bytes (omega arith) in omega arith
+length-frame_bytes marks bytes same = absurd (omega arith)
 
 pub take-frame_bytes : (k : ℕ) (marks : List Bool) (bytes : List ℕ)
     → take k (frame_bytes marks bytes) ≡ frame_bytes (take k marks) (take k bytes)
@@ -55,27 +54,24 @@ drop-frame_bytes (suc k) (false ∷ marks) (byte ∷ bytes) = drop-frame_bytes k
 pub frame_bytes-append : (marks more : List Bool) (bytes others : List ℕ) → length marks ≡ length bytes
     → frame_bytes (marks ++ more) (bytes ++ others) ≡ frame_bytes marks bytes ++ frame_bytes more others
 frame_bytes-append [] more [] others same = refl
-frame_bytes-append [] more (byte ∷ bytes) others same = absurd (omega arith)
-frame_bytes-append (mark ∷ marks) more [] others same = absurd (omega arith)
 frame_bytes-append (true ∷ marks) more (byte ∷ bytes) others same =
     ap (λ (l : List FrameByte). Byte byte ∷ l) (frame_bytes-append marks more bytes others (omega arith))
 frame_bytes-append (false ∷ marks) more (byte ∷ bytes) others same =
     ap (λ (l : List FrameByte). Unwritten ∷ l) (frame_bytes-append marks more bytes others (omega arith))
+frame_bytes-append marks more bytes others same = absurd (omega arith)
 
 pub frame_bytes-replicate : (count : ℕ) (bytes : List ℕ) → length bytes ≡ count → frame_bytes (replicate count true) bytes ≡ map Byte bytes
 frame_bytes-replicate zero [] same = refl
-frame_bytes-replicate zero (byte ∷ bytes) same = absurd (omega arith)
-frame_bytes-replicate (suc count) [] same = absurd (omega arith)
 frame_bytes-replicate (suc count) (byte ∷ bytes) same = ap (λ (l : List FrameByte). Byte byte ∷ l)
     (frame_bytes-replicate count bytes (omega arith))
+frame_bytes-replicate count bytes same = absurd (omega arith)
 
 pub frame_bytes-unmarked : (count : ℕ) (bytes : List ℕ) → length bytes ≡ count
     → frame_bytes (replicate count false) bytes ≡ replicate count Unwritten
 frame_bytes-unmarked zero [] same = refl
-frame_bytes-unmarked zero (byte ∷ bytes) same = absurd (omega arith)
-frame_bytes-unmarked (suc count) [] same = absurd (omega arith)
 frame_bytes-unmarked (suc count) (byte ∷ bytes) same = ap (λ (l : List FrameByte). Unwritten ∷ l)
     (frame_bytes-unmarked count bytes (omega arith))
+frame_bytes-unmarked count bytes same = absurd (omega arith)
 
 -- the little-endian number of at most eight bytes fits
 
@@ -102,13 +98,12 @@ number_of-unmarked is_unmarked (true ∷ marks) (byte ∷ bytes) test same any =
 pub frame_bytes-all : (is_unmarked : Bool → Bool) (marks : List Bool) (bytes : List ℕ) → is_unmarked false ≡ true → is_unmarked true ≡ false
     → length marks ≡ length bytes → list_any is_unmarked marks ≡ false → frame_bytes marks bytes ≡ map Byte bytes
 frame_bytes-all is_unmarked [] [] test other same any = refl
-frame_bytes-all is_unmarked [] (byte ∷ bytes) test other same any = absurd (omega arith)
-frame_bytes-all is_unmarked (mark ∷ marks) [] test other same any = absurd (omega arith)
 frame_bytes-all is_unmarked (false ∷ marks) (byte ∷ bytes) test other same any =
     absurd (let e : true ≡ false = rw test at any in false≢true (sym e))
 frame_bytes-all is_unmarked (true ∷ marks) (byte ∷ bytes) test other same any =
     let later : list_any is_unmarked marks ≡ false = rw other at any in
     ap (λ (l : List FrameByte). Byte byte ∷ l) (frame_bytes-all is_unmarked marks bytes test other (omega arith) later)
+frame_bytes-all is_unmarked marks bytes test other same any = absurd (omega arith)
 
 -- what is written
 
@@ -144,21 +139,19 @@ contents bytes slots = record { bytes = bytes; slots = slots }
 written-frame_bytes : (marks : List Bool) (bytes : List ℕ) → length marks ≡ length bytes → all_written (frame_bytes marks bytes) ≡ true
     → written_bytes (frame_bytes marks bytes) ≡ bytes
 written-frame_bytes [] [] same all = refl
-written-frame_bytes [] (byte ∷ bytes) same all = absurd (omega arith)
-written-frame_bytes (mark ∷ marks) [] same all = absurd (omega arith)
 written-frame_bytes (true ∷ marks) (byte ∷ bytes) same all =
     ap (λ (l : List ℕ). byte ∷ l) (written-frame_bytes marks bytes (omega arith) all)
 written-frame_bytes (false ∷ marks) (byte ∷ bytes) same all = absurd (false≢true all)
+written-frame_bytes marks bytes same all = absurd (omega arith)
 
 -- they are all written where each has its mark
 written-marks : (is_unmarked : Bool → Bool) (marks : List Bool) (bytes : List ℕ) → is_unmarked false ≡ true → is_unmarked true ≡ false
     → length marks ≡ length bytes → not (list_any is_unmarked marks) ≡ all_written (frame_bytes marks bytes)
 written-marks is_unmarked [] [] test other same = refl
-written-marks is_unmarked [] (byte ∷ bytes) test other same = absurd (omega arith)
-written-marks is_unmarked (mark ∷ marks) [] test other same = absurd (omega arith)
 written-marks is_unmarked (true ∷ marks) (byte ∷ bytes) test other same =
     rw other (written-marks is_unmarked marks bytes test other (omega arith))
 written-marks is_unmarked (false ∷ marks) (byte ∷ bytes) test other same = rw test refl
+written-marks is_unmarked marks bytes test other same = absurd (omega arith)
 
 -- as many marks as bytes, at a frame's contents
 module _ (marks : List Bool) (bytes : List ℕ) (same : length marks ≡ length bytes) where
@@ -274,14 +267,13 @@ module _ (marks : List Bool) (bytes : List ℕ) (same : length marks ≡ length 
   pub read_alike : {slots : List (Option Pointer)} {frame : FrameContents} (lent : FrameUse) (arguments : List ℕ)
       → record { bytes = frame_bytes marks bytes; slots = slots } ≡ frame → all_written (bytes_read lent arguments frame.bytes) ≡ true
       → bytes_read lent arguments bytes ≡ written_bytes (bytes_read lent arguments frame.bytes)
-  read_alike Nothing arguments view all = refl
-  read_alike Writes arguments view all = refl
   read_alike Reads arguments view all =
       let at = second arguments in
       let count = third arguments in
       let part = part_of (ap (λ (f : FrameContents). f.bytes) view) at count count refl in
       sym (ap written_bytes part
       ∙ written-frame_bytes (mid_of at count marks) (mid_of at count bytes) (same_parts at count) (sym (ap all_written part) ∙ all))
+  read_alike lent arguments view all = refl
 
 -- a frame over which nothing is written
 pub call_writes_nothing : (marks : List Bool) (bytes : List ℕ) {slots : List (Option Pointer)} {frame : FrameContents} (at : ℕ)

@@ -2,7 +2,7 @@
 use Rattle.std.proofs.Common.{◌≡◌, ℕ, ◌+◌, ◌-◌, ◌==◌, ◌&&◌, Bool, true, false, IsTrue, List, [], ◌∷◌, length, nat_lt, Option, Some, None}
 use Rattle.std.proofs.Common.{IfSome, Result, Ok, Err, if◌then◌else◌, refl, ap, ◌∙◌, subst}
 use Rattle.std.specs.Int.{cast_unsigned, w32}
-use Rattle.std.proofs.lemmas.Bool.{false≢true}
+use Rattle.std.proofs.lemmas.Bool.{and_parts}
 use Rattle.bpf_insn.specs.Code.{instruction_at, spelling}
 use Rattle.bpf_insn.specs.declared.instruction.Insn.{Insn}
 use Rattle.tl_segments.specs.Segment.{Contents}
@@ -29,10 +29,6 @@ use Rattle.bpf_meaning.proofs.CallLemmas.{IfPasses, then_passes}
 
 -- an instruction of a code that reads the record alone does, too
 
-both : (one other : Bool) → IsTrue (one && other) → IsTrue one × IsTrue other
-both true other are = (refl, are)
-both false other are = absurd (false≢true are)
-
 abbrev FoundAlone : Option Insn → Type 0
 FoundAlone found = IfSome found (λ insn. IsTrue (instruction_reads_record_alone insn))
 
@@ -45,7 +41,7 @@ first_or_later insn later false false first rest = rest
 found_alone : (code : List Insn) (place : ℕ) → IsTrue (reads_record_alone code) → FoundAlone (instruction_at code place)
 found_alone [] place alone = tt
 found_alone (insn ∷ code) place alone =
-    let each = both (instruction_reads_record_alone insn) (reads_record_alone code) alone in
+    let each = and_parts (instruction_reads_record_alone insn) (reads_record_alone code) alone in
     let later = place - length (spelling insn) in
     first_or_later insn (instruction_at code later) (place == 0) (nat_lt place (length (spelling insn))) each.0
     (found_alone code later each.1)
@@ -83,21 +79,17 @@ rows_alike code segment other state next insn same = ap
 
 changes_alike : (segment other : Contents) (state : State) (change : Change) → IsOfRecord change → segment.bytes ≡ other.bytes
     → carry_out segment state change ≡ carry_out other state change
-changes_alike segment other state Nothing is same = refl
-changes_alike segment other state (SetRegister register value) is same = refl
-changes_alike segment other state (StoreBytes at size number) is same = refl
-changes_alike segment other state (StorePointer slot pointer) is same = refl
 changes_alike segment other state (CallHelper called arguments) is same =
     ap (state_after state (second arguments))
     (calls_alike called segment other arguments (written_bytes
     (bytes_read (frame_use (signature called).shape) arguments state.frame.bytes)) state.score is same)
+changes_alike segment other state change is same = refl
 
 applied_alike : (segment other : Contents) (state : State) (result : Result Effect Cause) → IfPasses (GoesOnWith IsOfRecord) result
     → segment.bytes ≡ other.bytes → next_of segment state result ≡ next_of other state result
 applied_alike segment other state (Ok (GoOn change place)) is same =
     ap (λ (there : State). Running (record there { place = place })) (changes_alike segment other state change is same)
-applied_alike segment other state (Ok (End answer)) is same = refl
-applied_alike segment other state (Err cause) is same = refl
+applied_alike segment other state result is same = refl
 
 -- so a step leads to the same configuration
 
@@ -123,8 +115,7 @@ pub runs_alike : (code : List Insn) (segment other : Contents) (from : Configura
 runs_alike code segment other from [] alone same follow = tt
 runs_alike code segment other (Running state) (next ∷ run) alone same follow =
     (follow.0 ∙ steps_alike code segment other state alone same, runs_alike code segment other next run alone same follow.1)
-runs_alike code segment other (Exited answer score) (next ∷ run) alone same follow = absurd follow.0
-runs_alike code segment other (Stuck place cause) (next ∷ run) alone same follow = absurd follow.0
+runs_alike code segment other ended (next ∷ run) alone same follow = absurd follow.0
 
 pub answers_alike : (code : List Insn) (segment other : Contents) (answer score : ℕ) → IsTrue (reads_record_alone code)
     → segment.bytes ≡ other.bytes → Answers code segment answer score → Answers code other answer score

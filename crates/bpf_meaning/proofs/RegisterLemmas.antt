@@ -34,31 +34,19 @@ pub record IsAfterCall (old new : State) : Type 0 where
 registers_empty : (answer : ℕ) (registers : List Value) (register : ℕ) → 1 ≤ register → register ≤ 5
     → get_or (registers_after answer registers) register Empty ≡ Empty
 registers_empty answer registers zero from to = absurd (omega arith)
-registers_empty answer registers (suc zero) from to = refl
-registers_empty answer registers (suc (suc zero)) from to = refl
-registers_empty answer registers (suc (suc (suc zero))) from to = refl
-registers_empty answer registers (suc (suc (suc (suc zero)))) from to = refl
-registers_empty answer registers (suc (suc (suc (suc (suc zero))))) from to = refl
 registers_empty answer registers (suc (suc (suc (suc (suc (suc register)))))) from to = absurd (omega arith)
+registers_empty answer registers register from to = refl
 
 registers_kept : (answer : ℕ) (registers : List Value) (register : ℕ) → 6 ≤ register
     → get_or (registers_after answer registers) register Empty ≡ get_or registers register Empty
-registers_kept answer registers zero from = absurd (omega arith)
-registers_kept answer registers (suc zero) from = absurd (omega arith)
-registers_kept answer registers (suc (suc zero)) from = absurd (omega arith)
-registers_kept answer registers (suc (suc (suc zero))) from = absurd (omega arith)
-registers_kept answer registers (suc (suc (suc (suc zero)))) from = absurd (omega arith)
-registers_kept answer registers (suc (suc (suc (suc (suc zero))))) from = absurd (omega arith)
 registers_kept answer registers (suc (suc (suc (suc (suc (suc register)))))) from =
     get_or-drop 6 registers register Empty ∙ ap (λ (n : ℕ). get_or registers n Empty) (omega arith)
+registers_kept answer registers register from = absurd (omega arith)
 
 -- an effect that is a call
 abbrev IsCall : Change → Type 0
-IsCall Nothing = ⊥
-IsCall (SetRegister register value) = ⊥
-IsCall (StoreBytes at size number) = ⊥
-IsCall (StorePointer slot pointer) = ⊥
 IsCall (CallHelper helper arguments) = Unit {0}
+IsCall change = ⊥
 
 change_is_call : (state : State) (found : Option Helper) → IfPasses IsCall (call_change state found)
 change_is_call state None = tt
@@ -68,16 +56,10 @@ change_is_call state (Some helper) =
 
 applies_call : (segment : Contents) (state : State) (result : Result Effect Cause) → IfPasses (GoesOnWith IsCall) result
     → IfRunning (IsAfterCall state) (next_of segment state result)
-applies_call segment state (Err cause) call = tt
-applies_call segment state (Ok (End answer)) call = tt
-applies_call segment state (Ok (GoOn Nothing place)) call = absurd call
-applies_call segment state (Ok (GoOn (SetRegister register value) place)) call = absurd call
-applies_call segment state (Ok (GoOn (StoreBytes at size number) place)) call = absurd call
-applies_call segment state (Ok (GoOn (StorePointer slot pointer) place)) call = absurd call
-applies_call segment state (Ok (GoOn (CallHelper helper arguments) place)) call = record {
-  empty = registers_empty _ state.registers;
-  kept = registers_kept _ state.registers;
-}
+applies_call segment state (Ok (GoOn (CallHelper helper arguments) place)) call =
+    record { empty = registers_empty _ state.registers; kept = registers_kept _ state.registers }
+applies_call segment state (Ok (GoOn change place)) call = absurd call
+applies_call segment state result call = tt
 
 pub step_after_call : (code : List Insn) (segment : Contents) (state there : State) (immediate : ℤ)
     → instruction_at code state.place ≡ Some (Call immediate) → Step code segment (Running state) (Running there) → IsAfterCall state there

@@ -14,8 +14,7 @@ module _ (code : List Insn) (segment : Contents) where
   -- a configuration that has a next isn't ended, and has one next
   pub one_next : (from next other : Configuration) → Step code segment from next → Step code segment from other → next ≡ other
   one_next (Running state) next other a b = a ∙ sym b
-  one_next (Exited answer score) next other a b = absurd a
-  one_next (Stuck place cause) next other a b = absurd a
+  one_next ended next other a b = absurd a
 
   pub running_goes_on : (state : State) → HasOneNext code segment (Running state)
   running_goes_on state = record { next = after code segment state; is_next = refl; only = λ other step. step }

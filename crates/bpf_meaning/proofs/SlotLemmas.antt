@@ -47,13 +47,10 @@ lies_apart slot at count some apart =
     ]
 
 pub whole_slot_is_loaded : (format : LoadFormat) (n : ℕ) → load_length format ≡ SLOT_LENGTH → load_extension format n ≡ n
-whole_slot_is_loaded Byte n is = refl
-whole_slot_is_loaded HalfWord n is = refl
-whole_slot_is_loaded Word n is = refl
-whole_slot_is_loaded DoubleWord n is = refl
 whole_slot_is_loaded SignedByte n is = absurd (omega (arith, is))
 whole_slot_is_loaded SignedHalfWord n is = absurd (omega (arith, is))
 whole_slot_is_loaded SignedWord n is = absurd (omega (arith, is))
+whole_slot_is_loaded format n is = refl
 
 -- a pointer that is stored, by whether it's stored in a whole slot
 

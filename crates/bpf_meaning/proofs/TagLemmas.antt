@@ -66,22 +66,16 @@ module _ (S T : Tags) (f : Agree S T) where
       moved_agrees into area _ _ right.0 (with_pointer_agrees operation y x offset m right.1 left)
   operate_tagged_agrees operation Bits64 (Pointer into x) (Number y) (Pointer area offset) (Number n) left right =
       moved_agrees into area _ _ left.0 (on_pointer_agrees operation x y offset n left.1 right)
-  operate_tagged_agrees operation Bits32 (Number x) (Pointer into y) v w left right = tt
-  operate_tagged_agrees operation Bits32 (Pointer into x) (Number y) v w left right = tt
-  operate_tagged_agrees operation Bits64 (Pointer into x) (Pointer there y) v w left right = tt
-  operate_tagged_agrees operation Bits32 (Pointer into x) (Pointer there y) v w left right = tt
-  operate_tagged_agrees operation Bits64 (Number x) Empty v w left right = tt
-  operate_tagged_agrees operation Bits32 (Number x) Empty v w left right = tt
-  operate_tagged_agrees operation Bits64 (Pointer into x) Empty v w left right = tt
-  operate_tagged_agrees operation Bits32 (Pointer into x) Empty v w left right = tt
-  operate_tagged_agrees operation Bits64 Empty y v w left right = tt
-  operate_tagged_agrees operation Bits32 Empty y v w left right = tt
-  operate_tagged_agrees operation width x y Empty w left right = absurd left
-  operate_tagged_agrees operation width x y v Empty left right = absurd right
+  operate_tagged_agrees operation width (Number x) y Empty w left right = absurd left
   operate_tagged_agrees operation width (Number x) y (Pointer area offset) w left right = absurd left
+  operate_tagged_agrees operation width (Pointer into x) y Empty w left right = absurd left
   operate_tagged_agrees operation width (Pointer into x) y (Number m) w left right = absurd left
+  operate_tagged_agrees operation width x (Number y) v Empty left right = absurd right
   operate_tagged_agrees operation width x (Number y) v (Pointer area offset) left right = absurd right
+  operate_tagged_agrees operation width x (Pointer into y) v Empty left right = absurd right
   operate_tagged_agrees operation width x (Pointer into y) v (Number n) left right = absurd right
+  operate_tagged_agrees operation Bits64 x y v w left right = tt
+  operate_tagged_agrees operation Bits32 x y v w left right = tt
 
   pub operate_agrees : (operation : Operation) (width : Width) (x y : S.Values) (v w : T.Values) → f.Values x v → f.Values y w
       → Sound f.Values (operate S operation width x y) (operate T operation width v w)
@@ -93,10 +87,8 @@ module _ (S T : Tags) (f : Agree S T) where
       → Sound f.Values (move_tagged S width held x) (move_tagged T width found v)
   move_tagged_agrees Bits64 held found x v values parts = values
   move_tagged_agrees Bits32 held found (Number x) (Number n) values parts = f.number _ _ (f.low_half x n parts)
-  move_tagged_agrees Bits32 held found (Number x) Empty values parts = absurd parts
-  move_tagged_agrees Bits32 held found (Number x) (Pointer area offset) values parts = absurd parts
-  move_tagged_agrees Bits32 held found (Pointer into x) v values parts = tt
-  move_tagged_agrees Bits32 held found Empty v values parts = tt
+  move_tagged_agrees Bits32 held found (Number x) v values parts = absurd parts
+  move_tagged_agrees Bits32 held found x v values parts = tt
 
   pub move_agrees : (width : Width) (x : S.Values) (v : T.Values) → f.Values x v → Sound f.Values (move S width x) (move T width v)
   move_agrees width x v values = move_tagged_agrees width x v (S.tagged x) (T.tagged v) values (f.tagged x v values)

@@ -42,6 +42,21 @@ InsnFits Fits (StoreImmediate size base offset immediate) = Fits immediate
 InsnFits Fits (WideLoad destination immediate next) = Fits immediate × Fits next
 InsnFits Fits insn = Unit {0}
 
+-- an instruction goes on at the next one, or by as many words as a conditional jump says
+pub record MayJump (insn : Insn) (jump : ConditionalJump) : Type 0 where
+  pub goes_on : GoesOn insn
+  pub leads : jump_distance insn ≡ Some jump.distance
+
+-- a conditional jump with another operand on the right
+abbrev pub against : ConditionalJump → Source → ConditionalJump
+against jump right = record jump { right = right }
+
+-- what is read from a register in two domains
+pub record IsRead {X Y : Type 0} (Read : ℕ → X → Y → Type 0) (register : ℕ) : Type 0 where
+  pub first : X
+  pub second : Y
+  pub is : Read register first second
+
 -- A domain foresees another at an instruction: their parts are related, and each step of the instruction keeps that.
 pub record Foresees (A B : Domain) (insn : Insn) : Type 1 where
   -- immediates of which this is so; what is read from a register, of which more is known than of any value; and what is stored, which is
@@ -89,28 +104,14 @@ pub record Foresees (A B : Domain) (insn : Insn) : Type 1 where
   pub go_on : GoesOn insn → (behind : A.Change) (change : B.Change) → Changes behind change
       → Sound Outcomes (A.go_on behind) (B.go_on change)
   pub jump : (distance : ℤ) → jump_distance insn ≡ Some distance → Sound Outcomes (A.jump distance) (B.jump distance)
-  pub with_immediate : GoesOn insn → (condition : Condition) (width : Width) (left : RegisterParts) (immediate distance : ℤ) (x : A.Value)
-      (v : B.Value) → Fits immediate → jump_distance insn ≡ Some distance → Read left.number x v
-      → let jump : ConditionalJump = record {
-        condition = condition;
-        width = width;
-        left = left;
-        right = Immediate immediate;
-        distance =
-            distance;
-      } in
-      Sound Outcomes (A.branch jump x (A.compared width immediate)) (B.branch jump v (B.compared width immediate))
-  pub with_register : GoesOn insn → (condition : Condition) (width : Width) (left right : RegisterParts) (distance : ℤ) (x y : A.Value)
-      (v w : B.Value) → jump_distance insn ≡ Some distance → Read left.number x v → Read right.number y w
-      → let jump : ConditionalJump = record {
-        condition = condition;
-        width = width;
-        left = left;
-        right = Register right;
-        distance =
-            distance;
-      } in
-      Sound Outcomes (A.branch jump x y) (B.branch jump v w)
+  pub with_immediate : (jump : ConditionalJump) (immediate : ℤ) → MayJump insn jump → Fits immediate
+      → (left : IsRead Read jump.left.number)
+      → Sound Outcomes (A.branch (against jump (Immediate immediate)) left.first (A.compared jump.width immediate))
+      (B.branch (against jump (Immediate immediate)) left.second (B.compared jump.width immediate))
+  pub with_register : (jump : ConditionalJump) (right : RegisterParts) → MayJump insn jump → (left : IsRead Read jump.left.number)
+      (compared : IsRead Read right.number)
+      → Sound Outcomes (A.branch (against jump (Register right)) left.first compared.first)
+      (B.branch (against jump (Register right)) left.second compared.second)
   pub end : (x : A.Number) (n : B.Number) → Numbers x n → Sound Outcomes (A.end x) (B.end n)
 
 module _ (A B : Domain) (insn : Insn) (f : Foresees A B insn) where
@@ -146,17 +147,15 @@ module _ (A B : Domain) (insn : Insn) (f : Foresees A B insn) where
       then_sound f.Numbers f.Outcomes _ _ _ _ (then_sound (f.Read register) f.Numbers _ _ _ _ (f.read register) (f.number_or _ register))
       (λ x n numbers. f.set goes_on destination _ _ (all x n numbers))
 
-  compare_foreseen : GoesOn insn → (condition : Condition) (width : Width) (left : RegisterParts) (right : Source) (distance : ℤ)
-      → SourceFits f.Fits right → jump_distance insn ≡ Some distance
-      → let jump : ConditionalJump = record { condition = condition; width = width; left = left; right = right; distance = distance } in
-      Sound f.Outcomes (compare A jump) (compare B jump)
-  compare_foreseen goes_on condition width left (Immediate immediate) distance fits jumps =
-      then_sound (f.Read left.number) f.Outcomes _ _ _ _ (f.read left.number)
-      (λ x v first. f.with_immediate goes_on condition width left immediate distance x v fits jumps first)
-  compare_foreseen goes_on condition width left (Register right) distance fits jumps =
-      then_sound (f.Read left.number) f.Outcomes _ _ _ _ (f.read left.number) (λ x v first.
-      then_sound (f.Read right.number) f.Outcomes _ _ _ _ (f.read right.number)
-      (λ y w second. f.with_register goes_on condition width left right distance x y v w jumps first second))
+  compare_foreseen : (jump : ConditionalJump) (right : Source) → MayJump insn jump → SourceFits f.Fits right
+      → Sound f.Outcomes (compare A (against jump right)) (compare B (against jump right))
+  compare_foreseen jump (Immediate immediate) may fits =
+      then_sound (f.Read jump.left.number) f.Outcomes _ _ _ _ (f.read jump.left.number)
+      (λ x v is. f.with_immediate jump immediate may fits (record { first = x; second = v; is = is }))
+  compare_foreseen jump (Register right) may fits =
+      then_sound (f.Read jump.left.number) f.Outcomes _ _ _ _ (f.read jump.left.number) (λ x v is.
+      then_sound (f.Read right.number) f.Outcomes _ _ _ _ (f.read right.number) (λ y w is_right.
+      f.with_register jump right may (record { first = x; second = v; is = is }) (record { first = y; second = w; is = is_right })))
 
   load_foreseen : (format : LoadFormat) (base : ℕ) (offset : ℤ)
       → Sound f.Values (load_value A format base offset) (load_value B format base offset)
@@ -189,7 +188,8 @@ walk_foreseen A B (Negate width destination) f fits = number_written A B _ f (λ
 walk_foreseen A B (ByteSwap order width destination) f fits =
     number_written A B _ f (λ e. cc) destination.number destination _ _ (f.byte_swap order width)
 walk_foreseen A B (JumpIf condition width left right distance) f fits =
-    compare_foreseen A B _ f (λ e. cc) condition width left right distance fits refl
+    compare_foreseen A B _ f (record { condition = condition; width = width; left = left; right = right; distance = distance }) right
+    (record { goes_on = λ e. cc; leads = refl }) fits
 walk_foreseen A B (Jump distance) f fits = f.jump (words distance) refl
 walk_foreseen A B (Call immediate) f fits = change_made A B _ f (λ e. cc) _ _
     (call_foreseen A B _ f (by_number (cast_unsigned w32 immediate)))
@@ -206,8 +206,6 @@ walk_foreseen A B (WideLoad destination immediate next) f fits = f.set (λ e. cc
 -- any immediates will do
 pub any_fits : (insn : Insn) → InsnFits (λ immediate. Unit {0}) insn
 any_fits (Alu operation width destination (Immediate immediate)) = tt
-any_fits (Alu operation width destination (Register register)) = tt
 any_fits (JumpIf condition width left (Immediate immediate) offset) = tt
-any_fits (JumpIf condition width left (Register register) offset) = tt
 any_fits (WideLoad destination immediate next) = (tt, tt)
 any_fits insn = tt

@@ -62,8 +62,7 @@ changes_within state insn = record {
 carried_out : (state : State) (result : Result Effect Cause) → IfPasses (GoesOnWith (CanBeMade state)) result
     → IfPasses (CanBeCarriedOut state) result
 carried_out state (Ok (GoOn change place)) can = can
-carried_out state (Ok (End answer)) can = tt
-carried_out state (Err cause) can = tt
+carried_out state result can = tt
 
 found_within : (code : List Insn) (segment : Contents) (state : State) (found : Option Insn)
     → IfPasses (CanBeCarriedOut state) (effect_of code segment state found)
@@ -88,61 +87,65 @@ length-store memory at count number within =
 -- where it goes on, the state is such
 abbrev pub IfRunning : (State → Type 0) → Configuration → Type 0
 IfRunning Such (Running state) = Such state
-IfRunning Such (Exited answer score) = Unit {0}
-IfRunning Such (Stuck place cause) = Unit {0}
+IfRunning Such configuration = Unit {0}
 
--- what holds at first and is kept by each step holds all along a run
-along_run : (Such : State → Type 0) (code : List Insn) (segment : Contents)
-    → ((state there : State) → Such state → Step code segment (Running state) (Running there) → Such there)
-    → (from : Configuration) (run : List Configuration) → IfRunning Such from → FollowSteps code segment from run
-    → IfRunning Such (last_of from run)
-along_run Such code segment kept from [] such follow = such
-along_run Such code segment kept (Running here) (Running there ∷ run) such follow =
-    along_run Such code segment kept (Running there) run (kept here there such follow.0) follow.1
-along_run Such code segment kept (Running here) (Exited answer score ∷ run) such follow =
-    along_run Such code segment kept (Exited answer score) run tt follow.1
-along_run Such code segment kept (Running here) (Stuck place cause ∷ run) such follow =
-    along_run Such code segment kept (Stuck place cause) run tt follow.1
-along_run Such code segment kept (Exited answer score) (next ∷ run) such follow = absurd follow.0
-along_run Such code segment kept (Stuck place cause) (next ∷ run) such follow = absurd follow.0
+-- what is so of a state once a change is made, wherever the program goes on, if it was so before
+abbrev IsKept : (State → Type 0) → Contents → Type 0
+IsKept Such segment = (state : State) (change : Change) (place : ℕ) → CanBeMade state change → Such state
+    → Such (record (carry_out segment state change) { place = place })
 
-carries_out_whole : (segment : Contents) (state : State) (change : Change) → CanBeMade state change → IsWhole state
-    → IsWhole (carry_out segment state change)
-carries_out_whole segment state Nothing can whole = whole
-carries_out_whole segment state (SetRegister register value) can whole =
+-- what each change keeps, each step keeps, and what holds at first holds all along a run
+module _ (Such : State → Type 0) (segment : Contents) (kept : IsKept Such segment) (code : List Insn) where
+  applies : (state : State) (result : Result Effect Cause) → IfPasses (CanBeCarriedOut state) result → Such state
+      → IfRunning Such (next_of segment state result)
+  applies state (Ok (GoOn change place)) can such = kept state change place can such
+  applies state result can such = tt
+
+  step_keeps : (state there : State) → Such state → Step code segment (Running state) (Running there) → Such there
+  unfolding after
+  step_keeps state there such step =
+      subst (IfRunning Such) (sym step)
+      (applies state (effect code segment state) (found_within code segment state (instruction_at code state.place)) such)
+
+  along_run : (from : Configuration) (run : List Configuration) → IfRunning Such from → FollowSteps code segment from run
+      → IfRunning Such (last_of from run)
+  along_run from [] such follow = such
+  along_run (Running here) (Running there ∷ run) such follow =
+      along_run (Running there) run (step_keeps here there such follow.0) follow.1
+  along_run (Running here) (next ∷ run) such follow = along_run next run tt follow.1
+  along_run from (next ∷ run) such follow = absurd follow.0
+
+  run_keeps : (run : List Configuration) (state : State) → Such start → IsRun code segment run → end_of run ≡ Running state → Such state
+  run_keeps run state such is_run end = subst (IfRunning Such) end (along_run (Running start) run such is_run)
+
+-- a state that has all its registers and a whole frame keeps them
+
+carries_out_whole : (segment : Contents) → IsKept IsWhole segment
+carries_out_whole segment state Nothing place can whole =
+    record { registers = whole.registers; frame = whole.frame; slots = whole.slots }
+carries_out_whole segment state (SetRegister register value) place can whole =
     record { registers = simp length-set whole.registers; frame = whole.frame; slots = whole.slots }
-carries_out_whole segment state (StoreBytes at size number) can whole = record {
+carries_out_whole segment state (StoreBytes at size number) place can whole = record {
   registers = whole.registers;
   frame = let same = whole.frame in length-store state.frame.bytes at (store_length size) number (omega arith) ∙ whole.frame;
   slots = let count = whole.slots in length-overwrite_slots None state.frame.slots at (store_length size) (omega arith) ∙ whole.slots;
 }
-carries_out_whole segment state (StorePointer slot pointer) can whole = record {
+carries_out_whole segment state (StorePointer slot pointer) place can whole = record {
   registers = whole.registers;
   frame = let same = whole.frame in length-write state.frame.bytes (replicate SLOT_LENGTH Unwritten) (SLOT_LENGTH * slot) (omega arith)
       ∙ whole.frame;
   slots = simp length-set whole.slots;
 }
-carries_out_whole segment state (CallHelper helper arguments) can whole = record {
+carries_out_whole segment state (CallHelper helper arguments) place can whole = record {
   registers = let behind = length-drop 6 state.registers in let all = whole.registers in omega arith;
   frame = length-frame_after segment state helper arguments can whole.frame;
   slots = length-slots_after segment state helper arguments can whole.slots;
 }
 
-applies_whole : (segment : Contents) (state : State) (result : Result Effect Cause) → IfPasses (CanBeCarriedOut state) result
-    → IsWhole state → (IfRunning IsWhole) (next_of segment state result)
-applies_whole segment state (Ok (GoOn change place)) can whole =
-    let there = carries_out_whole segment state change can whole in
-    record { registers = there.registers; frame = there.frame; slots = there.slots }
-applies_whole segment state (Ok (End answer)) can whole = tt
-applies_whole segment state (Err cause) can whole = tt
-
 -- a step from a whole state leads to a whole one
 pub step_whole : (code : List Insn) (segment : Contents) (state there : State) → IsWhole state
     → Step code segment (Running state) (Running there) → IsWhole there
-unfolding after
-step_whole code segment state there whole step =
-    subst (IfRunning IsWhole) (sym step) (applies_whole segment state (effect code segment state)
-    (found_within code segment state (instruction_at code state.place)) whole)
+step_whole code segment = step_keeps IsWhole segment (carries_out_whole segment) code
 
 start_whole : IsWhole start
 start_whole = record { registers = refl; frame = refl; slots = refl }
@@ -150,8 +153,7 @@ start_whole = record { registers = refl; frame = refl; slots = refl }
 -- so is each state that a run comes to
 pub run_whole : (code : List Insn) (segment : Contents) (run : List Configuration) (state : State) → IsRun code segment run
     → end_of run ≡ Running state → IsWhole state
-run_whole code segment run state is_run end =
-    subst (IfRunning IsWhole) end (along_run IsWhole code segment (step_whole code segment) (Running start) run start_whole is_run)
+run_whole code segment run state = run_keeps IsWhole segment (carries_out_whole segment) code run state start_whole
 
 -- the frame of a state holds bytes, and a step on a segment keeps it so
 
@@ -163,41 +165,30 @@ unwritten_bytes (suc count) (suc at) = unwritten_bytes count at
 pub start_bytes : HoldsBytes start
 start_bytes = record { frame = unwritten_bytes FRAME_LENGTH }
 
-carries_out_bytes : (segment : Contents) (state : State) (change : Change) → IsSegment segment → CanBeMade state change → HoldsBytes state
-    → HoldsBytes (carry_out segment state change)
-carries_out_bytes segment state Nothing is can holds = holds
-carries_out_bytes segment state (SetRegister register value) is can holds = record { frame = holds.frame }
-carries_out_bytes segment state (StoreBytes at size number) is can holds =
+carries_out_bytes : (segment : Contents) → IsSegment segment → IsKept HoldsBytes segment
+carries_out_bytes segment is state (StoreBytes at size number) place can holds =
     record { frame = bytes-store state.frame.bytes at (store_length size) number holds.frame }
-carries_out_bytes segment state (StorePointer slot pointer) is can holds =
+carries_out_bytes segment is state (StorePointer slot pointer) place can holds =
     record {
       frame = bytes-write state.frame.bytes (SLOT_LENGTH * slot) (replicate SLOT_LENGTH Unwritten) holds.frame
           (unwritten_bytes SLOT_LENGTH);
     }
-carries_out_bytes segment state (CallHelper helper arguments) is can holds =
+carries_out_bytes segment is state (CallHelper helper arguments) place can holds =
     record { frame = bytes-frame_after segment state helper arguments is can holds.frame }
-
-applies_bytes : (segment : Contents) (state : State) (result : Result Effect Cause) → IsSegment segment
-    → IfPasses (CanBeCarriedOut state) result → HoldsBytes state → (IfRunning HoldsBytes) (next_of segment state result)
-applies_bytes segment state (Ok (GoOn change place)) is can holds = let there = carries_out_bytes segment state change is can holds in
-    record { frame = there.frame }
-applies_bytes segment state (Ok (End answer)) is can holds = tt
-applies_bytes segment state (Err cause) is can holds = tt
+carries_out_bytes segment is state change place can holds = record { frame = holds.frame }
 
 pub step_bytes : (code : List Insn) (segment : Contents) (state there : State) → IsSegment segment → HoldsBytes state
     → Step code segment (Running state) (Running there) → HoldsBytes there
-unfolding after
-step_bytes code segment state there is holds step =
-    subst (IfRunning HoldsBytes) (sym step) (applies_bytes segment state (effect code segment state) is
-    (found_within code segment state (instruction_at code state.place)) holds)
+step_bytes code segment state there is = step_keeps HoldsBytes segment (carries_out_bytes segment is) code state there
 
 pub run_bytes : (code : List Insn) (segment : Contents) (run : List Configuration) (state : State) → IsSegment segment
     → IsRun code segment run → end_of run ≡ Running state → HoldsBytes state
-run_bytes code segment run state is is_run end =
-    subst (IfRunning HoldsBytes) end (along_run HoldsBytes code segment (λ here there. step_bytes code segment here there is)
-    (Running start) run start_bytes is_run)
+run_bytes code segment run state is = run_keeps HoldsBytes segment (carries_out_bytes segment is) code run state start_bytes
 
 -- written bytes lie in slots that hold no pointer, and a step from a whole state keeps it so
+
+abbrev IsWholeAndApart : State → Type 0
+IsWholeAndApart state = IsWhole state × KeepsPointersApart state
 
 start_apart : KeepsPointersApart start
 start_apart = record { written = λ at written. slots_hold_nothing SLOTS (at / SLOT_LENGTH) }
@@ -209,8 +200,6 @@ start_apart = record { written = λ at written. slots_hold_nothing SLOTS (at / S
 
 carries_out_apart : (segment : Contents) (state : State) (change : Change) → CanBeMade state change → IsWhole state
     → KeepsPointersApart state → KeepsPointersApart (carry_out segment state change)
-carries_out_apart segment state Nothing can whole keeps = keeps
-carries_out_apart segment state (SetRegister register value) can whole keeps = record { written = keeps.written }
 carries_out_apart segment state (StoreBytes at size number) can whole keeps =
     let bytes = whole.frame in
     let slots = whole.slots in
@@ -219,28 +208,20 @@ carries_out_apart segment state (StorePointer slot pointer) can whole keeps =
     let bytes = whole.frame in record { written = apart-keep_pointer state.frame slot pointer (omega arith) keeps.written }
 carries_out_apart segment state (CallHelper helper arguments) can whole keeps =
     record { written = apart-frame_after segment state helper arguments can whole.frame whole.slots keeps.written }
+carries_out_apart segment state change can whole keeps = record { written = keeps.written }
 
-applies_apart : (segment : Contents) (state : State) (result : Result Effect Cause) → IfPasses (CanBeCarriedOut state) result
-    → IsWhole state → KeepsPointersApart state → (IfRunning KeepsPointersApart) (next_of segment state result)
-applies_apart segment state (Ok (GoOn change place)) can whole keeps = let there = carries_out_apart segment state change can whole keeps in
-    record { written = there.written }
-applies_apart segment state (Ok (End answer)) can whole keeps = tt
-applies_apart segment state (Err cause) can whole keeps = tt
+carries_out_both : (segment : Contents) → IsKept IsWholeAndApart segment
+carries_out_both segment state change place can both = (
+  carries_out_whole segment state change place can both.0,
+  record { written = (carries_out_apart segment state change can both.0 both.1).written },
+)
 
 pub step_apart : (code : List Insn) (segment : Contents) (state there : State) → IsWhole state → KeepsPointersApart state
     → Step code segment (Running state) (Running there) → KeepsPointersApart there
-unfolding after
 step_apart code segment state there whole keeps step =
-    subst (IfRunning KeepsPointersApart) (sym step) (applies_apart segment state (effect code segment state)
-    (found_within code segment state (instruction_at code state.place)) whole keeps)
+    (step_keeps IsWholeAndApart segment (carries_out_both segment) code state there (whole, keeps) step).1
 
 pub run_apart : (code : List Insn) (segment : Contents) (run : List Configuration) (state : State) → IsRun code segment run
     → end_of run ≡ Running state → KeepsPointersApart state
 run_apart code segment run state is_run end =
-    (subst (IfRunning Both) end
-    (along_run Both code segment (λ here there both step.
-    (step_whole code segment here there both.0 step, step_apart code segment here there both.0 both.1 step)) (Running start) run
-    (start_whole, start_apart) is_run)).1
-  where
-    Both : State → Type 0
-    Both here = IsWhole here × KeepsPointersApart here
+    (run_keeps IsWholeAndApart segment (carries_out_both segment) code run state (start_whole, start_apart) is_run end).1
