@@ -66,21 +66,11 @@ jumps_to code place target index (Some insn) leads at = λ distance jumps.
     let is : target_of place distance ≡ pos target = cc in
     is ∙ ap pos (sym (found_place code target index (sym at)))
 
-pub jumps_nowhere : (code : List Insn) (place : ℕ) (found : Option Insn)
-    → IfSome found (λ insn. option_map pos None ≡ option_map (target_of place) (jump_distance insn))
-    → IfSome found (λ insn. JumpsTo code place insn 0)
-jumps_nowhere code place None leads = tt
-jumps_nowhere code place (Some insn) leads = λ distance jumps. let there = leads ∙ ap (option_map (target_of place)) jumps in
-    absurd (let no : ⊥ = cc in no)
-
 pub nothing_found : (code : List Insn) (place : ℕ) → index_at code place ≡ None → IsSome (instruction_at code place) → ⊥
 nothing_found code place none some =
     let is = instruction_at-index code place in let nothing : instruction_at code place ≡ None = cc in absurd (let no : ⊥ = cc in no)
 
 -- one flat form more
-
-pub forms_start : (code : List Insn) (areas : List (Option Area)) (flats : List FlatInsn) → flats ≡ [] → AreFlatForms code areas 0 flats
-forms_start code areas flats none = record { count_is = ap length none; each = λ index insn flat below stands is. absurd (omega arith) }
 
 pub forms_grow : {code : List Insn} {areas : List (Option Area)} {count : ℕ} {flats more : List FlatInsn} {insn : Insn} (flat : FlatInsn)
     → AreFlatForms code areas count flats → more ≡ flats ++ flat ∷ [] → insn ≡ get_or code count insn → count < length code

@@ -25,9 +25,3 @@ first_words_split (suc before) after (suc total) bytes e =
     drop-drop (before * 8 + 8) 8 bytes ∙ ap (λ n. drop n bytes) (let p : 8 + (before * 8 + 8) ≡ suc before * 8 + 8 = omega arith in p)
     in
     ap (λ (words : List Word). word_of bytes ∷ words) (rw (← here, ← next) rest)
-
--- one word more
-pub first_words_more : (count : ℕ) (bytes : List ℕ) → first_words (count + 1) bytes ≡ first_words count bytes ++ word_of
-    (drop (count * 8) bytes) ∷ []
-unfolding first_words
-first_words_more count bytes = first_words_split count 0 (count + 1) bytes (omega arith)

@@ -12,9 +12,8 @@ behind (suc count) at byte bytes = ap (λ (n : ℕ). slice_index bytes at + 256 
 
 all_of : (count : ℕ) (bytes : List ℕ) → length bytes ≡ count → number_of bytes ≡ little_number count bytes
 all_of zero [] same = refl
-all_of zero (byte ∷ bytes) same = absurd (omega arith)
-all_of (suc count) [] same = absurd (omega arith)
 all_of (suc count) (byte ∷ bytes) same = ap (λ (n : ℕ). byte + 256 * n) (all_of count bytes (omega arith) ∙ sym (behind count 0 byte bytes))
+all_of count bytes same = absurd (omega arith)
 
 pub some_bytes : (bytes : List ℕ) (at count : ℕ) → at + count ≤ length bytes
     → number_of (take count (drop at bytes)) ≡ little_number count (take count (drop at bytes))

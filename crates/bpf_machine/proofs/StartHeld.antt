@@ -17,18 +17,9 @@ last_set words count = grind (arith, common_steps)
 
 registers_hold : (words : List ℕ) → length words ≡ 11 → (register : ℕ)
     → IsWordOf (register_value start register) (get_or (slice_set (slice_set words 1 0) 10 512) register 0)
-registers_hold words count zero = tt
 registers_hold words count (suc zero) = (first_set words count, refl)
-registers_hold words count (suc (suc zero)) = tt
-registers_hold words count (suc (suc (suc zero))) = tt
-registers_hold words count (suc (suc (suc (suc zero)))) = tt
-registers_hold words count (suc (suc (suc (suc (suc zero))))) = tt
-registers_hold words count (suc (suc (suc (suc (suc (suc zero)))))) = tt
-registers_hold words count (suc (suc (suc (suc (suc (suc (suc zero))))))) = tt
-registers_hold words count (suc (suc (suc (suc (suc (suc (suc (suc zero)))))))) = tt
-registers_hold words count (suc (suc (suc (suc (suc (suc (suc (suc (suc zero))))))))) = tt
 registers_hold words count (suc (suc (suc (suc (suc (suc (suc (suc (suc (suc zero)))))))))) = (last_set words count, refl)
-registers_hold words count (suc (suc (suc (suc (suc (suc (suc (suc (suc (suc (suc register))))))))))) = tt
+registers_hold words count register = tt
 
 pub start_held : (words frame : List ℕ) → length words ≡ 11 → length frame ≡ FRAME_LENGTH
     → Holds start (record { registers = slice_set (slice_set words 1 0) 10 512; frame = frame; score = 0 })

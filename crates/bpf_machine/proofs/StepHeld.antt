@@ -32,7 +32,7 @@ use Rattle.bpf_meaning.proofs.WholeLemmas.{run_bytes, run_whole}
 use Rattle.bpf_verify.specs.Verified.{HasBaseAreas, base_of}
 use Rattle.bpf_verify.specs.Verified as verified
 use Rattle.bpf_machine.specs.Machine.{Does, HoldsState, IsReached}
-use Rattle.bpf_machine.specs.Words.{Goes, Ends, Holds, HoldsEffect, HoldsNext, MeetsCall, Next, PointsInto, Words, argument_words}
+use Rattle.bpf_machine.specs.Words.{Goes, Ends, Holds, HoldsEffect, HoldsNext, MeetsCall, Next, PointsOnlyInto, Words, argument_words}
 use Rattle.bpf_machine.specs.Words.{next_words, words_of}
 use Rattle.bpf_machine.specs.declared.bare.Answer.{Answer}
 use Rattle.bpf_machine.specs.declared.bare.Bare.{Bare}
@@ -46,10 +46,9 @@ abbrev pointed_into : Value → Area
 pointed_into (value.Pointer pointer) = pointer.area
 pointed_into other = Frame
 
-points_there : (v : Value) → PointsInto v (pointed_into v)
-points_there value.Empty = tt
-points_there (value.Number n) = tt
+points_there : (v : Value) → PointsOnlyInto v (pointed_into v)
 points_there (value.Pointer pointer) = refl
+points_there v = tt
 
 abbrev areas_in : State → ℕ → Area
 areas_in state register = pointed_into (register_value state register)
@@ -59,7 +58,7 @@ abbrev KnowsBase : (ℕ → Area) → Insn → Option Area → Type 0
 KnowsBase areas (Load format destination base offset) area = area ≡ Some (areas base.number)
 KnowsBase areas insn area = Unit {0}
 
-knows_base : (held : Value) (area : Option Area) → verified.PointsInto held area → area ≡ Some (pointed_into held)
+knows_base : (held : Value) (area : Option Area) → verified.IsPointerInto held area → area ≡ Some (pointed_into held)
 knows_base held area points = points.into ∙ ap (λ (v : Value). Some (pointed_into v)) (sym points.is)
 
 -- the flat form of an instruction leads where the instruction does
@@ -69,23 +68,15 @@ module _ (segment : Contents) (areas : ℕ → Area) (words : Words) (next : ℕ
       → next_words segment areas words next target insn ≡ next_words segment (λ register. area_of flat) words next (target_of flat)
       (without_distance insn)
   unfolding next_words
-  flat_leads target (Alu operation width destination source) area flat keeps knows = refl
-  flat_leads target (MoveSignExtended extension destination source) area flat keeps knows = refl
-  flat_leads target (Negate width destination) area flat keeps knows = refl
-  flat_leads target (ByteSwap order width destination) area flat keeps knows = refl
   flat_leads target (JumpIf condition width left right distance) area flat keeps knows =
       ap (λ (t : ℕ). next_words segment areas words next t (JumpIf condition width left right (pos 0))) (sym keeps)
   flat_leads target (Jump distance) area flat keeps knows =
       ap (λ (t : ℕ). next_words segment areas words next t (Jump (Short (pos 0)))) (sym keeps)
-  flat_leads target (Call immediate) area flat keeps knows = refl
-  flat_leads target Exit area flat keeps knows = refl
   flat_leads target (Load format destination base offset) None flat keeps knows = absurd (let no : ⊥ = cc in no)
   flat_leads target (Load format destination base offset) (Some area) flat keeps knows =
       let same : areas base.number ≡ area_of flat = cc in
       ap (λ (a : Area). next_words segment (λ register. a) words next (target_of flat) (Load format destination base offset)) same
-  flat_leads target (StoreImmediate size base offset immediate) area flat keeps knows = refl
-  flat_leads target (Store size base offset source) area flat keeps knows = refl
-  flat_leads target (WideLoad destination immediate next_immediate) area flat keeps knows = refl
+  flat_leads target insn area flat keeps knows = refl
 
 -- what passes all checks
 
@@ -111,8 +102,6 @@ calls_meet : (code : List Insn) (segment : Contents) (state : State) (words : Wo
     → CallsMeet state words → effect.instruction_effect code segment state next insn ≡ Ok does → MeetsCall words (without_distance insn)
 calls_meet code segment state words next (Call immediate) meets is =
     meets_call code state words next (by_number (cast_unsigned w32 immediate)) meets is
-calls_meet code segment state words next (JumpIf condition width left right distance) meets is = tt
-calls_meet code segment state words next (Jump distance) meets is = tt
 calls_meet code segment state words next insn meets is = tt
 
 sound_passes : {A B : Type 0} (Holds : A → B → Type 0) (result : Result A Cause) (other : Result B Cause) (x : A) → Sound Holds result other
@@ -219,16 +208,14 @@ goes_on code (Running state) bare (Goes words at) held same old = record {
   at = held.0 ∙ ap (place_of code) (let there : at ≡ bare.at = cc in there);
   words = subst (Holds state) (let there : words ≡ words_of bare = cc in there) held.1;
 }
-goes_on code (Exited r0 score) bare (Goes words at) held same old = absurd held
-goes_on code (Stuck place cause) bare (Goes words at) held same old = absurd held
+goes_on code ended bare (Goes words at) held same old = absurd held
 goes_on code configuration bare (Ends r0 score) held same old = absurd (let no : ⊥ = cc in no)
 
 pub ends : (code : List Insn) (configuration : Configuration) (answer : Answer) (next : Next) → HoldsNext code configuration next
     → next ≡ Ends answer.r0 answer.score → {old new : Bare} → new ≡ old → Does code configuration (Some answer) old new
 ends code (Exited r0 score) answer (Ends word word_score) held same kept =
     (let there : answer.r0 ≡ word = cc in there ∙ held.0, let there : answer.score ≡ word_score = cc in there ∙ held.1, kept)
-ends code (Running state) answer (Ends word word_score) held same kept = absurd held
-ends code (Stuck place cause) answer (Ends word word_score) held same kept = absurd held
+ends code configuration answer (Ends word word_score) held same kept = absurd held
 ends code configuration answer (Goes words at) held same kept = absurd (let no : ⊥ = cc in no)
 
 pub same_next : (first second : Result Next Cause) (one other : Next) → first ≡ Ok one → second ≡ Ok other → first ≡ second → one ≡ other

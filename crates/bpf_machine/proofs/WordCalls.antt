@@ -110,29 +110,26 @@ front_read : (memory : List FrameByte) (bytes : List ℕ) (count : ℕ) → Stan
     → all_written (take count memory) ≡ true → take count bytes ≡ written_bytes (take count memory)
 front_read memory bytes zero stand same all = refl
 front_read [] [] (suc count) stand same all = refl
-front_read [] (byte ∷ bytes) (suc count) stand same all = absurd (omega arith)
-front_read (other ∷ memory) [] (suc count) stand same all = absurd (omega arith)
 front_read (Unwritten ∷ memory) (byte ∷ bytes) (suc count) stand same all = absurd (false≢true all)
 front_read (Byte written ∷ memory) (byte ∷ bytes) (suc count) stand same all =
     let first = stand 0 in let rest = front_read memory bytes count (λ i. stand (suc i)) (omega arith) all in
     ap (λ (b : ℕ). b ∷ take count bytes) first ∙ ap (λ (l : List ℕ). written ∷ l) rest
+front_read memory bytes count stand same all = absurd (omega arith)
 
 part_read : (memory : List FrameByte) (bytes : List ℕ) (at count : ℕ) → StandFor memory bytes → length bytes ≡ length memory
     → all_written (take count (drop at memory)) ≡ true → take count (drop at bytes) ≡ written_bytes (take count (drop at memory))
 part_read memory bytes zero count stand same all = front_read memory bytes count stand same all
 part_read [] [] (suc at) count stand same all = front_read [] [] count stand same all
-part_read [] (byte ∷ bytes) (suc at) count stand same all = absurd (omega arith)
-part_read (other ∷ memory) [] (suc at) count stand same all = absurd (omega arith)
 part_read (other ∷ memory) (byte ∷ bytes) (suc at) count stand same all =
     part_read memory bytes at count (λ i. stand (suc i)) (omega arith) all
+part_read memory bytes at count stand same all = absurd (omega arith)
 
 bytes_read_held : (memory : List FrameByte) (bytes : List ℕ) (frame : FrameUse) (arguments : List ℕ) → StandFor memory bytes
     → length bytes ≡ length memory → all_written (bytes_read frame arguments memory) ≡ true
     → bytes_read frame arguments bytes ≡ written_bytes (bytes_read frame arguments memory)
-bytes_read_held memory bytes frame_use.Nothing arguments stand same all = refl
-bytes_read_held memory bytes frame_use.Writes arguments stand same all = refl
 bytes_read_held memory bytes frame_use.Reads arguments stand same all =
     part_read memory bytes (second arguments) (third arguments) stand same all
+bytes_read_held memory bytes frame arguments stand same all = refl
 
 -- what a call writes: it lies within the frame, if it's anything
 
@@ -154,8 +151,6 @@ module _ (frame : FrameContents) (bytes : List ℕ) (hold : HoldFrame frame byte
   bytes_written : (new : List ℕ) (lent : FrameUse) (arguments : List ℕ) → length frame.bytes ≡ FRAME_LENGTH → length frame.slots ≡ SLOTS
       → LieWithin lent arguments → length new ≡ written_length lent arguments
       → HoldFrame (write_bytes frame (second arguments) new) (write bytes (second arguments) new)
-  bytes_written new frame_use.Nothing arguments long many within count = nothing_written new (second arguments) count
-  bytes_written new frame_use.Reads arguments long many within count = nothing_written new (second arguments) count
   bytes_written new frame_use.Writes arguments long many within count =
       let whole = hold.whole in
       record {
@@ -163,6 +158,7 @@ module _ (frame : FrameContents) (bytes : List ℕ) (hold : HoldFrame frame byte
         stand = write-stands frame.bytes bytes new (second arguments) (omega arith) (omega arith) hold.stand;
         slots = overwrite-stands frame.slots bytes new (second arguments) (omega arith) (omega arith) hold.slots;
       }
+  bytes_written new lent arguments long many within count = nothing_written new (second arguments) count
 
 -- the registers behind a call
 
@@ -172,16 +168,12 @@ registers_held : (values : List Value) (words : List ℕ) (answer : ℕ) → 0 <
     (get_or (slice_set words 0 answer) register 0)
 registers_held values [] answer some fits all register = absurd (omega arith)
 registers_held values (word ∷ words) answer some fits all zero = (refl, fits)
-registers_held values (word ∷ words) answer some fits all (suc zero) = tt
-registers_held values (word ∷ words) answer some fits all (suc (suc zero)) = tt
-registers_held values (word ∷ words) answer some fits all (suc (suc (suc zero))) = tt
-registers_held values (word ∷ words) answer some fits all (suc (suc (suc (suc zero)))) = tt
-registers_held values (word ∷ words) answer some fits all (suc (suc (suc (suc (suc zero))))) = tt
 registers_held values (word ∷ words) answer some fits all (suc (suc (suc (suc (suc (suc register)))))) =
     let place : 6 + register ≡ suc (suc (suc (suc (suc (suc register))))) = omega arith in
     subst (λ (v : Value). IsWordOf v (get_or words (suc (suc (suc (suc (suc register))))) 0))
     (sym (get_or-drop 6 values register value.Empty ∙ ap (λ (n : ℕ). get_or values n value.Empty) place))
     (all (suc (suc (suc (suc (suc (suc register)))))))
+registers_held values (word ∷ words) answer some fits all register = tt
 
 -- a call whose checks have passed
 

@@ -37,6 +37,7 @@ use Rattle.bpf_meaning.proofs.FrameLemmas.{HoldBytes, bytes-map}
 use Rattle.bpf_meaning.proofs.MemoryLemmas.{fits_more, length-bytes_low_first, store_is_write}
 use Rattle.bpf_insn.proofs.SlotLemmas.{slot_at-is}
 use Rattle.bpf_meaning.proofs.SlotLemmas.{store_pointer-none, store_pointer-slot, whole_slot_is_loaded}
+use Rattle.bpf_meaning.proofs.WholeLemmas.{inside_ends}
 use Rattle.bpf_machine.specs.Words.{Holds, IsByteOf, IsWordOf, IsWordOfSlot, Words, area_bytes, load_bytes, loaded, number_of, store_at}
 use Rattle.bpf_machine.specs.Words.{stored}
 use Rattle.bpf_machine.proofs.WordArithmetic.{admitted_fits}
@@ -74,23 +75,21 @@ one_more count byte bytes (Some n) small is = (
 front_number : (memory : List FrameByte) (bytes : List ℕ) (count : ℕ) → StandFor memory bytes → HoldBytes memory → count ≤ length memory
     → length bytes ≡ length memory → IsNumberOf count (take count bytes) (frame.number_of (take count memory))
 front_number memory bytes zero stand small within same = (refl, omega arith)
-front_number [] bytes (suc count) stand small within same = absurd (omega arith)
 front_number (Unwritten ∷ memory) bytes (suc count) stand small within same = tt
-front_number (Byte written ∷ memory) [] (suc count) stand small within same = absurd (omega arith)
 front_number (Byte written ∷ memory) (byte ∷ bytes) (suc count) stand small within same =
     subst (λ (b : ℕ). IsNumberOf (suc count) (b ∷ take count bytes)
     (option_map (λ rest. written + 256 * rest) (frame.number_of (take count memory)))) (sym (stand 0))
     (one_more count written (take count bytes) (frame.number_of (take count memory)) (small 0)
     (front_number memory bytes count (λ i. stand (suc i)) (λ i. small (suc i)) (omega arith) (omega arith)))
+front_number memory bytes count stand small within same = absurd (omega arith)
 
 part_number : (memory : List FrameByte) (bytes : List ℕ) (at count : ℕ) → StandFor memory bytes → HoldBytes memory
     → at + count ≤ length memory → length bytes ≡ length memory → IsNumberOf count (take count (drop at bytes))
     (frame.number_of (take count (drop at memory)))
 part_number memory bytes zero count stand small within same = front_number memory bytes count stand small (omega arith) same
-part_number [] bytes (suc at) count stand small within same = absurd (omega arith)
-part_number (byte ∷ memory) [] (suc at) count stand small within same = absurd (omega arith)
 part_number (byte ∷ memory) (other ∷ bytes) (suc at) count stand small within same =
     part_number memory bytes at count (λ i. stand (suc i)) (λ i. small (suc i)) (omega arith) (omega arith)
+part_number memory bytes at count stand small within same = absurd (omega arith)
 
 -- the number that a load gives has 64 bits
 loaded_fits : (load_format : LoadFormat) (n : ℕ) → n < 256 ^ load_length load_format → arithmetic.load_extension load_format n < 2 ^ 64
@@ -100,11 +99,6 @@ number_loaded : (load_format : LoadFormat) (bytes : List ℕ) (found : Option �
     → Sound IsWordOf (effect.load_number load_format found) (Ok (arithmetic.load_extension load_format (number_of bytes)))
 number_loaded load_format bytes None is = tt
 number_loaded load_format bytes (Some n) is = (ap (arithmetic.load_extension load_format) is.0, loaded_fits load_format n is.1)
-
--- bytes from an offset on that lie within memory end there
-ends_inside : (from : ℤ) (count bytes : ℕ) → effect.lie_within from count bytes ≡ true → unsigned_abs from + count ≤ bytes
-ends_inside (pos at) count bytes within = grind (arith, nat_tests)
-ends_inside (negsuc n) count bytes within = absurd (false≢true within)
 
 bytes_loaded : (load_format : LoadFormat) (memory : List FrameByte) (bytes : List ℕ) (from : ℤ) → StandFor memory bytes → HoldBytes memory
     → length bytes ≡ length memory → Sound IsWordOf (effect.load_bytes load_format memory from) (load_bytes load_format bytes from)
@@ -121,7 +115,7 @@ bytes_loaded load_format memory bytes from stand small same =
     by_test true within =
         number_loaded load_format (take (load_length load_format) (drop (unsigned_abs from) bytes)) _
         (part_number memory bytes (unsigned_abs from) (load_length load_format) stand small
-        (ends_inside from (load_length load_format) (length memory) within) same)
+        (inside_ends from (load_length load_format) (length memory) within) same)
     by_test false outside = tt
 
 -- what a slot holds is loaded: the number of its bytes where they are written, and else the word that stands for its pointer
@@ -175,7 +169,7 @@ module _ (state : State) (words : Words) (whole : IsWhole state) (small : HoldsB
           → Sound IsWordOf (if within then effect.load_within load_format state.frame (unsigned_abs from) else Err OutOfBounds)
           (if within then Ok (loaded load_format words.frame (unsigned_abs from)) else Err OutOfBounds)
       by_test true within =
-          let inside = ends_inside from (load_length load_format) (length state.frame.bytes) within in
+          let inside = inside_ends from (load_length load_format) (length state.frame.bytes) within in
           let long = whole.frame in within_loaded load_format (unsigned_abs from) (omega arith)
       by_test false outside = tt
 
@@ -273,7 +267,7 @@ module _ (segment : Contents) (state : State) (words : Words) (whole : IsWhole s
       by_test : (within : Bool) → effect.lie_within from (store_length size) FRAME_LENGTH ≡ within
           → Sound (HoldsChange segment state) (if within then Ok (StoreBytes (unsigned_abs from) size number) else Err OutOfBounds)
           (if within then Ok (stored words (unsigned_abs from) size number) else Err OutOfBounds)
-      by_test true within = stored_held (unsigned_abs from) size number (ends_inside from (store_length size) FRAME_LENGTH within)
+      by_test true within = stored_held (unsigned_abs from) size number (inside_ends from (store_length size) FRAME_LENGTH within)
       by_test false outside = tt
 
   pointer_held : (from : ℤ) (size : StoreSize) (pointer : PointerParts) (word : ℕ) → IsWordOf (value.Pointer pointer) word
@@ -297,7 +291,7 @@ module _ (segment : Contents) (state : State) (words : Words) (whole : IsWhole s
           → Sound (HoldsChange segment state) (if within then Ok (StorePointer slot pointer) else Err OutOfBounds)
           (if within then Ok (stored words (unsigned_abs from) size word) else Err OutOfBounds)
       by_test slot is true within =
-          kept slot (slot_at-is (unsigned_abs from) (store_length size) slot is) (ends_inside from (store_length size) FRAME_LENGTH within)
+          kept slot (slot_at-is (unsigned_abs from) (store_length size) slot is) (inside_ends from (store_length size) FRAME_LENGTH within)
       by_test slot is false outside = tt
 
       by_slot : (found : Option ℕ) → slot_at (unsigned_abs from) (store_length size) ≡ found

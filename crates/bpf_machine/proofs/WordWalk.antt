@@ -23,6 +23,7 @@ use Rattle.bpf_insn.specs.declared.value.Pointer.{Pointer as PointerParts}
 use Rattle.bpf_insn.specs.declared.value.Value.{Value}
 use Rattle.bpf_insn.specs.declared.value.Value.TheVariants as value
 use Rattle.bpf_kinds.specs.Interval.{single}
+use Rattle.bpf_kinds.proofs.ListLemmas.{set_both}
 use Rattle.bpf_kinds.proofs.ResultLemmas.{extend-proper, extend-admits, negate-proper, negate-admits, byte_swap-proper, byte_swap-admits}
 use Rattle.bpf_kinds.proofs.ResultLemmas.{immediate_operand-proper, wide_number-proper}
 use Rattle.bpf_insn.specs.Immediates.{HasImmediates}
@@ -40,8 +41,8 @@ use Rattle.bpf_meaning.specs.declared.effect.Change.TheVariants.{Nothing, SetReg
 use Rattle.bpf_meaning.specs.declared.effect.Effect.{Effect}
 use Rattle.bpf_meaning.specs.declared.effect.Effect.TheVariants.{GoOn}
 use Rattle.bpf_meaning.specs.declared.state.State.{State}
-use Rattle.bpf_meaning.proofs.WalkForesees.{Foresees, walk_foreseen}
-use Rattle.bpf_machine.specs.Words.{Goes, HasAreas, Holds, HoldsEffect, IsWordOf, Next, PointsInto, Words, area_bytes, bare_words}
+use Rattle.bpf_meaning.proofs.WalkForesees.{Foresees, against, walk_foreseen}
+use Rattle.bpf_machine.specs.Words.{Goes, HasAreas, Holds, HoldsEffect, IsWordOf, Next, PointsOnlyInto, Words, area_bytes, bare_words}
 use Rattle.bpf_machine.specs.Words.{load_bytes, next_words, pointer_of, store_at, with_word}
 use Rattle.bpf_machine.proofs.WordCalls.{call_held}
 use Rattle.bpf_machine.proofs.WordMemory.{HoldsChange, load_held, store_held}
@@ -51,8 +52,7 @@ use Rattle.bpf_machine.proofs.WordArithmetic.{IsNumber, admitted_fits, move_held
 
 read_held : (register : ℕ) (v : Value) (word : ℕ) → IsWordOf v word → Sound IsWordOf (effect.read_value register v) (Ok word)
 read_held register value.Empty word held = tt
-read_held register (value.Number n) word held = held
-read_held register (value.Pointer pointer) word held = held
+read_held register v word held = held
 
 number_held : (cause : Cause) (v : Value) (word : ℕ) → IsWordOf v word → Sound IsNumber (effect.number_or cause v) (Ok word)
 number_held cause (value.Number n) word held = held
@@ -68,12 +68,11 @@ same_pointer : (into area : Area) (at offset : ℤ) → into ≡ area → at ≡
     → IsPointer (record { area = area; offset = offset }) (record { area = into; offset = at })
 same_pointer into area at offset same is = cc
 
-pointer_held : (register : ℕ) (into : Area) (v : Value) (word : ℕ) → IsWordOf v word → PointsInto v into
+pointer_held : (register : ℕ) (into : Area) (v : Value) (word : ℕ) → IsWordOf v word → PointsOnlyInto v into
     → Sound IsPointer (effect.read_value register v >>= effect.only_pointer) (Ok (pointer_of into word))
-pointer_held register into value.Empty word held is = tt
-pointer_held register into (value.Number n) word held is = tt
 pointer_held register into (value.Pointer pointer) word held is =
     same_pointer into pointer.area _ pointer.offset is (offset_is pointer.offset word held.0 held.1)
+pointer_held register into v word held is = tt
 
 -- arithmetic on one number
 
@@ -105,19 +104,6 @@ swapped_held order width n word is =
 
 -- a register is written
 
-module _ (v : Value) (word : ℕ) (held : IsWordOf v word) where
-  registers_held : (values : List Value) (words : List ℕ) (register : ℕ) → length words ≡ length values
-      → ((number : ℕ) → IsWordOf (get_or values number value.Empty) (get_or words number 0)) → (number : ℕ)
-      → IsWordOf (get_or (slice_set values register v) number value.Empty) (get_or (slice_set words register word) number 0)
-  registers_held [] [] register same all number = all number
-  registers_held [] (w ∷ words) register same all number = absurd (omega arith)
-  registers_held (k ∷ values) [] register same all number = absurd (omega arith)
-  registers_held (k ∷ values) (w ∷ words) zero same all zero = held
-  registers_held (k ∷ values) (w ∷ words) zero same all (suc number) = all (suc number)
-  registers_held (k ∷ values) (w ∷ words) (suc register) same all zero = all zero
-  registers_held (k ∷ values) (w ∷ words) (suc register) same all (suc number) =
-      registers_held values words register (omega arith) (λ n. all (suc n)) number
-
 register_held : (segment : Contents) (state : State) (words : Words) → Holds state words
     → (destination : WritableRegister) (v : Value) (word : ℕ) → IsWordOf v word
     → HoldsChange segment state (SetRegister destination v) (with_word words destination.number word)
@@ -127,7 +113,8 @@ register_held segment state words holds destination v word held = record {
     length-set state.registers destination.number v,
     length-set words.registers destination.number word,
   );
-  registers = registers_held v word held state.registers words.registers destination.number holds.count holds.registers;
+  registers = set_both IsWordOf value.Empty 0 state.registers words.registers destination.number v word (sym holds.count) held
+      holds.registers;
   whole = holds.whole;
   frame = holds.frame;
   slots = holds.slots;
@@ -234,12 +221,12 @@ module _ (code : List Insn) (segment : Contents) (state : State) where
           goes_on_held next next_at _ _ same (register_held segment state words holds destination v word held);
       go_on = λ goes_on change behind holds. goes_on_held next next_at change behind same holds;
       jump = λ distance jumps. jump_held _ target words (leads distance jumps) holds;
-      with_immediate = λ goes_on condition width left immediate distance v m fits jumps first.
-          branch_held (record { condition = condition; width = width; left = left; right = Immediate immediate; distance = distance })
-          (leads distance jumps) v _ m _ first (refl, (immediate_operand-proper immediate fits).fits);
-      with_register = λ goes_on condition width left right distance v w m n jumps first second.
-          branch_held (record { condition = condition; width = width; left = left; right = Register right; distance = distance })
-          (leads distance jumps) v w m n first second;
+      with_immediate = λ jump immediate may fits left.
+          branch_held (against jump (Immediate immediate)) (leads jump.distance may.leads) left.first _ left.second _ left.is
+          (refl, (immediate_operand-proper immediate fits).fits);
+      with_register = λ jump right may left compared.
+          branch_held (against jump (Register right)) (leads jump.distance may.leads) left.first compared.first left.second
+          compared.second left.is compared.is;
       end = λ n word alike. (alike.0, holds.score);
     }
 

@@ -213,10 +213,10 @@ abbrev pub HoldsEffect : List Insn → Contents → State → Effect → Next �
 HoldsEffect code segment state effect next = HoldsNext code (apply segment state effect) next
 
 -- a value points into an area, if it's a pointer
-abbrev pub PointsInto : Value → Area → Type 0
-PointsInto (Pointer pointer) area = area ≡ pointer.area
-PointsInto value area = Unit {0}
+abbrev pub PointsOnlyInto : Value → Area → Type 0
+PointsOnlyInto (Pointer pointer) area = area ≡ pointer.area
+PointsOnlyInto value area = Unit {0}
 
 -- each register of a state that holds a pointer points into the register's area
 abbrev pub HasAreas : State → (ℕ → Area) → Type 0
-HasAreas state areas = (register : ℕ) → PointsInto (register_value state register) (areas register)
+HasAreas state areas = (register : ℕ) → PointsOnlyInto (register_value state register) (areas register)

@@ -37,7 +37,7 @@ use Rattle.bpf_meaning.proofs.CallLemmas.{length-slots_after}
 
 -- effects can be carried out
 
-inside_ends : (from : ℤ) (count bytes : ℕ) → lie_within from count bytes ≡ true → unsigned_abs from + count ≤ bytes
+pub inside_ends : (from : ℤ) (count bytes : ℕ) → lie_within from count bytes ≡ true → unsigned_abs from + count ≤ bytes
 inside_ends (pos n) count bytes inside = grind (arith, nat_tests)
 inside_ends (negsuc n) count bytes inside = absurd (false≢true inside)
 

@@ -96,10 +96,6 @@ pub faultless-instruction : (before : List Statement) (insn : Insn) (target : Op
     → words_of before + length (spelling insn) ≤ WORD_LIMIT → fault_after before (Instruction insn target) ≡ None
 faultless-instruction before insn target fits = rw (le-ltb _ _ fits) refl
 
--- no statement
-pub noted-none : (labels : List ℕ → Option ℕ) → ((name : List ℕ) → labels name ≡ None) → AreNotesOf [] labels 0 []
-noted-none labels none = record { items_are = refl; labels_are = none; words_are = refl }
-
 -- one line more
 pub read-counted : (text rest : List ℕ) (number : ℕ) (items : List Item) (labels : List ℕ → Option ℕ) (words : ℕ)
     (read : HasRead text rest number items labels words) → number + 1 ≡ suc (length read.statements)
@@ -226,13 +222,3 @@ code-fault statements items i {it} old inside is fails =
     items-at items i it inside ∙ ap (λ (x : Item). item_view x ∷ map item_view (drop (i + 1) items)) (sym is) in
     ap (λ (xs : List text.Item). with_front old (code_from statements xs)) at
     ∙ ap (λ (r : Result Insn TextFlaw). with_front old (onto_code it.line r rest)) fails
-
-pub code-end : (statements : List Statement) (items : List Item) (i : ℕ) (old : List Insn) → length items ≤ i
-    → with_front old (code_from statements (map item_view (drop i items))) ≡ Ok old
-code-end statements items i old past =
-    ap (λ (xs : List Item). with_front old (code_from statements (map item_view xs))) (drop_all i items past)
-    ∙ ap (λ (xs : List Insn). let r : Result (List Insn) TextFault = Ok xs in r) (append-nil old)
-
-pub with-front-none : (r : Result (List Insn) TextFault) → with_front [] r ≡ r
-with-front-none (Ok code) = refl
-with-front-none (Err fault) = refl

@@ -38,10 +38,3 @@ digits-next radix ds i value inside so_far = rw (digits_value_more radix ds i in
 pub all-next : (radix : ℕ) (ds : List ℕ) (i : ℕ) → i < length ds → digit_value (get_or ds i 0) < radix
     → list_all (is_digit radix) (take i ds) ≡ true → list_all (is_digit radix) (take (i + 1) ds) ≡ true
 all-next radix ds i inside digit so_far = rw (list_all_more (is_digit radix) ds i 0 inside, so_far, lt-ltb _ _ digit) refl
-
--- a number of 32 bits that is cast to 16
-pub narrowed_16 : (value : ℤ) → IsWithin limit_of_16_bits value → to_z w16 (of_z w16 (to_z w32 (of_z w32 value))) ≡ value
-narrowed_16 value within =
-    let wide : SFits w32 value = omega (arith, ints) in
-    let narrow : SFits w16 value = omega (arith, ints) in
-    ap (λ (v : ℤ). to_z w16 (of_z w16 v)) (to_z-of_z _ _ wide) ∙ to_z-of_z _ _ narrow

@@ -25,7 +25,3 @@ writable_at-same r = writable_if-same r _ refl
 writable_if-none : (number : ℕ) (test : Bool) (is : nat_le number 9 ≡ test) → 10 ≤ number → writable_if number test is ≡ None
 writable_if-none number true is above = absurd (omega (arith, leb-true number 9 is))
 writable_if-none number false is above = refl
-
--- register 10 isn't writable
-pub writable_at-none : (number : ℕ) → 10 ≤ number → writable_at number ≡ None
-writable_at-none number above = writable_if-none number _ refl above

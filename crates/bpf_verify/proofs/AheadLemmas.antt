@@ -16,8 +16,8 @@ use Rattle.bpf_insn.specs.declared.instruction.Insn.{Insn}
 use Rattle.bpf_flow.specs.Flow.{IsForward, target_of}
 use Rattle.bpf_verify.specs.Pass.{Ahead, AreAhead, AreProper, IsTargetAhead, first, joined, joined_if, kept, propagated, state_of}
 use Rattle.bpf_verify.specs.Pass.{states_in, waiting_at}
-use Rattle.bpf_verify.specs.State.{AbstractState, Unreached, Reached, Edges, join, IsProper, IsProperKnown}
-use Rattle.bpf_verify.specs.declared.state.Known.{Known}
+use Rattle.bpf_verify.specs.AbstractState.{AbstractState, Unreached, Reached, Edges, join, IsProper, IsProperKnown}
+use Rattle.bpf_verify.specs.declared.known.Known.{Known}
 use Rattle.bpf_verify.proofs.PassLemmas.{entry_is_proper, is_found_proper, joined-here, joined-other, joined-same, joined_each}
 use Rattle.bpf_verify.proofs.PassLemmas.{joined_if-same, joined_proper, jump_of, same_place}
 
@@ -35,23 +35,6 @@ lies_behind code place insn to stands begins past = elim (cases_lt to (place + l
     none-is_some : (found : Option Insn) → found ≡ None → IsSome found → ⊥
     none-is_some None is some = false≢true some
     none-is_some (Some insn) is some = absurd (let no : ⊥ = cc in no)
-
--- the target of the jump at a place, behind it
-pub target_ahead : (code : List Insn) {next : ℕ} (place : ℕ) {insn : Insn} (target : Option ℕ) → instruction_at code place ≡ Some insn
-    → next ≡ place + length (spelling insn) → option_map pos target ≡ option_map (target_of place) (jump_distance insn)
-    → IfSome target (λ to. place < to) → IfSome target (λ to. IsSome (instruction_at code to)) → IfSome target (IsTargetAhead code next)
-target_ahead code place None stands goes leads later begins = tt
-target_ahead code place {insn} (Some to) stands goes leads later begins =
-    let jump = jump_of place to (Some to) (jump_distance insn) leads refl in
-    let long = length-spelling_positive insn in
-    record {
-      jump = place;
-      passed = omega (arith, goes);
-      distance = jump.0;
-      jumps = record { insn = insn; stands = stands; jumps = jump.1 };
-      leads = jump.2;
-      ahead = (let behind = lies_behind code place insn to stands begins later in omega (arith, goes));
-    }
 
 -- a target ahead that isn't the place itself stays ahead behind the instruction there
 pub stays_ahead : {code : List Insn} {place next : ℕ} {insn : Insn} {to : ℕ} → IsForward code → instruction_at code place ≡ Some insn

@@ -32,11 +32,11 @@ use Rattle.bpf_meaning.specs.declared.cause.Cause.{Cause}
 use Rattle.bpf_meaning.specs.declared.state.State.{State}
 use Rattle.tl_segments.specs.Segment as segments
 use Rattle.bpf_verify.specs.Annotation.{Annotation, IsAccepted, area_of, area_of_kind, areas_from}
-use Rattle.bpf_verify.specs.State.{AbstractState, Unreached, Reached, Edges, Admits, kind_of}
+use Rattle.bpf_verify.specs.AbstractState.{AbstractState, Unreached, Reached, Edges, Admits, kind_of}
 use Rattle.bpf_verify.specs.Transfer.{kinds, only_pointers, pointers_in, read_kind, transfer}
-use Rattle.bpf_verify.specs.Verified.{HasBaseAreas, PointsInto, areas_in, base_of, entries_of, instructions_in}
+use Rattle.bpf_verify.specs.Verified.{HasBaseAreas, IsPointerInto, areas_in, base_of, entries_of, instructions_in}
 use Rattle.bpf_verify.specs.declared.memory.Pointers.{Pointers}
-use Rattle.bpf_verify.specs.declared.state.Known.{Known}
+use Rattle.bpf_verify.specs.declared.known.Known.{Known}
 use Rattle.bpf_verify.specs.declared.verified.Entry.{Entry}
 use Rattle.bpf_verify.proofs.SoundRuns.{IsAdmitted, end_admitted}
 use Rattle.bpf_verify.proofs.SoundSteps.{IsVerified}
@@ -131,29 +131,28 @@ base_passes known (insn.Store size register offset source) base edges is passes 
 base_passes known insn base edges is passes = absurd (none-some base is)
 
 points_into : (x : Kind) (held : Value) (register : ℕ) (pointers : Pointers) → kind.Admits x held
-    → read_kind register x >>= only_pointers ≡ Ok pointers → PointsInto held (area_of_kind x)
-points_into Nothing held register pointers admits passes = absurd (let no : ⊥ = cc in no)
-points_into (Number x) held register pointers admits passes = absurd (let no : ⊥ = cc in no)
+    → read_kind register x >>= only_pointers ≡ Ok pointers → IsPointerInto held (area_of_kind x)
 points_into (Record x) (value.Pointer pointer) register pointers admits passes =
     record { pointer = pointer; is = refl; into = ap Some (sym admits.0) }
-points_into (Record x) held register pointers admits passes = absurd admits
 points_into (Frame x) (value.Pointer pointer) register pointers admits passes =
     record { pointer = pointer; is = refl; into = ap Some (sym admits.0) }
+points_into (Record x) held register pointers admits passes = absurd admits
 points_into (Frame x) held register pointers admits passes = absurd admits
+points_into x held register pointers admits passes = absurd (let no : ⊥ = cc in no)
 
 by_state : (abstract : AbstractState) (state : State) (insn : Insn) (base : ℕ) (edges : Edges) → Admits abstract state
-    → transfer abstract insn ≡ Ok edges → base_of insn ≡ Some base → PointsInto (register_value state base) (area_of abstract insn)
+    → transfer abstract insn ≡ Ok edges → base_of insn ≡ Some base → IsPointerInto (register_value state base) (area_of abstract insn)
 by_state Unreached state insn base edges admits passes is = absurd admits
 by_state (Reached known) state insn base edges admits passes is =
     let pointers = base_passes known insn base edges is passes in
-    subst (PointsInto (register_value state base)) (sym (ap (option_and_then (λ (base : ℕ). area_of_kind (kind_of known base))) is))
+    subst (IsPointerInto (register_value state base)) (sym (ap (option_and_then (λ (base : ℕ). area_of_kind (kind_of known base))) is))
     (points_into (kind_of known base) (register_value state base) base pointers.0 (admits.registers base) pointers.1)
 
 -- a state in which a run is on its way
 state_points : {code : List Insn} {segment : segments.Contents} {annotation : Annotation} → IsVerified code segment annotation
     → (run : List Configuration) → IsRun code segment run → {state : State} → end_of run ≡ Running state → {insn : Insn} {base : ℕ}
     → instruction_at code state.place ≡ Some insn → base_of insn ≡ Some base
-    → PointsInto (register_value state base) (area_of (annotation state.place) insn)
+    → IsPointerInto (register_value state base) (area_of (annotation state.place) insn)
 state_points {code} {segment} {annotation} verified run is_run {state} end {insn} {base} stands is =
     let way = subst (IsAdmitted code annotation) end (end_admitted code segment annotation verified run is_run) in
     let passes = verified.good.passes state.place insn (instruction_within code state.place (ap is_some stands)) stands in
@@ -170,7 +169,7 @@ areas_hold code areas forward immediates accepted = record {
       ap (λ (areas : List (Option Area)). get_or areas index None) accepted.are
       ∙ area_at accepted.annotation 0 code state.place index insn at stands
       ∙ ap (λ (p : ℕ). area_of (accepted.annotation p) insn) (omega arith) in
-      subst (PointsInto (register_value state base)) (sym place) (state_points verified run is_run end stands is);
+      subst (IsPointerInto (register_value state base)) (sym place) (state_points verified run is_run end stands is);
 }
 
 -- The immediates of a code whose flat forms are known.
@@ -211,10 +210,9 @@ instructions_in-entries_of (insn ∷ code) (area ∷ areas) same =
 pub areas_in-entries_of : (code : List Insn) (areas : List (Option Area)) → length areas ≡ length code
     → areas_in (entries_of code areas) ≡ areas
 areas_in-entries_of [] [] same = refl
-areas_in-entries_of [] (area ∷ areas) same = absurd (omega arith)
-areas_in-entries_of (insn ∷ code) [] same = absurd (omega arith)
 areas_in-entries_of (insn ∷ code) (area ∷ areas) same = ap (λ (rest : List (Option Area)). area ∷ rest)
     (areas_in-entries_of code areas (omega arith))
+areas_in-entries_of code areas same = absurd (omega arith)
 
 pub entries_of-parts : (entries : List Entry) → entries ≡ entries_of (instructions_in entries) (areas_in entries)
 entries_of-parts [] = refl

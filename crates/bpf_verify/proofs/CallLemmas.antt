@@ -7,20 +7,16 @@ use Rattle.bpf_kinds.specs.declared.interval.Interval.{Interval}
 use Rattle.bpf_kinds.specs.declared.kind.Kind.{Kind}
 use Rattle.bpf_kinds.specs.declared.kind.Kind.TheVariants.{Number, Nothing}
 use Rattle.bpf_verify.specs.Transfer.{state_after}
-use Rattle.bpf_verify.specs.State.{IsProperKnown}
-use Rattle.bpf_verify.specs.declared.state.Known.{Known}
+use Rattle.bpf_verify.specs.AbstractState.{IsProperKnown}
+use Rattle.bpf_verify.specs.declared.known.Known.{Known}
 
 after_proper : (answer : Interval) (kinds : List Kind) → interval.IsProper answer
     → ((register : ℕ) → kind.IsProper (get_or kinds register Nothing))
     → (register : ℕ) → kind.IsProper (get_or (Number answer ∷ replicate 5 Nothing ++ drop 6 kinds) register Nothing)
 after_proper answer kinds proper all zero = proper
-after_proper answer kinds proper all (suc zero) = tt
-after_proper answer kinds proper all (suc (suc zero)) = tt
-after_proper answer kinds proper all (suc (suc (suc zero))) = tt
-after_proper answer kinds proper all (suc (suc (suc (suc zero)))) = tt
-after_proper answer kinds proper all (suc (suc (suc (suc (suc zero))))) = tt
 after_proper answer kinds proper all (suc (suc (suc (suc (suc (suc register)))))) =
     subst kind.IsProper (sym (get_or-drop 6 kinds register Nothing)) (all (6 + register))
+after_proper answer kinds proper all register = tt
 
 pub state_after_is_proper : (answer : Interval) (known : Known) → interval.IsProper answer → IsProperKnown known
     → IsProperKnown (state_after answer known)

@@ -7,10 +7,10 @@ use Rattle.bpf_kinds.specs.Kind as kind
 use Rattle.bpf_kinds.specs.Offsets as offsets
 use Rattle.bpf_meaning.proofs.CheckLemmas.{weaker}
 use Rattle.bpf_meaning.specs.Checks.{Sound}
-use Rattle.bpf_verify.specs.State.{IsBelow, IsWithinKnown}
+use Rattle.bpf_verify.specs.AbstractState.{IsBelow, IsWithinKnown}
 use Rattle.bpf_verify.specs.Transfer.{ArePointersWithin, argument_in, call, load_from, pointers_in, read}
 use Rattle.bpf_verify.specs.declared.memory.Pointers.{Pointers}
-use Rattle.bpf_verify.specs.declared.state.Known.{Known}
+use Rattle.bpf_verify.specs.declared.known.Known.{Known}
 use Rattle.bpf_verify.proofs.RiseCalls.{argument_in_lower, call_lower}
 use Rattle.bpf_verify.proofs.RiseChecks.{IsLower, is_within, read_lower}
 use Rattle.bpf_verify.proofs.RiseMemory.{ArePointersLower, load_from_lower, pointers_lower}

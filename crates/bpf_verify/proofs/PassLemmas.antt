@@ -27,13 +27,13 @@ use Rattle.bpf_verify.specs.Annotation.{Annotation, PassesAt, IsGoodUpTo, IsLeas
 use Rattle.bpf_verify.specs.Annotation.{area_of, areas_from}
 use Rattle.bpf_verify.specs.Pass.{Ahead, AreProper, IsVisitFault, Visits, first, joined, joined_if, kept, propagated, state_of, waiting_at}
 use Rattle.bpf_meaning.specs.declared.cause.Cause.{Cause}
-use Rattle.bpf_verify.specs.State.{AbstractState, Unreached, Reached, Edges, AreEdgesWithin, entry, join, IsProper, IsProperKnown, IsWithin}
+use Rattle.bpf_verify.specs.AbstractState.{AbstractState, Unreached, Reached, Edges, AreEdgesWithin, entry, join, kind_of, IsProper, IsProperKnown, IsWithin}
 use Rattle.bpf_verify.specs.Transfer.{transfer}
 use Rattle.bpf_verify.specs.declared.fault.VerifyFault.{VerifyFault}
 use Rattle.bpf_verify.specs.declared.fault.VerifyFault.TheVariants.{Refused, Memory}
-use Rattle.bpf_verify.specs.declared.state.Known.{Known}
+use Rattle.bpf_verify.specs.declared.known.Known.{Known}
 use Rattle.bpf_verify.proofs.AreaLemmas.{areas_from-more, areas_from-same, length-areas_from}
-use Rattle.bpf_verify.proofs.RiseInstructions.{upward}
+use Rattle.bpf_verify.proofs.RiseInstructions.{same_edges, upward}
 use Rattle.bpf_verify.proofs.StateLaws as laws
 
 -- the bottom changes nothing
@@ -85,20 +85,10 @@ pub joined_if-same : (states others : Annotation) (place : Option ℕ) (state : 
 joined_if-same states others None state other same = same
 joined_if-same states others (Some place) state other same = joined-same states others place state other same
 
-pub propagated-bottom : (states : Annotation) (next : ℕ) (target : Option ℕ) (other : ℕ)
-    → propagated states next target (record { next = Unreached; target = Unreached }) other ≡ states other
-propagated-bottom states next target other = joined-bottom (joined_if states target Unreached) next other
-    ∙ joined_if-bottom states target other
-
 pub joined_proper : (states : Annotation) (place : ℕ) (state : AbstractState) → AreProper states → IsProper state
     → AreProper (joined states place state)
 joined_proper states place state proper proper-state = joined_each (λ other. IsProper) states place state
     (laws.join_is_proper (states place) state (proper place) proper-state) proper
-
-pub joined_if_proper : (states : Annotation) (place : Option ℕ) (state : AbstractState) → AreProper states → IsProper state
-    → AreProper (joined_if states place state)
-joined_if_proper states None state proper proper-state = proper
-joined_if_proper states (Some place) state proper proper-state = joined_proper states place state proper proper-state
 
 -- states into which another one is joined: they grow, and it is below the one where it leads
 record Takes (before after : Annotation) (place : Option ℕ) (state : AbstractState) : Type 0 where
@@ -151,9 +141,6 @@ pub length-found : {code passed : List Insn} {ahead : Ahead} {areas : List (Opti
     → length areas ≡ length passed
 length-found {passed = passed} way = ap length way.found ∙ length-areas_from way.annotation 0 passed
 
-same_edges : (x y : Edges) (found : Result Edges Cause) → found ≡ Ok x → found ≡ Ok y → x ≡ y
-same_edges x y found one other = cc
-
 pub not_both : (edges : Edges) (cause : Cause) (found : Result Edges Cause) → found ≡ Ok edges → found ≡ Err cause → ⊥
 not_both edges cause found passes fails = cc
 
@@ -182,8 +169,7 @@ behind-new old new place other past = let is : nat_le other place ≡ false = gr
 -- where a jump that leads on has its target
 target_is : (place to : ℕ) (target : Option ℕ) (distance : ℤ) (jump : Option ℤ) → option_map pos target ≡ option_map (target_of place) jump
     → jump ≡ Some distance → pos (place + 1) +ℤ distance ≡ pos to → target ≡ Some to
-target_is place to None distance None same is leads = absurd (none-some distance is)
-target_is place to (Some found) distance None same is leads = absurd (none-some distance is)
+target_is place to target distance None same is leads = absurd (none-some distance is)
 target_is place to None distance (Some by) same is leads = cc
 target_is place to (Some found) distance (Some by) same is leads =
     let by_distance : by ≡ distance = cc in
@@ -399,31 +385,16 @@ refuses {code} {insn} {ahead} (Refused at cause) stands way fault =
 
 -- at the start
 
-AllProper : List Kind → Type 0
-AllProper [] = Unit {0}
-AllProper (known ∷ rest) = kind.IsProper known × AllProper rest
-
-each_proper : (kinds : List Kind) → AllProper kinds → (register : ℕ) → kind.IsProper (get_or kinds register Nothing)
-unfolding AllProper
-each_proper [] proper register = tt
-each_proper (known ∷ rest) proper zero = proper.0
-each_proper (known ∷ rest) proper (suc register) = each_proper rest proper.1 register
-
 at_proper : (offset : ℤ) → FitsSigned w16 offset → offsets.IsProper (offsets.between offset offset)
 at_proper offset fits = record { ordered = omega (arith, ints); low = fits; high = fits }
 
-all_proper : AllProper entry.registers
-unfolding AllProper
-all_proper = (
-  tt,
-  (
-    at_proper (pos 0) (search rules),
-    (tt, (tt, (tt, (tt, (tt, (tt, (tt, (tt, (at_proper (pos FRAME_LENGTH) (search rules), tt))))))))),
-  ),
-)
+entry_kinds : (register : ℕ) → kind.IsProper (kind_of entry register)
+entry_kinds (suc zero) = at_proper (pos 0) (search rules)
+entry_kinds (suc (suc (suc (suc (suc (suc (suc (suc (suc (suc zero)))))))))) = at_proper (pos FRAME_LENGTH) (search rules)
+entry_kinds register = tt
 
 pub entry_is_proper : IsProperKnown entry
-entry_is_proper = record { count = refl; kinds = each_proper entry.registers all_proper; frame = unwritten_is_proper }
+entry_is_proper = record { count = refl; kinds = entry_kinds; frame = unwritten_is_proper }
 
 -- at first nothing but place 0 is reached
 

@@ -19,11 +19,11 @@ use Rattle.bpf_helpers.specs.declared.signature.FrameUse.TheVariants as frame_us
 use Rattle.bpf_meaning.specs.Checks.{Sound}
 use Rattle.bpf_meaning.specs.declared.cause.Cause.TheVariants.{OutOfBounds, UnwrittenFrame, BadArgument}
 use Rattle.bpf_meaning.proofs.CheckLemmas.{then_sound, passes_if}
-use Rattle.bpf_verify.specs.State.{IsBelow, IsWithinKnown}
+use Rattle.bpf_verify.specs.AbstractState.{IsBelow, IsWithinKnown}
 use Rattle.bpf_verify.specs.Transfer.{are_allowed, argument_kind, argument_in, arguments_in, lie_within, lend_bytes, lend_read, lend_frame}
 use Rattle.bpf_verify.specs.Transfer.{all_marked, write_bytes, call}
 use Rattle.bpf_verify.specs.declared.calls.LentBytes.{LentBytes}
-use Rattle.bpf_verify.specs.declared.state.Known.{Known}
+use Rattle.bpf_verify.specs.declared.known.Known.{Known}
 use Rattle.bpf_verify.proofs.RiseChecks.{IsLower, lower_cases, IsLowerInterval, AreLowerOffsets, read_lower}
 use Rattle.bpf_verify.proofs.RiseMemory.{ChangesBelow, lie_within_falls, all_marked_falls, write_bytes_lower}
 use Rattle.bpf_kinds.proofs.KindLemmas as kinds_order
@@ -138,14 +138,10 @@ registers_lower : (kinds others : List Kind) (answer : Interval)
     → (register : ℕ) → kind.IsWithin (get_or (Number answer ∷ replicate 5 Nothing ++ drop 6 others) register Nothing)
     (get_or (Number answer ∷ replicate 5 Nothing ++ drop 6 kinds) register Nothing)
 registers_lower kinds others answer all zero = kinds_order.reflexive (Number answer)
-registers_lower kinds others answer all (suc zero) = tt
-registers_lower kinds others answer all (suc (suc zero)) = tt
-registers_lower kinds others answer all (suc (suc (suc zero))) = tt
-registers_lower kinds others answer all (suc (suc (suc (suc zero)))) = tt
-registers_lower kinds others answer all (suc (suc (suc (suc (suc zero))))) = tt
 registers_lower kinds others answer all (suc (suc (suc (suc (suc (suc register)))))) =
     subst (λ (k : Kind). kind.IsWithin k (get_or (drop 6 kinds) register Nothing)) (sym (get_or-drop 6 others register Nothing))
     (subst (kind.IsWithin (get_or others (6 + register) Nothing)) (sym (get_or-drop 6 kinds register Nothing)) (all (6 + register)))
+registers_lower kinds others answer all register = tt
 
 pub call_lower : (higher lower : Known) → IsBelow lower higher → (helper : Helper)
     → Sound ChangesBelow (call higher (Some helper)) (call lower (Some helper))

@@ -20,9 +20,10 @@ use Rattle.bpf_meaning.specs.Tags.{operate, move}
 use Rattle.bpf_meaning.specs.declared.cause.Cause.{Cause}
 use Rattle.bpf_meaning.specs.declared.cause.Cause.TheVariants.{PointerArithmetic, LeavesArea}
 use Rattle.bpf_meaning.proofs.TagLemmas.{Relate, Agree, operate_agrees, move_agrees}
-use Rattle.bpf_verify.specs.State.{IsBelow, kind_of}
+use Rattle.bpf_verify.specs.AbstractState.{IsBelow, kind_of}
 use Rattle.bpf_verify.specs.Transfer.{read_kind, read, number_or, or_cause, tagged_kind, kind_pointer, kind_tags}
-use Rattle.bpf_verify.specs.declared.state.Known.{Known}
+use Rattle.bpf_verify.specs.declared.known.Known.{Known}
+use Rattle.bpf_kinds.proofs.KindLemmas.{within-nothing}
 use Rattle.bpf_kinds.proofs.MovingRises.{near_rises, move_by_rises, move_back_by_rises}
 use Rattle.bpf_kinds.proofs.ResultsRise.{cut_rises, cut_ordered, alu_rises, alu_ordered}
 
@@ -48,15 +49,7 @@ is_lower (Number x) (Number n) within proper = record { within = within; ordered
 is_lower (Record x) (Record n) within proper = record { within = within; ordered = proper.ordered }
 is_lower (Frame x) (Frame n) within proper = record { within = within; ordered = proper.ordered }
 is_lower Nothing n within proper = tt
-is_lower (Number x) (Record n) within proper = absurd within
-is_lower (Number x) (Frame n) within proper = absurd within
-is_lower (Number x) Nothing within proper = absurd within
-is_lower (Record x) (Number n) within proper = absurd within
-is_lower (Record x) (Frame n) within proper = absurd within
-is_lower (Record x) Nothing within proper = absurd within
-is_lower (Frame x) (Number n) within proper = absurd within
-is_lower (Frame x) (Record n) within proper = absurd within
-is_lower (Frame x) Nothing within proper = absurd within
+is_lower x n within proper = absurd within
 
 -- such kinds, by what they are
 pub lower_cases : (Such : Kind → Kind → Type 0) → ((x n : Interval) → IsLowerInterval x n → Such (Number x) (Number n))
@@ -67,25 +60,10 @@ lower_cases Such numbers records frames nothing (Number x) (Number n) is = numbe
 lower_cases Such numbers records frames nothing (Record x) (Record n) is = records x n is
 lower_cases Such numbers records frames nothing (Frame x) (Frame n) is = frames x n is
 lower_cases Such numbers records frames nothing Nothing n is = nothing n
-lower_cases Such numbers records frames nothing (Number x) (Record n) is = absurd is
-lower_cases Such numbers records frames nothing (Number x) (Frame n) is = absurd is
-lower_cases Such numbers records frames nothing (Number x) Nothing is = absurd is
-lower_cases Such numbers records frames nothing (Record x) (Number n) is = absurd is
-lower_cases Such numbers records frames nothing (Record x) (Frame n) is = absurd is
-lower_cases Such numbers records frames nothing (Record x) Nothing is = absurd is
-lower_cases Such numbers records frames nothing (Frame x) (Number n) is = absurd is
-lower_cases Such numbers records frames nothing (Frame x) (Record n) is = absurd is
-lower_cases Such numbers records frames nothing (Frame x) Nothing is = absurd is
-
--- every kind lies within Nothing
-within_nothing : (n : Kind) → kind.IsWithin n Nothing
-within_nothing (Number n) = tt
-within_nothing (Record n) = tt
-within_nothing (Frame n) = tt
-within_nothing Nothing = tt
+lower_cases Such numbers records frames nothing x n is = absurd is
 
 pub is_within : (x n : Kind) → IsLower x n → kind.IsWithin n x
-is_within = lower_cases (λ x n. kind.IsWithin n x) (λ x n is. is.within) (λ x n are. are.within) (λ x n are. are.within) within_nothing
+is_within = lower_cases (λ x n. kind.IsWithin n x) (λ x n is. is.within) (λ x n are. are.within) (λ x n are. are.within) within-nothing
 
 pub single_lower : (n : ℕ) → IsLowerInterval (single n) (single n)
 single_lower n = record { within = record { low = omega arith; high = omega arith }; ordered = omega arith }

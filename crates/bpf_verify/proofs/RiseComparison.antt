@@ -11,10 +11,10 @@ use Rattle.bpf_kinds.specs.declared.kind.Kind.TheVariants.{Number}
 use Rattle.bpf_kinds.specs.declared.narrowing.Narrowed.{Narrowed}
 use Rattle.bpf_kinds.proofs.NarrowingRises.{refine_rises}
 use Rattle.bpf_meaning.specs.Checks.{Sound}
-use Rattle.bpf_verify.specs.State.{IsBelow, Edges, AreEdgesWithin, IsWithin, IsWithinKnown, with_kind}
+use Rattle.bpf_verify.specs.AbstractState.{IsBelow, Edges, AreEdgesWithin, IsWithin, IsWithinKnown, with_kind}
 use Rattle.bpf_verify.specs.Transfer.{is_register, with_narrowed, narrowed, branch, on_edge, compare}
 use Rattle.bpf_verify.specs.declared.comparison.Comparison.{Comparison}
-use Rattle.bpf_verify.specs.declared.state.Known.{Known}
+use Rattle.bpf_verify.specs.declared.known.Known.{Known}
 use Rattle.bpf_verify.specs.declared.successors.Edge.TheVariants.{Unchanged}
 use Rattle.bpf_verify.proofs.RiseChecks.{IsLower, lower_cases, IsLowerInterval}
 use Rattle.bpf_verify.proofs.RiseMemory.{with_kind_lower}

@@ -9,9 +9,9 @@ use Rattle.bpf_meaning.specs.Checks.{Sound}
 use Rattle.bpf_meaning.specs.Walk.{walk}
 use Rattle.bpf_meaning.specs.declared.cause.Cause.{Cause}
 use Rattle.bpf_meaning.proofs.WalkForesees.{Foresees, walk_foreseen, any_fits}
-use Rattle.bpf_verify.specs.State.{IsBelow, AbstractState, Unreached, Reached, Edges, AreEdgesWithin, IsProper, IsWithin, IsWithinKnown}
+use Rattle.bpf_verify.specs.AbstractState.{IsBelow, AbstractState, Unreached, Reached, Edges, AreEdgesWithin, IsProper, IsWithin, IsWithinKnown}
 use Rattle.bpf_verify.specs.Transfer.{kinds, transfer}
-use Rattle.bpf_verify.specs.declared.state.Known.{Known}
+use Rattle.bpf_verify.specs.declared.known.Known.{Known}
 use Rattle.bpf_verify.proofs.RiseChecks.{IsLower, IsLowerInterval, AreLowerOffsets, is_within, single_lower, read_lower, number_or_lower}
 use Rattle.bpf_verify.proofs.RiseChecks.{operate_lower, move_lower}
 use Rattle.bpf_verify.proofs.RiseMemory.{ArePointersLower, ChangesBelow, pointers_lower, load_from_lower, frame_offsets_lower}
@@ -67,11 +67,12 @@ kinds_rise higher lower below insn = record {
       (is_within x n is));
   go_on = λ goes_on behind after within. on_to_next behind after within;
   jump = λ distance jumps. record { next = tt; target = below.within };
-  with_immediate = λ goes_on condition width left immediate distance x n fits jumps first.
-      compare_lower below (with_source condition width left (Immediate immediate)) x _ n _ first
-      (single_lower (low_bits (operand_bits width) (arithmetic.immediate_operand immediate)));
-  with_register = λ goes_on condition width left right distance x y m n jumps first second.
-      compare_lower below (with_source condition width left (Register right)) x y m n first second;
+  with_immediate = λ jump immediate may fits left.
+      compare_lower below (with_source jump.condition jump.width jump.left (Immediate immediate)) left.first _ left.second _ left.is
+      (single_lower (low_bits (operand_bits jump.width) (arithmetic.immediate_operand immediate)));
+  with_register = λ jump right may left compared.
+      compare_lower below (with_source jump.condition jump.width jump.left (Register right)) left.first compared.first left.second
+      compared.second left.is compared.is;
   end = λ x n is. record { next = tt; target = tt };
 }
 
@@ -92,7 +93,7 @@ transfer_sound insn (Reached lower) Unreached proper above within = absurd withi
 transfer_sound insn (Reached lower) (Reached higher) proper above within =
     walk_rises higher lower (record { proper_higher = above; proper = proper; within = within }) insn
 
-same_edges : (x y : Edges) (found : Result Edges Cause) → found ≡ Ok x → found ≡ Ok y → x ≡ y
+pub same_edges : (x y : Edges) (found : Result Edges Cause) → found ≡ Ok x → found ≡ Ok y → x ≡ y
 same_edges x y found one other = cc
 
 found_sound : (found other : Result Edges Cause) (edges : Edges) → Sound EdgesBelow found other → found ≡ Ok edges → (below : Edges)

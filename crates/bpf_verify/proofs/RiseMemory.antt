@@ -34,11 +34,11 @@ use Rattle.bpf_meaning.specs.declared.cause.Cause.{Cause}
 use Rattle.bpf_meaning.specs.declared.cause.Cause.TheVariants.{OutOfBounds, UnwrittenFrame}
 use Rattle.bpf_meaning.proofs.CheckLemmas.{then_sound, passes_if}
 use Rattle.bpf_insn.proofs.SlotLemmas.{slot_at-is}
-use Rattle.bpf_verify.specs.State.{IsBelow, IsProperKnown, IsWithinKnown, with_kind}
+use Rattle.bpf_verify.specs.AbstractState.{IsBelow, IsProperKnown, IsWithinKnown, with_kind}
 use Rattle.bpf_verify.specs.Transfer.{only_pointers, pointers_in, lie_within, area_length, all_marked, keep, kept_kind, kept_or, known_slot}
 use Rattle.bpf_verify.specs.Transfer.{load_area, load_from, frame_offsets, mark_bytes, store_at, touch_bytes, write_bytes}
 use Rattle.bpf_verify.specs.declared.memory.Pointers.{Pointers}
-use Rattle.bpf_verify.specs.declared.state.Known.{Known}
+use Rattle.bpf_verify.specs.declared.known.Known.{Known}
 use Rattle.bpf_verify.proofs.PointerLemmas.{ArePointers, record_pointers, frame_pointers}
 use Rattle.bpf_verify.proofs.RiseChecks.{IsLower, is_lower, lower_cases, IsLowerInterval, AreLowerOffsets, read_lower}
 
@@ -116,12 +116,7 @@ whole_lower : (format : LoadFormat) (x : Interval) → load_length format ≡ SL
 whole_lower format.DoubleWord x long proper =
     let ordered = proper.ordered in let fits = proper.fits in record
     { within = record { low = omega arith; high = omega arith }; ordered = ordered }
-whole_lower format.Byte x long proper = absurd (omega (arith, long))
-whole_lower format.HalfWord x long proper = absurd (omega (arith, long))
-whole_lower format.Word x long proper = absurd (omega (arith, long))
-whole_lower format.SignedByte x long proper = absurd (omega (arith, long))
-whole_lower format.SignedHalfWord x long proper = absurd (omega (arith, long))
-whole_lower format.SignedWord x long proper = absurd (omega (arith, long))
+whole_lower format x long proper = absurd (omega (arith, long))
 
 known_slot_at : (x : Offsets) (offset : ℤ) (count slot : ℕ) → known_slot x offset count ≡ Some slot → (count ≡ SLOT_LENGTH)
     × (unsigned_abs (x.low +ℤ offset) ≡ SLOT_LENGTH * slot)
@@ -173,9 +168,8 @@ marked_lower : (format : LoadFormat) (otherwise : Result Kind Cause) (k : Kind) 
     → kind.IsProper k → Sound IsLower (Ok (Number (load format))) otherwise
     → Sound IsLower (Ok (Number (load format))) (kept_or otherwise k)
 marked_lower format otherwise (Number x) long is proper rest = whole_lower format x long proper
-marked_lower format otherwise (Record x) long is proper rest = absurd is
-marked_lower format otherwise (Frame x) long is proper rest = absurd is
 marked_lower format otherwise Nothing long is proper rest = rest
+marked_lower format otherwise pointer long is proper rest = absurd is
 
 -- what a slot of fewer offsets keeps
 kept_lower : (otherwise other : Result Kind Cause) (k l : Kind) → IsLower k l → (k ≡ Nothing → Sound IsLower otherwise (kept_or other l))
@@ -366,9 +360,6 @@ module _ {higher lower : Known} (below : IsBelow lower higher) {x n : Offsets} (
       → lie_within x offset most FRAME_LENGTH ≡ true
       → IsWithinKnown (write_bytes lower n offset least less) (write_bytes higher x offset fewer most)
   write_bytes_lower zero zero zero zero one two three within = none_marked within
-  write_bytes_lower (suc fewer) zero least less one two three within = absurd (omega arith)
-  write_bytes_lower zero zero (suc least) less one two three within = absurd (omega arith)
-  write_bytes_lower zero zero zero (suc less) one two three within = absurd (omega arith)
   write_bytes_lower fewer (suc more) least zero one two three within =
       let ends = lie_inside offset (suc more) is within in
       let above = ends.above in let between = ends.between in let under = ends.below in let short = ends.within in
@@ -384,6 +375,7 @@ module _ {higher lower : Known} (below : IsBelow lower higher) {x n : Offsets} (
       (touch_rises below.proper.frame below.proper_higher.frame below.within.frame from to low high above (omega arith)
       (omega arith) (omega arith))
       one (omega arith) within
+  write_bytes_lower fewer zero least less one two three within = absurd (omega arith)
 
 -- what is known behind a change
 abbrev pub ChangesBelow : Known → Known → Type 0

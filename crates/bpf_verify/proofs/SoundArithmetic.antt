@@ -6,7 +6,7 @@ use Rattle.std.proofs.Math.Nat.{mod-lt}
 use Rattle.std.proofs.lemmas.Nat.{pow_pos}
 use mir.Val.{bits}
 use Rattle.std.proofs.lemmas.Int.{ints}
-use Rattle.std.specs.Int.{w64, cast_signed}
+use Rattle.std.specs.Int.{w32, w64, cast_signed}
 use Rattle.bpf_insn.specs.Arithmetic.{operand_bits, low_bits, result_of}
 use Rattle.bpf_insn.specs.Pointer.{is_offset}
 use Rattle.bpf_insn.specs.declared.instruction.Operation.{Operation}
@@ -22,8 +22,9 @@ use Rattle.bpf_kinds.specs.Kind as kind
 use Rattle.bpf_kinds.specs.declared.kind.Kind.{Kind}
 use Rattle.bpf_kinds.specs.declared.kind.Kind.TheVariants.{Number, Record, Frame, Nothing}
 use Rattle.bpf_kinds.specs.declared.offsets.Offsets.{Offsets}
+use Rattle.bpf_kinds.proofs.HoldLemmas.{cut-holds}
 use Rattle.bpf_kinds.proofs.MovingLaws.{near_above, near_below, move_by-admits, move_back_by-admits}
-use Rattle.bpf_kinds.proofs.ResultLemmas.{alu-admits}
+use Rattle.bpf_kinds.proofs.ResultLemmas.{alu-holds}
 use Rattle.bpf_meaning.specs.Effect as effect
 use Rattle.bpf_meaning.specs.Effect.{◌>>=◌, offset_or, tagged_value, value_tags}
 use Rattle.bpf_meaning.specs.declared.cause.Cause.TheVariants.{PointerArithmetic, LeavesArea}
@@ -36,62 +37,19 @@ use Rattle.bpf_meaning.specs.Checks.{Sound}
 use Rattle.bpf_meaning.proofs.CheckLemmas.{passes_if}
 use Rattle.bpf_meaning.proofs.TagLemmas.{Relate, Agree, operate_agrees, move_agrees}
 
--- The low halves of numbers, which 32-bit operations take, and the low 64 bits. An immediate is any number in definitions, so these laws
--- ask nothing of the interval.
+-- An immediate is any number in definitions, so these laws ask nothing of the interval.
 
-pub cut_admits : (width : Width) (x : Interval) (n : ℕ) → Admits x n → Admits (cut (operand_bits width) x) (low_bits (operand_bits width) n)
-cut_admits Bits32 x n admits = let above = admits.above in let below = admits.below in
-    record { above = grind (arith, nat_tests); below = grind (arith, nat_tests) }
-cut_admits Bits64 x n admits = let above = admits.above in let below = admits.below in
-    record { above = grind (arith, nat_tests); below = grind (arith, nat_tests) }
-
-cut_proper : (width : Width) (x : Interval) (n : ℕ) → Admits x n → IsProper (cut (operand_bits width) x)
-cut_proper Bits32 x n admits = let above = admits.above in let below = admits.below in
-    record { ordered = grind (arith, nat_tests); fits = grind (arith, nat_tests) }
-cut_proper Bits64 x n admits = let above = admits.above in let below = admits.below in
-    record { ordered = grind (arith, nat_tests); fits = grind (arith, nat_tests) }
+low_half_sound : (x : Interval) (n : ℕ) → Admits x n → Admits (cut w32 x) (low_bits w32 n)
+low_half_sound x n admits = let held = cut-holds w32 x n admits in record { above = held.above; below = held.below }
 
 pub low_twice : (width : Width) (n : ℕ) → low_bits (operand_bits width) (low_bits (operand_bits width) n) ≡ low_bits (operand_bits width) n
 low_twice Bits32 n = omega arith
 low_twice Bits64 n = omega arith
 
-cut_small : (width : Width) (low high : ℕ) → low < 2 ^ bits (operand_bits width) → high < 2 ^ bits (operand_bits width)
-    → cut (operand_bits width) (between low high) ≡ between low high
-cut_small Bits32 low high small little =
-    let test : (low / 2 ^ 32 == high / 2 ^ 32) ≡ true = grind (arith, nat_tests) in
-    let here : low % 2 ^ 32 ≡ low = omega arith in
-    let there : high % 2 ^ 32 ≡ high = omega arith in
-    rw (test, here, there) refl
-cut_small Bits64 low high small little =
-    let test : (low / 2 ^ 64 == high / 2 ^ 64) ≡ true = grind (arith, nat_tests) in
-    let here : low % 2 ^ 64 ≡ low = omega arith in
-    let there : high % 2 ^ 64 ≡ high = omega arith in
-    rw (test, here, there) refl
-
-cut_twice : (width : Width) (x : Interval) → cut (operand_bits width) (cut (operand_bits width) x) ≡ cut (operand_bits width) x
-cut_twice width x = by_test (x.low / 2 ^ bits (operand_bits width) == x.high / 2 ^ bits (operand_bits width))
-  where
-    by_test : (same : Bool) → cut (operand_bits width)
-        (if same then between (low_bits (operand_bits width) x.low) (low_bits (operand_bits width) x.high) else full
-        (operand_bits width)) ≡ (if same then between (low_bits (operand_bits width) x.low) (low_bits (operand_bits width) x.high) else full
-        (operand_bits width))
-    by_test true = cut_small width (low_bits (operand_bits width) x.low) (low_bits (operand_bits width) x.high)
-        (mod-lt x.low (pow_pos (bits (operand_bits width)))) (mod-lt x.high (pow_pos (bits (operand_bits width))))
-    by_test false = let some = pow_pos (bits (operand_bits width)) in
-        cut_small width 0 (2 ^ bits (operand_bits width) - 1) some (omega arith)
-
--- arithmetic takes nothing but the low halves
-pub alu_sound : (operation : Operation) (width : Width) (x y : Interval) (m n : ℕ) → Admits x m → Admits y n
+alu_sound : (operation : Operation) (width : Width) (x y : Interval) (m n : ℕ) → Admits x m → Admits y n
     → Admits (alu operation width x y) (result_of operation width m n)
 alu_sound operation width x y m n left right =
-    let w = operand_bits width in
-    let low = alu-admits operation width (cut_proper width x m left) (cut_proper width y n right) (cut_admits width x m left)
-    (cut_admits width y n right) in
-    let numbers : result_of operation width (low_bits w m) (low_bits w n) ≡ result_of operation width m n =
-    rw (low_twice width m, low_twice width n) refl in
-    let intervals : alu operation width (cut w x) (cut w y) ≡ alu operation width x y = rw (cut_twice width x, cut_twice width y) refl in
-    subst (λ (n : ℕ). Admits (alu operation width x y) n) numbers
-    (subst (λ (x : Interval). Admits x (result_of operation width (low_bits w m) (low_bits w n))) intervals low)
+    let held = alu-holds operation width x y m n left right in record { above = held.above; below = held.below }
 
 -- pointers that are moved
 
@@ -147,7 +105,7 @@ tags_agree = record {
   number = λ x n admits. admits;
   pointer = pointer_related;
   result = alu_sound;
-  low_half = cut_admits Bits32;
+  low_half = low_half_sound;
   distance = near_sound;
   forwards = λ x offset d distance here by. moved_sound (move_by x d) _ (λ moved is. move_by-admits x d moved offset distance is here by);
   backwards = λ x offset d distance here by. moved_sound (move_back_by x d) _

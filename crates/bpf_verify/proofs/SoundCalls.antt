@@ -45,9 +45,9 @@ use Rattle.bpf_frame.specs.FrameMap as map
 use Rattle.bpf_verify.specs.Transfer.{are_allowed, argument_kind, argument_in, arguments_in, lie_within, lend_bytes, lend_read, lend_frame}
 use Rattle.bpf_verify.specs.Transfer.{all_marked, state_after, call}
 use Rattle.bpf_verify.specs.Transfer as transfer
-use Rattle.bpf_verify.specs.State.{AdmitsKnown}
+use Rattle.bpf_verify.specs.AbstractState.{AdmitsKnown}
 use Rattle.bpf_verify.specs.declared.calls.LentBytes.{LentBytes}
-use Rattle.bpf_verify.specs.declared.state.Known.{Known}
+use Rattle.bpf_verify.specs.declared.known.Known.{Known}
 use Rattle.bpf_meaning.specs.Checks.{Sound}
 use Rattle.bpf_meaning.proofs.CheckLemmas.{then_sound, passes_if}
 use Rattle.bpf_verify.proofs.SoundChecks.{HasValue, HasState, read_sound}
@@ -93,20 +93,12 @@ pointer_sound number x area.Record offset proper into admits = cc
 
 argument_sound : (number : ℕ) (wanted : Argument) (x : Kind) (v : Value) → HasValue x v
     → Sound IsWord (argument_kind number wanted x) (effect.argument_word number wanted v)
-argument_sound number argument.Unused x v has = tt
 argument_sound number (argument.Number allowed) (Number x) (value.Number n) has = number_sound number allowed x n has.admits
-argument_sound number (argument.Number allowed) (Number x) value.Empty has = absurd has.admits
-argument_sound number (argument.Number allowed) (Number x) (value.Pointer pointer) has = absurd has.admits
-argument_sound number (argument.Number allowed) (Record x) v has = tt
-argument_sound number (argument.Number allowed) (Frame x) v has = tt
-argument_sound number (argument.Number allowed) Nothing v has = tt
+argument_sound number (argument.Number allowed) (Number x) v has = absurd has.admits
 argument_sound number argument.Frame (Frame x) (value.Pointer pointer) has =
     pointer_sound number x pointer.area pointer.offset has.proper has.admits.0 has.admits.1
-argument_sound number argument.Frame (Frame x) value.Empty has = absurd has.admits
-argument_sound number argument.Frame (Frame x) (value.Number n) has = absurd has.admits
-argument_sound number argument.Frame (Number x) v has = tt
-argument_sound number argument.Frame (Record x) v has = tt
-argument_sound number argument.Frame Nothing v has = tt
+argument_sound number argument.Frame (Frame x) v has = absurd has.admits
+argument_sound number wanted x v has = tt
 
 argument_in_sound : (known : Known) (state : State) → HasState known state → (number : ℕ) (wanted : Argument)
     → Sound IsWord (argument_in known number wanted) (effect.argument_in state number wanted)
@@ -172,12 +164,7 @@ lend_bytes_sound (Frame x) (Number y) words offset count = by_test (lie_within x
         (effect.lie_within (cast_signed w64 (second words)) (third words) FRAME_LENGTH) OutOfBounds
         (lent_inside (record { offsets = x; count = y }) words lent).inside lent
     by_test false outside = tt
-lend_bytes_sound (Frame x) (Frame y) words offset count = tt
-lend_bytes_sound (Frame x) (Record y) words offset count = tt
-lend_bytes_sound (Frame x) Nothing words offset count = tt
-lend_bytes_sound (Number x) y words offset count = tt
-lend_bytes_sound (Record x) y words offset count = tt
-lend_bytes_sound Nothing y words offset count = tt
+lend_bytes_sound x y words offset count = tt
 
 -- a state with bytes written where a call's second argument points
 
@@ -258,14 +245,10 @@ registers_admit : (kinds : List Kind) (values : List Value) (x : Interval) (n : 
     → (register : ℕ) → kind.Admits (get_or (Number x ∷ replicate 5 Nothing ++ drop 6 kinds) register Nothing)
     (get_or (step.registers_after n values) register value.Empty)
 registers_admit kinds values x n admits all zero = admits
-registers_admit kinds values x n admits all (suc zero) = tt
-registers_admit kinds values x n admits all (suc (suc zero)) = tt
-registers_admit kinds values x n admits all (suc (suc (suc zero))) = tt
-registers_admit kinds values x n admits all (suc (suc (suc (suc zero)))) = tt
-registers_admit kinds values x n admits all (suc (suc (suc (suc (suc zero))))) = tt
 registers_admit kinds values x n admits all (suc (suc (suc (suc (suc (suc register)))))) =
     subst (λ (k : Kind). kind.Admits k (get_or (drop 6 values) register value.Empty)) (sym (get_or-drop 6 kinds register Nothing))
     (subst (kind.Admits (get_or kinds (6 + register) Nothing)) (sym (get_or-drop 6 values register value.Empty)) (all (6 + register)))
+registers_admit kinds values x n admits all register = tt
 
 call_admits : (segment : Contents) (state : State) (helper : Helper) (after : Known) (words : List ℕ) → IsSegment segment
     → MeetsSignature helper words → IsLent state (frame_use (signature helper).shape) after words

@@ -14,8 +14,8 @@ use Rattle.bpf_meaning.specs.State.{IsWhole, HoldsBytes, register_value}
 use Rattle.bpf_meaning.specs.declared.cause.Cause.{Cause}
 use Rattle.bpf_meaning.specs.declared.state.State.{State}
 use Rattle.bpf_verify.specs.Transfer.{read_kind, read, number_or}
-use Rattle.bpf_verify.specs.State.{kind_of, IsProperKnown, AdmitsKnown}
-use Rattle.bpf_verify.specs.declared.state.Known.{Known}
+use Rattle.bpf_verify.specs.AbstractState.{kind_of, IsProperKnown, AdmitsKnown}
+use Rattle.bpf_verify.specs.declared.known.Known.{Known}
 
 -- a proper interval and one of its numbers
 pub record HasNumber (x : Interval) (n : ℕ) : Type 0 where
@@ -47,15 +47,10 @@ pub record IsReadOf (held : Value) (known : Kind) (found : Value) : Type 0 where
 read_kind_sound : (register : ℕ) (known : Kind) (held : Value) → HasValue known held
     → Sound (IsReadOf held) (read_kind register known) (effect.read_value register held)
 read_kind_sound register Nothing held has = tt
-read_kind_sound register (Number x) value.Empty has = absurd has.admits
 read_kind_sound register (Number x) (value.Number n) has = record { has = has; same = refl }
-read_kind_sound register (Number x) (value.Pointer pointer) has = absurd has.admits
-read_kind_sound register (Record x) value.Empty has = absurd has.admits
-read_kind_sound register (Record x) (value.Number n) has = absurd has.admits
 read_kind_sound register (Record x) (value.Pointer pointer) has = record { has = has; same = refl }
-read_kind_sound register (Frame x) value.Empty has = absurd has.admits
-read_kind_sound register (Frame x) (value.Number n) has = absurd has.admits
 read_kind_sound register (Frame x) (value.Pointer pointer) has = record { has = has; same = refl }
+read_kind_sound register known held has = absurd has.admits
 
 pub read_holds : (known : Known) (state : State) → HasState known state → (register : ℕ)
     → Sound (IsReadOf (register_value state register)) (read known register) (effect.read state register)
@@ -68,9 +63,6 @@ read_sound known state has register = weaker (IsReadOf (register_value state reg
 
 pub number_or_sound : (cause : Cause) (known : Kind) (held : Value) → HasValue known held
     → Sound HasNumber (number_or cause known) (effect.number_or cause held)
-number_or_sound cause (Number x) value.Empty has = absurd has.admits
 number_or_sound cause (Number x) (value.Number n) has = record { proper = has.proper; admits = has.admits }
-number_or_sound cause (Number x) (value.Pointer pointer) has = absurd has.admits
-number_or_sound cause (Record x) held has = tt
-number_or_sound cause (Frame x) held has = tt
-number_or_sound cause Nothing held has = tt
+number_or_sound cause (Number x) held has = absurd has.admits
+number_or_sound cause known held has = tt

@@ -22,10 +22,10 @@ use Rattle.bpf_meaning.specs.Effect as effect
 use Rattle.bpf_meaning.specs.State.{register_value}
 use Rattle.bpf_meaning.specs.declared.state.State.{State}
 use Rattle.bpf_verify.specs.Transfer.{is_register, with_narrowed, narrowed, on_edge, edges_to, branch, compare}
-use Rattle.bpf_verify.specs.State as known_state
-use Rattle.bpf_verify.specs.declared.state.Known.{Known}
+use Rattle.bpf_verify.specs.AbstractState as known_state
+use Rattle.bpf_verify.specs.declared.known.Known.{Known}
 use Rattle.bpf_verify.specs.declared.comparison.Comparison.{Comparison}
-use Rattle.bpf_verify.specs.State.{Edges}
+use Rattle.bpf_verify.specs.AbstractState.{Edges}
 use Rattle.bpf_verify.specs.declared.successors.Edge.TheVariants.{Unchanged}
 use Rattle.bpf_verify.specs.declared.successors.Successors.TheVariants.{Branch}
 use Rattle.bpf_verify.proofs.SoundArithmetic.{low_twice}
@@ -132,9 +132,7 @@ module _ {known : Known} {state : State} (has : HasState known state) (condition
         on_right = tt;
       }))
   with_immediate immediate (Number x) v first = absurd first.has.admits
-  with_immediate immediate (Record x) v first = tt
-  with_immediate immediate (Frame x) v first = tt
-  with_immediate immediate Nothing v first = tt
+  with_immediate immediate x v first = tt
 
   pub with_register : (right : RegisterParts) (x y : Kind) (v w : Value) → IsReadOf (register_value state left.number) x v
       → IsReadOf (register_value state right.number) y w
@@ -149,9 +147,4 @@ module _ {known : Known} {state : State} (has : HasState known state) (condition
       })
   with_register right (Number x) (Number y) (value.Number m) w first second = absurd second.has.admits
   with_register right (Number x) (Number y) v w first second = absurd first.has.admits
-  with_register right (Number x) (Record y) v w first second = tt
-  with_register right (Number x) (Frame y) v w first second = tt
-  with_register right (Number x) Nothing v w first second = tt
-  with_register right (Record x) y v w first second = tt
-  with_register right (Frame x) y v w first second = tt
-  with_register right Nothing y v w first second = tt
+  with_register right x y v w first second = tt

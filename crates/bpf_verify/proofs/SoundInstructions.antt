@@ -31,9 +31,9 @@ use Rattle.bpf_meaning.specs.State.{register_value}
 use Rattle.bpf_meaning.specs.Walk.{walk}
 use Rattle.bpf_verify.specs.Transfer as edge
 use Rattle.bpf_verify.specs.Transfer.{kinds}
-use Rattle.bpf_verify.specs.State as known_state
-use Rattle.bpf_verify.specs.declared.state.Known.{Known}
-use Rattle.bpf_verify.specs.State.{Edges}
+use Rattle.bpf_verify.specs.AbstractState as known_state
+use Rattle.bpf_verify.specs.declared.known.Known.{Known}
+use Rattle.bpf_verify.specs.AbstractState.{Edges}
 use Rattle.bpf_meaning.specs.Checks.{Sound}
 use Rattle.bpf_verify.proofs.SoundChecks.{HasNumber, HasState, HasValue, IsReadOf, read_holds, number_or_sound}
 use Rattle.bpf_verify.proofs.SoundArithmetic.{operate_sound, move_sound}
@@ -168,10 +168,13 @@ kinds_foresee code segment known state insn next stands = record {
   set = set_sound stands;
   go_on = λ goes_on behind change admits. next_sound stands goes_on _ change admits;
   jump = λ distance jumps. target_sound segment state insn next _ jumps (stands.leads distance jumps) stands.has.admits;
-  with_immediate = λ goes_on condition width left immediate offset x v fits jumps first.
-      taken_sound stands goes_on jumps _ _ (with_immediate stands.has condition width left immediate x v first);
-  with_register = λ goes_on condition width left right offset x y v w jumps first second.
-      taken_sound stands goes_on jumps _ _ (with_register stands.has condition width left right x y v w first second);
+  with_immediate = λ jump immediate may fits left.
+      taken_sound stands may.goes_on may.leads _ _
+      (with_immediate stands.has jump.condition jump.width jump.left immediate left.first left.second left.is);
+  with_register = λ jump right may left compared.
+      taken_sound stands may.goes_on may.leads _ _
+      (with_register stands.has jump.condition jump.width jump.left right left.first compared.first left.second compared.second left.is
+      compared.is);
   end = λ x n among. tt;
 }
 

@@ -18,8 +18,8 @@ use Rattle.bpf_meaning.specs.Effect as effect
 use Rattle.bpf_meaning.specs.State.{register_value}
 use Rattle.bpf_meaning.specs.declared.state.State.{State}
 use Rattle.bpf_verify.specs.Transfer.{lie_within, all_marked, mark_bytes, touch_bytes, write_bytes}
-use Rattle.bpf_verify.specs.State.{kind_of, IsProperKnown, AdmitsKnown}
-use Rattle.bpf_verify.specs.declared.state.Known.{Known}
+use Rattle.bpf_verify.specs.AbstractState.{kind_of, IsProperKnown, AdmitsKnown}
+use Rattle.bpf_verify.specs.declared.known.Known.{Known}
 use Rattle.bpf_verify.proofs.SoundChecks.{HasState}
 
 -- bytes that lie within an area from each of the offsets on, lie within it from one of them on
@@ -94,10 +94,7 @@ pub record IsKnownBefore (known : Known) (before : FrameContents) (after : State
   pub frame : map.Admits known.frame before
 
 ordered_ends : (x : Offsets) (at : ℤ) → Admits x at → x.low ≤ℤ x.high
-ordered_ends x at admits = by_ends x.low x.high admits.above admits.below
-  where
-    by_ends : (low high : ℤ) → low ≤ℤ at → at ≤ℤ high → low ≤ℤ high
-    by_ends low high above below = omega (arith, ints)
+ordered_ends x at admits = let above = admits.above in let below = admits.below in omega (arith, ints)
 
 -- one of the offsets from which bytes may have been written
 module _ {x : Offsets} {at : ℤ} (offset : ℤ) (admits : Admits x at) where

@@ -47,14 +47,15 @@ use Rattle.bpf_meaning.proofs.SlotLemmas.{slot_value-keep_pointer, slot_value-ke
 use Rattle.bpf_meaning.proofs.SlotLemmas.{is_written-keep_behind}
 use Rattle.bpf_helpers.proofs.WriteLemmas.{length-write}
 use Rattle.bpf_meaning.proofs.MemoryLemmas.{length-bytes_low_first, store_is_write}
+use Rattle.bpf_meaning.proofs.WholeLemmas.{inside_ends}
 use Rattle.bpf_frame.specs.FrameMap as map
 use Rattle.bpf_frame.specs.FrameMap.{set_slot, slot_kind}
 use Rattle.bpf_frame.proofs.AdmitLemmas.{set_slot_admits}
 use Rattle.bpf_verify.specs.Transfer.{only_pointers, pointers_in, lie_within, all_marked, keep, kept_or, known_slot, load_area, load_from}
 use Rattle.bpf_verify.specs.Transfer.{frame_offsets, storable, store_at, write_bytes}
-use Rattle.bpf_verify.specs.State.{AdmitsKnown}
+use Rattle.bpf_verify.specs.AbstractState.{AdmitsKnown}
 use Rattle.bpf_verify.specs.declared.memory.Pointers.{Pointers}
-use Rattle.bpf_verify.specs.declared.state.Known.{Known}
+use Rattle.bpf_verify.specs.declared.known.Known.{Known}
 use Rattle.bpf_verify.proofs.PointerLemmas.{ArePointers, record_pointers, frame_pointers}
 use Rattle.bpf_verify.proofs.SoundMarks.{AreWritten, lies_within, marked_are_written, writes_admit}
 use Rattle.bpf_meaning.specs.Checks.{Sound}
@@ -73,8 +74,7 @@ only_pointers_sound (Record x) (value.Pointer pointer) has = record { into = has
 only_pointers_sound (Record x) v has = absurd has.admits
 only_pointers_sound (Frame x) (value.Pointer pointer) has = record { into = has.admits.0; admits = has.admits.1 }
 only_pointers_sound (Frame x) v has = absurd has.admits
-only_pointers_sound (Number x) v has = tt
-only_pointers_sound Nothing v has = tt
+only_pointers_sound x v has = tt
 
 pub pointers_sound : (known : Known) (state : State) → HasState known state → (base : ℕ)
     → Sound PointsWithin (pointers_in known base) (effect.pointer_in state base)
@@ -82,32 +82,14 @@ pointers_sound known state has base = then_sound HasValue PointsWithin _ _ _ _ (
 
 -- loads
 
--- what a load gives of bytes of that number
-load_admits : (load_format : LoadFormat) (number : ℕ) → number < 256 ^ load_length load_format
-    → interval.Admits (load load_format) (arithmetic.load_extension load_format number)
-load_admits format.Byte number below = load-admits format.Byte number below
-load_admits format.HalfWord number below = load-admits format.HalfWord number below
-load_admits format.Word number below = load-admits format.Word number below
-load_admits format.DoubleWord number below = load-admits format.DoubleWord number below
-load_admits format.SignedByte number below = load-admits format.SignedByte number below
-load_admits format.SignedHalfWord number below = load-admits format.SignedHalfWord number below
-load_admits format.SignedWord number below = load-admits format.SignedWord number below
-
 -- bytes that lie within an area and are written are loaded
-ends_inside : (at count bytes : ℕ) → effect.lie_within (pos at) count bytes ≡ true → at + count ≤ bytes
-ends_inside at count bytes within = grind (arith, nat_tests)
-
-from_ends : (from : ℤ) (count bytes : ℕ) → effect.lie_within from count bytes ≡ true → unsigned_abs from + count ≤ bytes
-from_ends (pos at) count bytes within = ends_inside at count bytes within
-from_ends (negsuc n) count bytes within = absurd (false≢true within)
-
 load_inside : (load_format : LoadFormat) (bytes : List FrameByte) (from : ℤ) → HoldBytes bytes
     → effect.lie_within from (load_length load_format) (length bytes) ≡ true → AreWritten bytes from (load_length load_format)
     → Sound kind.Admits (Ok (Number (load load_format))) (effect.load_bytes load_format bytes from)
 load_inside load_format bytes (pos at) hold within written =
     let part = part_has_number bytes at (load_length load_format) hold
-    (ends_inside at (load_length load_format) (length bytes) within) written in
-    rw (within, part.is) (load_admits load_format part.number part.below)
+    (inside_ends (pos at) (load_length load_format) (length bytes) within) written in
+    rw (within, part.is) (load-admits load_format part.number part.below)
 load_inside load_format bytes (negsuc n) hold within written = absurd (false≢true within)
 
 -- a load from an area, where the bytes from each of the offsets on are written
@@ -129,7 +111,7 @@ record_written (byte ∷ bytes) (suc i) below = record_written bytes i (omega ar
 part_written : (bytes : List ℕ) (from : ℤ) (count : ℕ) → effect.lie_within from count (length bytes) ≡ true
     → AreWritten (map Byte bytes) from count
 part_written bytes (pos at) count within i above below = record_written bytes i
-    (let inside = ends_inside at count (length bytes) within in omega arith)
+    (let inside = inside_ends (pos at) count (length bytes) within in omega arith)
 part_written bytes (negsuc n) count within i above below = absurd (false≢true within)
 
 record_sound : (segment : Contents) → IsSegment segment → (load_format : LoadFormat) (x : Offsets) (at offset : ℤ) → Admits x at
@@ -160,7 +142,7 @@ load_written load_format frame at hold inside written = by_slot (slot_at at (loa
 
     by_slot : (found : Option ℕ) → slot_at at (load_length load_format) ≡ found
         → Sound kind.Admits (Ok (Number (load load_format))) (effect.load_within load_format frame at)
-    by_slot None is = rw (is, part.is) (load_admits load_format part.number part.below)
+    by_slot None is = rw (is, part.is) (load-admits load_format part.number part.below)
     by_slot (Some slot) is =
         let whole = slot_at-is at (load_length load_format) slot is in
         let same : slot_bytes frame.bytes slot ≡ take (load_length load_format) (drop at frame.bytes) =
@@ -169,7 +151,7 @@ load_written load_format frame at hold inside written = by_slot (slot_at at (loa
         let number : number_of (slot_bytes frame.bytes slot) ≡ Some part.number = ap number_of same ∙ part.is in
         rw (is, number)
         (subst (interval.Admits (load load_format)) (whole_slot_is_loaded load_format part.number whole.0)
-        (load_admits load_format part.number part.below))
+        (load-admits load_format part.number part.below))
 
 -- a known slot is the one at each of the offsets, since there is but one
 known_slot_is : (x : Offsets) (at offset : ℤ) (count slot : ℕ) → Admits x at → known_slot x offset count ≡ Some slot
@@ -190,14 +172,9 @@ kept_sound : (otherwise : Result Kind Cause) (k : Kind) (held : Value) → kind.
     → Sound kind.Admits otherwise (effect.load_slot held) → Sound kind.Admits (kept_or otherwise k) (effect.load_slot held)
 kept_sound otherwise Nothing held admits rest = rest
 kept_sound otherwise (Number x) (value.Number n) admits rest = admits
-kept_sound otherwise (Number x) (value.Pointer pointer) admits rest = absurd admits
-kept_sound otherwise (Number x) value.Empty admits rest = absurd admits
 kept_sound otherwise (Record x) (value.Pointer pointer) admits rest = admits
-kept_sound otherwise (Record x) (value.Number n) admits rest = absurd admits
-kept_sound otherwise (Record x) value.Empty admits rest = absurd admits
 kept_sound otherwise (Frame x) (value.Pointer pointer) admits rest = admits
-kept_sound otherwise (Frame x) (value.Number n) admits rest = absurd admits
-kept_sound otherwise (Frame x) value.Empty admits rest = absurd admits
+kept_sound otherwise k held admits rest = absurd admits
 
 -- a load of bytes within the frame
 within_sound : {known : Known} {state : State} → HasState known state → (load_format : LoadFormat) {x : Offsets} {at : ℤ} (offset : ℤ)
@@ -252,7 +229,7 @@ frame_sound known state has load_format x at offset admits = by_test (lie_within
         (effect.load_within load_format state.frame (unsigned_abs (at +ℤ offset)))
         (effect.lie_within (at +ℤ offset) (load_length load_format) (length state.frame.bytes)) OutOfBounds inside
         (within_sound has load_format offset admits within
-        (from_ends (at +ℤ offset) (load_length load_format) (length state.frame.bytes) inside))
+        (inside_ends (at +ℤ offset) (load_length load_format) (length state.frame.bytes) inside))
     by_test false outside = tt
 
 pub load_from_sound : {segment : Contents} {known : Known} {state : State} → IsSegment segment → HasState known state
@@ -298,7 +275,7 @@ number_written : (segment : Contents) {known : Known} {state : State} → HasSta
     → lie_within x offset (store_length size) FRAME_LENGTH ≡ true
     → AdmitsKnown (write_bytes known x offset (store_length size) (store_length size)) (stored segment state (at +ℤ offset) size number)
 number_written segment {state} has {x} {at} offset size number admits within =
-    let inside = from_ends (at +ℤ offset) (store_length size) FRAME_LENGTH
+    let inside = inside_ends (at +ℤ offset) (store_length size) FRAME_LENGTH
     (lies_within x at offset (store_length size) FRAME_LENGTH admits within) in
     let fits : unsigned_abs (at +ℤ offset) + store_length size ≤ length state.frame.bytes = (let whole = has.whole.frame in omega arith) in
     writes_admit offset admits (record { proper = has.proper; registers = has.admits.registers; frame = has.admits.frame })
@@ -386,7 +363,7 @@ number_keeps segment {known} {state} has {k} {x} {at} offset size number admits 
     by_slot None none = number_written segment has offset size number admits within
     by_slot (Some slot) is =
         number_kept segment has (at +ℤ offset) size number (known_slot_is x at offset (store_length size) slot admits is)
-        (from_ends (at +ℤ offset) (store_length size) FRAME_LENGTH (lies_within x at offset (store_length size) FRAME_LENGTH admits within))
+        (inside_ends (at +ℤ offset) (store_length size) FRAME_LENGTH (lies_within x at offset (store_length size) FRAME_LENGTH admits within))
         holds
 
 number_sound : (segment : Contents) {known : Known} {state : State} → HasState known state
@@ -449,7 +426,7 @@ pointer_sound segment {known} {state} has {k} {x} {offset} {from} size pointer i
         passes_if (Stores segment state) (Ok (record known { frame = set_slot known.frame slot k })) (Ok (StorePointer slot pointer))
         (effect.lie_within (is.at +ℤ offset) (store_length size) FRAME_LENGTH) OutOfBounds inside
         (pointer_kept segment has slot pointer
-        (slot_inside _ _ slot here (from_ends (is.at +ℤ offset) (store_length size) FRAME_LENGTH inside)) pointers.known holds)
+        (slot_inside _ _ slot here (inside_ends (is.at +ℤ offset) (store_length size) FRAME_LENGTH inside)) pointers.known holds)
     into_slot slot here false outside = tt
 
     by_slot : (found : Option ℕ) → known_slot x offset (store_length size) ≡ found
@@ -469,10 +446,5 @@ store_at_sound segment has size (Record k) (value.Pointer pointer) is holds =
     pointer_sound segment has size pointer is holds.admits (record_pointers k)
 store_at_sound segment has size (Frame k) (value.Pointer pointer) is holds =
     pointer_sound segment has size pointer is holds.admits (frame_pointers k)
-store_at_sound segment has size (Number k) value.Empty is holds = absurd holds.admits
-store_at_sound segment has size (Number k) (value.Pointer pointer) is holds = absurd holds.admits
-store_at_sound segment has size (Record k) value.Empty is holds = absurd holds.admits
-store_at_sound segment has size (Record k) (value.Number n) is holds = absurd holds.admits
-store_at_sound segment has size (Frame k) value.Empty is holds = absurd holds.admits
-store_at_sound segment has size (Frame k) (value.Number n) is holds = absurd holds.admits
 store_at_sound segment has size Nothing held is holds = tt
+store_at_sound segment has size k held is holds = absurd holds.admits

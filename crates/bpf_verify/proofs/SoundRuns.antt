@@ -33,8 +33,7 @@ from_admitted code segment annotation verified (Running state) (next ∷ run) wa
     from_admitted code segment annotation verified next run
     (comes_admitted code annotation state next (subst (ComesTo code annotation state) (sym follow.0)
     (step_comes code segment annotation state verified way))) follow.1
-from_admitted code segment annotation verified (Exited answer score) (next ∷ run) admitted follow = absurd follow.0
-from_admitted code segment annotation verified (Stuck place cause) (next ∷ run) admitted follow = absurd follow.0
+from_admitted code segment annotation verified ended (next ∷ run) admitted follow = absurd follow.0
 
 pub end_admitted : (code : List Insn) (segment : Contents) (annotation : Annotation) → IsVerified code segment annotation
     → (run : List Configuration) → IsRun code segment run → IsAdmitted code annotation (end_of run)

@@ -11,8 +11,8 @@ use Rattle.bpf_meaning.specs.State.{register_value}
 use Rattle.bpf_meaning.specs.Step.{carry_out}
 use Rattle.bpf_meaning.specs.declared.effect.Change.TheVariants.{SetRegister}
 use Rattle.bpf_meaning.specs.declared.state.State.{State}
-use Rattle.bpf_verify.specs.State.{with_kind, AdmitsKnown}
-use Rattle.bpf_verify.specs.declared.state.Known.{Known}
+use Rattle.bpf_verify.specs.AbstractState.{with_kind, AdmitsKnown}
+use Rattle.bpf_verify.specs.declared.known.Known.{Known}
 use Rattle.bpf_verify.proofs.SoundChecks.{HasState}
 use Rattle.bpf_kinds.proofs.ListLemmas.{set_both, set_each}
 

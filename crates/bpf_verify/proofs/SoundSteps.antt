@@ -18,7 +18,7 @@ use Rattle.bpf_kinds.specs.declared.kind.Kind.{Kind}
 use Rattle.bpf_kinds.specs.declared.kind.Kind.TheVariants.{Nothing}
 use Rattle.bpf_meaning.specs.Effect.{effect_of, instruction_effect}
 use Rattle.tl_segments.specs.Segment.{Contents, IsSegment}
-use Rattle.bpf_meaning.specs.State.{IsWhole, HoldsBytes, start}
+use Rattle.bpf_meaning.specs.State.{IsWhole, HoldsBytes, register_value, start}
 use Rattle.bpf_meaning.specs.Step.{Configuration, Running, Exited, Stuck, after, carry_out, apply, next_of}
 use Rattle.bpf_meaning.specs.declared.cause.Cause.{Cause}
 use Rattle.bpf_meaning.specs.declared.effect.Change.{Change}
@@ -29,7 +29,7 @@ use Rattle.bpf_meaning.specs.declared.state.State.{State}
 use Rattle.bpf_meaning.proofs.WholeLemmas.{step_whole, step_bytes, start_bytes}
 use Rattle.bpf_verify.specs.Annotation.{Annotation, PassesAt, IsGood}
 use Rattle.bpf_verify.specs.Transfer.{transfer}
-use Rattle.bpf_verify.specs.State.{entry, IsProper, Admits, AdmitsKnown, Edges, AbstractState, Unreached, Reached}
+use Rattle.bpf_verify.specs.AbstractState.{entry, kind_of, IsProper, Admits, AdmitsKnown, Edges, AbstractState, Unreached, Reached}
 use Rattle.bpf_verify.proofs.StateLaws.{admits_more}
 use Rattle.bpf_meaning.specs.Checks.{Sound}
 use Rattle.bpf_verify.proofs.SoundInstructions.{Follows, instruction_sound}
@@ -130,27 +130,16 @@ step_comes code segment annotation state verified way =
 
 -- at the start each register's kind admits its value
 
-abbrev AdmitEach : List Kind → List Value → Type 0
-AdmitEach [] values = Unit {0}
-AdmitEach (x ∷ kinds) [] = ⊥
-AdmitEach (x ∷ kinds) (held ∷ values) = kind.Admits x held × AdmitEach kinds values
-
-admits_each : (kinds : List Kind) (values : List Value) → AdmitEach kinds values → (number : ℕ)
-    → kind.Admits (get_or kinds number Nothing) (get_or values number value.Empty)
-admits_each [] values all number = tt
-admits_each (x ∷ kinds) [] all number = absurd all
-admits_each (x ∷ kinds) (held ∷ values) all zero = all.0
-admits_each (x ∷ kinds) (held ∷ values) all (suc number) = admits_each kinds values all.1 number
-
 single_offset : (n : ℕ) → offsets.Admits (offsets.between (pos n) (pos n)) (pos n)
 single_offset n = record { above = omega (arith, ints); below = omega (arith, ints) }
 
+entry_admits : (register : ℕ) → kind.Admits (kind_of entry register) (register_value start register)
+entry_admits (suc zero) = (refl, single_offset 0)
+entry_admits (suc (suc (suc (suc (suc (suc (suc (suc (suc (suc zero)))))))))) = (refl, single_offset FRAME_LENGTH)
+entry_admits register = tt
+
 entry_admits_start : AdmitsKnown entry start
-entry_admits_start = record {
-  registers = admits_each entry.registers start.registers
-      (tt, ((refl, single_offset 0), (tt, (tt, (tt, (tt, (tt, (tt, (tt, (tt, ((refl, single_offset FRAME_LENGTH), tt)))))))))));
-  frame = unwritten_admits start.frame;
-}
+entry_admits_start = record { registers = entry_admits; frame = unwritten_admits start.frame }
 
 begins : (before : List Insn) → (insn : Insn) × (instruction_at (before ++ Exit ∷ []) 0 ≡ Some insn)
 begins [] = (Exit, refl)

@@ -14,10 +14,10 @@ use Rattle.bpf_insn.specs.declared.instruction.Source.{Source}
 use Rattle.bpf_insn.specs.declared.instruction.Source.TheVariants.{Immediate, Register}
 use Rattle.bpf_kinds.specs.Interval as interval
 use Rattle.bpf_kinds.specs.declared.narrowing.Narrowed.{Narrowed}
-use Rattle.bpf_verify.specs.State.{AbstractState, Unreached, Reached, kind_of, with_kind, IsProperKnown, AdmitsKnown, IsWithinKnown}
-use Rattle.bpf_verify.specs.State.{join_known, IsProper, Admits, IsWithin, join}
+use Rattle.bpf_verify.specs.AbstractState.{AbstractState, Unreached, Reached, kind_of, with_kind, IsProperKnown, AdmitsKnown, IsWithinKnown}
+use Rattle.bpf_verify.specs.AbstractState.{join_known, IsProper, Admits, IsWithin, join}
 use Rattle.bpf_verify.specs.Transfer.{with_narrowed}
-use Rattle.bpf_verify.specs.declared.state.Known.{Known}
+use Rattle.bpf_verify.specs.declared.known.Known.{Known}
 
 -- the kinds of a join
 pub kind_of-join : (x y : Known) (register : ℕ) → IsProperKnown x → IsProperKnown y

@@ -8,7 +8,7 @@ use Rattle.bpf_insn.specs.declared.value.Area.{Area}
 use Rattle.std.specs.Prelude.{is_some}
 use Rattle.bpf_meaning.specs.declared.cause.Cause.{Cause}
 use Rattle.bpf_verify.specs.Annotation.{Annotation, IsGoodUpTo, IsLeastUpTo, HasGoodAnnotation, IsAccepted, IsRefusedAt, IsVerifyFault}
-use Rattle.bpf_verify.specs.State.{AbstractState, Edges}
+use Rattle.bpf_verify.specs.AbstractState.{AbstractState, Edges}
 use Rattle.bpf_verify.specs.Transfer.{transfer}
 use Rattle.bpf_verify.specs.declared.fault.VerifyFault.{VerifyFault}
 use Rattle.bpf_verify.specs.declared.fault.VerifyFault.TheVariants.{Refused, Memory}

@@ -10,7 +10,7 @@ use Rattle.bpf_kinds.specs.declared.kind.Kind.{Kind}
 use Rattle.bpf_kinds.specs.declared.kind.Kind.TheVariants.{Record, Frame}
 use Rattle.bpf_meaning.specs.declared.cause.Cause.{Cause}
 use Rattle.bpf_verify.specs.Transfer.{transfer}
-use Rattle.bpf_verify.specs.State.{AbstractState, Unreached, Reached, Edges, entry, kind_of, IsProper, IsWithin}
+use Rattle.bpf_verify.specs.AbstractState.{AbstractState, Unreached, Reached, Edges, entry, kind_of, IsProper, IsWithin}
 use Rattle.bpf_verify.specs.Verified.{base_of}
 use Rattle.bpf_verify.specs.declared.fault.VerifyFault.{VerifyFault}
 use Rattle.bpf_verify.specs.declared.fault.VerifyFault.TheVariants.{Refused, Memory}

@@ -1,4 +1,4 @@
-pub mod State
+pub mod AbstractState
 pub mod Transfer
 pub mod Verified
 pub mod Annotation

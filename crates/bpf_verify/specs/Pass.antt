@@ -9,12 +9,12 @@ use Rattle.bpf_insn.specs.Jump.{jump_distance}
 use Rattle.bpf_insn.specs.declared.instruction.Insn.{Insn}
 use Rattle.bpf_flow.specs.Flow.{IsForward, JumpsBy, target_of}
 use Rattle.bpf_verify.specs.Annotation.{Annotation}
-use Rattle.bpf_verify.specs.State.{AbstractState, Unreached, Reached, Edges, entry, join, IsProper, AreProperEdges}
+use Rattle.bpf_verify.specs.AbstractState.{AbstractState, Unreached, Reached, Edges, entry, join, IsProper, AreProperEdges}
 use Rattle.bpf_verify.specs.Transfer.{transfer}
 use Rattle.bpf_verify.specs.declared.ahead.KnownEdges.{KnownEdges}
 use Rattle.bpf_verify.specs.declared.fault.VerifyFault.{VerifyFault}
 use Rattle.bpf_verify.specs.declared.fault.VerifyFault.TheVariants.{Refused, Memory}
-use Rattle.bpf_verify.specs.declared.state.Known.{Known}
+use Rattle.bpf_verify.specs.declared.known.Known.{Known}
 
 -- the states ahead of the pass over a code: where it has come to, the state on the edge from the instruction before that place, and the
 -- states that wait, by place

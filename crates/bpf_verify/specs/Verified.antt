@@ -28,7 +28,7 @@ base_of (Store size base offset source) = Some base.number
 base_of insn = None
 
 -- a value is a pointer, and this is the area that it points into
-pub record PointsInto (held : Value) (area : Option Area) : Type 0 where
+pub record IsPointerInto (held : Value) (area : Option Area) : Type 0 where
   pub pointer : PointerParts
   pub is : held ≡ Pointer pointer
   pub into : area ≡ Some pointer.area
@@ -39,7 +39,7 @@ pub record HasBaseAreas (code : List Insn) (areas : List (Option Area)) : Type 0
   pub count : length areas ≡ length code
   pub bases : (segment : segments.Contents) → IsSegment segment → (run : List Configuration) → IsRun code segment run → (state : State) → end_of run ≡ Running state
       → (index : ℕ) (insn : Insn) (base : ℕ) → index_at code state.place ≡ Some index → instruction_at code state.place ≡ Some insn → base_of insn ≡ Some base
-      → PointsInto (register_value state base) (get_or areas index None)
+      → IsPointerInto (register_value state base) (get_or areas index None)
 
 -- instructions, each with its area
 abbrev pub entries_of : List Insn → List (Option Area) → List Entry

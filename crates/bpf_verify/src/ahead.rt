@@ -4,9 +4,9 @@ ghost use Rattle.bpf_flow.specs.Flow.{IsForward, target_of};
 ghost use Rattle.bpf_insn.specs.Code.{HasProgramSize, instruction_at, spelling, word_count};
 ghost use Rattle.bpf_insn.specs.Jump.{jump_distance};
 ghost use Rattle.bpf_verify.specs.Pass.{AreProper, IsTargetAhead, edges_of, first, joined_if, kept, state_of, waiting_at};
-ghost use Rattle.bpf_verify.specs.State.{AreProperEdges, IsProperKnown, Reached, Unreached, join};
+ghost use Rattle.bpf_verify.specs.AbstractState.{AreProperEdges, IsProperKnown, Reached, Unreached, join};
 
-use crate::state::Known;
+use crate::known::Known;
 use bpf_flow::Flow;
 use bpf_insn::Insn;
 use std::alloc::{AllocError, Allocator};

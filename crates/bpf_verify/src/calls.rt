@@ -1,11 +1,11 @@
 //! Calls of helper functions: their checks in order, and what is known behind them.
 ghost use Rattle.std.specs.Prelude.{◌≡◌, ◌≤◌, IfErr, IfOk, OnOk, Err, Ok};
 ghost use Rattle.bpf_kinds.specs.Kind as kinds;
-ghost use Rattle.bpf_verify.specs.State.{IsProperKnown};
+ghost use Rattle.bpf_verify.specs.AbstractState.{IsProperKnown};
 ghost use Rattle.bpf_verify.specs.Transfer.{AreProper, LieWithinFrame, are_allowed, argument_in, argument_kind, arguments_in, call, lend_bytes, lend_frame, lend_read};
 
+use crate::known::Known;
 use crate::memory::lie_within;
-use crate::state::Known;
 use bpf_helpers::{Argument, FrameUse, Helper};
 use bpf_insn::FRAME_LENGTH;
 use bpf_kinds::{Interval, Kind, Offsets};

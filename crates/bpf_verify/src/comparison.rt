@@ -3,10 +3,10 @@ ghost use Rattle.std.specs.Prelude.{◌≡◌, IfErr, IfOk, Err, Ok};
 ghost use Rattle.bpf_kinds.specs.Interval as interval;
 ghost use Rattle.bpf_kinds.specs.Kind as kinds;
 ghost use Rattle.bpf_meaning.specs.Walk.{compared_operand};
-ghost use Rattle.bpf_verify.specs.State.{AreProperEdges, IsProper, IsProperKnown};
+ghost use Rattle.bpf_verify.specs.AbstractState.{AreProperEdges, IsProper, IsProperKnown};
 ghost use Rattle.bpf_verify.specs.Transfer.{branch, branches, compare, edges_to, kind_registers, on_edge, with_narrowed};
 
-use crate::state::Known;
+use crate::known::Known;
 use crate::successors::{Edge, Successors};
 use bpf_insn::{Condition, Register, Source, Width, immediate_operand};
 use bpf_kinds::{Interval, Kind, Narrowed, refine};

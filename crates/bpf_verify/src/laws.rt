@@ -17,11 +17,11 @@ ghost use Rattle.bpf_meaning.specs.Run.{IsSafe};
 ghost use Rattle.bpf_meaning.specs.declared.cause.Cause.{Cause};
 ghost use Rattle.bpf_meaning.specs.declared.state.State.{State};
 ghost use Rattle.bpf_verify.specs.Annotation.{HasGoodAnnotation, IsAccepted, IsRefusedAt};
-ghost use Rattle.bpf_verify.specs.State.{AbstractState, Admits, AreEdgesWithin, Edges, IsBelow, IsProper, IsWithin, IsWithinKnown, Unreached, join};
+ghost use Rattle.bpf_verify.specs.AbstractState.{AbstractState, Admits, AreEdgesWithin, Edges, IsBelow, IsProper, IsWithin, IsWithinKnown, Unreached, join};
 ghost use Rattle.bpf_verify.specs.Transfer.{ArePointersWithin, argument_in, call, compare, load_from, pointers_in, read, store_at, transfer};
 ghost use Rattle.bpf_verify.specs.declared.comparison.Comparison.{Comparison};
 ghost use Rattle.bpf_verify.specs.declared.memory.Pointers.{Pointers};
-ghost use Rattle.bpf_verify.specs.declared.state.Known.{Known};
+ghost use Rattle.bpf_verify.specs.declared.known.Known.{Known};
 ghost use Rattle.bpf_verify.specs.Verified.{HasBaseAreas};
 
 /// Soundness: a code whose jumps go forward, that ends in EXIT, whose immediates have 32 bits and that has an annotation which is good to its

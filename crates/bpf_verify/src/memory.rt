@@ -3,7 +3,7 @@ ghost use Rattle.std.specs.Prelude.{◌≡◌, ◌≤◌, ◌<◌, IfErr, IfOk, 
 ghost use Rattle.bpf_kinds.specs.Kind as kinds;
 ghost use Rattle.bpf_kinds.specs.Offsets as pointer_offsets;
 ghost use Rattle.bpf_verify.specs.Annotation.{area_of, area_of_kind};
-ghost use Rattle.bpf_verify.specs.State.{IsProperKnown, Reached};
+ghost use Rattle.bpf_verify.specs.AbstractState.{IsProperKnown, Reached};
 ghost use Rattle.bpf_meaning.specs.Walk.{load_value, store};
 ghost use Rattle.bpf_verify.specs.Transfer.{area_length, kept_kind, known_slot, lie_within, load_area, load_from, pointers_in, storable, store_at};
 ghost use Rattle.bpf_verify.specs.Transfer.{kinds as known_kinds};
@@ -12,8 +12,8 @@ ghost use Rattle.bpf_insn.specs.declared.memory.TheConstants.{FRAME_LENGTH, SLOT
 ghost use Rattle.bpf_insn.specs.Memory.{load_length};
 ghost use Rattle.bpf_insn.specs.declared.value.Area.TheVariants as Area;
 
+use crate::known::Known;
 use crate::operands::operand;
-use crate::state::Known;
 use bpf_insn::{
     Area, FRAME_LENGTH, Insn, LoadFormat, Register, Source, StoreSize, load_length, slot_at,
     store_length,

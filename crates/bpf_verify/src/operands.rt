@@ -3,12 +3,12 @@ ghost use Rattle.std.specs.Prelude.{◌≡◌, ◌≤◌, IfOk};
 ghost use Rattle.bpf_kinds.specs.Interval as interval;
 ghost use Rattle.bpf_kinds.specs.Kind as kinds;
 ghost use Rattle.bpf_kinds.specs.Offsets as offset;
-ghost use Rattle.bpf_verify.specs.State.{IsProperKnown};
+ghost use Rattle.bpf_verify.specs.AbstractState.{IsProperKnown};
 ghost use Rattle.bpf_meaning.specs.Tags.{move, move_pointer, move_pointer_back, operate, operate_on_pointer, operate_with_pointer};
 ghost use Rattle.bpf_meaning.specs.Walk.{number_in, operand, operation_value};
 ghost use Rattle.bpf_verify.specs.Transfer.{kind_registers, kind_tags, number_or};
 
-use crate::state::Known;
+use crate::known::Known;
 use bpf_insn::{Operation, Source, Width, WritableRegister};
 use bpf_kinds::{Interval, Kind, NumberWidth, Offsets, alu, immediate_operand, near_distances};
 use bpf_meaning::Cause;

@@ -10,8 +10,8 @@ ghost use Rattle.bpf_verify.specs.declared.fault.VerifyFault.TheVariants.{Memory
 use crate::ahead::{KnownEdges, StatesAhead};
 use crate::comparison::Comparison;
 use crate::fault::VerifyFault;
+use crate::known::Known;
 use crate::memory::area_of;
-use crate::state::Known;
 use crate::successors::{Edge, Successors};
 use crate::table::transfer;
 use crate::verified::Verified;

@@ -1,15 +1,15 @@
 //! The instruction table: the checks of each instruction in their order, and what is known behind it.
 ghost use Rattle.std.specs.Prelude.{◌≡◌, IfErr, IfOk, Err, Ok};
 ghost use Rattle.bpf_meaning.specs.Walk.{walk};
-ghost use Rattle.bpf_verify.specs.State.{AreProperEdges, IsProperKnown};
+ghost use Rattle.bpf_verify.specs.AbstractState.{AreProperEdges, IsProperKnown};
 ghost use Rattle.bpf_verify.specs.Transfer.{edges_to};
 ghost use Rattle.bpf_verify.specs.Transfer.{kinds as known_kinds};
 
 use crate::calls::call;
 use crate::comparison::Comparison;
+use crate::known::Known;
 use crate::memory::{load_kind, store};
 use crate::operands::{number_in, number_or, operation_kind};
-use crate::state::Known;
 use crate::successors::Successors;
 use bpf_helpers::Helper;
 use bpf_insn::{Insn, Source};

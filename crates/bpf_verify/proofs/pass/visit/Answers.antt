@@ -2,7 +2,7 @@ use Rattle.std.proofs.Common.{◌≡◌, pos, Option, IfSome, option_map, sym, a
 use Rattle.bpf_insn.specs.Jump.{jump_distance}
 use Rattle.bpf_insn.specs.declared.instruction.Insn.{Insn}
 use Rattle.bpf_flow.specs.Flow.{target_of}
-use Rattle.bpf_verify.specs.State.{AbstractState, Unreached}
+use Rattle.bpf_verify.specs.AbstractState.{AbstractState, Unreached}
 use Rattle.bpf_verify.specs.Transfer.{transfer}
 use Rattle.bpf_verify.proofs.AheadLemmas.{visited_states}
 use Rattle.bpf_verify.proofs.PassLemmas.{joined_if-bottom}

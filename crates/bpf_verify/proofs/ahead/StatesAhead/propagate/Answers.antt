@@ -1,8 +1,8 @@
 use Rattle.std.proofs.Common.{ℕ, Option, IfSome, sym, ap, ◌∙◌, subst}
 use Rattle.std.specs.declared.boxed.Box.{Box}
 use Rattle.bpf_verify.specs.Pass.{Ahead, IsTargetAhead, joined, joined_if, state_of, states_in, waiting_at}
-use Rattle.bpf_verify.specs.State.{IsProper, Reached, join}
-use Rattle.bpf_verify.specs.declared.state.Known.{Known}
+use Rattle.bpf_verify.specs.AbstractState.{IsProper, Reached, join}
+use Rattle.bpf_verify.specs.declared.known.Known.{Known}
 use Rattle.bpf_verify.proofs.AheadLemmas.{IsPutAgain, found_proper, joined_ahead, kept_proper, taken_ahead, waits_after, waits_joined}
 use Rattle.bpf_verify.proofs.PassLemmas.{joined_proper}
 use Rattle.bpf_verify.proofs.ahead.StatesAhead.propagate.Goals as goal

@@ -2,7 +2,7 @@ use Rattle.std.proofs.Common.{◌≡◌, ◌+◌, Some, sym, ap, ◌∙◌, subs
 use Rattle.bpf_insn.specs.Code.{instruction_at}
 use Rattle.bpf_insn.proofs.SpanLemmas.{ends_within}
 use Rattle.bpf_verify.specs.Pass.{Ahead, kept, state_of, states_ahead, states_in, waiting_at}
-use Rattle.bpf_verify.specs.State.{Reached, Unreached}
+use Rattle.bpf_verify.specs.AbstractState.{Reached, Unreached}
 use Rattle.bpf_verify.proofs.AheadLemmas.{found_proper, here_is, kept_proper, left_behind, moved_ahead, waits, waits_after}
 use Rattle.bpf_verify.proofs.PassLemmas.{join-bottom}
 use Rattle.bpf_verify.proofs.ahead.StatesAhead.take.Goals as goal

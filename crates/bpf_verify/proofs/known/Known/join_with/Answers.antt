@@ -1,8 +1,8 @@
 use Rattle.std.proofs.Common.{sym, subst, arith}
-use Rattle.bpf_verify.specs.State.{IsProperKnown}
+use Rattle.bpf_verify.specs.AbstractState.{IsProperKnown}
 use Rattle.bpf_kinds.proofs.ListLemmas.{is_join_kinds}
 use Rattle.bpf_verify.proofs.StateLaws.{join_known_is_proper}
-use Rattle.bpf_verify.proofs.state.Known.join_with.Goals as goal
+use Rattle.bpf_verify.proofs.known.Known.join_with.Goals as goal
 
 pub returns-clause-value : goal.returns-clause-value
 returns-clause-value c =

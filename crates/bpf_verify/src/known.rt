@@ -5,7 +5,7 @@ ghost use Rattle.bpf_frame.specs.FrameMap.{set_slot};
 ghost use Rattle.bpf_kinds.specs.Interval as interval;
 ghost use Rattle.bpf_kinds.specs.Offsets as pointer_offsets;
 ghost use Rattle.bpf_kinds.specs.Kind as kinds;
-ghost use Rattle.bpf_verify.specs.State.{IsProperKnown, entry, join_known, with_kind};
+ghost use Rattle.bpf_verify.specs.AbstractState.{IsProperKnown, entry, join_known, with_kind};
 ghost use Rattle.bpf_verify.specs.Transfer.{all_marked, lie_within, mark_bytes, read, state_after, touch_bytes, write_bytes};
 
 use bpf_frame::FrameMap;

@@ -3,8 +3,8 @@ use Rattle.std.proofs.lemmas.Int.{ints}
 use Rattle.bpf_frame.specs.FrameMap.{all_written}
 use Rattle.bpf_kinds.specs.declared.offsets.Offsets.{Offsets}
 use Rattle.bpf_verify.specs.Transfer.{all_marked}
-use Rattle.bpf_verify.specs.declared.state.Known.{Known}
-use Rattle.bpf_verify.proofs.state.Known.all_marked.Goals as goal
+use Rattle.bpf_verify.specs.declared.known.Known.{Known}
+use Rattle.bpf_verify.proofs.known.Known.all_marked.Goals as goal
 
 -- the first and the last of some bytes, at least one
 marked_is : (known : Known) (offsets : Offsets) (offset : ℤ) {first last : ℕ} (count : ℕ) → 1 ≤ count

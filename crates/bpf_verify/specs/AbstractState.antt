@@ -10,7 +10,7 @@ use Rattle.bpf_meaning.specs.State.{register_value}
 use Rattle.bpf_insn.specs.declared.memory.TheConstants.{FRAME_LENGTH}
 use Rattle.bpf_meaning.specs.declared.state.State.{State}
 use Rattle.bpf_meaning.specs.declared.state.TheConstants.{REGISTERS}
-use Rattle.bpf_verify.specs.declared.state.Known.{Known}
+use Rattle.bpf_verify.specs.declared.known.Known.{Known}
 
 -- what is known before an instruction; where no edge leads to one, it's the bottom
 pub data AbstractState : Type 0 where

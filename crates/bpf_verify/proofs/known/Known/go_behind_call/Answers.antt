@@ -1,7 +1,7 @@
 use Rattle.std.proofs.Common.{sym, subst, rules}
-use Rattle.bpf_verify.specs.State.{IsProperKnown}
+use Rattle.bpf_verify.specs.AbstractState.{IsProperKnown}
 use Rattle.bpf_verify.proofs.CallLemmas.{state_after_is_proper}
-use Rattle.bpf_verify.proofs.state.Known.go_behind_call.Goals as goal
+use Rattle.bpf_verify.proofs.known.Known.go_behind_call.Goals as goal
 
 pub returns-clause-value : goal.returns-clause-value
 returns-clause-value c = search rules

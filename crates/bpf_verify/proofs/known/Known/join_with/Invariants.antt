@@ -1,8 +1,8 @@
 use Rattle.std.proofs.Common.{◌≡◌, ℕ, ◌<◌, ◌≤◌, length}
 use Rattle.bpf_kinds.specs.Kind as kind
 use Rattle.bpf_meaning.specs.declared.state.TheConstants.{REGISTERS}
-use Rattle.bpf_verify.specs.State.{kind_of}
-use Rattle.bpf_verify.proofs.state.Known.join_with.Given as goal
+use Rattle.bpf_verify.specs.AbstractState.{kind_of}
+use Rattle.bpf_verify.proofs.known.Known.join_with.Given as goal
 
 -- the registers so far are joined, and the others are as they were
 abbrev pub invariant-loop-register : goal.invariant-loop-register
