@@ -16,7 +16,7 @@ use Rattle.bpf_insn.specs.declared.value.Pointer.{Pointer as PointerParts}
 use Rattle.bpf_kinds.specs.Kind as kind
 use Rattle.bpf_kinds.specs.declared.interval.Interval.{Interval}
 use Rattle.bpf_kinds.specs.declared.kind.Kind.{Kind}
-use Rattle.bpf_kinds.specs.declared.kind.Kind.TheVariants.{Number, Record, Frame, Nothing}
+use Rattle.bpf_kinds.specs.declared.kind.Kind.TheVariants.{Number, Nothing}
 
 -- bytes that have a number are all written
 

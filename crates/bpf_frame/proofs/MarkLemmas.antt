@@ -7,7 +7,7 @@ use Rattle.bpf_frame.specs.FrameMap.{Contents, IsMarked, AllWritten, with_marks,
 use Rattle.bpf_frame.proofs.SlotLemmas.{length-filled, get_or-filled_before, get_or-filled_inside, get_or-filled_behind}
 use Rattle.bpf_insn.specs.declared.memory.TheConstants.{SLOT_LENGTH}
 use Rattle.bpf_kinds.specs.declared.kind.Kind.{Kind}
-use Rattle.bpf_kinds.specs.declared.kind.Kind.TheVariants.{Number, Record, Frame, Nothing}
+use Rattle.bpf_kinds.specs.declared.kind.Kind.TheVariants.{Number, Nothing}
 
 pub length-with_marks : (b : Bool) (marks : List Bool) (from len : ℕ) → from + len ≤ length marks
     → length (with_marks b marks from len) ≡ length marks

@@ -4,7 +4,7 @@ use Rattle.std.proofs.Common.{◌∙◌, sym, subst, arith}
 use Rattle.std.specs.Prelude.{IsTrue}
 use Rattle.std.proofs.lemmas.Bool.{both_ways}
 use Rattle.std.proofs.lemmas.List.{length-replicate, length-set}
-use Rattle.bpf_frame.specs.FrameMap.{Contents, IsProper, IsMarked, FitsKind, AllWritten, slot_kind, touch, mark, set_slot, fit_marks}
+use Rattle.bpf_frame.specs.FrameMap.{Contents, IsProper, IsMarked, FitsKind, slot_kind, touch, mark, set_slot, fit_marks}
 use Rattle.bpf_frame.specs.FrameMap.{with_marks, unwritten}
 use Rattle.bpf_frame.proofs.MarkLemmas.{length-with_marks, get_or-with_marks, get_or-other_marks, length-fit_marks, get_or-unfit_marks}
 use Rattle.bpf_frame.proofs.SlotLemmas.{length-filled, touch_each, mark_each, set_kind_each}

@@ -13,7 +13,7 @@ use Rattle.bpf_kinds.proofs.KindLemmas.{within-nothing}
 use Rattle.bpf_kinds.proofs.ListLemmas.{set_both}
 use Rattle.bpf_kinds.specs.declared.interval.Interval.{Interval}
 use Rattle.bpf_kinds.specs.declared.kind.Kind.{Kind}
-use Rattle.bpf_kinds.specs.declared.kind.Kind.TheVariants.{Number, Record, Frame, Nothing}
+use Rattle.bpf_kinds.specs.declared.kind.Kind.TheVariants.{Number, Nothing}
 
 -- a map that lies within another still does once bytes of the other are touched
 pub touch_widens : {x a : Contents} (low high : ℕ) → IsProper a → low ≤ high → high < FRAME_LENGTH → IsWithin x a

@@ -14,7 +14,7 @@ use Rattle.bpf_insn.specs.declared.word.Word.{Word}
 use Rattle.bpf_insn.specs.declared.register.Register.{Register as RegisterNumber}
 use Rattle.bpf_insn.specs.declared.register.WritableRegister.{WritableRegister}
 use Rattle.bpf_insn.specs.declared.instruction.Insn.{Insn}
-use Rattle.bpf_insn.specs.declared.instruction.Insn.TheVariants.{Alu, MoveSignExtended, Negate, ByteSwap, JumpIf, Jump, Call, Exit, Load}
+use Rattle.bpf_insn.specs.declared.instruction.Insn.TheVariants.{Alu, MoveSignExtended, Negate, ByteSwap, JumpIf, Jump, Load}
 use Rattle.bpf_insn.specs.declared.instruction.Insn.TheVariants.{StoreImmediate, Store, WideLoad}
 use Rattle.bpf_insn.specs.declared.instruction.Operation.{Operation}
 use Rattle.bpf_insn.specs.declared.instruction.Operation.TheVariants.{Move}
@@ -24,7 +24,7 @@ use Rattle.bpf_insn.specs.declared.instruction.Source.TheVariants.{Immediate, Re
 use Rattle.bpf_insn.specs.declared.instruction.SignExtension.TheVariants.{Bits8To32, Bits16To32, Bits8To64, Bits16To64, Bits32To64}
 use Rattle.bpf_insn.specs.declared.instruction.SwapWidth.{SwapWidth}
 use Rattle.bpf_insn.specs.declared.instruction.SwapWidth.TheVariants as swap
-use Rattle.bpf_insn.specs.declared.instruction.JumpDistance.TheVariants.{Short, Long}
+use Rattle.bpf_insn.specs.declared.instruction.JumpDistance.TheVariants.{Short}
 
 -- registers in their fields
 no_bad_register : (d : WritableRegister) → nat_lt 10 d.number ≡ false

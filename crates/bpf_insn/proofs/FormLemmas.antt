@@ -9,8 +9,8 @@ use Rattle.bpf_insn.specs.declared.instruction.Insn.TheVariants.{Alu, MoveSignEx
 use Rattle.bpf_insn.specs.declared.instruction.Insn.TheVariants.{StoreImmediate, Store, WideLoad}
 use Rattle.bpf_insn.specs.declared.instruction.Operation.{Operation}
 use Rattle.bpf_insn.specs.declared.instruction.Operation.TheVariants.{Add, Divide, SignedDivide, Modulo, SignedModulo, Move}
-use Rattle.bpf_insn.specs.declared.instruction.Width.TheVariants.{Bits32, Bits64}
-use Rattle.bpf_insn.specs.declared.instruction.Source.TheVariants.{Immediate, Register}
+use Rattle.bpf_insn.specs.declared.instruction.Width.TheVariants.{Bits32}
+use Rattle.bpf_insn.specs.declared.instruction.Source.TheVariants.{Immediate}
 use Rattle.bpf_insn.specs.declared.instruction.SignExtension.TheVariants.{Bits8To32}
 use Rattle.bpf_insn.specs.declared.instruction.ByteOrder.TheVariants.{LittleEndian}
 use Rattle.bpf_insn.specs.declared.instruction.Condition.TheVariants.{Equal}

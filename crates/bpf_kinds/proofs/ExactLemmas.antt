@@ -9,7 +9,7 @@ use mir.Val.{bits}
 use Rattle.bpf_insn.specs.Arithmetic as arithmetic
 use Rattle.bpf_insn.specs.Arithmetic.{operand_bits, low_bits}
 use Rattle.bpf_insn.specs.declared.instruction.Operation.{Operation}
-use Rattle.bpf_insn.specs.declared.instruction.Operation.TheVariants.{Add, Subtract, Multiply, Divide, SignedDivide, Or, And, ShiftLeft}
+use Rattle.bpf_insn.specs.declared.instruction.Operation.TheVariants.{Divide, SignedDivide, Or, And}
 use Rattle.bpf_insn.specs.declared.instruction.Operation.TheVariants.{ShiftRight, Modulo, SignedModulo, ExclusiveOr, Move}
 use Rattle.bpf_insn.specs.declared.instruction.Operation.TheVariants.{ArithmeticShiftRight}
 use Rattle.bpf_insn.specs.declared.instruction.Width.{Width}

@@ -1,5 +1,5 @@
 -- Where pointers come to that are moved by numbers of an interval.
-use Rattle.std.proofs.Common.{◌≡◌, ℕ, suc, ◌<◌, ◌≤◌, ◌-◌, ◌^◌, true, ◌||◌, Option, Some, None, refl, inl, inr, arith, subst}
+use Rattle.std.proofs.Common.{◌≡◌, ℕ, ◌≤◌, ◌-◌, ◌^◌, true, ◌||◌, Option, Some, None, refl, arith, subst}
 use Rattle.std.specs.Prelude.{ℤ, pos, negsuc, ◌≤ℤ◌, ◌+ℤ◌, ◌-ℤ◌, IsTrue, IfSome, FitsSigned, nat_lt, nat_le, int_le}
 use Rattle.std.specs.Int.{w16, w64, cast_signed}
 use Rattle.std.proofs.lemmas.Bool.{and_parts}

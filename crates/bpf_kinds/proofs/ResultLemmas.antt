@@ -139,7 +139,8 @@ extend-holds extension x n held =
     let limit = 2 ^ bits to in
     let value = λ (k : ℕ). cast_unsigned to (cast_signed from k) in
     let again = (extends extension).again n in
-    let below : value (low_bits from n) < limit = cast-fits from to (low_bits from n) (mod-lt n (pow_pos (bits from))) (extends extension).wider in
+    let wide = (extends extension).wider in
+    let below : value (low_bits from n) < limit = cast-fits from to (low_bits from n) (mod-lt n (pow_pos (bits from))) wide in
     let within = cut-holds to x n held in
     let P : ℕ → Type 0 = λ k. Holds limit (extend extension x) k in
     subst P (sym ((extends extension).is n))

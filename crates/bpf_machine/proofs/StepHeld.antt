@@ -4,8 +4,7 @@ use Rattle.std.proofs.Common.{subst}
 use Rattle.std.specs.Int.{cast_unsigned, w32}
 use Rattle.bpf_insn.specs.Code.{index_at, instruction_at, place_of, spelling}
 use Rattle.bpf_insn.specs.declared.instruction.Insn.{Insn}
-use Rattle.bpf_insn.specs.declared.instruction.Insn.TheVariants.{Alu, MoveSignExtended, Negate, ByteSwap, JumpIf, Jump, Call, Exit, Load}
-use Rattle.bpf_insn.specs.declared.instruction.Insn.TheVariants.{StoreImmediate, Store, WideLoad}
+use Rattle.bpf_insn.specs.declared.instruction.Insn.TheVariants.{JumpIf, Jump, Call, Load}
 use Rattle.bpf_insn.specs.declared.instruction.JumpDistance.TheVariants.{Short}
 use Rattle.bpf_insn.specs.declared.value.Area.{Area}
 use Rattle.bpf_insn.specs.declared.value.Area.TheVariants.{Frame}
@@ -23,13 +22,13 @@ use Rattle.bpf_meaning.specs.Checks.{◌>>=◌, Sound}
 use Rattle.bpf_meaning.specs.Effect as effect
 use Rattle.bpf_meaning.specs.Run.{IsSafe}
 use Rattle.bpf_meaning.specs.State.{register_value}
-use Rattle.bpf_meaning.specs.Step.{Configuration, Running, Exited, Stuck, after, apply, next_of as next_configuration}
+use Rattle.bpf_meaning.specs.Step.{Configuration, Running, Exited, after, apply, next_of as next_configuration}
 use Rattle.bpf_meaning.specs.declared.cause.Cause.{Cause}
 use Rattle.bpf_meaning.specs.declared.effect.Effect.{Effect}
 use Rattle.bpf_meaning.specs.declared.state.State.{State}
 use Rattle.bpf_meaning.proofs.CallLemmas.{IfPasses}
 use Rattle.bpf_meaning.proofs.WholeLemmas.{run_bytes, run_whole}
-use Rattle.bpf_verify.specs.Verified.{HasBaseAreas, base_of}
+use Rattle.bpf_verify.specs.Verified.{HasBaseAreas}
 use Rattle.bpf_verify.specs.Verified as verified
 use Rattle.bpf_machine.specs.Machine.{Does, HoldsState, IsReached}
 use Rattle.bpf_machine.specs.Words.{Goes, Ends, Holds, HoldsEffect, HoldsNext, MeetsCall, Next, PointsOnlyInto, Words, argument_words}

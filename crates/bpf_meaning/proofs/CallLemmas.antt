@@ -8,7 +8,7 @@ use Rattle.std.proofs.lemmas.Bool.Decides.{nat_tests}
 use Rattle.std.proofs.lemmas.Int.{to_z_pos}
 use Rattle.std.proofs.lemmas.List.{length-map, length-replicate, length-take}
 use Rattle.bpf_insn.specs.declared.value.Value.{Value}
-use Rattle.bpf_insn.specs.declared.value.Value.TheVariants.{Empty, Number, Pointer}
+use Rattle.bpf_insn.specs.declared.value.Value.TheVariants.{Number}
 use Rattle.bpf_insn.specs.declared.memory.TheConstants.{FRAME_LENGTH, SLOTS}
 use Rattle.bpf_kinds.specs.Interval.{Admits}
 use Rattle.bpf_kinds.specs.declared.interval.Interval.{Interval}

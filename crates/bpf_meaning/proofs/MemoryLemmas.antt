@@ -15,7 +15,7 @@ use Rattle.std.specs.Option.{option_map}
 use Rattle.std.specs.Int.{byte_at, bytes_low_first}
 use Rattle.bpf_helpers.specs.Call.{bytes_read, second, third, write}
 use Rattle.bpf_helpers.specs.declared.signature.FrameUse.{FrameUse}
-use Rattle.bpf_helpers.specs.declared.signature.FrameUse.TheVariants.{Nothing, Writes, Reads}
+use Rattle.bpf_helpers.specs.declared.signature.FrameUse.TheVariants.{Reads}
 use Rattle.bpf_helpers.proofs.WriteLemmas.{write-nothing}
 use Rattle.bpf_insn.specs.Frame.{FrameByte, FrameContents, Unwritten, Byte, number_of}
 use Rattle.bpf_insn.specs.declared.memory.TheConstants.{SLOT_LENGTH}

@@ -1,6 +1,6 @@
 -- A code that reads the record alone answers alike on segments of the same record: each step leads to the same configuration.
-use Rattle.std.proofs.Common.{◌≡◌, ℕ, ◌+◌, ◌-◌, ◌==◌, ◌&&◌, Bool, true, false, IsTrue, List, [], ◌∷◌, length, nat_lt, Option, Some, None}
-use Rattle.std.proofs.Common.{IfSome, Result, Ok, Err, if◌then◌else◌, refl, ap, ◌∙◌, subst}
+use Rattle.std.proofs.Common.{◌≡◌, ℕ, ◌+◌, ◌-◌, ◌==◌, Bool, true, false, IsTrue, List, [], ◌∷◌, length, nat_lt, Option, Some, None}
+use Rattle.std.proofs.Common.{IfSome, Result, Ok, if◌then◌else◌, refl, ap, ◌∙◌, subst}
 use Rattle.std.specs.Int.{cast_unsigned, w32}
 use Rattle.std.proofs.lemmas.Bool.{and_parts}
 use Rattle.bpf_insn.specs.Code.{instruction_at, spelling}
@@ -15,14 +15,14 @@ use Rattle.bpf_helpers.proofs.RecordLemmas.{calls_alike}
 use Rattle.bpf_meaning.specs.Memory.{written_bytes}
 use Rattle.bpf_meaning.specs.State.{start}
 use Rattle.bpf_meaning.specs.Effect.{arguments_in, call_change, effect_of, instruction_effect, lend_frame, ◌>>=◌}
-use Rattle.bpf_meaning.specs.Step.{Configuration, Running, Exited, Stuck, after, carry_out, next_of, state_after}
+use Rattle.bpf_meaning.specs.Step.{Configuration, Running, after, carry_out, next_of, state_after}
 use Rattle.bpf_meaning.specs.Run.{Answers, FollowSteps}
 use Rattle.bpf_meaning.specs.RecordAlone.{call_reads_record_alone, instruction_reads_record_alone, reads_record_alone}
 use Rattle.bpf_meaning.specs.declared.cause.Cause.{Cause}
 use Rattle.bpf_meaning.specs.declared.effect.Change.{Change}
-use Rattle.bpf_meaning.specs.declared.effect.Change.TheVariants.{Nothing, SetRegister, StoreBytes, StorePointer, CallHelper}
+use Rattle.bpf_meaning.specs.declared.effect.Change.TheVariants.{CallHelper}
 use Rattle.bpf_meaning.specs.declared.effect.Effect.{Effect}
-use Rattle.bpf_meaning.specs.declared.effect.Effect.TheVariants.{GoOn, End}
+use Rattle.bpf_meaning.specs.declared.effect.Effect.TheVariants.{GoOn}
 use Rattle.bpf_meaning.specs.declared.state.State.{State}
 use Rattle.bpf_meaning.proofs.EffectLemmas.{GoesOnWith, AreSuch, effect_is_such}
 use Rattle.bpf_meaning.proofs.CallLemmas.{IfPasses, then_passes}

@@ -1,5 +1,5 @@
 -- Which registers a call empties, and which it keeps.
-use Rattle.std.proofs.Common.{◌≡◌, ℕ, zero, suc, ◌≤◌, ℤ, List, get_or, Option, Some, None, Result, Ok, Err, refl, sym, ap, ◌∙◌, subst}
+use Rattle.std.proofs.Common.{◌≡◌, ℕ, zero, suc, ◌≤◌, ℤ, List, get_or, Option, Some, None, Result, Ok, refl, sym, ap, ◌∙◌, subst}
 use Rattle.std.proofs.Common.{arith}
 use Rattle.std.specs.Int.{cast_unsigned, w32}
 use Rattle.std.proofs.lemmas.List.{get_or-drop}
@@ -18,9 +18,9 @@ use Rattle.bpf_meaning.specs.Step.{Running, after, next_of, registers_after}
 use Rattle.bpf_meaning.specs.Run.{Step}
 use Rattle.bpf_meaning.specs.declared.cause.Cause.{Cause}
 use Rattle.bpf_meaning.specs.declared.effect.Change.{Change}
-use Rattle.bpf_meaning.specs.declared.effect.Change.TheVariants.{Nothing, SetRegister, StoreBytes, StorePointer, CallHelper}
+use Rattle.bpf_meaning.specs.declared.effect.Change.TheVariants.{CallHelper}
 use Rattle.bpf_meaning.specs.declared.effect.Effect.{Effect}
-use Rattle.bpf_meaning.specs.declared.effect.Effect.TheVariants.{GoOn, End}
+use Rattle.bpf_meaning.specs.declared.effect.Effect.TheVariants.{GoOn}
 use Rattle.bpf_meaning.specs.declared.state.State.{State}
 use Rattle.bpf_meaning.proofs.WholeLemmas.{IfRunning}
 use Rattle.bpf_meaning.proofs.EffectLemmas.{GoesOnWith, goes_on_with}

@@ -11,7 +11,6 @@ use Rattle.bpf_insn.specs.declared.instruction.Operation.TheVariants.{Move}
 use Rattle.bpf_insn.specs.declared.instruction.Width.{Width}
 use Rattle.bpf_insn.specs.declared.instruction.Source.{Source}
 use Rattle.bpf_insn.specs.declared.instruction.Source.TheVariants.{Immediate, Register}
-use Rattle.bpf_insn.specs.declared.instruction.Condition.{Condition}
 use Rattle.bpf_insn.specs.declared.instruction.SignExtension.{SignExtension}
 use Rattle.bpf_insn.specs.declared.instruction.ByteOrder.{ByteOrder}
 use Rattle.bpf_insn.specs.declared.instruction.SwapWidth.{SwapWidth}

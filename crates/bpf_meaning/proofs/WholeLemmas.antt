@@ -1,7 +1,7 @@
 -- An effect whose checks have passed can be carried out. A state that has all its registers and a whole frame keeps them, and so does one
 -- whose frame holds bytes, or keeps pointers apart from bytes that are written.
 use Rattle.std.proofs.Common.{◌≡◌, ℕ, zero, suc, ◌+◌, ◌*◌, ◌/◌, ◌≤◌, ◌<◌, ℤ, pos, negsuc, true, List, [], ◌∷◌, length, map, get_or}
-use Rattle.std.proofs.Common.{replicate, unsigned_abs, Option, Some, None, Result, Ok, Err, refl, sym, ap, ◌∙◌, subst, arith, length-set}
+use Rattle.std.proofs.Common.{replicate, unsigned_abs, Option, Some, None, Result, Ok, refl, sym, ap, ◌∙◌, subst, arith, length-set}
 use Rattle.std.specs.Int.{bytes_low_first, cast_unsigned, w32}
 use Rattle.std.proofs.lemmas.Bool.{false≢true}
 use Rattle.std.proofs.lemmas.Bool.Decides.{nat_tests}
@@ -17,13 +17,13 @@ use Rattle.bpf_meaning.specs.State.{HoldsBytes, IsWhole, KeepsPointersApart, sta
 use Rattle.bpf_insn.specs.Memory.{store_length}
 use Rattle.bpf_helpers.specs.Helper.{by_number}
 use Rattle.bpf_meaning.specs.Effect.{effect, effect_of, lie_within, CanBeMade, CanBeCarriedOut}
-use Rattle.bpf_meaning.specs.Step.{Configuration, Running, Exited, Stuck, after, carry_out, next_of}
+use Rattle.bpf_meaning.specs.Step.{Configuration, Running, after, carry_out, next_of}
 use Rattle.bpf_meaning.specs.Run.{Step, FollowSteps, IsRun, last_of, end_of}
 use Rattle.bpf_meaning.specs.declared.cause.Cause.{Cause}
 use Rattle.bpf_meaning.specs.declared.effect.Change.{Change}
 use Rattle.bpf_meaning.specs.declared.effect.Change.TheVariants.{Nothing, SetRegister, StoreBytes, StorePointer, CallHelper}
 use Rattle.bpf_meaning.specs.declared.effect.Effect.{Effect}
-use Rattle.bpf_meaning.specs.declared.effect.Effect.TheVariants.{GoOn, End}
+use Rattle.bpf_meaning.specs.declared.effect.Effect.TheVariants.{GoOn}
 use Rattle.bpf_insn.specs.declared.memory.TheConstants.{FRAME_LENGTH, SLOT_LENGTH, SLOTS}
 use Rattle.bpf_meaning.specs.declared.state.State.{State}
 use Rattle.bpf_meaning.proofs.MemoryLemmas.{length-bytes_low_first, store_is_write}

@@ -1,5 +1,5 @@
 -- What follows from the digits of a number.
-use Rattle.std.proofs.Common.{◌≡◌, ℕ, ◌+◌, ◌*◌, ◌^◌, ◌<◌, ◌≤◌, true, List, [], ◌∷◌, length, get_or, take, ℤ, refl, ap, ◌∙◌, arith}
+use Rattle.std.proofs.Common.{◌≡◌, ℕ, ◌+◌, ◌*◌, ◌^◌, ◌<◌, ◌≤◌, true, List, [], ◌∷◌, length, get_or, take, refl, arith}
 use Rattle.std.specs.List.{list_all}
 use Rattle.std.specs.Char.{digit_value}
 use Rattle.std.specs.Str.Parse.{digits_value, AllDigits}
@@ -7,10 +7,7 @@ use Rattle.std.proofs.lemmas.Bool.{and_parts, lt-ltb, ltb-true}
 use Rattle.std.proofs.lemmas.Int.Digits.{digits_value-lt, digits_value_more}
 use Rattle.std.proofs.lemmas.List.Folds.{list_all_more}
 use Rattle.std.proofs.Math.Nat.{lt_of_lt_of_le, pow-le-pow_right, pow-le-pow_left}
-use Rattle.std.specs.Int.{w16, w32}
-use mir.Val.{to_z, of_z, SFits}
-use Rattle.std.proofs.lemmas.Int.{ints, to_z-of_z}
-use Rattle.bpf_text.specs.Number.{is_digit, IsWithin, limit_of_16_bits}
+use Rattle.bpf_text.specs.Number.{is_digit}
 
 pub all_digits : (radix : ℕ) (ds : List ℕ) → list_all (is_digit radix) ds ≡ true → AllDigits radix ds
 all_digits radix [] all = tt

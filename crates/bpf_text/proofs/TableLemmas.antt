@@ -4,7 +4,7 @@ use Rattle.std.specs.List.{list_all, find}
 use Rattle.std.specs.Str.{bytes_eq}
 use Rattle.std.proofs.lemmas.Bool.{and_parts}
 use Rattle.bpf_insn.specs.declared.instruction.Operation.TheVariants.{Add}
-use Rattle.bpf_insn.specs.declared.instruction.Width.TheVariants.{Bits32, Bits64}
+use Rattle.bpf_insn.specs.declared.instruction.Width.TheVariants.{Bits64}
 use Rattle.bpf_insn.specs.declared.instruction.Condition.TheVariants.{Equal}
 use Rattle.bpf_insn.specs.declared.instruction.SignExtension.TheVariants.{Bits8To64}
 use Rattle.bpf_insn.specs.declared.instruction.ByteOrder.TheVariants.{LittleEndian}
@@ -12,8 +12,8 @@ use Rattle.bpf_insn.specs.declared.instruction.SwapWidth.TheVariants as swap
 use Rattle.bpf_insn.specs.declared.instruction.LoadFormat.TheVariants as load
 use Rattle.bpf_insn.specs.declared.instruction.StoreSize.TheVariants as store
 use Rattle.bpf_text.specs.declared.mnemonic_form.MnemonicForm.{MnemonicForm}
-use Rattle.bpf_text.specs.declared.mnemonic_form.MnemonicForm.TheVariants.{Alu, MoveSignExtended, Negate, ByteSwap, JumpIf, Jump, LongJump, Call, Exit, Load}
-use Rattle.bpf_text.specs.declared.mnemonic_form.MnemonicForm.TheVariants.{StoreImmediate, Store, WideLoad}
+use Rattle.bpf_text.specs.declared.mnemonic_form.MnemonicForm.TheVariants.{Alu, MoveSignExtended, Negate, ByteSwap, JumpIf, Load}
+use Rattle.bpf_text.specs.declared.mnemonic_form.MnemonicForm.TheVariants.{StoreImmediate, Store}
 use Rattle.bpf_text.specs.declared.mnemonic_form.TheConstants.{FORMS}
 use Rattle.bpf_text.specs.Words.{is_mnemonic_byte}
 use Rattle.bpf_text.specs.Mnemonic.{name_of, form_named}

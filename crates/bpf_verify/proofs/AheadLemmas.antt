@@ -1,6 +1,6 @@
 -- The states ahead of the pass: they wait at targets of jumps that were passed.
 use Rattle.std.proofs.Common.{◌≡◌, ◌≢◌, ℕ, pos, ◌+◌, ◌<◌, ◌≤◌, ◌==◌, Bool, cond, if◌then◌else◌, true, false, List, [], ◌∷◌, length, Option}
-use Rattle.std.proofs.Common.{Some, None, option_map, IfSome, IsSome, refl, sym, ap, ◌∙◌, subst, arith, inl, inr}
+use Rattle.std.proofs.Common.{Some, None, IfSome, IsSome, refl, sym, ap, ◌∙◌, subst, arith, inl, inr}
 use Rattle.std.proofs.lemmas.Bool.{cases_lt, false≢true}
 use Rattle.std.proofs.lemmas.Bool.Decides.{nat_tests}
 use Rattle.std.specs.BTreeMap.{BTreeMap, Updates, is_at}
@@ -11,15 +11,14 @@ use Rattle.std.specs.declared.boxed.Box.{Box}
 use Rattle.bpf_insn.proofs.CodeLemmas.{length-spelling_positive}
 use Rattle.bpf_insn.proofs.SpanLemmas.{nothing_within}
 use Rattle.bpf_insn.specs.Code.{instruction_at, spelling}
-use Rattle.bpf_insn.specs.Jump.{jump_distance}
 use Rattle.bpf_insn.specs.declared.instruction.Insn.{Insn}
-use Rattle.bpf_flow.specs.Flow.{IsForward, target_of}
+use Rattle.bpf_flow.specs.Flow.{IsForward}
 use Rattle.bpf_verify.specs.Pass.{Ahead, AreAhead, AreProper, IsTargetAhead, first, joined, joined_if, kept, propagated, state_of}
 use Rattle.bpf_verify.specs.Pass.{states_in, waiting_at}
 use Rattle.bpf_verify.specs.AbstractState.{AbstractState, Unreached, Reached, Edges, join, IsProper, IsProperKnown}
 use Rattle.bpf_verify.specs.declared.known.Known.{Known}
 use Rattle.bpf_verify.proofs.PassLemmas.{entry_is_proper, is_found_proper, joined-here, joined-other, joined-same, joined_each}
-use Rattle.bpf_verify.proofs.PassLemmas.{joined_if-same, joined_proper, jump_of, same_place}
+use Rattle.bpf_verify.proofs.PassLemmas.{joined_if-same, joined_proper, same_place}
 
 -- where jumps lead that were passed
 

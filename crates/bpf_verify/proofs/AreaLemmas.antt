@@ -21,7 +21,7 @@ use Rattle.bpf_flat.specs.declared.flat.FlatInsn.{FlatInsn}
 use Rattle.bpf_flow.specs.Flow.{IsForward}
 use Rattle.bpf_kinds.specs.Kind as kind
 use Rattle.bpf_kinds.specs.declared.kind.Kind.{Kind}
-use Rattle.bpf_kinds.specs.declared.kind.Kind.TheVariants.{Number, Record, Frame, Nothing}
+use Rattle.bpf_kinds.specs.declared.kind.Kind.TheVariants.{Record, Frame}
 use Rattle.bpf_meaning.specs.Checks.{◌>>=◌}
 use Rattle.bpf_meaning.specs.Run.{IsRun, end_of}
 use Rattle.bpf_meaning.specs.State.{register_value}

@@ -1,5 +1,5 @@
 -- The pass: what it keeps is an annotation that is good up to where it has come.
-use Rattle.std.proofs.Common.{◌≡◌, ℕ, ℤ, pos, ◌≢◌, zero, suc, ◌+◌, ◌+ℤ◌, ◌<◌, ◌≤◌, ◌==◌, Bool, List, [], ◌∷◌, ◌++◌, length, get_or, Option}
+use Rattle.std.proofs.Common.{◌≡◌, ℕ, ℤ, pos, ◌≢◌, zero, suc, ◌+◌, ◌+ℤ◌, ◌<◌, ◌≤◌, ◌==◌, Bool, List, [], ◌∷◌, ◌++◌, length, Option}
 use Rattle.std.proofs.Common.{Some, None, option_map, IfSome, Result, Ok, Err, nat_le, true, false, if◌then◌else◌, refl, sym, ap, ◌∙◌}
 use Rattle.std.proofs.Common.{subst, arith, rules, inl, inr}
 use Rattle.std.proofs.lemmas.Bool.{cases_lt}
@@ -20,14 +20,13 @@ use Rattle.bpf_flow.specs.Flow.{IsForward, target_of}
 use Rattle.bpf_frame.proofs.ProperLemmas.{unwritten_is_proper}
 use Rattle.bpf_kinds.specs.Kind as kind
 use Rattle.bpf_kinds.specs.Offsets as offsets
-use Rattle.bpf_kinds.specs.declared.kind.Kind.{Kind}
-use Rattle.bpf_kinds.specs.declared.kind.Kind.TheVariants.{Nothing}
 use Rattle.bpf_insn.specs.declared.value.Area.{Area}
 use Rattle.bpf_verify.specs.Annotation.{Annotation, PassesAt, IsGoodUpTo, IsLeastUpTo, Fails, IsAccepted, IsRefusedAt, IsVerifyFault}
 use Rattle.bpf_verify.specs.Annotation.{area_of, areas_from}
 use Rattle.bpf_verify.specs.Pass.{Ahead, AreProper, IsVisitFault, Visits, first, joined, joined_if, kept, propagated, state_of, waiting_at}
 use Rattle.bpf_meaning.specs.declared.cause.Cause.{Cause}
-use Rattle.bpf_verify.specs.AbstractState.{AbstractState, Unreached, Reached, Edges, AreEdgesWithin, entry, join, kind_of, IsProper, IsProperKnown, IsWithin}
+use Rattle.bpf_verify.specs.AbstractState.{AbstractState, Unreached, Reached, Edges, AreEdgesWithin, entry, join, kind_of, IsProper}
+use Rattle.bpf_verify.specs.AbstractState.{IsProperKnown, IsWithin}
 use Rattle.bpf_verify.specs.Transfer.{transfer}
 use Rattle.bpf_verify.specs.declared.fault.VerifyFault.{VerifyFault}
 use Rattle.bpf_verify.specs.declared.fault.VerifyFault.TheVariants.{Refused, Memory}

@@ -1,10 +1,7 @@
 -- Arithmetic on kinds is sound.
-use Rattle.std.proofs.Common.{◌≡◌, ℕ, ◌/◌, ◌%◌, ◌^◌, ◌<◌, ◌≤◌, ◌-◌, ◌==◌, ◌||◌, nat_lt, nat_le, ℤ, Bool, true, false, Option, Some, None}
-use Rattle.std.proofs.Common.{Ok, IsTrue, if◌then◌else◌, refl, subst, arith}
+use Rattle.std.proofs.Common.{◌≡◌, ℕ, ◌^◌, ◌≤◌, ◌-◌, ◌||◌, nat_lt, nat_le, ℤ, Bool, true, false, Option, Some, None}
+use Rattle.std.proofs.Common.{Ok, IsTrue, if◌then◌else◌, refl, arith}
 use Rattle.std.proofs.lemmas.Bool.Decides.{nat_tests}
-use Rattle.std.proofs.Math.Nat.{mod-lt}
-use Rattle.std.proofs.lemmas.Nat.{pow_pos}
-use mir.Val.{bits}
 use Rattle.std.proofs.lemmas.Int.{ints}
 use Rattle.std.specs.Int.{w32, w64, cast_signed}
 use Rattle.bpf_insn.specs.Arithmetic.{operand_bits, low_bits, result_of}
@@ -26,9 +23,9 @@ use Rattle.bpf_kinds.proofs.HoldLemmas.{cut-holds}
 use Rattle.bpf_kinds.proofs.MovingLaws.{near_above, near_below, move_by-admits, move_back_by-admits}
 use Rattle.bpf_kinds.proofs.ResultLemmas.{alu-holds}
 use Rattle.bpf_meaning.specs.Effect as effect
-use Rattle.bpf_meaning.specs.Effect.{◌>>=◌, offset_or, tagged_value, value_tags}
+use Rattle.bpf_meaning.specs.Effect.{offset_or, tagged_value, value_tags}
 use Rattle.bpf_meaning.specs.declared.cause.Cause.TheVariants.{PointerArithmetic, LeavesArea}
-use Rattle.bpf_kinds.specs.Interval.{IsProper, Admits, cut, between, full}
+use Rattle.bpf_kinds.specs.Interval.{Admits, cut, between}
 use Rattle.bpf_kinds.specs.Results.{alu}
 use Rattle.bpf_kinds.specs.declared.interval.Interval.{Interval}
 use Rattle.bpf_verify.specs.Transfer.{or_cause, tagged_kind, kind_pointer, kind_tags}

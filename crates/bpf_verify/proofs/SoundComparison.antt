@@ -15,7 +15,7 @@ use Rattle.bpf_kinds.specs.Kind as kind
 use Rattle.bpf_kinds.specs.Narrowing.{refine}
 use Rattle.bpf_kinds.specs.declared.interval.Interval.{Interval}
 use Rattle.bpf_kinds.specs.declared.kind.Kind.{Kind}
-use Rattle.bpf_kinds.specs.declared.kind.Kind.TheVariants.{Number, Record, Frame, Nothing}
+use Rattle.bpf_kinds.specs.declared.kind.Kind.TheVariants.{Number}
 use Rattle.bpf_kinds.specs.declared.narrowing.Narrowed.{Narrowed}
 use Rattle.bpf_kinds.proofs.NarrowingLaws.{refine-keeps}
 use Rattle.bpf_meaning.specs.Effect as effect

@@ -8,9 +8,7 @@ use Rattle.std.proofs.lemmas.Bool.Decides.{nat_tests}
 use Rattle.std.proofs.lemmas.Int.{ints}
 use Rattle.std.proofs.lemmas.List.{length-map, length-replicate}
 use Rattle.std.specs.Int.{bytes_low_first}
-use Rattle.bpf_insn.specs.Arithmetic as arithmetic
 use Rattle.bpf_insn.specs.declared.instruction.LoadFormat.{LoadFormat}
-use Rattle.bpf_insn.specs.declared.instruction.LoadFormat.TheVariants as format
 use Rattle.bpf_insn.specs.declared.instruction.StoreSize.{StoreSize}
 use Rattle.bpf_insn.specs.declared.value.Area.{Area}
 use Rattle.bpf_insn.specs.declared.value.Area.TheVariants as area
@@ -363,8 +361,8 @@ number_keeps segment {known} {state} has {k} {x} {at} offset size number admits 
     by_slot None none = number_written segment has offset size number admits within
     by_slot (Some slot) is =
         number_kept segment has (at +ℤ offset) size number (known_slot_is x at offset (store_length size) slot admits is)
-        (inside_ends (at +ℤ offset) (store_length size) FRAME_LENGTH (lies_within x at offset (store_length size) FRAME_LENGTH admits within))
-        holds
+        (inside_ends (at +ℤ offset) (store_length size) FRAME_LENGTH
+        (lies_within x at offset (store_length size) FRAME_LENGTH admits within)) holds
 
 number_sound : (segment : Contents) {known : Known} {state : State} → HasState known state
     → {k : Interval} {x : Offsets} {offset from : ℤ} (size : StoreSize) (number : ℕ) → IsFrom offset x from
