@@ -1,6 +1,6 @@
 -- What is known of a program's frame, whatever the segment: which of its bytes are written, and the kind of what each of its slots holds. Such
 -- marks and kinds are this project's own: RFC 9669 has none.
-use Rattle.std.specs.Prelude.{◌≡◌, ◌≢◌, ℕ, ◌+◌, ◌-◌, ◌*◌, ◌/◌, ◌≤◌, ◌<◌, Bool, true, false, ◌&&◌, List, [], ◌∷◌, ◌++◌, length, take, drop, replicate, get_or, slice_set, IsTrue, slice_index_or}
+use Rattle.std.specs.Prelude.{◌≡◌, ℕ, ◌+◌, ◌-◌, ◌*◌, ◌/◌, ◌≤◌, Bool, true, false, ◌&&◌, List, [], ◌∷◌, ◌++◌, length, take, drop, replicate, get_or, slice_set, IsTrue, slice_index_or}
 use Rattle.std.specs.List.{list_all}
 use Rattle.bpf_insn.specs.Frame.{FrameContents, is_written, slot_value, clear_slots, overwrite_slots}
 use Rattle.bpf_insn.specs.declared.memory.TheConstants.{FRAME_LENGTH, SLOT_LENGTH, SLOTS}

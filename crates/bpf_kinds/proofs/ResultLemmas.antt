@@ -19,7 +19,7 @@ use Rattle.bpf_insn.specs.declared.instruction.SignExtension.TheVariants.{Bits8T
 use Rattle.bpf_insn.specs.declared.instruction.ByteOrder.{ByteOrder}
 use Rattle.bpf_insn.specs.declared.instruction.ByteOrder.TheVariants.{LittleEndian, BigEndian, Swapped}
 use Rattle.bpf_insn.specs.declared.instruction.SwapWidth.{SwapWidth}
-use Rattle.bpf_insn.specs.declared.instruction.SwapWidth.TheVariants.{Bits16, Bits32, Bits64}
+use Rattle.bpf_insn.specs.declared.instruction.SwapWidth.TheVariants.{Bits16}
 use Rattle.bpf_insn.specs.declared.instruction.LoadFormat.{LoadFormat}
 use Rattle.bpf_insn.specs.declared.instruction.LoadFormat.TheVariants.{Byte, HalfWord, Word, DoubleWord, SignedByte, SignedHalfWord}
 use Rattle.bpf_insn.specs.declared.instruction.LoadFormat.TheVariants.{SignedWord}

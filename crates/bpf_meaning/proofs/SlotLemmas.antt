@@ -12,7 +12,7 @@ use Rattle.bpf_helpers.proofs.WriteLemmas.{get_or-write, get_or-write_before, ge
 use Rattle.bpf_insn.specs.Arithmetic.{load_extension}
 use Rattle.bpf_insn.specs.Memory.{load_length, store_length}
 use Rattle.bpf_insn.specs.declared.instruction.LoadFormat.{LoadFormat}
-use Rattle.bpf_insn.specs.declared.instruction.LoadFormat.TheVariants.{Byte, SignedByte, SignedHalfWord}
+use Rattle.bpf_insn.specs.declared.instruction.LoadFormat.TheVariants.{SignedByte, SignedHalfWord}
 use Rattle.bpf_insn.specs.declared.instruction.LoadFormat.TheVariants.{SignedWord}
 use Rattle.bpf_insn.specs.declared.instruction.StoreSize.{StoreSize}
 use Rattle.bpf_insn.specs.declared.memory.TheConstants.{FRAME_LENGTH, SLOT_LENGTH, SLOTS}

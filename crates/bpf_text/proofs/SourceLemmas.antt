@@ -1,5 +1,5 @@
 -- Faults of a source that is UTF-8.
-use Rattle.std.proofs.Common.{◌≡◌, ◌≢◌, ℕ, List, ap, refl}
+use Rattle.std.proofs.Common.{◌≢◌, ℕ, List, refl}
 use Rattle.std.specs.Prelude.{IsUtf8}
 use Rattle.bpf_text.specs.SourceFault.{IsSourceFault}
 use Rattle.bpf_text.specs.Text.{IsFirstFault}

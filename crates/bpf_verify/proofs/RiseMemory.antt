@@ -25,7 +25,7 @@ use Rattle.bpf_kinds.specs.Kind as kind
 use Rattle.bpf_kinds.specs.Results.{load}
 use Rattle.bpf_kinds.specs.declared.interval.Interval.{Interval}
 use Rattle.bpf_kinds.specs.declared.kind.Kind.{Kind}
-use Rattle.bpf_kinds.specs.declared.kind.Kind.TheVariants.{Number, Record, Frame, Nothing}
+use Rattle.bpf_kinds.specs.declared.kind.Kind.TheVariants.{Number, Nothing}
 use Rattle.bpf_kinds.specs.declared.offsets.Offsets.{Offsets}
 use Rattle.bpf_kinds.proofs.ListLemmas.{set_both}
 use Rattle.bpf_kinds.proofs.ResultLemmas.{load-proper}

@@ -25,7 +25,7 @@ use Rattle.bpf_kinds.proofs.ResultLemmas.{alu-holds}
 use Rattle.bpf_meaning.specs.Effect as effect
 use Rattle.bpf_meaning.specs.Effect.{offset_or, tagged_value, value_tags}
 use Rattle.bpf_meaning.specs.declared.cause.Cause.TheVariants.{PointerArithmetic, LeavesArea}
-use Rattle.bpf_kinds.specs.Interval.{Admits, cut, between}
+use Rattle.bpf_kinds.specs.Interval.{Admits, cut}
 use Rattle.bpf_kinds.specs.Results.{alu}
 use Rattle.bpf_kinds.specs.declared.interval.Interval.{Interval}
 use Rattle.bpf_verify.specs.Transfer.{or_cause, tagged_kind, kind_pointer, kind_tags}
