@@ -1,12 +1,12 @@
 -- Whose turn is next, among the first jobs of a table.
 use Rattle.std.specs.List.{Contains}
-use Rattle.std.proofs.Common.{◌≡◌, ℕ, zero, suc, ◌<◌, ◌≤◌, inl, inr, List, [], ◌∷◌, ◌++◌, slice_index_or, Option, Some, None, refl, sym, ap}
+use Rattle.std.proofs.Common.{◌≡◌, ℕ, ◌<◌, ◌≤◌, inl, inr, List, [], ◌∷◌, ◌++◌, slice_index_or, Option, Some, None, refl, sym, ap}
 use Rattle.std.proofs.Common.{◌∙◌, subst, append_assoc, arith}
 use Rattle.std.specs.Prelude.{◌⊎◌}
 use Rattle.std.specs.List.{All, AllByRecursion}
 use Rattle.std.proofs.Math.Nat.{eq-or-lt_of_le}
 use Rattle.std.proofs.lemmas.List.{append-nil, map-append}
-use Rattle.std.proofs.lemmas.List.Elements.{All-push, Contains-append_left, Contains-append_right}
+use Rattle.std.proofs.lemmas.List.Elements.{All-cons, All-nil, All-push, Contains-append_left, Contains-append_right}
 use Rattle.jobs.specs.Inside.{Ascend, jobs_of, parts_of}
 use Rattle.jobs.specs.Table.{IsBefore, IsNextTurn, JobParts, Table, total_of}
 use Rattle.jobs.specs.declared.job.Job.{Job}
@@ -36,12 +36,9 @@ none_seen total entries least is = record { seen = []; split = refl; first = (is
 -- all that were seen have ids below that of one behind them
 before_all : {A : Type 0} (seen : List (ℕ × Job A)) (id : ℕ) → AllByRecursion (λ (before : ℕ × Job A). before.0 < id) seen
     → All (λ other. other.0 < id) (jobs_of seen)
-before_all [] id below = λ k d inside. absurd (omega arith)
-before_all (first ∷ seen) id below = by (before_all seen id below.1)
-  where
-    by : All (λ other. other.0 < id) (jobs_of seen) → All (λ other. other.0 < id) (jobs_of (first ∷ seen))
-    by others zero d inside = below.0
-    by others (suc k) d inside = others k d (omega arith)
+before_all [] id below = All-nil _
+before_all (first ∷ seen) id below =
+    All-cons (λ (other : ℕ × JobParts). other.0 < id) (first.0, parts_of first.1) (jobs_of seen) below.0 (before_all seen id below.1)
 
 -- the first of these jobs is no further than the total
 least-le : (total : ℕ) (jobs : List (ℕ × JobParts)) (next : Option ℕ) (least : ℕ) → FirstOf total jobs next least → least ≤ total
@@ -142,7 +139,7 @@ next_turn_is table None least ascend first = first.1
 next_turn_is table (Some id) least ascend (job, is, next) = (
   job,
   record {
-    there = found_among 0 table.jobs table.last_id id job ascend next.among;
+    there = found_among table.jobs table.last_id id job ascend next.among;
     unfinished = next.unfinished;
     first = next.first;
   },

@@ -61,6 +61,16 @@ turns-more : (id : ℕ) (past : List Exchange) (event : Event) (reply : Reply)
 turns-more id [] event reply = omega arith
 turns-more id (first ∷ past) event reply = let others = turns-more id past event reply in omega arith
 
+programs-kept : (id : ℕ) (past : List Exchange) (event : Event) (reply : Reply) → program_of id event reply ≡ None
+    → programs_of id (past ++ exchange_of event reply ∷ []) ≡ programs_of id past
+programs-kept id past event reply none =
+    programs-more id past event reply ∙ ap (λ program. programs_of id past ++ cons_option program []) none
+    ∙ append-nil (programs_of id past)
+
+turns-kept : (id : ℕ) (past : List Exchange) (event : Event) (reply : Reply) → turn_count id event reply ≡ 0
+    → turns_of id (past ++ exchange_of event reply ∷ []) ≡ turns_of id past
+turns-kept id past event reply none = turns-more id past event reply ∙ ap (λ n. turns_of id past + n) none ∙ (omega arith)
+
 range-push : (from count : ℕ) → range_with_len from (count + 1) ≡ range_with_len from count ++ (from + count) ∷ []
 range-push from zero = ap (λ n. n ∷ []) {x = from} {y = from + 0} (omega arith)
 range-push from (suc count) =
@@ -74,11 +84,10 @@ module _ (counties : List CountyParts) (past : List Exchange) (event : Event) (r
       → IsOwn counties (past ++ exchange_of event reply ∷ []) id job
   own_kept id job no_program no_turn own = record {
     program = own.program;
-    submitted = programs-more id past event reply ∙ ap (λ program. programs_of id past ++ cons_option program []) no_program
-        ∙ append-nil (programs_of id past) ∙ own.submitted;
+    submitted = programs-kept id past event reply no_program ∙ own.submitted;
     accepted = own.accepted;
     done = own.done ∙ ap (λ turns. min (length (segments_of counties)) (SEGMENTS_PER_TURN * turns))
-        (sym (turns-more id past event reply ∙ ap (λ n. turns_of id past + n) no_turn ∙ (omega arith)));
+        (sym (turns-kept id past event reply no_turn));
     chosen = own.chosen;
     rows = own.rows;
   }
@@ -89,8 +98,7 @@ module _ (counties : List CountyParts) (past : List Exchange) (event : Event) (r
       → IsOwn counties (past ++ exchange_of event reply ∷ []) id new
   own_turned id old new no_program turn code advances own = record {
     program = own.program;
-    submitted = programs-more id past event reply ∙ ap (λ program. programs_of id past ++ cons_option program []) no_program
-        ∙ append-nil (programs_of id past) ∙ own.submitted;
+    submitted = programs-kept id past event reply no_program ∙ own.submitted;
     accepted = subst (λ code. IsSafeProgram own.program code) (sym code) own.accepted;
     done =
         let before = own.done in
@@ -111,8 +119,7 @@ module _ (counties : List CountyParts) (past : List Exchange) (event : Event) (r
     submitted = programs-more id past event reply ∙ ap (λ program. programs_of id past ++ cons_option program []) is_program
         ∙ ap (λ programs. programs ++ program ∷ []) none;
     accepted = safe;
-    done = let turns = turns-more id past event reply ∙ ap (λ n. turns_of id past + n) no_turn ∙ ap (λ n. n + 0) no_turns in
-        grind (arith, turns);
+    done = let turns = turns-kept id past event reply no_turn ∙ no_turns in grind (arith, turns);
     chosen = 0;
     rows = (refl, refl);
   }
@@ -129,11 +136,8 @@ module _ (counties : List CountyParts) (past : List Exchange) (event : Event) (r
           ∙ ap (λ n. range_with_len 1 n) (sym last);
       ascend = subst (λ high. Ascend 0 new.jobs high) (sym last) ascend;
       fresh = λ id above.
-          let before = so_far.fresh id (omega (arith, last)) in (
-            programs-more id past event reply ∙ ap (λ program. programs_of id past ++ cons_option program []) (no_program id)
-                ∙ append-nil (programs_of id past) ∙ before.0,
-            turns-more id past event reply ∙ ap (λ n. turns_of id past + n) (no_turn id) ∙ ap (λ n. n + 0) before.1,
-          );
+          let before = so_far.fresh id (omega (arith, last)) in
+          (programs-kept id past event reply (no_program id) ∙ before.0, turns-kept id past event reply (no_turn id) ∙ before.1);
       own = λ id job found. own_kept id job (no_program id) (no_turn id) (so_far.own id job (there id job found));
     }
 
@@ -156,9 +160,8 @@ step_more counties past (Submit program) (Submitted id) old new so_far (room, ne
       ascend = Ascend-push 0 old.jobs old.last_id id (new_job code) (omega (arith, next)) (omega (arith, next)) so_far.ascend;
       fresh = λ q above.
           let before = so_far.fresh q (omega (arith, next)) in (
-            programs-more q past (Submit program) (Submitted id) ∙ ap (λ program. programs_of q past ++ cons_option program [])
-                (other_program q (omega arith)) ∙ append-nil (programs_of q past) ∙ before.0,
-            turns-more q past (Submit program) (Submitted id) ∙ ap (λ n. n + 0) before.1,
+            programs-kept q past (Submit program) (Submitted id) (other_program q (omega arith)) ∙ before.0,
+            turns-kept q past (Submit program) (Submitted id) refl ∙ before.1,
           );
       own = λ q job found. elim (found_pushed old.jobs id (new_job code) q job found) [
         | inl there ↦ kept q job there (found_within 0 old.jobs old.last_id q job so_far.ascend there)
@@ -185,12 +188,10 @@ step_more counties past (Submit program) (Submitted id) old new so_far (room, ne
     first q job same is =
         let before = so_far.fresh id (omega (arith, next)) in
         rw (same, is) (own_new counties past (Submit program) (Submitted id) id program.now code this_program refl before.0 before.1 safe)
-step_more counties past (Submit program) (Refused Full) old new so_far (full, same) =
-    unchanged _ _ so_far refl (λ id. refl) (λ id. refl) same
-step_more counties past (Submit program) (Refused (Program fault)) old new so_far (room, is, has, same) =
-    unchanged _ _ so_far refl (λ id. refl) (λ id. refl) same
-step_more counties past (Submit program) (Refused Memory) old new so_far (room, same) =
-    unchanged _ _ so_far refl (λ id. refl) (λ id. refl) same
+step_more counties past (Submit program) (Refused Full) old new so_far step = unchanged _ _ so_far refl (λ id. refl) (λ id. refl) step.1
+step_more counties past (Submit program) (Refused (Program fault)) old new so_far step =
+    unchanged _ _ so_far refl (λ id. refl) (λ id. refl) step.3
+step_more counties past (Submit program) (Refused Memory) old new so_far step = unchanged _ _ so_far refl (λ id. refl) (λ id. refl) step.1
 step_more counties past (Turn id) (Turned done total) old new so_far (job, there, job', turned, is, done_is, total_is) =
     subst (λ table. IsSoFar counties (past ++ exchange_of (Turn id) (Turned done total) ∷ []) table) (sym is) (record {
       over = so_far.over;
@@ -199,11 +200,10 @@ step_more counties past (Turn id) (Turned done total) old new so_far (job, there
       fresh = λ q above.
           let before = so_far.fresh q above in
           let within = found_within 0 old.jobs old.last_id id job so_far.ascend there in (
-            programs-more q past (Turn id) (Turned done total) ∙ append-nil (programs_of q past) ∙ before.0,
-            turns-more q past (Turn id) (Turned done total) ∙ ap (λ n. turns_of q past + n)
-                (other_turn q (let below = within.1 in omega arith)) ∙ ap (λ n. n + 0) before.1,
+            programs-kept q past (Turn id) (Turned done total) refl ∙ before.0,
+            turns-kept q past (Turn id) (Turned done total) (other_turn q (let below = within.1 in omega arith)) ∙ before.1,
           );
-      own = λ q found_job found. elim (found_changed old.jobs id job' q found_job found) [
+      own = λ q found_job found. elim (found_changed old.jobs id job job' q found_job there found) [
         | inl (other, there) ↦ own_kept counties past (Turn id) (Turned done total) q found_job refl (no_turn q other)
             (so_far.own q found_job there)
         | inr (same, is) ↦ moved q found_job same is
@@ -225,43 +225,18 @@ step_more counties past (Turn id) (Turned done total) old new so_far (job, there
         rw (same, is) (own_turned counties past (Turn id) (Turned done total) id job job' refl this_turn turned.code
         (subst (λ (counties : List CountyParts). Advances job.code (segments_of counties) job.done job.rows job'.done job'.rows) so_far.over
         turned.advances) (so_far.own id job there))
-step_more counties past (Turn id) (Refused NoJob) old new so_far (none, same) =
-    unchanged _ _ so_far refl (λ id. refl) (λ id. refl) same
-step_more counties past (Turn id) (Refused Memory) old new so_far (job, there, unfinished, same) =
-    unchanged _ _ so_far refl (λ id. refl) (λ id. refl) same
-step_more counties past (Fetch id) (Rows done total rows) old new so_far (job, there, done_is, total_is, rows_are, same) =
-    unchanged _ _ so_far refl (λ id. refl) (λ id. refl) same
-step_more counties past (Fetch id) (Refused NoJob) old new so_far (none, same) =
-    unchanged _ _ so_far refl (λ id. refl) (λ id. refl) same
+step_more counties past (Turn id) (Refused NoJob) old new so_far step = unchanged _ _ so_far refl (λ id. refl) (λ id. refl) step.1
+step_more counties past (Turn id) (Refused Memory) old new so_far step = unchanged _ _ so_far refl (λ id. refl) (λ id. refl) step.3
+step_more counties past (Fetch id) (Rows done total rows) old new so_far step = unchanged _ _ so_far refl (λ id. refl) (λ id. refl) step.5
+step_more counties past (Fetch id) (Refused NoJob) old new so_far step = unchanged _ _ so_far refl (λ id. refl) (λ id. refl) step.1
 step_more counties past (Drop id) Dropped old new so_far (there, is) =
     subst (λ table. IsSoFar counties (past ++ exchange_of (Drop id) Dropped ∷ []) table) (sym is)
     (nothing_given counties past (Drop id) Dropped old (without_job old id) so_far refl (λ id. refl) (λ id. refl) refl refl
     (Ascend-remove (nat_eq id) 0 old.jobs old.last_id so_far.ascend)
-    (λ q job found. found_removed 0 old.jobs old.last_id id q job so_far.ascend found))
-step_more counties past (Drop id) (Refused NoJob) old new so_far (none, same) =
-    unchanged _ _ so_far refl (λ id. refl) (λ id. refl) same
+    (λ q job found. found_removed old.jobs old.last_id id q job so_far.ascend found))
+step_more counties past (Drop id) (Refused NoJob) old new so_far step = unchanged _ _ so_far refl (λ id. refl) (λ id. refl) step.1
 -- no other replies are given
-step_more counties past (Submit program) (Turned done total) old new so_far none = absurd none
-step_more counties past (Submit program) (Rows done total rows) old new so_far none = absurd none
-step_more counties past (Submit program) Dropped old new so_far none = absurd none
-step_more counties past (Submit program) (Refused NoJob) old new so_far none = absurd none
-step_more counties past (Turn id) (Submitted given) old new so_far none = absurd none
-step_more counties past (Turn id) (Rows done total rows) old new so_far none = absurd none
-step_more counties past (Turn id) Dropped old new so_far none = absurd none
-step_more counties past (Turn id) (Refused Full) old new so_far none = absurd none
-step_more counties past (Turn id) (Refused (Program fault)) old new so_far none = absurd none
-step_more counties past (Fetch id) (Submitted given) old new so_far none = absurd none
-step_more counties past (Fetch id) (Turned done total) old new so_far none = absurd none
-step_more counties past (Fetch id) Dropped old new so_far none = absurd none
-step_more counties past (Fetch id) (Refused Full) old new so_far none = absurd none
-step_more counties past (Fetch id) (Refused (Program fault)) old new so_far none = absurd none
-step_more counties past (Fetch id) (Refused Memory) old new so_far none = absurd none
-step_more counties past (Drop id) (Submitted given) old new so_far none = absurd none
-step_more counties past (Drop id) (Turned done total) old new so_far none = absurd none
-step_more counties past (Drop id) (Rows done total rows) old new so_far none = absurd none
-step_more counties past (Drop id) (Refused Full) old new so_far none = absurd none
-step_more counties past (Drop id) (Refused (Program fault)) old new so_far none = absurd none
-step_more counties past (Drop id) (Refused Memory) old new so_far none = absurd none
+step_more counties past event reply old new so_far none = absurd none
 
 -- the rest of a run
 run_more : (counties : List CountyParts) (past exchanges : List Exchange) (old new : Table) → IsSoFar counties past old

@@ -213,31 +213,31 @@ module _ (code : List Insn) (counties : List CountyParts) (from now : Position) 
       ∙ length-append so_far.seen (left_at counties now)
       ∙ ap (λ n. n + length (left_at counties now)) so_far.counted
 
-  -- a whole turn
-  pub turn_whole : from.done ≤ length (segments_of counties) → count ≡ SEGMENTS_PER_TURN
+  -- the segments that were gone over are those of a turn
+  turned : now.done ≡ min (length (segments_of counties)) (from.done + SEGMENTS_PER_TURN)
+      → take SEGMENTS_PER_TURN (so_far.seen ++ left_at counties now) ≡ so_far.seen
       → Advances code (segments_of counties) from.done rows now.done new_rows
-  turn_whole within whole = record {
-    moved = (let count = left_count in let done = so_far.done in grind (arith));
+  turned moved seen = record {
+    moved = moved;
     text = so_far.text;
     chosen = so_far.chosen;
     is_extract = subst (λ segments. IsExtract code segments so_far.text so_far.chosen)
-        (sym (ap (λ left. take SEGMENTS_PER_TURN left) so_far.left ∙ take_at so_far.seen (left_at counties now) SEGMENTS_PER_TURN
-        (so_far.counted ∙ whole))) so_far.is_extract;
+        (sym (ap (λ left. take SEGMENTS_PER_TURN left) so_far.left ∙ seen)) so_far.is_extract;
     appended = so_far.appended;
   }
+
+  -- a whole turn
+  pub turn_whole : from.done ≤ length (segments_of counties) → count ≡ SEGMENTS_PER_TURN
+      → Advances code (segments_of counties) from.done rows now.done new_rows
+  turn_whole within whole = turned (let count = left_count in let done = so_far.done in grind (arith))
+      (take_at so_far.seen (left_at counties now) SEGMENTS_PER_TURN (so_far.counted ∙ whole))
 
   -- a turn of the rest
   pub turn_of_rest : from.done ≤ length (segments_of counties) → count ≤ SEGMENTS_PER_TURN → left_at counties now ≡ []
       → Advances code (segments_of counties) from.done rows now.done new_rows
-  turn_of_rest within few none = record {
-    moved = (let count = left_count in let ended = ap (λ (xs : List Contents). length xs) none in let done = so_far.done in grind (arith));
-    text = so_far.text;
-    chosen = so_far.chosen;
-    is_extract = subst (λ segments. IsExtract code segments so_far.text so_far.chosen)
-        (sym (ap (λ left. take SEGMENTS_PER_TURN left) (so_far.left ∙ ap (λ left. so_far.seen ++ left) none ∙ append-nil so_far.seen)
-        ∙ take_all SEGMENTS_PER_TURN so_far.seen (let counted = so_far.counted in omega arith))) so_far.is_extract;
-    appended = so_far.appended;
-  }
+  turn_of_rest within few none = turned
+      (let count = left_count in let ended = ap (λ (xs : List Contents). length xs) none in let done = so_far.done in grind (arith))
+      (rw (none, append-nil) (take_all SEGMENTS_PER_TURN so_far.seen (let counted = so_far.counted in omega arith)))
 
   -- where memory is wanting for the row of the next segment
   pub turn_wants : (segment : Contents) (others : List Contents) → left_at counties now ≡ segment ∷ others → count < SEGMENTS_PER_TURN

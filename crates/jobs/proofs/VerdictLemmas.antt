@@ -5,8 +5,8 @@ use Rattle.std.specs.Borrow.{Bor}
 use Rattle.jobs.specs.Table.{Step, Table}
 use Rattle.jobs.specs.declared.event.Event.TheVariants.{Submit}
 use Rattle.jobs.specs.declared.event.Reply.{Reply}
-use Rattle.jobs.specs.declared.event.Reply.TheVariants.{Submitted, Turned, Rows, Dropped, Refused}
-use Rattle.jobs.specs.declared.fault.JobFault.TheVariants.{Full, NoJob, Program, Memory}
+use Rattle.jobs.specs.declared.event.Reply.TheVariants.{Submitted, Refused}
+use Rattle.jobs.specs.declared.fault.JobFault.TheVariants.{Full, Program, Memory}
 
 module _ (old new again : Table) (program : Bor (List ℕ)) where
   pub one_reply : (reply other : Reply) → Step old (Submit program) reply new → Step old (Submit program) other again
@@ -25,11 +25,7 @@ module _ (old new again : Table) (program : Bor (List ℕ)) where
   one_reply (Refused (Program fault)) (Refused Full) is also known given = absurd (is.0 also.0)
   one_reply (Refused (Program a)) (Refused (Program b)) is also known given =
       ap (λ fault. Refused (Program fault)) (verdict.one_fault program.now a b is.1 also.1 is.2 also.2)
-  one_reply (Turned done total) other is also known given = absurd is
-  one_reply (Rows done total rows) other is also known given = absurd is
-  one_reply Dropped other is also known given = absurd is
-  one_reply (Refused NoJob) other is also known given = absurd is
-  one_reply reply (Turned done total) is also known given = absurd also
-  one_reply reply (Rows done total rows) is also known given = absurd also
-  one_reply reply Dropped is also known given = absurd also
-  one_reply reply (Refused NoJob) is also known given = absurd also
+  one_reply (Submitted id) other is also known given = absurd also
+  one_reply (Refused Full) other is also known given = absurd also
+  one_reply (Refused (Program fault)) other is also known given = absurd also
+  one_reply reply other is also known given = absurd is

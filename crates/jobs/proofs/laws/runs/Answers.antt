@@ -7,7 +7,7 @@ returns-clause-own c = λ counties exchanges table run. (whole_run counties exch
 
 pub returns-clause-each : goal.returns-clause-each
 returns-clause-each c = λ counties exchanges table run id job among.
-    found_among 0 table.jobs table.last_id id job (whole_run counties exchanges table run).ascend among
+    found_among table.jobs table.last_id id job (whole_run counties exchanges table run).ascend among
 
 pub returns-clause-alike : goal.returns-clause-alike
 returns-clause-alike c = λ counties exchanges others table other run also id other_id job other_job there found programs turns.
