@@ -1,5 +1,5 @@
 -- Which route a path finds among literal rows and one row that ends with a parameter.
-use Rattle.std.proofs.Common.{◌≡◌, ℕ, zero, suc, ◌-◌, ◌<◌, ◌≤◌, ◌==◌, ◌&&◌, ◌||◌, Bool, true, false, not, cond, List, [], ◌∷◌, ◌++◌, length}
+use Rattle.std.proofs.Common.{◌≡◌, ℕ, zero, suc, ◌-◌, ◌<◌, ◌≤◌, ◌==◌, ◌&&◌, Bool, true, false, not, cond, List, [], ◌∷◌, ◌++◌, length}
 use Rattle.std.proofs.Common.{drop, Option, None, Some, refl, sym, ap, subst, ◌∙◌, arith}
 use Rattle.std.specs.Prelude.{nat_eq, nat_lt}
 use Rattle.std.specs.List.{starts_with}
@@ -7,18 +7,14 @@ use Rattle.std.proofs.lemmas.Bool.Decides.{nat_tests}
 use Rattle.matchit.specs.Level.{IsText}
 use Rattle.matchit.specs.Order.{lookup}
 use Rattle.matchit.specs.Rows.{RowsOf, catch_all_token, param_token}
-use Rattle.matchit.specs.Seek.{has_slash as slashed, or_else, own, param_step, same_text, seek, step}
+use Rattle.matchit.specs.Seek.{has_slash as slashed, or_else, own, param_step, seek, step}
 use Rattle.http_routes.specs.Routes.{has_slash, is_segment}
 
 -- a path's segments are the router's
 
 slashed_is : (text : List ℕ) → slashed text ≡ has_slash text
 slashed_is [] = refl
-slashed_is (byte ∷ text) = by_test (byte == 47) (slashed_is text)
-  where
-    by_test : (slash : Bool) → slashed text ≡ has_slash text → cond slash true (slashed text) ≡ (slash || has_slash text)
-    by_test true rest = refl
-    by_test false rest = rest
+slashed_is (byte ∷ text) = grind (arith, slashed_is text)
 
 segment_is : (byte : ℕ) (text : List ℕ) → not (slashed (byte ∷ text)) ≡ is_segment (byte ∷ text)
 segment_is byte text =
@@ -30,11 +26,6 @@ abbrev pub with_parameter : List ℕ → List ℕ
 with_parameter front = front ++ param_token ∷ []
 
 module _ {K : Type 0} where
-  -- of three answers the last two are none
-  or_else_first : (x y z : Option K) → y ≡ None → z ≡ None → or_else x (or_else y z) ≡ x
-  or_else_first None y z no_y no_z = rw (no_y, no_z) refl
-  or_else_first (Some key) y z no_y no_z = refl
-
   or_else_none : (x : Option K) → or_else x None ≡ x
   or_else_none None = refl
   or_else_none (Some key) = refl
@@ -43,34 +34,24 @@ module _ {K : Type 0} where
 
   param_none : (path : List ℕ) → (param_step {K = K} [] path).1 ≡ []
   unfolding param_step
-  param_none path = by_slash (slashed path) (length path)
-    where
-      by_slash : (slash : Bool) (count : ℕ) → (cond {A = ℕ × RowsOf K} slash (0, []) (count, [])).1 ≡ []
-      by_slash true count = refl
-      by_slash false count = refl
+  param_none path = elim (slashed path) as (λ slash. (cond {A = ℕ × RowsOf K} slash (0, []) (length path, [])).1 ≡ []) [
+    | true ↦ refl
+    | false ↦ refl
+  ]
 
   seek_none : (skip : ℕ) (path : List ℕ) → seek {K = K} skip [] path ≡ None
   unfolding seek
   seek_none skip [] = refl
   seek_none (suc skip) (byte ∷ path) = seek_none skip path
   seek_none zero (byte ∷ path) =
-      or_else_first _ _ _ (subst (λ (rows : RowsOf K). seek ((param_step {K = K} [] (byte ∷ path)).0 - 1) rows path ≡ None)
-      (sym (param_none (byte ∷ path))) (seek_none _ path)) refl
-      ∙ seek_none 0 path
-
-  no_rows : (steps : RowsOf K) (path : List ℕ) → steps ≡ [] → seek ((param_step steps path).0 - 1) (param_step steps path).1
-      (drop 1 path) ≡ None
-  no_rows steps path none =
-      subst (λ (rows : RowsOf K). seek ((param_step rows path).0 - 1) (param_step rows path).1 (drop 1 path) ≡ None) (sym none)
-      (subst (λ (rows : RowsOf K). seek ((param_step {K = K} [] path).0 - 1) rows (drop 1 path) ≡ None) (sym (param_none path))
-      (seek_none _ (drop 1 path)))
+      simp (seek_none 0 path, param_none (byte ∷ path), seek_none ((param_step {K = K} [] (byte ∷ path)).0 - 1) path)
 
   -- a byte of the path, where no row goes on with a parameter
   one_step : (rows : RowsOf K) (byte : ℕ) (path : List ℕ) → step param_token rows ≡ [] → step catch_all_token rows ≡ []
       → seek 0 rows (byte ∷ path) ≡ seek 0 (step byte rows) path
   unfolding seek
   one_step rows byte path no_param no_catch_all =
-      or_else_first _ _ _ (no_rows (step param_token rows) (byte ∷ path) no_param) (ap own no_catch_all)
+      simp (no_param, no_catch_all, param_none (byte ∷ path), seek_none ((param_step {K = K} [] (byte ∷ path)).0 - 1) path, or_else_none)
 
   -- literal rows: none has a parameter
 
@@ -93,22 +74,12 @@ module _ {K : Type 0} where
   step_literal : (byte : ℕ) (rows : RowsOf K) → AreLiteral rows → AreLiteral (step byte rows)
   step_literal byte [] are = tt
   step_literal byte (([], key) ∷ rows) are = step_literal byte rows are.1
-  step_literal byte ((first ∷ text, key) ∷ rows) are = by_test (first == byte) (step_literal byte rows are.1)
-    where
-      by_test : (same : Bool) → AreLiteral (step byte rows) → AreLiteral (cond same ((text, key) ∷ step byte rows) (step byte rows))
-      by_test true rest = (are.0.1, rest)
-      by_test false rest = rest
+  step_literal byte ((first ∷ text, key) ∷ rows) are = let rest = step_literal byte rows are.1 in grind (arith, are, rest)
 
   step_append : (byte : ℕ) (rows more : RowsOf K) → step byte (rows ++ more) ≡ step byte rows ++ step byte more
   step_append byte [] more = refl
   step_append byte (([], key) ∷ rows) more = step_append byte rows more
-  step_append byte ((first ∷ text, key) ∷ rows) more = by_test (first == byte) (step_append byte rows more)
-    where
-      by_test : (same : Bool) → step byte (rows ++ more) ≡ step byte rows ++ step byte more
-          → cond same ((text, key) ∷ step byte (rows ++ more)) (step byte (rows ++ more)) ≡ cond same ((text, key) ∷ step byte rows)
-          (step byte rows) ++ step byte more
-      by_test true rest = ap (λ (steps : RowsOf K). (text, key) ∷ steps) rest
-      by_test false rest = rest
+  step_append byte ((first ∷ text, key) ∷ rows) more = grind (arith, step_append byte rows more)
 
   own_append : (rows more : RowsOf K) → own (rows ++ more) ≡ or_else (own rows) (own more)
   own_append [] more = refl
@@ -123,13 +94,7 @@ module _ {K : Type 0} where
   lookup_step : (byte : ℕ) (path : List ℕ) (rows : RowsOf K) → lookup path (step byte rows) ≡ lookup (byte ∷ path) rows
   lookup_step byte path [] = refl
   lookup_step byte path (([], key) ∷ rows) = lookup_step byte path rows
-  lookup_step byte path ((first ∷ text, key) ∷ rows) = by_test (first == byte) (lookup_step byte path rows)
-    where
-      by_test : (same : Bool) → lookup path (step byte rows) ≡ lookup (byte ∷ path) rows
-          → lookup path (cond same ((text, key) ∷ step byte rows) (step byte rows)) ≡ cond (same && same_text text path) (Some key)
-          (lookup (byte ∷ path) rows)
-      by_test true rest = ap (cond (same_text text path) (Some key)) rest
-      by_test false rest = rest
+  lookup_step byte path ((first ∷ text, key) ∷ rows) = grind (arith, lookup_step byte path rows)
 
   pub seek_literal : (rows : RowsOf K) (path : List ℕ) → AreLiteral rows → seek 0 rows path ≡ lookup path rows
   unfolding seek
@@ -166,11 +131,7 @@ module _ {K : Type 0} where
   parameter_step : (rows : RowsOf K) (key : K) (byte : ℕ) (path : List ℕ) → step param_token rows ≡ ([], key) ∷ []
       → step catch_all_token rows ≡ [] → seek 0 rows (byte ∷ path) ≡ or_else (seek 0 (step byte rows) path) (parameter key (byte ∷ path))
   unfolding seek
-  parameter_step rows key byte path param no_catch_all =
-      ap (or_else (seek 0 (step byte rows) path))
-      (ap (λ (found : Option K). or_else found (own (step catch_all_token rows)))
-      (ap (λ (steps : RowsOf K). seek ((param_step steps (byte ∷ path)).0 - 1) (param_step steps (byte ∷ path)).1 path) param)
-      ∙ ap (or_else (parameter key (byte ∷ path))) (ap own no_catch_all) ∙ or_else_none _)
+  parameter_step rows key byte path param no_catch_all = simp (param, no_catch_all, or_else_none)
 
   row_gone : (key : K) (byte : ℕ) (path : List ℕ) → seek 0 (([], key) ∷ []) (byte ∷ path) ≡ None
   row_gone key byte path = one_step (([], key) ∷ []) byte path refl refl ∙ seek_none 0 path
