@@ -1,7 +1,7 @@
 -- What is known of a body while it is read.
-use Rattle.std.proofs.Common.{◌≡◌, ◌≢◌, ℕ, ◌+◌, ◌<◌, ◌≤◌, List, [], ◌∷◌, ◌++◌, length, take, min, inl, inr, ◌∙◌, ap, arith, refl, sym}
+use Rattle.std.proofs.Common.{◌≡◌, ◌≢◌, ℕ, ◌+◌, ◌<◌, ◌≤◌, List, [], ◌++◌, length, take, min, inl, inr, ◌∙◌, ap, arith, refl, sym}
 use Rattle.std.proofs.Common.{append_assoc, length-append}
-use Rattle.std.proofs.lemmas.List.{append-nil, length-take, length-take-le, take-append-le, take_all, take_min}
+use Rattle.std.proofs.lemmas.List.{append-nil, length-take, length-take-le, nil_from_length, take-append-le, take_all, take_min}
 use Rattle.std.proofs.lemmas.Bool.{cases_lt}
 use Rattle.std.specs.Io.KnownBytes.{IsAtEnd, Keeps}
 use Rattle.tl_fields.specs.Device.{Reader}
@@ -92,16 +92,12 @@ body_lacks_memory {behind} {count} {body} given read {old} {now} {new} so_far sh
       let long = length-take-le read given inside in omega (arith, some));
 }
 
-no_bytes : (bytes : List ℕ) → length bytes ≡ 0 → bytes ≡ []
-no_bytes [] is = refl
-no_bytes (byte ∷ bytes) is = absurd (omega arith)
-
 -- where the bytes fit, they are the first of what is there
 take_front : (behind taken : List ℕ) (count : ℕ) → length (take count behind) + length taken ≤ count
     → take count behind ++ taken ≡ take count (behind ++ taken)
 take_front behind taken count fits = elim (cases_lt count (length behind)) [
   | inl more ↦
-      let none : taken ≡ [] = no_bytes taken (omega (arith, length-take-le count behind)) in
+      let none : taken ≡ [] = nil_from_length taken (omega (arith, length-take-le count behind)) in
       rw (none, append-nil, append-nil) refl
   | inr all ↦
       let whole : take count behind ≡ behind = take_all count behind all in

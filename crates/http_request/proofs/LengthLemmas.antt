@@ -1,11 +1,10 @@
 -- The headers of a name, while the headers are gone through.
 use Rattle.std.proofs.Common.{◌≡◌, ℕ, ◌+◌, ◌<◌, ◌≤◌, true, false, List, [], ◌∷◌, ◌++◌, length, map, take, drop, get_or, Option, Some, None}
 use Rattle.std.proofs.Common.{Err, Bor, refl, ap, sym, ◌∙◌}
-use Rattle.std.specs.Prelude.{filter}
+use Rattle.std.specs.Prelude.{filter, Bool, ◌||◌}
 use Rattle.std.specs.List.{list_any}
 use Rattle.std.specs.Option.{is_some}
 use Rattle.std.proofs.lemmas.List.{append-nil, map-append, take_all, take-append-drop, take_more}
-use Rattle.std.proofs.lemmas.List.Folds.{list_any-append}
 use Rattle.std.proofs.lemmas.List.Elements.{filter-append}
 use Rattle.http_request.specs.Length.{announced, is_named, length_of}
 use Rattle.http_request.specs.declared.length.LengthFault.TheVariants.{Missing, Invalid}
@@ -34,6 +33,10 @@ values_in-append name front rest =
     let second : List ℕ × List ℕ → List ℕ = λ header. header.1 in
     ap (map second) (filter-append (is_named name) front rest) ∙ map-append second (filter (is_named name) front)
     (filter (is_named name) rest)
+
+pub any_of : {X Y : Type 0} (test : Y → Bool) (f : X → Y) (xs : List X) → list_any (λ x. test (f x)) xs ≡ list_any test (map f xs)
+any_of test f [] = refl
+any_of test f (x ∷ xs) = ap (λ rest. test (f x) || rest) (any_of test f xs)
 
 -- a name, the headers, and how many of them were gone through
 module _ {X : Type 0} (name : List ℕ) (f : X → List ℕ × List ℕ) (xs : List X) (i : ℕ) where
@@ -98,28 +101,3 @@ module _ {X : Type 0} (name : List ℕ) (f : X → List ℕ × List ℕ) (xs : L
   found_one (Some old) value headers so_far some past all =
       let same : old ≡ value = cc in
       rw (found_all headers past all, so_far, same) refl
-
-  -- a header with the name is there
-  pub named_there : (d : X) (headers : List (List ℕ × List ℕ)) → i < length xs → is_named name (f (get_or xs i d)) ≡ true
-      → list_any (is_named name) (map f (take i xs)) ≡ false → map f xs ≡ headers → true ≡ list_any (is_named name) headers
-  named_there d headers inside named none all =
-      let p = is_named name in
-      rw (
-        ← all,
-        headers-split f xs (i + 1),
-        list_any-append p (map f (take (i + 1) xs)) (map f (drop (i + 1) xs)),
-        headers-next f xs i d inside,
-        list_any-append p (map f (take i xs)) (f (get_or xs i d) ∷ []),
-        none,
-        named,
-      ) refl
-
-  pub named_not_yet : (d : X) → i < length xs → is_named name (f (get_or xs i d)) ≡ false
-      → list_any (is_named name) (map f (take i xs)) ≡ false → list_any (is_named name) (map f (take (i + 1) xs)) ≡ false
-  named_not_yet d inside other none =
-      rw (headers-next f xs i d inside, list_any-append (is_named name) (map f (take i xs)) (f (get_or xs i d) ∷ []), none, other) refl
-
-  pub named_nowhere : (headers : List (List ℕ × List ℕ)) → length xs ≤ i → list_any (is_named name) (map f (take i xs)) ≡ false
-      → map f xs ≡ headers → false ≡ list_any (is_named name) headers
-  named_nowhere headers past none all =
-      sym (ap (list_any (is_named name)) (sym all ∙ ap (map f) (sym (take_all i xs past))) ∙ none)

@@ -1,14 +1,11 @@
 -- What is known of a head while it is searched for.
-use Rattle.std.proofs.Common.{◌≡◌, ◌≢◌, ℕ, ◌+◌, ◌<◌, ◌≤◌, List, [], ◌++◌, length, take, drop, Ok, ◌∙◌, ap, arith, refl, sym, subst, inl}
-use Rattle.std.proofs.lemmas.List.{append-nil, length-take, take-append-le, take_at, take-append-drop, length-take-le}
+use Rattle.std.proofs.Common.{◌≡◌, ◌≢◌, ℕ, ◌+◌, ◌<◌, ◌≤◌, List, [], ◌++◌, length, take, drop, ◌∙◌, ap, arith, refl, sym, inl}
+use Rattle.std.proofs.lemmas.List.{append-nil, take-append-le, take_at, take-append-drop, length-take-le}
 use Rattle.std.proofs.Math.Seq.{take-append-add}
 use Rattle.std.specs.Io.KnownBytes.{Consumes, Keeps}
 use borrow.Rule.Slice.PartMut.{put_mid, post_of}
 use Rattle.httparse.specs.Grammar.{HasNoRequest, MayBecomeRequest, print_request}
 use Rattle.httparse.specs.Spans.{RequestOverflows}
-use Rattle.httparse.specs.Outcome.{IfComplete, OnPartial}
-use Rattle.httparse.specs.declared.Status.{Status}
-use Rattle.httparse.specs.declared.Status.TheVariants.{Complete, Partial}
 use Rattle.tl_fields.specs.Device.{Reader}
 use Rattle.tl_fields.proofs.KnownBytesLemmas.{Consumes-append, Consumes-from_keeps}
 use Rattle.http_request.specs.Head.{HasNoHead}
@@ -22,14 +19,6 @@ pub record HasReadSoFar (bytes : List ℕ) (count : ℕ) (old new : Reader) : Ty
   pub takes : Takes (take count bytes) old new
   pub none : HasNoRequest (take count bytes)
   pub unfinished : MayBecomeRequest (take count bytes)
-
--- what a clause says of a parser's answer, once that is known
-pub if_complete : {A : Type 0} (E : Type 0) (status : Status A) (value : A) (P : A → Type 0) → status ≡ Complete value
-    → IfComplete {A = A} {E = E} (Ok status) P → P value
-if_complete {A} E status value P is p = subst (λ (now : Status A). IfComplete {A = A} {E = E} (Ok now) P) is p
-
-pub on_partial : {A : Type 0} (E : Type 0) (status : Status A) (P : Type 0) → status ≡ Partial → OnPartial {A = A} {E = E} (Ok status) P → P
-on_partial {A} E status P is p = subst (λ (now : Status A). OnPartial {A = A} {E = E} (Ok now) P) is p
 
 -- before the first read
 pub nothing_read : (bytes : List ℕ) (input : Reader) → HasReadSoFar bytes 0 input input
@@ -80,19 +69,15 @@ HasNoHead-from_full : (bytes : List ℕ) → length bytes ≡ 8192 → HasNoRequ
 HasNoHead-from_full bytes full none more head rest has =
     none has.tree _ (has.reads.0, front-append bytes more (print_request has.tree) rest (omega (arith, has.short)) has.reads.1)
 
--- the first bytes are no more than that
-pub length-take_most : (most count : ℕ) (bytes : List ℕ) → count ≤ most → length (take count bytes) ≤ most
-length-take_most most count bytes few = omega (arith, length-take count bytes)
-
 -- the parser refused what was read
-pub lacks_by_refusal : {bytes : List ℕ} (room : ℕ) {old new : Reader} → Takes bytes old new → 0 < length bytes → length bytes ≤ 8192
-    → room ≡ 64 → RequestOverflows room bytes → LacksHead old new
-lacks_by_refusal {bytes} room takes some short is many = record {
-  taken = bytes;
+pub lacks_by_refusal : (bytes : List ℕ) (count room : ℕ) {old new : Reader} → Takes (take count bytes) old new → count ≤ length bytes
+    → 0 < count → length bytes ≡ 8192 → room ≡ 64 → RequestOverflows room (take count bytes) → LacksHead old new
+lacks_by_refusal bytes count room takes inside some full is many = record {
+  taken = take count bytes;
   takes = takes;
-  some = some;
-  lacks = inl (HasNoHead-from_overflows bytes room is many);
-  room = short;
+  some = omega (arith, length-take-le count bytes inside);
+  lacks = inl (HasNoHead-from_overflows (take count bytes) room is many);
+  room = omega (arith, length-take-le count bytes inside);
 }
 
 -- no byte more has room
@@ -120,7 +105,3 @@ fails {bytes} {count} {old} {now} {new} full inside so_far kept failed = record 
   unfinished = so_far.unfinished;
   room = omega (arith, length-take-le count bytes so_far.inside);
 }
-
--- the first bytes, of at least so many, are as many
-pub length-take_some : (count : ℕ) (bytes : List ℕ) → count ≤ length bytes → 0 < count → 0 < length (take count bytes)
-length-take_some count bytes inside some = omega (arith, length-take-le count bytes inside)

@@ -4,7 +4,7 @@ use Rattle.std.specs.Prelude.{unwrap_or}
 use Rattle.std.proofs.lemmas.List.{append-nil, take-append-le}
 use Rattle.std.specs.Io.KnownBytes.{Consumes, IsAtEnd, Keeps}
 use Rattle.tl_fields.specs.Device.{Reader}
-use Rattle.http_request.specs.Reading.{EndsInBody, IsClosed, LacksHead, ReadsBody, ReadsHead, Request, Takes}
+use Rattle.http_request.specs.Reading.{EndsInBody, LacksHead, ReadsBody, ReadsHead, RequestParts, Takes}
 use Rattle.http_request.specs.Whole.{HadHead, HadNoHead, HadRequest, HadShortRequest, left_of}
 use Rattle.http_request.proofs.TakeLemmas.{Takes-append}
 use Rattle.http_request.proofs.HeadLemmas.{HasHead-append}
@@ -28,12 +28,9 @@ known_at_end taken old new takes ended =
     let all : taken ++ left_of new ≡ taken = ap (λ (left : List ℕ). taken ++ left) (nothing_left new.left ended) ∙ append-nil taken in
     subst (λ (input : List ℕ). Keeps old.left (Some input)) all (known_whole taken old new takes)
 
--- a reader that had ended before its first byte had none left
-pub known_closed : (old new : Reader) → IsClosed old new → Keeps old.left (Some [])
-known_closed old new closed = known_at_end [] old new closed.takes closed.ended
-
 -- a head was read
-pub had_head : (request : Request) (old new : Reader) → ReadsHead request old new → HadHead request.head (request.behind ++ left_of new) old
+pub had_head : (request : RequestParts) (old new : Reader) → ReadsHead request old new
+    → HadHead request.head (request.behind ++ left_of new) old
 had_head request old new read = record {
   input = read.taken ++ left_of new;
   known = known_whole read.taken old new read.takes;
@@ -56,7 +53,7 @@ had_no_head old new lacking = elim lacking.lacks [
 ]
 
 -- a head was read, and then bytes behind it
-had_more : (request : Request) (taken : List ℕ) (old now new : Reader) → ReadsHead request old now → Takes taken now new
+had_more : (request : RequestParts) (taken : List ℕ) (old now new : Reader) → ReadsHead request old now → Takes taken now new
     → HadHead request.head (request.behind ++ taken ++ left_of new) old
 had_more request taken old now new read takes = record {
   input = read.taken ++ taken ++ left_of new;
@@ -66,7 +63,7 @@ had_more request taken old now new read takes = record {
 }
 
 -- a head was read, and then the body
-pub had_request : (request : Request) (count : ℕ) (body : List ℕ) (old now new : Reader) → ReadsHead request old now
+pub had_request : (request : RequestParts) (count : ℕ) (body : List ℕ) (old now new : Reader) → ReadsHead request old now
     → ReadsBody request.behind count body now new → HadRequest request.head count body old
 had_request request count body old now new read body_read =
     let there = request.behind ++ body_read.taken in
@@ -78,7 +75,7 @@ had_request request count body old now new read body_read =
     }
 
 -- a head was read, and the input ended within the body
-pub had_short_request : (request : Request) (count : ℕ) (old now new : Reader) → ReadsHead request old now
+pub had_short_request : (request : RequestParts) (count : ℕ) (old now new : Reader) → ReadsHead request old now
     → EndsInBody request.behind count now new → HadShortRequest request.head count old
 had_short_request request count old now new read ends =
     let there = request.behind ++ ends.taken in

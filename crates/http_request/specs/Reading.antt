@@ -20,12 +20,12 @@ pub record FailsBehind (bytes : List ℕ) (old new : Reader) : Type 0 where
   pub failed : new.failed ≢ old.failed
 
 -- what is known of a request once its head is there: the head, and what was read behind it
-pub record Request : Type 0 where
+pub record RequestParts : Type 0 where
   pub head : Head
   pub behind : List ℕ
 
 -- What was taken begins with the head of the request. It is no more than a head may have.
-pub record ReadsHead (request : Request) (old new : Reader) : Type 0 where
+pub record ReadsHead (request : RequestParts) (old new : Reader) : Type 0 where
   pub taken : List ℕ
   pub takes : Takes taken old new
   pub has : HasHead taken request.head request.behind
@@ -54,7 +54,7 @@ pub record FailsInHead (old new : Reader) : Type 0 where
   pub room : length taken < HEAD_LIMIT
 
 -- what a reading of a head answers
-abbrev pub AnswersHead : Result (Option Request) HeadFault → Reader → Reader → Type 0
+abbrev pub AnswersHead : Result (Option RequestParts) HeadFault → Reader → Reader → Type 0
 AnswersHead (Ok (Some request)) old new = ReadsHead request old new
 AnswersHead (Ok None) old new = LacksHead old new
 AnswersHead (Err Closed) old new = IsClosed old new

@@ -2,7 +2,7 @@
 ghost use Rattle.std.specs.Prelude.{◌≡◌, ℕ, List, ◌++◌};
 ghost use Rattle.tl_fields.specs.Device.{Reader};
 ghost use Rattle.http_request.specs.Head.{Head, HasHead};
-ghost use Rattle.http_request.specs.Reading.{EndsInBody, LacksHead, ReadsBody, ReadsHead, Request};
+ghost use Rattle.http_request.specs.Reading.{EndsInBody, LacksHead, ReadsBody, ReadsHead, RequestParts};
 ghost use Rattle.http_request.specs.Whole.{HadHead, HadNoHead, HadRequest, HadShortRequest, left_of};
 ghost use Rattle.http_request.specs.declared.head.TheConstants.{HEAD_LIMIT, HEADER_LIMIT};
 ghost use Rattle.http_request.specs.declared.length.TheConstants.{BODY_LIMIT};
@@ -23,10 +23,10 @@ pub fn one_head()
 
 /// What was read, in however many reads, says what the whole of the input has, where that is known.
 pub fn whole_inputs()
-    ensures head { (request : Request) (old new : Reader) → ReadsHead request old new → HadHead request.head (request.behind ++ left_of new) old }
+    ensures head { (request : RequestParts) (old new : Reader) → ReadsHead request old new → HadHead request.head (request.behind ++ left_of new) old }
     ensures no_head { (old new : Reader) → LacksHead old new → HadNoHead old }
-    ensures body { (request : Request) (count : ℕ) (bytes : List ℕ) (old now new : Reader) → ReadsHead request old now
+    ensures body { (request : RequestParts) (count : ℕ) (bytes : List ℕ) (old now new : Reader) → ReadsHead request old now
         → ReadsBody request.behind count bytes now new → HadRequest request.head count bytes old }
-    ensures short_body { (request : Request) (count : ℕ) (old now new : Reader) → ReadsHead request old now
+    ensures short_body { (request : RequestParts) (count : ℕ) (old now new : Reader) → ReadsHead request old now
         → EndsInBody request.behind count now new → HadShortRequest request.head count old }
 {}

@@ -27,9 +27,9 @@ pub struct Request<'a> {
 impl<'a> Model for Request<'a> {
     ghost use Rattle.std.specs.Prelude.{All, length, map};
     ghost use Rattle.httparse.specs.Spans.{IsHeaderWithin, header_bytes};
-    ghost use Rattle.http_request.specs.Reading.{Request};
+    ghost use Rattle.http_request.specs.Reading.{RequestParts};
 
-    ghost Value = { Request };
+    ghost Value = { RequestParts };
 
     ghost view = { λ request. record {
       head = record { method = request.method.now; target = request.target.now; headers = map (header_bytes request.bytes.now) request.headers.now };
@@ -97,12 +97,9 @@ impl<'a> Request<'a> {
     fn has_header(&self, name: &str) -> bool
         ensures { result ≡ list_any (is_named name.now) self.now.head.headers }
     {
-        for header in self.headers {
-            if is_named(self.bytes, header, name) {
-                return true;
-            }
-        }
-        false
+        self.headers
+            .iter()
+            .any(|header| is_named(self.bytes, header, name))
     }
 
     fn announced_length(&self) -> Result<usize, LengthFault>

@@ -4,17 +4,17 @@ use Rattle.std.proofs.Common.{sym, ap, ◌∙◌, subst, arith}
 use Rattle.std.proofs.lemmas.Bool.{le-leb, lt-leb}
 use Rattle.std.proofs.lemmas.List.{append-nil, length-append}
 use Rattle.std.specs.Option.{option_and_then}
-use Rattle.std.specs.Prelude.{Ok, Err, if◌then◌else◌}
+use Rattle.std.specs.Prelude.{Result, Ok, Err, if◌then◌else◌}
 use Rattle.http_reply.specs.declared.status.Status.TheVariants.{BadRequest, NotFound}
-use Rattle.http_request.specs.Head.{Head, HasHead}
+use Rattle.http_request.specs.Head.{Head}
 use Rattle.http_request.specs.Length.{body_length}
-use Rattle.http_request.specs.Reading.{EndsInBody, FailsInBody, FailsInHead, LacksHead, LacksMemory, ReadsBody, ReadsHead, Request, Takes}
+use Rattle.http_request.specs.Reading.{EndsInBody, FailsInBody, LacksHead, LacksMemory, ReadsBody, ReadsHead, RequestParts, Takes}
 use Rattle.http_request.specs.Whole.{left_of}
 use Rattle.http_request.specs.declared.length.LengthFault.{LengthFault}
 use Rattle.http_request.proofs.HeadLemmas.{HasHead-append, HasHead-some, HasHead-unique}
 use Rattle.http_request.specs.declared.head.TheConstants.{HEAD_LIMIT}
 use Rattle.http_request.proofs.TakeLemmas.{Takes-append}
-use Rattle.http_request.proofs.WholeLemmas.{had_head, had_no_head, had_request, had_short_request}
+use Rattle.http_request.proofs.WholeLemmas.{had_head, had_no_head, had_request, had_short_request, known_whole}
 use Rattle.tl_fields.proofs.KnownBytesLemmas.{Consumes-append}
 use Rattle.http_routes.specs.Routes.{action_of, route_of}
 use Rattle.http_routes.specs.Target.{path_of}
@@ -39,7 +39,7 @@ decides_no_head old new lacks =
     }
 
 -- what the head decides, whatever follows it
-pub decides_by_head : (request : Request) (decision : DecisionParts) (old new : Reader) → ReadsHead request old new
+pub decides_by_head : (request : RequestParts) (decision : DecisionParts) (old new : Reader) → ReadsHead request old new
     → ((rest : List ℕ) → decision ≡ decide request.head rest) → Decides decision old new
 decides_by_head request decision old new reads decided =
     let had = had_head request old new reads in
@@ -55,8 +55,8 @@ decides_by_head request decision old new reads decided =
       };
     }
 
-pub decides_no_route : (request : Request) (old new : Reader) → ReadsHead request old new → route_of (path_of request.head.target) ≡ None
-    → Decides (Refuses NotFound) old new
+pub decides_no_route : (request : RequestParts) (old new : Reader) → ReadsHead request old new
+    → route_of (path_of request.head.target) ≡ None → Decides (Refuses NotFound) old new
 decides_no_route request old new reads none =
     decides_by_head request (Refuses NotFound) old new reads (λ rest. sym (ap (λ found. decide_route request.head found rest) none))
 
@@ -64,7 +64,7 @@ with_route : (head : Head) (route : Route) (rest : List ℕ) → route_of (path_
     → decide head rest ≡ decide_action head route (action_of route head.method) rest
 with_route head route rest is_route = ap (λ found. decide_route head found rest) is_route
 
-pub decides_no_action : (request : Request) (route : Route) (old new : Reader) → ReadsHead request old new
+pub decides_no_action : (request : RequestParts) (route : Route) (old new : Reader) → ReadsHead request old new
     → route_of (path_of request.head.target) ≡ Some route → action_of route request.head.method ≡ None → Decides (Disallows route) old new
 decides_no_action request route old new reads is_route none =
     decides_by_head request (Disallows route) old new reads
@@ -90,142 +90,122 @@ pub asked : (head : Head) (route : Route) (action : Action) → route_of (path_o
     → action_of route head.method ≡ Some action → asked_action head ≡ Some action
 asked head route action is_route is_action = ap (λ found. option_and_then (λ route. action_of route head.method) found) is_route ∙ is_action
 
-pub decides_without_body : (request : Request) (action : Action) (old new : Reader) → ReadsHead request old new
+pub decides_without_body : (request : RequestParts) (action : Action) (old new : Reader) → ReadsHead request old new
     → asked_action request.head ≡ Some action → takes_body action ≡ false → Decides (Asks (asked_by request.head action [])) old new
 decides_without_body request action old new reads asks none =
     decides_by_head request _ old new reads (λ rest. sym (without_body request.head action rest asks none))
 
-pub decides_no_length : (request : Request) (action : Action) (fault : LengthFault) (old new : Reader) → ReadsHead request old new
-    → asked_action request.head ≡ Some action → takes_body action ≡ true → body_length request.head ≡ Err fault
+-- The head was read. It asks for something with a body, whose length it announces so.
+pub record ReadsAsking (request : RequestParts) (announced : Result ℕ LengthFault) (old new : Reader) : Type 0 where
+  pub reads : ReadsHead request old new
+  pub action : Action
+  pub asks : asked_action request.head ≡ Some action
+  pub takes : takes_body action ≡ true
+  pub announces : body_length request.head ≡ announced
+
+abbrev pub asking : {request : RequestParts} {old new : Reader} {action : Action} {announced : Result ℕ LengthFault} → ReadsHead request old new
+    → asked_action request.head ≡ Some action → takes_body action ≡ true → announced ≡ body_length request.head
+    → ReadsAsking request announced old new
+asking {action = action} reads asks takes is =
+    record { reads = reads; action = action; asks = asks; takes = takes; announces = sym is }
+
+-- such a head decides by the length and by what follows it
+by_length : (request : RequestParts) (announced : Result ℕ LengthFault) (old new : Reader) (head : ReadsAsking request announced old new)
+    (rest : List ℕ) → decide request.head rest ≡ decide_body request.head head.action announced rest
+by_length request announced old new head rest =
+    with_body request.head head.action rest head.asks head.takes
+    ∙ ap (λ announced. decide_body request.head head.action announced rest) head.announces
+
+pub decides_no_length : (request : RequestParts) (fault : LengthFault) (old new : Reader) → ReadsAsking request (Err fault) old new
     → Decides (Refuses (length_status fault)) old new
-decides_no_length request action fault old new reads asks takes is_fault =
-    decides_by_head request _ old new reads
-    (λ rest. sym (with_body request.head action rest asks takes ∙ ap (λ length. decide_body request.head action length rest) is_fault))
+decides_no_length request fault old new head =
+    decides_by_head request _ old new head.reads (λ rest. sym (by_length request (Err fault) old new head rest))
 
-abbrev announces : (input : List ℕ) (head : Head) (rest : List ℕ) (action : Action) (count : ℕ) → HasHead input head rest
-    → asked_action head ≡ Some action → takes_body action ≡ true → body_length head ≡ Ok count → AnnouncesBody input
-announces input head rest action count has asks takes is_count = record {
-  head = head;
-  rest = rest;
-  has = has;
-  action = action;
-  asks = asks;
-  takes = takes;
-  count = count;
-  announces = is_count;
-}
+module _ (request : RequestParts) (count : ℕ) (old now new : Reader) (head : ReadsAsking request (Ok count) old now) where
+  -- what is announced where this was read behind the head
+  abbrev announced : (more : List ℕ) → AnnouncesBody (head.reads.taken ++ more)
+  announced more = record {
+    head = request.head;
+    rest = request.behind ++ more;
+    has = HasHead-append head.reads.taken more request.head request.behind head.reads.has;
+    action = head.action;
+    asks = head.asks;
+    takes = head.takes;
+    count = count;
+    announces = head.announces;
+  }
 
-within : (behind taken : List ℕ) (count : ℕ) → length (behind ++ taken) < count → length taken ≤ count - length behind
-within behind taken count short = let long = length-append behind taken in omega arith
+  -- no more was read behind the head than the body has
+  read_enough : (more : List ℕ) → Takes more now new → length more ≤ count - length request.behind → ReadsEnough old new
+  read_enough more takes fits = record {
+    taken = head.reads.taken ++ more;
+    takes = Takes-append head.reads.taken more old now new head.reads.takes takes;
+    some = (let some = HasHead-some head.reads.taken request.head request.behind head.reads.has in
+        let long = length-append head.reads.taken more in omega arith);
+    enough = enough more fits;
+  }
+    where
+      enough : (more : List ℕ) → length more ≤ count - length request.behind → IsEnough (head.reads.taken ++ more)
+      enough [] fits = inl (subst (λ taken. length taken ≤ HEAD_LIMIT) (sym (append-nil head.reads.taken)) head.reads.room)
+      enough (byte ∷ bytes) fits = inr (announced (byte ∷ bytes), (let long = length-append request.behind (byte ∷ bytes) in omega arith))
 
--- the head was read, and then no more than the body has
-read_enough : (request : Request) (action : Action) (count : ℕ) (taken : List ℕ) (old now new : Reader) → ReadsHead request old now
-    → asked_action request.head ≡ Some action → takes_body action ≡ true → body_length request.head ≡ Ok count → Takes taken now new
-    → length taken ≤ count - length request.behind → ReadsEnough old new
-read_enough request action count taken old now new reads asks takes is_count takes' fits = record {
-  taken = reads.taken ++ taken;
-  takes = Takes-append reads.taken taken old now new reads.takes takes';
-  some = (let some = HasHead-some reads.taken request.head request.behind reads.has in let long = length-append reads.taken taken in
-      omega arith);
-  enough = enough taken fits;
-}
-  where
-    enough : (taken : List ℕ) → length taken ≤ count - length request.behind → IsEnough (reads.taken ++ taken)
-    enough [] fits = inl (subst (λ taken. length taken ≤ HEAD_LIMIT) (sym (append-nil reads.taken)) reads.room)
-    enough (byte ∷ bytes) fits = inr (
-      announces (reads.taken ++ byte ∷ bytes) request.head (request.behind ++ byte ∷ bytes) action count
-          (HasHead-append reads.taken (byte ∷ bytes) request.head request.behind reads.has) asks takes is_count,
-      (let long = length-append request.behind (byte ∷ bytes) in omega arith),
-    )
+  pub decides_with_body : (body : List ℕ) → ReadsBody request.behind count body now new
+      → Decides (Asks (asked_by request.head head.action body)) old new
+  decides_with_body body reads =
+      let had = had_request request count body old now new head.reads reads in
+      record {
+        input = had.had.input;
+        is_input = had.had.known;
+        decided = inr (
+          request.head,
+          had.rest,
+          had.had.has,
+          sym (by_length request (Ok count) old now head had.rest ∙ whole had.rest had.whole had.is_body),
+        );
+        read = read_enough reads.taken reads.takes (let exact = reads.exact in omega arith);
+      }
+    where
+      whole : (rest : List ℕ) → count ≤ length rest → body ≡ take count rest
+          → decide_body request.head head.action (Ok count) rest ≡ Asks (asked_by request.head head.action body)
+      whole rest within is_body = rw is_body (rw (le-leb count (length rest) within) refl)
 
-pub decides_with_body : (request : Request) (action : Action) (count : ℕ) (body : List ℕ) (old now new : Reader) → ReadsHead request old now
-    → asked_action request.head ≡ Some action → takes_body action ≡ true → body_length request.head ≡ Ok count
-    → ReadsBody request.behind count body now new → Decides (Asks (asked_by request.head action body)) old new
-decides_with_body request action count body old now new reads asks takes is_count is_body =
-    let had = had_request request count body old now new reads is_body in
-    record {
-      input = had.had.input;
-      is_input = had.had.known;
-      decided = inr (
-        request.head,
-        had.rest,
-        had.had.has,
-        sym (
-            with_body request.head action had.rest asks takes
-            ∙ ap (λ length. decide_body request.head action length had.rest) is_count
-            ∙ whole request.head action count had.rest body had.whole had.is_body
-            ),
-      );
-      read = read_enough request action count is_body.taken old now new reads asks takes is_count is_body.takes
-          (let exact = is_body.exact in omega arith);
-    }
-  where
-    whole : (head : Head) (action : Action) (count : ℕ) (rest body : List ℕ) → count ≤ length rest → body ≡ take count rest
-        → decide_body head action (Ok count) rest ≡ Asks (asked_by head action body)
-    whole head action count rest body within is_body =
-        rw is_body (rw (le-leb count (length rest) within) refl)
+  pub decides_short_body : EndsInBody request.behind count now new → Decides (Refuses BadRequest) old new
+  decides_short_body ends =
+      let had = had_short_request request count old now new head.reads ends in
+      record {
+        input = had.had.input;
+        is_input = had.had.known;
+        decided = inr (
+          request.head,
+          had.rest,
+          had.had.has,
+          sym (by_length request (Ok count) old now head had.rest ∙ cut had.rest had.short),
+        );
+        read = read_enough ends.taken ends.takes
+            (let short = ends.short in let long = length-append request.behind ends.taken in omega arith);
+      }
+    where
+      cut : (rest : List ℕ) → length rest < count → decide_body request.head head.action (Ok count) rest ≡ Refuses BadRequest
+      cut rest short = rw (lt-leb count (length rest) short) refl
 
-pub decides_short_body : (request : Request) (action : Action) (count : ℕ) (old now new : Reader) → ReadsHead request old now
-    → asked_action request.head ≡ Some action → takes_body action ≡ true → body_length request.head ≡ Ok count
-    → EndsInBody request.behind count now new → Decides (Refuses BadRequest) old new
-decides_short_body request action count old now new reads asks takes is_count ends =
-    let had = had_short_request request count old now new reads ends in
-    record {
-      input = had.had.input;
-      is_input = had.had.known;
-      decided = inr (
-        request.head,
-        had.rest,
-        had.had.has,
-        sym (
-            with_body request.head action had.rest asks takes
-            ∙ ap (λ length. decide_body request.head action length had.rest) is_count
-            ∙ cut request.head action count had.rest had.short
-            ),
-      );
-      read = read_enough request action count ends.taken old now new reads asks takes is_count ends.takes
-          (within request.behind ends.taken count ends.short);
-    }
-  where
-    cut : (head : Head) (action : Action) (count : ℕ) (rest : List ℕ) → length rest < count
-        → decide_body head action (Ok count) rest ≡ Refuses BadRequest
-    cut head action count rest short = rw (lt-leb count (length rest) short) refl
+  pub undecided_in_body : FailsInBody request.behind count now new → FailsUndecided old new
+  undecided_in_body fails = record {
+    taken = head.reads.taken ++ fails.taken;
+    fails = record {
+      consumed = Consumes-append old.left now.left new.left head.reads.taken fails.taken head.reads.takes.consumed fails.fails.consumed;
+      failed = λ same. fails.fails.failed (same ∙ sym head.reads.takes.failed);
+    };
+    undecided = inr (announced fails.taken, fails.short);
+  }
 
-pub undecided_in_head : (old new : Reader) → FailsInHead old new → FailsUndecided old new
-undecided_in_head old new fails = record {
-  taken = fails.taken;
-  fails = fails.fails;
-  undecided = inl (fails.part, fails.unfinished, fails.room);
-}
-
-pub undecided_in_body : (request : Request) (action : Action) (count : ℕ) (old now new : Reader) → ReadsHead request old now
-    → asked_action request.head ≡ Some action → takes_body action ≡ true → body_length request.head ≡ Ok count
-    → FailsInBody request.behind count now new → FailsUndecided old new
-undecided_in_body request action count old now new reads asks takes is_count fails = record {
-  taken = reads.taken ++ fails.taken;
-  fails = record {
-    consumed = Consumes-append old.left now.left new.left reads.taken fails.taken reads.takes.consumed fails.fails.consumed;
-    failed = λ same. fails.fails.failed (same ∙ sym reads.takes.failed);
-  };
-  undecided = inr (
-    announces (reads.taken ++ fails.taken) request.head (request.behind ++ fails.taken) action count
-        (HasHead-append reads.taken fails.taken request.head request.behind reads.has) asks takes is_count,
-    fails.short,
-  );
-}
-
-pub stops_in_body : (request : Request) (action : Action) (count : ℕ) (old now new : Reader) → ReadsHead request old now
-    → asked_action request.head ≡ Some action → takes_body action ≡ true → body_length request.head ≡ Ok count
-    → LacksMemory request.behind count now new → StopsInBody old new
-stops_in_body request action count old now new reads asks takes is_count lacks =
-    let had = had_head request old now reads in
-    record {
-      input = had.input;
-      is_input = had.known;
-      announced = announces had.input request.head (request.behind ++ left_of now) action count had.has asks takes is_count;
-      wanted = lacks.wanted;
-      read = read_enough request action count lacks.taken old now new reads asks takes is_count lacks.takes lacks.within;
-    }
+  pub stops_in_body : LacksMemory request.behind count now new → StopsInBody old new
+  stops_in_body lacks = record {
+    input = head.reads.taken ++ left_of now;
+    is_input = known_whole head.reads.taken old now head.reads.takes;
+    announced = announced (left_of now);
+    wanted = lacks.wanted;
+    read = read_enough lacks.taken lacks.takes lacks.within;
+  }
 
 -- an input decides one thing
 pub one_decision : (input : List ℕ) (decision other : DecisionParts) → IsDecided input decision → IsDecided input other → decision ≡ other

@@ -18,25 +18,25 @@ pub no_rows : (code : List Insn) (segments : List Contents) → AreRowsOf code s
 no_rows code segments = record { within = (omega arith); chosen = 0; is_extract = (refl, refl) }
 
 -- one turn more
-pub rows_turned : (code : List Insn) (segments : List Contents) (done now : ℕ) (rows new_rows : List ℕ) → AreRowsOf code segments done rows
+pub rows_turned : {code : List Insn} {segments : List Contents} {done now : ℕ} {rows new_rows : List ℕ} → AreRowsOf code segments done rows
     → Advances code segments done rows now new_rows → AreRowsOf code segments now new_rows
-rows_turned code segments done now rows new_rows so_far advances = record {
+rows_turned so_far advances = record {
   within = (let moved = advances.moved in grind (arith));
   chosen = so_far.chosen + advances.chosen;
   is_extract = extract_turned so_far.chosen so_far.is_extract advances;
 }
 
 -- a turn goes on, so what it did can be counted
-pub turned_on : (code : List Insn) (segments : List Contents) (done now : ℕ) (rows new_rows : List ℕ) → AreRowsOf code segments done rows
+pub turned_on : {code : List Insn} {segments : List Contents} {done now : ℕ} {rows new_rows : List ℕ} → AreRowsOf code segments done rows
     → Advances code segments done rows now new_rows → done ≤ now
-turned_on code segments done now rows new_rows so_far advances = let within = so_far.within in let moved = advances.moved in grind (arith)
+turned_on so_far advances = let within = so_far.within in let moved = advances.moved in grind (arith)
 
 -- a turn that did less than it may has done all
-pub all_done : (code : List Insn) (segments : List Contents) (done now : ℕ) (rows new_rows : List ℕ) → AreRowsOf code segments done rows
-    → Advances code segments done rows now new_rows → now - done < SEGMENTS_PER_TURN → (chosen : ℕ)
-    × IsExtract code segments new_rows chosen
-all_done code segments done now rows new_rows so_far advances less =
-    let turned = rows_turned code segments done now rows new_rows so_far advances in (
+pub all_done : {code : List Insn} {segments : List Contents} {done now : ℕ} {rows new_rows : List ℕ} → AreRowsOf code segments done rows
+    → Advances code segments done rows now new_rows → now - done < SEGMENTS_PER_TURN
+    → (chosen : ℕ) × IsExtract code segments new_rows chosen
+all_done {code} {segments} {now = now} {new_rows = new_rows} so_far advances less =
+    let turned = rows_turned so_far advances in (
       turned.chosen,
       subst (λ segments. IsExtract code segments new_rows turned.chosen)
           (ap (λ n. take n segments) all ∙ take_all (length segments) segments (omega arith)) turned.is_extract,

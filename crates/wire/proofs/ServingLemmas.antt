@@ -1,49 +1,34 @@
 -- What was written is how serving ends.
-use Rattle.std.proofs.Common.{◌≡◌, inl, inr, refl, sym, subst}
+use Rattle.std.proofs.Common.{◌≡◌, inl, inr, refl}
 use Rattle.std.specs.Prelude.{Result, Ok, Err}
 use Rattle.http_reply.specs.Reply.{reply_text}
-use Rattle.tl_fields.specs.Device.{Reader, Writer}
 use Rattle.tl_fields.specs.Writing.{WritesText}
 use Rattle.tl_fields.specs.declared.writing.WriteFault.{WriteFault}
 use Rattle.tl_fields.specs.declared.writing.WriteFault.TheVariants.{Write, WriteZero}
 use Rattle.wire.specs.Answer.{Answers, memory_reply}
 use Rattle.wire.specs.Decision.{DecisionParts, extent_of}
-use Rattle.wire.specs.Reading.{Decides, FailsToDecide, StopsInBody, WritesReply, ends_with}
+use Rattle.wire.specs.Reading.{Decides, StopsInBody, WritesReply, ends_with}
 use Rattle.wire.specs.Serving.{Connection, IsReplied, IsServed, TellsExtent}
-use Rattle.wire.specs.State.{StateParts}
-use Rattle.wire.specs.declared.decision.ReadFault.{ReadFault}
 use Rattle.wire.specs.declared.fault.WireFault.{WireFault}
 use Rattle.wire.specs.declared.serving.Extent.{Extent}
 use Rattle.wire.specs.declared.serving.Extent.TheVariants.{Part}
 
-served_by : (extent : Extent) (written : Result (Unit {0}) WriteFault) (old new : Connection) → IsReplied extent written old new
-    → IsServed (ends_with extent written) old new
-served_by extent (Ok done) old new replied = (extent, replied)
-served_by extent (Err Write) old new replied = (extent, replied)
-served_by extent (Err WriteZero) old new replied = (extent, replied)
-
 pub served : (extent : Extent) (written : Result (Unit {0}) WriteFault) (result : Result Extent WireFault) (old new : Connection)
     → result ≡ ends_with extent written → IsReplied extent written old new → IsServed result old new
-served extent written result old new is replied = subst (λ result. IsServed result old new) (sym is)
-    (served_by extent written old new replied)
-
-tells_by : (extent : Extent) (written : Result (Unit {0}) WriteFault) (old new : Connection) → IsReplied extent written old new
-    → TellsExtent (ends_with extent written) old new
-tells_by extent (Ok done) old new replied = replied
-tells_by extent (Err fault) old new replied = tt
+served extent (Ok done) result old new is replied = rw is (extent, replied)
+served extent (Err Write) result old new is replied = rw is (extent, replied)
+served extent (Err WriteZero) result old new is replied = rw is (extent, replied)
 
 pub tells_extent : (extent : Extent) (written : Result (Unit {0}) WriteFault) (result : Result Extent WireFault) (old new : Connection)
     → result ≡ ends_with extent written → IsReplied extent written old new → TellsExtent result old new
-tells_extent extent written result old new is replied = subst (λ result. TellsExtent result old new) (sym is)
-    (tells_by extent written old new replied)
+tells_extent extent (Ok done) result old new is replied = rw is replied
+tells_extent extent (Err fault) result old new is replied = rw is tt
 
 -- what was decided was answered
-pub replied : (decision : DecisionParts) (extent : Extent) (written : Result (Unit {0}) WriteFault) (state state' : StateParts)
-    (reader reader' : Reader) (writer writer' : Writer) → extent ≡ extent_of decision → Decides decision reader reader'
-    → WritesReply (λ reply. Answers state decision reply state') written writer writer'
-    → IsReplied extent written (record { state = state; reader = reader; writer = writer })
-    (record { state = state'; reader = reader'; writer = writer' })
-replied decision extent written state state' reader reader' writer writer' is_extent decides writes = record {
+pub replied : (decision : DecisionParts) (extent : Extent) (written : Result (Unit {0}) WriteFault) (old new : Connection)
+    → extent ≡ extent_of decision → Decides decision old.reader new.reader
+    → WritesReply (λ reply. Answers old.state decision reply new.state) written old.writer new.writer → IsReplied extent written old new
+replied decision extent written old new is_extent decides writes = record {
   input = decides.input;
   is_input = decides.is_input;
   read = decides.read;
@@ -53,11 +38,9 @@ replied decision extent written state state' reader reader' writer writer' is_ex
 }
 
 -- memory was wanting for the body
-pub lacked : (written : Result (Unit {0}) WriteFault) (state state' : StateParts) (reader reader' : Reader) (writer writer' : Writer)
-    → StopsInBody reader reader' → state' ≡ state → WritesText (reply_text memory_reply) written writer writer'
-    → IsReplied Part written (record { state = state; reader = reader; writer = writer })
-    (record { state = state'; reader = reader'; writer = writer' })
-lacked written state state' reader reader' writer writer' stops same writes = record {
+pub lacked : (written : Result (Unit {0}) WriteFault) (old new : Connection) → StopsInBody old.reader new.reader → new.state ≡ old.state
+    → WritesText (reply_text memory_reply) written old.writer new.writer → IsReplied Part written old new
+lacked written old new stops same writes = record {
   input = stops.input;
   is_input = stops.is_input;
   read = stops.read;
@@ -65,6 +48,3 @@ lacked written state state' reader reader' writer writer' stops same writes = re
   replies = inr (stops.announced, stops.wanted, refl, refl, same);
   writes = writes;
 }
-
-pub fails_as : (fault is : ReadFault) (old new : Reader) → fault ≡ is → FailsToDecide fault old new → FailsToDecide is old new
-fails_as fault is old new same fails = subst (λ fault. FailsToDecide fault old new) same fails

@@ -30,7 +30,7 @@ use Rattle.jobs.specs.Segments.{segments_of}
 use Rattle.jobs.specs.Table.{Step, Table}
 use Rattle.jobs.specs.declared.event.Event.{Event}
 use Rattle.jobs.specs.declared.event.Event.TheVariants as event
-use Rattle.jobs.specs.declared.event.Reply.{Reply}
+use Rattle.jobs.specs.declared.event.Reply.{Reply as JobReply}
 use Rattle.jobs.specs.declared.event.Reply.TheVariants.{Submitted, Turned, Rows, Dropped, Refused}
 use Rattle.jobs.specs.declared.fault.JobFault.{JobFault}
 use Rattle.jobs.specs.declared.fault.JobFault.TheVariants.{Full, NoJob, Program, Memory}
@@ -122,7 +122,7 @@ abbrev pub rows_reply : ℕ → ℕ → List ℕ → ReplyParts
 rows_reply done total rows = octets ((decimal done ++ codes " " ++ decimal total ++ 10 ∷ []) ++ rows)
 
 -- what the table says, as a reply; no request asks for a turn
-abbrev pub job_reply : Reply → ReplyParts
+abbrev pub job_reply : JobReply → ReplyParts
 job_reply (Submitted id) = line_reply status.Ok (decimal id)
 job_reply (Turned done total) = rows_reply done total []
 job_reply (Rows done total rows) = rows_reply done total rows.now
@@ -133,7 +133,7 @@ job_reply (Refused fault) = job_fault_reply fault
 pub record TellsTable (asked : Event → Type 0) (old : Table) (reply : ReplyParts) (new : Table) : Type 0 where
   pub event : Event
   pub is_event : asked event
-  pub said : Reply
+  pub said : JobReply
   pub step : Step old event said new
   pub told : reply ≡ job_reply said
 

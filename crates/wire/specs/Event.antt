@@ -9,9 +9,9 @@ use Rattle.jobs.specs.Segments.{segments_of}
 use Rattle.jobs.specs.Table.{IsNextTurn, JobParts, Step}
 use Rattle.jobs.specs.declared.event.Event.{Event}
 use Rattle.jobs.specs.declared.event.Event.TheVariants.{Turn, Fetch, Drop}
-use Rattle.jobs.specs.declared.event.Reply.{Reply}
+use Rattle.jobs.specs.declared.event.Reply.{Reply as JobReply}
 use Rattle.tl_segments.specs.County.{CountyParts}
-use Rattle.wire.specs.Answer.{Replies, Submits, job_reply, memory_reply, rows_reply}
+use Rattle.wire.specs.Answer.{Replies, Submits, TellsTable, job_reply, memory_reply, rows_reply}
 use Rattle.wire.specs.Decision.{AskedParts, DecisionParts, IsDecided, Refuses, Disallows, Asks}
 use Rattle.wire.specs.State.{StateParts}
 use Rattle.wire.specs.declared.serving.Extent.{Extent}
@@ -22,12 +22,8 @@ is_requested (Turn id) = false
 is_requested event = true
 
 -- one event of the table of jobs, which a request may be, and what the table said is the reply
-pub record IsEvent (old : StateParts) (reply : ReplyParts) (new : StateParts) : Type 0 where
-  pub event : Event
-  pub requested : IsTrue (is_requested event)
-  pub said : Reply
-  pub step : Step old.table event said new.table
-  pub told : reply ≡ job_reply said
+abbrev pub IsEvent : StateParts → ReplyParts → StateParts → Type 0
+IsEvent old reply new = TellsTable (λ event. IsTrue (is_requested event)) old.table reply new.table
 
 -- what is asked of the table: that a program is run as a job, how far the job of an id is, or that it is removed
 abbrev pub IsAsked : Action → AskedParts → Event → Type 0
@@ -48,7 +44,7 @@ Requests input event = (decision : DecisionParts) × IsDecided input decision ×
 -- what a server does: it replies to an input, makes a turn of the job of an id, or has no turn to make
 pub data Act : Type 0 where
   Replied : List ℕ → ReplyParts → Act
-  Turned : ℕ → Reply → Act
+  Turned : ℕ → JobReply → Act
   Rested : Act
 
 abbrev pub Acts : StateParts → Act → StateParts → Type 0

@@ -15,7 +15,7 @@ use arrayvec::ArrayString;
 use http_reply::Status;
 use http_routes::job_id;
 use itoa::Buffer;
-use jobs::{Event, JobFault, Jobs, Reply};
+use jobs::{Event, JobFault, Jobs, Reply as JobReply};
 use refusals::{Fault, Refusal};
 use std::alloc::Allocator;
 use tl_fields::{CountedWrite, WriteFault};
@@ -72,7 +72,7 @@ fn no_job<A: Allocator, W: CountedWrite>(out: &mut W) -> Result<(), WriteFault>
 }
 
 /// Moves the job whose turn is next on by a turn.
-pub(crate) fn next_turn<A: Allocator + Copy>(jobs: &mut Jobs<A>) -> Option<Reply<'static>>
+pub(crate) fn next_turn<A: Allocator + Copy>(jobs: &mut Jobs<A>) -> Option<JobReply<'static>>
     ensures { IsTurn jobs.old result jobs.new }
 {
     let id = jobs.next_turn()?;
@@ -81,39 +81,39 @@ pub(crate) fn next_turn<A: Allocator + Copy>(jobs: &mut Jobs<A>) -> Option<Reply
 }
 
 /// The reply to a turn, which lends nothing.
-fn without_rows(said: Reply<'_>) -> Reply<'static>
+fn without_rows(said: JobReply<'_>) -> JobReply<'static>
     ensures { lends_rows said.entry ≡ false → result ≡ said.entry }
 {
     match said {
-        Reply::Submitted(id) => Reply::Submitted(id),
-        Reply::Turned { done, total } => Reply::Turned { done, total },
-        Reply::Rows { done, total, .. } => Reply::Rows {
+        JobReply::Submitted(id) => JobReply::Submitted(id),
+        JobReply::Turned { done, total } => JobReply::Turned { done, total },
+        JobReply::Rows { done, total, .. } => JobReply::Rows {
             done,
             total,
             rows: &[],
         },
-        Reply::Dropped => Reply::Dropped,
-        Reply::Refused(fault) => Reply::Refused(fault),
+        JobReply::Dropped => JobReply::Dropped,
+        JobReply::Refused(fault) => JobReply::Refused(fault),
     }
 }
 
 /// What the table says, as an answer.
-fn job_answer<'a, A: Allocator>(said: Reply<'a>) -> Answer<'a, A>
+fn job_answer<'a, A: Allocator>(said: JobReply<'a>) -> Answer<'a, A>
     ensures { reply_of result ≡ job_reply said.entry }
 {
     match said {
-        Reply::Submitted(id) => Answer::Line {
+        JobReply::Submitted(id) => Answer::Line {
             status: Status::Ok,
             line: id_line(id),
         },
-        Reply::Rows { done, total, rows } => Answer::Rows { done, total, rows },
-        Reply::Turned { done, total } => Answer::Rows {
+        JobReply::Rows { done, total, rows } => Answer::Rows { done, total, rows },
+        JobReply::Turned { done, total } => Answer::Rows {
             done,
             total,
             rows: &[],
         },
-        Reply::Dropped => Answer::Text("dropped\n"),
-        Reply::Refused(fault) => job_fault_answer(fault),
+        JobReply::Dropped => Answer::Text("dropped\n"),
+        JobReply::Refused(fault) => job_fault_answer(fault),
     }
 }
 

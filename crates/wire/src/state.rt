@@ -6,7 +6,7 @@ ghost use Rattle.wire.specs.Turn.{IsTurn};
 
 use crate::job::next_turn;
 use http_routes::Routes;
-use jobs::{Jobs, Reply};
+use jobs::{Jobs, Reply as JobReply};
 use std::alloc::{AllocError, Allocator, Global};
 use std::marker::Model;
 use tl_segments::County;
@@ -46,7 +46,7 @@ impl<A: Allocator + Copy> State<A> {
     }
 
     /// Moves the job whose turn is next on by a turn, and answers what came of it; `None` where no job is unfinished.
-    pub fn turn(&mut self) -> Option<Reply<'static>>
+    pub fn turn(&mut self) -> Option<JobReply<'static>>
         ensures { IsTurn self.old.table result self.new.table }
     {
         next_turn(&mut self.jobs)

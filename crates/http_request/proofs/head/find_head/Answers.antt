@@ -1,7 +1,5 @@
 use Rattle.std.proofs.Common.{length, arith}
-use Rattle.httparse.specs.declared.Error.{Error}
-use Rattle.http_request.proofs.SearchLemmas.{if_complete, on_partial, nothing_read, takes_more, lacks_by_refusal, length-take_most}
-use Rattle.http_request.proofs.SearchLemmas.{length-take_some, lacks_by_limit, fails}
+use Rattle.http_request.proofs.SearchLemmas.{fails, lacks_by_limit, lacks_by_refusal, nothing_read, takes_more}
 use Rattle.http_request.proofs.head.find_head.Goals as goal
 
 pub loop-count-init : goal.loop-count-init
@@ -18,9 +16,8 @@ returns-in-Ok-Complete g c = record {
   takes = takes_more c.read_counted.new.buf _ c.in-Ok.read _ c.loop-count.invariant c.in-Ok.ensures.bound.0
       c.in-Ok.ensures.bytes.0 c.in-Ok.ensures.failures;
   room = omega (arith, c.in-Ok.ensures.bound.0, c.requires.bytes);
-  within = if_complete Error c.in-Ok-Complete.field-0 c.in-Ok-Complete.spans _ c.in-Ok-Complete.field-0-is c.in-Ok-Complete.ensures.within;
-  is_head = if_complete Error c.in-Ok-Complete.field-0 c.in-Ok-Complete.spans _ c.in-Ok-Complete.field-0-is
-      c.in-Ok-Complete.ensures.complete;
+  within = rw c.in-Ok-Complete.field-0-is at c.in-Ok-Complete.ensures.within;
+  is_head = rw c.in-Ok-Complete.field-0-is at c.in-Ok-Complete.ensures.complete;
 }
 
 pub loop-count-preserved : goal.loop-count-preserved
@@ -28,17 +25,16 @@ loop-count-preserved g c = record {
   inside = omega (arith, c.in-Ok.ensures.bound.0);
   takes = takes_more c.read_counted.new.buf _ c.in-Ok.read _ c.loop-count.invariant c.in-Ok.ensures.bound.0
       c.in-Ok.ensures.bytes.0 c.in-Ok.ensures.failures;
-  none = on_partial Error c.in-Ok-Partial.field-0 _ c.in-Ok-Partial.field-0-is c.in-Ok-Partial.ensures.partial;
-  unfinished = on_partial Error c.in-Ok-Partial.field-0 _ c.in-Ok-Partial.field-0-is c.in-Ok-Partial.ensures.unfinished;
+  none = rw c.in-Ok-Partial.field-0-is at c.in-Ok-Partial.ensures.partial;
+  unfinished = rw c.in-Ok-Partial.field-0-is at c.in-Ok-Partial.ensures.unfinished;
 }
 
 pub returns-in-Err : goal.returns-in-Err
 returns-in-Err g c =
     let takes = takes_more c.read_counted.new.buf _ c.in-Ok.read _ c.loop-count.invariant c.in-Ok.ensures.bound.0
     c.in-Ok.ensures.bytes.0 c.in-Ok.ensures.failures in
-    lacks_by_refusal (length c.loop-count.headers) takes (length-take_some _ _ (omega (arith, c.in-Ok.ensures.bound.0)) (grind (arith)))
-    (length-take_most _ _ _ (omega (arith, c.in-Ok.ensures.bound.0, c.requires.bytes)))
-    (omega (arith, c.requires.headers)) c.in-Err.ensures.no_room
+    lacks_by_refusal _ _ (length c.loop-count.headers) takes (omega (arith, c.in-Ok.ensures.bound.0)) (grind (arith))
+    (omega (arith, c.requires.bytes)) (omega (arith, c.requires.headers)) c.in-Err.ensures.no_room
 
 pub returns : goal.returns
 returns g c = lacks_by_limit c.loop-count.bytes c.loop-count.count _ _

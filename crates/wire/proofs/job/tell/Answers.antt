@@ -1,6 +1,15 @@
-use Rattle.wire.proofs.AnswerLemmas.{writes_told}
+use Rattle.std.proofs.Common.{refl}
 use Rattle.wire.proofs.job.tell.Goals as goal
 
 pub returns : goal.returns
-returns g c = writes_told c.args.event c.apply-said.result _ _ _ _ _ _ c.apply-said.follows.holds-at-none c.job_answer.ensures
-    c.write.ensures
+returns g c = record {
+  reply = _;
+  is_such = record {
+    event = c.args.event;
+    is_event = refl;
+    said = c.apply-said.result;
+    step = c.apply-said.follows.holds-at-none;
+    told = c.job_answer.ensures;
+  };
+  writes = c.write.ensures;
+}

@@ -1,7 +1,7 @@
 use Rattle.std.proofs.Common.{ap, refl, sym}
 use Rattle.std.specs.Prelude.{codes}
 use Rattle.httparse.specs.Spans.{header_bytes}
-use Rattle.http_request.specs.Reading.{Request}
+use Rattle.http_request.specs.Reading.{RequestParts}
 use Rattle.http_request.proofs.LengthLemmas.{found_first, found_none, found_one, found_still, found_twice}
 use Rattle.http_request.proofs.request.Request.announced_length.Goals as goal
 use Rattle.http_request.proofs.request.Request.announced_length.Goals.{then-is_named+else-is_some, else-is_named}
@@ -14,7 +14,7 @@ returns-then-is_some c =
     found_twice (codes "content-length") (header_bytes c.self.inside.bytes.now) c.self.inside.headers.now c.loop-header.header-index _
     c.loop-header.found _
     c.loop-header.invariant (sym c.if-is_some.ensures) c.loop-header-test.true (sym c.if-is_named.ensures)
-    (ap (λ (request : Request). request.head.headers) c.self.view_is)
+    (ap (λ (request : RequestParts). request.head.headers) c.self.view_is)
 
 pub loop-header-preserved : goal.loop-header-preserved
 loop-header-preserved c =
@@ -34,11 +34,11 @@ returns-in-Some c =
     rw c.length_of.ensures (
     found_one (codes "content-length") (header_bytes c.self.inside.bytes.now) c.self.inside.headers.now c.loop-header.header-index
     c.loop-header.found c.in-Some.value _
-    c.loop-header.invariant c.in-Some.is c.loop-header-test.false (ap (λ (request : Request). request.head.headers) c.self.view_is)
+    c.loop-header.invariant c.in-Some.is c.loop-header-test.false (ap (λ (request : RequestParts). request.head.headers) c.self.view_is)
     )
 
 pub returns-in-None : goal.returns-in-None
 returns-in-None c =
     found_none (codes "content-length") (header_bytes c.self.inside.bytes.now) c.self.inside.headers.now c.loop-header.header-index
     c.loop-header.found _
-    c.loop-header.invariant c.in-None.is c.loop-header-test.false (ap (λ (request : Request). request.head.headers) c.self.view_is)
+    c.loop-header.invariant c.in-None.is c.loop-header-test.false (ap (λ (request : RequestParts). request.head.headers) c.self.view_is)

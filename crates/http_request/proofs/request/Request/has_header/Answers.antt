@@ -1,23 +1,16 @@
-use Rattle.std.proofs.Common.{ap, sym}
+use Rattle.std.proofs.Common.{rules, tests, ◌∙◌}
+use Rattle.std.proofs.lemmas.Iterator.{YieldsList-from_slice}
+use Rattle.std.proofs.lemmas.Iterator.Search.{any_from_yields_List}
 use Rattle.httparse.specs.Spans.{header_bytes}
-use Rattle.http_request.specs.Reading.{Request}
-use Rattle.http_request.proofs.LengthLemmas.{named_not_yet, named_nowhere, named_there}
+use Rattle.http_request.specs.Length.{is_named}
+use Rattle.http_request.proofs.LengthLemmas.{any_of}
 use Rattle.http_request.proofs.request.Request.has_header.Goals as goal
-
-pub returns-then-is_named : goal.returns-then-is_named
-returns-then-is_named c =
-    named_there c.args.name.now (header_bytes c.self.inside.bytes.now) c.self.inside.headers.now c.loop-header.header-index _ _
-    c.loop-header-test.true
-    (sym c.if-is_named.ensures) c.loop-header.invariant (ap (λ (request : Request). request.head.headers) c.self.view_is)
-
-pub loop-header-preserved : goal.loop-header-preserved
-loop-header-preserved c =
-    named_not_yet c.args.name.now (header_bytes c.self.inside.bytes.now) c.self.inside.headers.now c.loop-header.header-index _
-    c.loop-header-test.true
-    (sym c.if-is_named.ensures) c.loop-header.invariant
 
 pub returns : goal.returns
 returns c =
-    named_nowhere c.args.name.now (header_bytes c.self.inside.bytes.now) c.self.inside.headers.now c.loop-header.header-index _
-    c.loop-header-test.false
-    c.loop-header.invariant (ap (λ (request : Request). request.head.headers) c.self.view_is)
+    let name = c.args.name.now in
+    let at = header_bytes c.self.inside.bytes.now in
+    let headers = c.self.inside.headers.now in
+    rw (← c.self.view_is)
+    (any_from_yields_List (λ header. is_named name (at header)) _ _ _ c.any.ensures.ran (YieldsList-from_slice headers cc)
+    (λ x b q k. search (rules, tests)) ∙ any_of (is_named name) at headers)
