@@ -53,9 +53,8 @@ HasNoHead-from_request : (bytes : List ℕ) → HasNoRequest bytes → HasNoHead
 HasNoHead-from_request bytes none head rest has = none has.tree rest has.reads
 
 -- a head with too many headers is none, whatever follows
-HasNoHead-from_overflows : (bytes : List ℕ) (room : ℕ) → room ≡ 64 → RequestOverflows room bytes → (more : List ℕ)
-    → HasNoHead (bytes ++ more)
-HasNoHead-from_overflows bytes room is many more head rest has = absurd (omega (arith, many more has.tree rest has.reads, has.few))
+HasNoHead-from_overflows : (bytes : List ℕ) → RequestOverflows 64 bytes → (more : List ℕ) → HasNoHead (bytes ++ more)
+HasNoHead-from_overflows bytes many more head rest has = absurd (omega (arith, many more has.tree rest has.reads, has.few))
 
 -- two texts that begin alike, the first of them the shorter
 front-append : (xs ys us vs : List ℕ) → length us ≤ length xs → xs ++ ys ≡ us ++ vs → xs ≡ us ++ drop (length us) xs
@@ -70,13 +69,13 @@ HasNoHead-from_full bytes full none more head rest has =
     none has.tree _ (has.reads.0, front-append bytes more (print_request has.tree) rest (omega (arith, has.short)) has.reads.1)
 
 -- the parser refused what was read
-pub lacks_by_refusal : (bytes : List ℕ) (count room : ℕ) {old new : Reader} → Takes (take count bytes) old new → count ≤ length bytes
-    → 0 < count → length bytes ≡ 8192 → room ≡ 64 → RequestOverflows room (take count bytes) → LacksHead old new
-lacks_by_refusal bytes count room takes inside some full is many = record {
+pub lacks_by_refusal : (bytes : List ℕ) (count : ℕ) {old new : Reader} → Takes (take count bytes) old new → count ≤ length bytes → 0 < count
+    → length bytes ≡ 8192 → RequestOverflows 64 (take count bytes) → LacksHead old new
+lacks_by_refusal bytes count takes inside some full many = record {
   taken = take count bytes;
   takes = takes;
   some = omega (arith, length-take-le count bytes inside);
-  lacks = inl (HasNoHead-from_overflows (take count bytes) room is many);
+  lacks = inl (HasNoHead-from_overflows (take count bytes) many);
   room = omega (arith, length-take-le count bytes inside);
 }
 

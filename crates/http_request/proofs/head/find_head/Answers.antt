@@ -1,4 +1,4 @@
-use Rattle.std.proofs.Common.{length, arith}
+use Rattle.std.proofs.Common.{◌≡◌, length, arith}
 use Rattle.http_request.proofs.SearchLemmas.{fails, lacks_by_limit, lacks_by_refusal, nothing_read, takes_more}
 use Rattle.http_request.proofs.head.find_head.Goals as goal
 
@@ -33,8 +33,9 @@ pub returns-in-Err : goal.returns-in-Err
 returns-in-Err g c =
     let takes = takes_more c.read_counted.new.buf _ c.in-Ok.read _ c.loop-count.invariant c.in-Ok.ensures.bound.0
     c.in-Ok.ensures.bytes.0 c.in-Ok.ensures.failures in
-    lacks_by_refusal _ _ (length c.loop-count.headers) takes (omega (arith, c.in-Ok.ensures.bound.0)) (grind (arith))
-    (omega (arith, c.requires.bytes)) (omega (arith, c.requires.headers)) c.in-Err.ensures.no_room
+    let room : length c.loop-count.headers ≡ 64 = omega (arith, c.requires.headers) in
+    lacks_by_refusal _ _ takes (omega (arith, c.in-Ok.ensures.bound.0)) (grind (arith)) (omega (arith, c.requires.bytes))
+    (rw room at c.in-Err.ensures.no_room)
 
 pub returns : goal.returns
 returns g c = lacks_by_limit c.loop-count.bytes c.loop-count.count _ _
