@@ -103,9 +103,9 @@ pub record ReadsAsking (request : RequestParts) (announced : Result ℕ LengthFa
   pub takes : takes_body action ≡ true
   pub announces : body_length request.head ≡ announced
 
-abbrev pub asking : {request : RequestParts} {old new : Reader} {action : Action} {announced : Result ℕ LengthFault} → ReadsHead request old new
-    → asked_action request.head ≡ Some action → takes_body action ≡ true → announced ≡ body_length request.head
-    → ReadsAsking request announced old new
+abbrev pub asking : {request : RequestParts} {old new : Reader} {action : Action} {announced : Result ℕ LengthFault}
+    → ReadsHead request old new → asked_action request.head ≡ Some action → takes_body action ≡ true
+    → announced ≡ body_length request.head → ReadsAsking request announced old new
 asking {action = action} reads asks takes is =
     record { reads = reads; action = action; asks = asks; takes = takes; announces = sym is }
 
