@@ -2,7 +2,7 @@
 use Rattle.std.proofs.Common.{ℕ, zero, suc, List, [], ◌∷◌, Option, Some, None, ap, subst}
 use Rattle.std.specs.Prelude.{Result, Ok, Err}
 use Rattle.jobs.specs.Table.{Table}
-use Rattle.jobs.specs.declared.event.Reply.{Reply}
+use Rattle.jobs.specs.declared.event.Reply.{Reply as JobReply}
 use Rattle.server.specs.Rounds.{AreRounds, Serving}
 use Rattle.server.specs.Service.{HasServed, HasTurned}
 use Rattle.server.specs.Tally.{ServesTallied, Tallied, TurnsTallied}
@@ -16,26 +16,17 @@ use Rattle.wire.specs.declared.fault.WireFault.TheVariants.{Closed, Read, Write,
 use Rattle.wire.specs.declared.serving.Extent.{Extent}
 
 -- the acts from one state to the other
-record LeadsTo (old new : StateParts) : Type 0 where
-  pub acts : List Act
-  pub are : AreActs old acts new
+abbrev LeadsTo : StateParts → StateParts → Type 0
+LeadsTo old new = (acts : List Act) × AreActs old acts new
 
-after_turn : (old now new : StateParts) (said : Option Reply) → IsTurn old.table said now.table → LeadsTo now new → LeadsTo old new
-after_turn old now new None turn leads = record {
-  acts = Rested ∷ leads.acts;
-  are = (now, (turn.0, ap (λ (table : Table). record { table = table }) turn.1), leads.are);
-}
-after_turn old now new (Some said) turn leads = record {
-  acts = Turned turn.0 said ∷ leads.acts;
-  are = (now, (turn.1, turn.2), leads.are);
-}
+after_turn : (old now new : StateParts) (said : Option JobReply) → IsTurn old.table said now.table → LeadsTo now new → LeadsTo old new
+after_turn old now new None turn leads =
+    (Rested ∷ leads.0, (now, (turn.0, ap (λ (table : Table). record { table = table }) turn.1), leads.1))
+after_turn old now new (Some said) turn leads = (Turned turn.0 said ∷ leads.0, (now, (turn.1, turn.2), leads.1))
 
 module _ (old now : Connection) (new : StateParts) (leads : LeadsTo now.state new) where
   after_reply : (extent : Extent) (written : Result (Unit {0}) WriteFault) → IsReplied extent written old now → LeadsTo old.state new
-  after_reply extent written is = record {
-    acts = Replied is.input is.reply ∷ leads.acts;
-    are = (now.state, (extent, is.replies), leads.are);
-  }
+  after_reply extent written is = (Replied is.input is.reply ∷ leads.0, (now.state, (extent, is.replies), leads.1))
 
   after_serving : (result : Result Extent WireFault) → IsServed result old now → LeadsTo old.state new
   after_serving (Ok done) is = after_reply is.0 _ is.1
@@ -44,17 +35,13 @@ module _ (old now : Connection) (new : StateParts) (leads : LeadsTo now.state ne
   after_serving (Err Closed) is = subst (λ state. LeadsTo state new) is.0.state leads
   after_serving (Err Read) is = subst (λ state. LeadsTo state new) is.0.state leads
 
-rounds_lead : (count : ℕ) (old new : Serving (Tallied StateParts))
-    → AreRounds (ServesTallied HasServed) (TurnsTallied HasTurned) count old new → LeadsTo old.service.service new.service.service
-rounds_lead zero old new same = record { acts = []; are = ap (λ (serving : Serving (Tallied StateParts)). serving.service.service) same }
-rounds_lead (suc count) old new (now, round, rounds) =
-    let turn = round.makes_turn.makes_turn in
-    let served = round.serves_client.serves_client.serves_client in
-    after_serving _ _ new.service.service
-    (after_turn round.served.service now.service.service new.service.service turn.0 turn.1 (rounds_lead count now new rounds))
-    served.result served.is_served
-
 pub rounds_are_acts : (count : ℕ) (old new : Serving (Tallied StateParts))
     → AreRounds (ServesTallied HasServed) (TurnsTallied HasTurned) count old new
     → (acts : List Act) × AreActs old.service.service acts new.service.service
-rounds_are_acts count old new rounds = let leads = rounds_lead count old new rounds in (leads.acts, leads.are)
+rounds_are_acts zero old new same = ([], ap (λ (serving : Serving (Tallied StateParts)). serving.service.service) same)
+rounds_are_acts (suc count) old new (now, round, rounds) =
+    let turn = round.makes_turn.makes_turn in
+    let served = round.serves_client.serves_client.serves_client in
+    after_serving _ _ new.service.service
+    (after_turn round.served.service now.service.service new.service.service turn.0 turn.1 (rounds_are_acts count now new rounds))
+    served.result served.is_served

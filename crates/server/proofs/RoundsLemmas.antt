@@ -1,7 +1,8 @@
 -- Rounds after rounds.
 use Rattle.std.proofs.Common.{ℕ, zero, suc, refl, subst}
 use Rattle.std.specs.declared.io.Error.{Error}
-use Rattle.server.specs.Rounds.{AreRounds, HasEnded, IsRound, Serves, Serving, ServesUntilFailure}
+use Rattle.server.specs.Rounds.{AreRounds, HasEnded, IsRound, Serving, ServesUntilFailure}
+use Rattle.server.specs.Service.{Serves}
 
 -- the rounds so far
 pub record HasMadeRounds {S : Type 0} (serves : Serves S) (turns : S → S → Type 0) (old now : Serving S) : Type 0 where

@@ -1,14 +1,8 @@
 -- What a server does, connection by connection.
 use Rattle.std.specs.Prelude.{◌≡◌, ℕ, zero, suc}
 use Rattle.std.specs.declared.io.Error.{Error}
-use Rattle.tl_fields.specs.Device.{Reader, Writer}
 use Rattle.server.specs.Acceptor.{Accepts, FailsOne, TakesOne}
-use Rattle.server.specs.Service.{ServesSome}
-use Rattle.server.specs.declared.service.Close.{Close}
-
--- what serving a client does to a service and to both ends, with how the connection is to be closed
-abbrev pub Serves : Type 0 → Type 1
-Serves S = S → Reader → Writer → Close → S → Reader → Writer → Type 0
+use Rattle.server.specs.Service.{Serves, ServesSome}
 
 -- a service, with the counts of the accepts
 pub record Serving (S : Type 0) : Type 0 where

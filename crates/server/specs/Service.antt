@@ -1,8 +1,8 @@
 -- What a server does for a client, and behind each, to its state.
 use Rattle.std.specs.Prelude.{◌≡◌, Option, Result, Ok, Err}
-use Rattle.jobs.specs.declared.event.Reply.{Reply}
+use Rattle.jobs.specs.declared.event.Reply.{Reply as JobReply}
 use Rattle.tl_fields.specs.Device.{Reader, Writer}
-use Rattle.wire.specs.Serving.{IsServed, TellsExtent}
+use Rattle.wire.specs.Serving.{Connection, IsServed, TellsExtent}
 use Rattle.wire.specs.State.{StateParts}
 use Rattle.wire.specs.Turn.{IsTurn}
 use Rattle.wire.specs.declared.fault.WireFault.{WireFault}
@@ -17,23 +17,32 @@ close_of (Ok Part) = Lingering
 close_of (Ok Whole) = AtOnce
 close_of (Err fault) = AtOnce
 
+-- the two ends of a client's connection
+pub record Ends : Type 0 where
+  pub reader : Reader
+  pub writer : Writer
+
+abbrev pub connection : StateParts → Ends → Connection
+connection state ends = record { state = state; reader = ends.reader; writer = ends.writer }
+
 -- a request of these ends was served, whatever came of it, and the connection is to be closed as that says
-pub record HasServed (old : StateParts) (old_reader : Reader) (old_writer : Writer)
-    (close : Close) (new : StateParts) (new_reader : Reader) (new_writer : Writer) : Type 0 where
+pub record HasServed (old : StateParts) (ends : Ends) (close : Close) (new : StateParts) (new_ends : Ends) : Type 0 where
   pub result : Result Extent WireFault
-  pub is_served : IsServed result (record { state = old; reader = old_reader; writer = old_writer }) (record { state = new; reader = new_reader; writer = new_writer })
-  pub tells_extent : TellsExtent result (record { state = old; reader = old_reader; writer = old_writer }) (record { state = new; reader = new_reader; writer = new_writer })
+  pub is_served : IsServed result (connection old ends) (connection new new_ends)
+  pub tells_extent : TellsExtent result (connection old ends) (connection new new_ends)
   pub closes : close ≡ close_of result
 
+-- what serving a client does to a service and to both ends, with how the connection is to be closed
+abbrev pub Serves : Type 0 → Type 1
+Serves S = S → Ends → Close → S → Ends → Type 0
+
 -- a service served some client: of the ends of a socket nothing is known
-pub record ServesSome {S : Type 0} (serves : S → Reader → Writer → Close → S → Reader → Writer → Type 0) (old new : S) : Type 0 where
-  pub old_reader : Reader
-  pub old_writer : Writer
+pub record ServesSome {S : Type 0} (serves : Serves S) (old new : S) : Type 0 where
+  pub ends : Ends
   pub close : Close
-  pub new_reader : Reader
-  pub new_writer : Writer
-  pub serves_client : serves old old_reader old_writer close new new_reader new_writer
+  pub new_ends : Ends
+  pub serves_client : serves old ends close new new_ends
 
 -- a turn was made, or there was none to make
 abbrev pub HasTurned : StateParts → StateParts → Type 0
-HasTurned old new = (reply : Option Reply) × IsTurn old.table reply new.table
+HasTurned old new = (reply : Option JobReply) × IsTurn old.table reply new.table

@@ -2,7 +2,7 @@
 use Rattle.std.specs.Prelude.{◌≡◌, ℕ, refl}
 use Rattle.std.specs.Coded.{Coded, code_by, coded×, coded_ℕ}
 use Rattle.tl_fields.specs.Counted.{next_count}
-use Rattle.tl_fields.specs.Device.{Reader, Writer}
+use Rattle.server.specs.Service.{Ends, Serves}
 use Rattle.server.specs.declared.service.Close.{Close}
 
 -- a service, how many connections it served, and how many turns it made, each modulo 2^64
@@ -17,10 +17,9 @@ tallied_code {S} code =
     (λ t. (t.service, (t.served, t.turns))) (λ p. record { service = p.0; served = p.1.0; turns = p.1.1 }) (λ _. refl)
 
 -- the service served a client, and that counts as one
-pub record ServesTallied {S : Type 0} (serves : S → Reader → Writer → Close → S → Reader → Writer → Type 0)
-    (old : Tallied S) (reader : Reader) (writer : Writer) (close : Close) (new : Tallied S) (new_reader : Reader) (new_writer : Writer)
+pub record ServesTallied {S : Type 0} (serves : Serves S) (old : Tallied S) (ends : Ends) (close : Close) (new : Tallied S) (new_ends : Ends)
     : Type 0 where
-  pub serves_client : serves old.service reader writer close new.service new_reader new_writer
+  pub serves_client : serves old.service ends close new.service new_ends
   pub served : new.served ≡ next_count old.served
   pub turns : new.turns ≡ old.turns
 
