@@ -1,9 +1,8 @@
 //! A command, from its arguments to its exit status.
 ghost use Rattle.std.specs.Prelude.{◌≡◌, ◌≢◌, ◌≤◌, ◌⊎◌};
 ghost use Rattle.tl_fields.specs.Device.{writer};
-ghost use Rattle.commands.specs.Command.{IsDone, IsOutOfMemory, IsRefusal};
+ghost use Rattle.commands.specs.Command.{IsDone, IsOutOfMemory, IsRefusal, IsUnusable};
 ghost use Rattle.commands.specs.Files.{disk};
-ghost use Rattle.commands.specs.Unusable.{IsUnusable};
 ghost use Rattle.commands.specs.declared.request.Request.{Request};
 
 use crate::arguments::read_arguments;

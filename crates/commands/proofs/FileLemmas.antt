@@ -1,39 +1,35 @@
--- What opening, reading and closing a file counts.
-use Rattle.std.proofs.Common.{◌≡◌, ◌≢◌, ℕ, List, Option, Result, Ok, Err, MatchResult, inr, refl, sym, subst, ◌∙◌}
-use Rattle.commands.specs.Files.{CountsClose, CountsFileFault, CountsProgramFault, Disk, TellsFailure, TellsProgramUse, TellsUse}
+-- What opening, reading and closing files counts.
+use Rattle.std.proofs.Common.{◌≡◌, ◌≢◌, ℕ, List, Option, Result, MatchResult, sym, ◌∙◌, arith}
+use Rattle.std.specs.Io.KnownBytes.{Keeps}
+use Rattle.commands.specs.Files.{CountsClose, CountsProgramFault, Disk, IsUnfailed}
+use Rattle.commands.specs.Files.{TellsFailure, TellsProgramUse, TellsUse}
 use Rattle.commands.specs.declared.files.FileFault.{FileFault}
-use Rattle.commands.specs.declared.files.FileFault.TheVariants as fault
 use Rattle.commands.specs.declared.files.ProgramInputFault.{ProgramInputFault}
-use Rattle.commands.specs.declared.files.ProgramInputFault.TheVariants as input
 
-module _ (disk disk' : Disk) (before after between : ℕ) (opens : disk'.failed_opens ≡ disk.failed_opens) (unread : before ≡ 0)
+-- what is known stays over two calls
+pub keeps_both : (a b c : Option (List ℕ)) → Keeps a b → Keeps b c → Keeps a c
+keeps_both a b c first second = grind (arith, first, second)
+
+-- a reader is closed none of whose reads failed, or one of them
+module _ {before after failed failed' : ℕ} (unread : before ≡ 0) (closes : CountsClose after failed failed') where
+  pub sound_close : after ≡ before → failed' ≡ failed
+  sound_close same = closes.0 (same ∙ unread)
+
+  pub broken_close : after ≢ before → failed' ≢ failed
+  broken_close changed = closes.1 (λ none. changed (none ∙ sym unread))
+
+pub unfailed_both : {first second third : Disk} → IsUnfailed first second → IsUnfailed second third → IsUnfailed first third
+unfailed_both before after = record { opens = after.opens ∙ before.opens; reads = after.reads ∙ before.reads }
+
+module _ (disk disk' : Disk) {before after between : ℕ} (opens : disk'.failed_opens ≡ disk.failed_opens) (unread : before ≡ 0)
     (same : between ≡ disk.failed_reads) where
-  -- a reader is closed none of whose reads failed, or one of them
-  sound : after ≡ before → CountsClose after between disk'.failed_reads → disk'.failed_reads ≡ disk.failed_reads
-  sound reads closes = closes.0 (reads ∙ unread) ∙ same
-
-  broken : after ≢ before → CountsClose after between disk'.failed_reads → disk'.failed_reads ≢ disk.failed_reads
-  broken reads closes as_before = closes.1 (λ none. reads (none ∙ sym unread)) (as_before ∙ sym same)
-
-  file_used : (of : FileFault) → CountsFileFault of before after → CountsClose after between disk'.failed_reads
-      → TellsUse {T = ℕ} (Err of) disk disk'
-  file_used (fault.Unusable error) reads closes = inr (broken reads closes)
-  file_used fault.Memory reads closes = record { opens = opens; reads = sound reads closes }
-
   -- a file is opened, read and closed
   pub used : {T : Type 0} (result : Result T FileFault) → TellsFailure result before after
       → CountsClose after between disk'.failed_reads → TellsUse result disk disk'
-  used (Ok value) reads closes = record { opens = opens; reads = sound reads closes }
-  used (Err of) reads closes = file_used of reads closes
+  used result reads closes = grind (arith, reads, closes)
 
   -- the same of a program
   pub used_program : {T : Type 0} (result : Result T ProgramInputFault)
       → MatchResult result (λ _. after ≡ before) (λ of. CountsProgramFault of before after)
       → CountsClose after between disk'.failed_reads → TellsProgramUse result disk disk'
-  used_program (Ok value) reads closes = record { opens = opens; reads = sound reads closes }
-  used_program (Err (input.File of)) reads closes = file_used of reads closes
-  used_program (Err (input.Code code)) reads closes = record { opens = opens; reads = sound reads closes }
-
--- what follows the close leaves the count
-pub closes_behind : (reads a b b' : ℕ) → b' ≡ b → CountsClose reads a b → CountsClose reads a b'
-closes_behind reads a b b' same closes = subst (λ (failed : ℕ). CountsClose reads a failed) (sym same) closes
+  used_program result reads closes = grind (arith, reads, closes)

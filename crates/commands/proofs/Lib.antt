@@ -1,13 +1,10 @@
 mod ClassLemmas
-mod CountyLemmas
 mod FileLemmas
 mod ReadLemmas
 mod CarriedLemmas
 mod ProgramLemmas
 mod PieceLemmas
-mod InputLemmas
 mod CountiesLemmas
-mod WrittenLemmas
 mod RunLemmas
 mod TraceLemmas
 mod AnswerLemmas

@@ -1,11 +1,11 @@
 -- Texts that are written piece by piece, up to the first fault.
-use Rattle.std.proofs.Common.{◌≡◌, ◌⊎◌, ℕ, suc, ◌+◌, ◌<◌, ◌≤◌, List, [], ◌∷◌, ◌++◌, length, get_or, take, drop, Option, Result, Ok, Err}
-use Rattle.std.proofs.Common.{inl, inr, ap, sym, subst, ◌∙◌, arith}
+use Rattle.std.proofs.Common.{◌≡◌, ℕ, suc, ◌+◌, ◌<◌, ◌≤◌, List, [], ◌++◌, length, get_or, take, drop, Option, Result, Ok, Err}
+use Rattle.std.proofs.Common.{min, ap, sym, subst, ◌∙◌}
 use Rattle.std.specs.List.{flat_map}
 use Rattle.std.proofs.Math.Seq.{drop-cons}
-use Rattle.std.proofs.lemmas.Bool.{cases_lt}
+use Rattle.std.proofs.Math.Nat.{min-le_right}
 use Rattle.std.proofs.lemmas.Grind.{flat_map-append, take_at_read}
-use Rattle.std.proofs.lemmas.List.{flat_map_more, take-append-drop, take-append-le, take_all}
+use Rattle.std.proofs.lemmas.List.{flat_map_more, take-append-drop, take-append-le, take_all, take_min}
 use Rattle.std.specs.Io.KnownBytes.{Appends}
 use Rattle.tl_fields.specs.Counted.{CountsFault}
 use Rattle.tl_fields.specs.Device.{WriteCounts, Writer}
@@ -15,19 +15,11 @@ use Rattle.tl_fields.proofs.KnownBytesLemmas.{Appends-append, AppendsBeginning-f
 
 -- a beginning of a text is one of a longer text
 beginning_longer : (a b : Option (List ℕ)) (text more : List ℕ) → AppendsBeginning a b text → AppendsBeginning a b (text ++ more)
-beginning_longer a b text more is = by_length (cases_lt (length text) is.count)
-  where
-    by_length : (length text < is.count) ⊎ (is.count ≤ length text) → AppendsBeginning a b (text ++ more)
-    by_length (inl past) = record {
-      count = length text;
-      appends = subst (λ (bytes : List ℕ). Appends a b bytes)
-          (take_all is.count text (omega (arith, past)) ∙ sym (take_all (length text) text (omega arith))
-          ∙ sym (take-append-le (length text) text more (omega arith))) is.appends;
-    }
-    by_length (inr within) = record {
-      count = is.count;
-      appends = subst (λ (bytes : List ℕ). Appends a b bytes) (sym (take-append-le is.count text more within)) is.appends;
-    }
+beginning_longer a b text more is = record {
+  count = min is.count (length text);
+  appends = subst (Appends a b) (sym (take_min is.count text)
+      ∙ sym (take-append-le (min is.count (length text)) text more (min-le_right is.count (length text)))) is.appends;
+}
 
 module _ {A : Type 0} (f : A → List ℕ) (xs : List A) (i : ℕ) (d : A) (inside : i < length xs) where
   all_pieces : flat_map f (take i xs) ++ (f (get_or xs i d) ++ flat_map f (drop (suc i) xs)) ≡ flat_map f xs

@@ -1,41 +1,31 @@
 -- Reading a program to its end: what is kept of it, and why it's too long.
 use Rattle.std.proofs.Common.{◌≡◌, ◌≢◌, ◌⊎◌, ℕ, ◌+◌, ◌*◌, ◌%◌, ◌<◌, ◌≤◌, List, [], ◌++◌, length, take, ◌-◌, Option, Some, None, Result, Ok}
-use Rattle.std.proofs.Common.{Err, IfErr, IfOk, is_ok, min, if◌then◌else◌, inl, inr, refl, ap, sym, subst, ◌∙◌, arith}
+use Rattle.std.proofs.Common.{Err, IfOk, is_ok, min, if◌then◌else◌, inl, inr, refl, ap, sym, ◌∙◌, arith}
 use Rattle.std.specs.Io.KnownBytes.{Consumes, IsAtEnd, Keeps}
 use Rattle.std.proofs.Math.Seq.{take-append-add}
 use Rattle.std.proofs.lemmas.List.{append-nil, length-append, length-take, length-take-le, take-append-le, take_all, take_min}
-use Rattle.std.proofs.Math.Nat.{min-le_right}
 use Rattle.std.proofs.lemmas.Bool.{cases_lt}
 use Rattle.bpf_insn.specs.declared.code.TheConstants.{WORD_LIMIT}
 use Rattle.bpf_insn.specs.declared.fault.CodeFault.{CodeFault}
 use Rattle.bpf_insn.specs.declared.fault.CodeFault.TheVariants as code
-use Rattle.commands.specs.Files.{IsTooLong, TellsProgram}
-use Rattle.commands.specs.declared.files.ProgramInputFault.{ProgramInputFault}
-use Rattle.commands.specs.declared.files.ProgramInputFault.TheVariants.{File, Code}
-use Rattle.commands.proofs.CountyLemmas.{keeps_both}
+use Rattle.commands.specs.Files.{IsTooLong}
+use Rattle.commands.proofs.FileLemmas.{keeps_both}
 
-le_or_gt : (a b : ℕ) → (a ≤ b) ⊎ (b < a)
-le_or_gt a b = turned (cases_lt b a)
-  where
-    turned : (b < a) ⊎ (a ≤ b) → (a ≤ b) ⊎ (b < a)
-    turned (inl more) = inr more
-    turned (inr less) = inl less
-
--- a front of what was read, and as much more as is kept of what is read behind it
-pub kept_more : (most : ℕ) (before read kept : List ℕ) → kept ≡ take most before
+-- a front of what was read, and as much more as is kept of what is read after it
+kept_more : (most : ℕ) (before read kept : List ℕ) → kept ≡ take most before
     → kept ++ take (most - length kept) read ≡ take most (before ++ read)
-kept_more most before read kept is = by_length (le_or_gt (length before) most)
+kept_more most before read kept is = by_length (cases_lt most (length before))
   where
-    by_length : (length before ≤ most) ⊎ (most < length before) → kept ++ take (most - length kept) read ≡ take most (before ++ read)
-    by_length (inl few) =
+    by_length : (most < length before) ⊎ (length before ≤ most) → kept ++ take (most - length kept) read ≡ take most (before ++ read)
+    by_length (inl many) =
+        let full : length kept ≡ most = ap length is ∙ length-take-le most before (omega (arith, many)) in
+        let none : most - length kept ≡ 0 = omega (arith, full) in
+        ap (λ (n : ℕ). kept ++ take n read) none ∙ append-nil kept ∙ is ∙ sym (take-append-le most before read (omega (arith, many)))
+    by_length (inr few) =
         let all : kept ≡ before = is ∙ take_all most before few in
         let sum : length before + (most - length before) ≡ most = omega (arith, few) in
         ap (λ (bytes : List ℕ). bytes ++ take (most - length bytes) read) all
         ∙ sym (take-append-add before read (most - length before)) ∙ ap (λ (n : ℕ). take n (before ++ read)) sum
-    by_length (inr many) =
-        let full : length kept ≡ most = ap length is ∙ length-take-le most before (omega (arith, many)) in
-        let none : most - length kept ≡ 0 = omega (arith, full) in
-        ap (λ (n : ℕ). kept ++ take n read) none ∙ append-nil kept ∙ is ∙ sym (take-append-le most before read (omega (arith, many)))
 
 -- the same by how it is added, which may be refused
 module _ (most count : ℕ) (before read kept kept' : List ℕ) where
@@ -47,41 +37,36 @@ module _ (most count : ℕ) (before read kept kept' : List ℕ) where
       ∙ kept_more most before read kept is
   kept_read (Err error) is_count added is = tt
 
--- a program of which no more than the limit is kept is kept whole
-pub all_kept : (program kept : List ℕ) → kept ≡ take (8 * (WORD_LIMIT + 1)) program → length kept ≤ 8 * WORD_LIMIT → kept ≡ program
-all_kept program kept is few = is ∙ take_all (8 * (WORD_LIMIT + 1)) program (by_length (le_or_gt (length program) (8 * (WORD_LIMIT + 1))))
-  where
-    by_length : (length program ≤ 8 * (WORD_LIMIT + 1)) ⊎ (8 * (WORD_LIMIT + 1) < length program) → length program ≤ 8 * (WORD_LIMIT + 1)
-    by_length (inl fits) = fits
-    by_length (inr many) =
-        let full : length kept ≡ 8 * (WORD_LIMIT + 1) = ap length is
-        ∙ length-take-le (8 * (WORD_LIMIT + 1)) program (omega (arith, many)) in
-        absurd (omega (arith, full, few))
+-- a program of which no more than the limit is kept is kept whole, and one of which more is kept is longer
+module _ (program kept : List ℕ) (is : kept ≡ take (8 * (WORD_LIMIT + 1)) program) where
+  kept_length : length kept ≡ min (8 * (WORD_LIMIT + 1)) (length program)
+  kept_length = ap length is ∙ length-take (8 * (WORD_LIMIT + 1)) program
 
--- and one of which more is kept is longer
-pub more_kept : (most : ℕ) (program kept : List ℕ) → kept ≡ take (8 * (WORD_LIMIT + 1)) program → most < length kept → most < length program
-more_kept most program kept is more =
-    let within : length kept ≤ length program =
-    subst (λ (n : ℕ). n ≤ length program) (sym (ap length is ∙ length-take (8 * (WORD_LIMIT + 1)) program))
-    (min-le_right (8 * (WORD_LIMIT + 1)) (length program)) in
-    omega (arith, more, within)
+  pub all_kept : length kept ≤ 8 * WORD_LIMIT → kept ≡ program
+  all_kept few = is ∙ take_all (8 * (WORD_LIMIT + 1)) program (omega (arith, few, kept_length))
 
--- its fault by what is left of its last word
-pub too_long : (program kept : List ℕ) → kept ≡ take (8 * (WORD_LIMIT + 1)) program → 8 * WORD_LIMIT < length kept → 0 ≡ length program % 8
-    → IsTooLong (Some program) code.TooLong
-too_long program kept is more none =
-    let longer : 8 * WORD_LIMIT < length program = more_kept (8 * WORD_LIMIT) program kept is more in
-    record { program = program; is_program = refl; long = longer; first = (sym none, longer); has_number = λ e. cc }
+  more_kept : 8 * WORD_LIMIT < length kept → 8 * WORD_LIMIT < length program
+  more_kept more = omega (arith, more, kept_length)
 
-pub not_whole : (program kept : List ℕ) (remainder : ℕ) → kept ≡ take (8 * (WORD_LIMIT + 1)) program → 8 * WORD_LIMIT < length kept
-    → remainder ≡ length program % 8 → remainder ≢ 0 → IsTooLong (Some program) code.NotWhole
-not_whole program kept remainder is more of some = record {
-  program = program;
-  is_program = refl;
-  long = more_kept (8 * WORD_LIMIT) program kept is more;
-  first = λ whole. some (of ∙ whole);
-  has_number = λ e. cc;
-}
+  -- its fault by what is left of its last word
+  pub too_long : 8 * WORD_LIMIT < length kept → 0 ≡ length program % 8 → IsTooLong (Some program) code.TooLong
+  too_long more none = record {
+    program = program;
+    is_program = refl;
+    long = more_kept more;
+    first = (sym none, more_kept more);
+    has_number = λ e. cc;
+  }
+
+  pub not_whole : (remainder : ℕ) → 8 * WORD_LIMIT < length kept → remainder ≡ length program % 8 → remainder ≢ 0
+      → IsTooLong (Some program) code.NotWhole
+  not_whole remainder more of some = record {
+    program = program;
+    is_program = refl;
+    long = more_kept more;
+    first = λ whole. some (of ∙ whole);
+    has_number = λ e. cc;
+  }
 
 -- the same where less is known of it
 pub too_long_as : (known left : Option (List ℕ)) (fault : CodeFault) → Keeps known left → IsTooLong left fault → IsTooLong known fault

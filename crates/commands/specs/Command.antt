@@ -1,12 +1,15 @@
 -- What a command promises by its exit status.
 use Rattle.std.specs.Prelude.{◌≡◌, ◌≢◌, ℕ, List, [], ◌∷◌, ◌++◌, codes, decimal, Option, Some, None, Result, Ok, Err, IsUtf8}
 use Rattle.std.specs.Io.KnownBytes.{Keeps}
+use Rattle.std.specs.declared.io.Error.{Error}
 use Rattle.refusals.specs.Refusal.{RefusalParts, line, memory}
+use Rattle.tl_fields.specs.Counted.{CountsFault, CountsFlush}
 use Rattle.tl_fields.specs.Device.{Writer}
+use Rattle.tl_fields.specs.Writing as write_fault
 use Rattle.tl_fields.specs.declared.writing.WriteFault.{WriteFault}
 use Rattle.commands.specs.Assemble as assemble
 use Rattle.commands.specs.Disassemble as disassemble
-use Rattle.commands.specs.Failure.{SaysLine, SaysText, TellsCounts, refusal_status}
+use Rattle.commands.specs.Failure.{SaysFile, SaysLine, SaysText, TellsCounts, refusal_status}
 use Rattle.commands.specs.Files.{Disk, IsFailed}
 use Rattle.commands.specs.Geocode as geocode
 use Rattle.commands.specs.Run as run
@@ -104,12 +107,31 @@ abbrev pub IsRefusal : Request → (List ℕ → Option (List ℕ)) → Writer �
 IsRefusal request known out out' errors errors' = IsRefusalOf 1 request known out out' errors errors'
 
 -- the line that was asked for isn't there, which was said
-abbrev pub IsLackOfLine : Request → (List ℕ → Option (List ℕ)) → Writer → Writer → Type 0
-IsLackOfLine request known errors errors' = (number : ℕ) × LacksLine request known number
-    × SaysText (codes "error: the type 1 file has no line " ++ decimal number ++ 10 ∷ []) errors errors'
+pub record IsLackOfLine (request : Request) (known : List ℕ → Option (List ℕ)) (errors errors' : Writer) : Type 0 where
+  pub number : ℕ
+  pub lacks : LacksLine request known number
+  pub said : SaysText (codes "error: the type 1 file has no line " ++ decimal number ++ 10 ∷ []) errors errors'
 
 -- An allocation failed, which was said: of a library, which refused what was asked for so; or for something else, and nothing was written.
 pub data IsOutOfMemory (request : Request) (known : List ℕ → Option (List ℕ)) (out out' errors errors' : Writer) : Type 0 where
   of_library : IsRefusalOf 4 request known out out' errors errors' → IsOutOfMemory request known out out' errors errors'
   of_other : Keeps out.held out'.held → SaysLine (line memory) errors errors'
       → IsOutOfMemory request known out out' errors errors'
+
+-- Why a request isn't answered, where the status is 3. An open of a file failed, or a read, and nothing was written. A read of a county's
+-- file failed, and a library refused what was asked for. A source isn't UTF-8, and nothing was written. A write failed or took no byte: a
+-- beginning was written, and a flush was tried. Each of these was said. Or what was asked for was written whole, and the flush failed.
+pub data IsUnusable (request : Request) (disk disk' : Disk) (out out' errors errors' : Writer) : Type 0 where
+  of_file : (name : List ℕ) → IsFailed disk disk' → Keeps out.held out'.held → SaysFile name errors errors'
+      → IsUnusable request disk disk' out out' errors errors'
+  of_county : disk'.failed_reads ≢ disk.failed_reads → IsRefusalOf 3 request disk.known out out' errors errors'
+      → IsUnusable request disk disk' out out' errors errors'
+  of_source : (name : List ℕ) → IsNotUtf8 request disk.known name → Keeps out.held out'.held
+      → SaysText (codes "error: " ++ name ++ codes ": not UTF-8" ++ 10 ∷ []) errors errors'
+      → IsUnusable request disk disk' out out' errors errors'
+  of_write : (fault : WriteFault) (unflushed : Writer) → Writes request disk.known (Err fault) out unflushed
+      → CountsFault fault out.counts unflushed.counts → SaysLine (line (write_fault.refusal fault)) errors errors'
+      → Keeps unflushed.held out'.held → (flush : Result (Unit {0}) Error) → CountsFlush flush unflushed.counts out'.counts
+      → IsUnusable request disk disk' out out' errors errors'
+  of_flush : (unflushed : Writer) → IsWritten request disk.known out unflushed → out'.counts.failed ≢ unflushed.counts.failed
+      → IsUnusable request disk disk' out out' errors errors'

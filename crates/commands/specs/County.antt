@@ -1,13 +1,12 @@
 -- The files of a county in a folder, by name, and what their readers hold.
-use Rattle.std.specs.Prelude.{◌≡◌, ◌≢◌, ℕ, List, ◌++◌, codes, Option, ⊤}
-use Rattle.std.specs.Io.KnownBytes.{Keeps}
-use Rattle.tl_fields.specs.Device.{reader}
+use Rattle.std.specs.Prelude.{ℕ, List, ◌++◌, codes, Option, ⊤}
 use Rattle.tl_segments.specs.County.{CountyReaders}
-use Rattle.tl_segments.specs.Loading.{readers}
+use Rattle.tl_segments.specs.Loading.{Readers, readers}
 use Rattle.tl_segments.specs.declared.fault.CountyFile.{CountyFile}
 use Rattle.tl_segments.specs.declared.fault.CountyFile.TheVariants.{Rt1, Rt4, Rt5, Rt6}
-use Rattle.commands.specs.Files.{input_remaining, input_failed_reads}
+use Rattle.commands.specs.Files.{CountsClose, IsUnread, input_failed_reads, input_reader, input_remaining}
 use Rattle.commands.specs.declared.county.CountyInputs.{CountyInputs}
+use Rattle.commands.specs.declared.county.JoinedInputs.{JoinedInputs}
 use Rattle.commands.specs.declared.files.Input.{Input}
 use Rattle.commands.specs.declared.files.Input.TheVariants as input
 
@@ -22,18 +21,25 @@ name_end Rt6 = codes ".RT6"
 abbrev pub file_name : List ℕ → List ℕ → CountyFile → List ℕ
 file_name folder code file = folder ++ codes "/TGR" ++ code ++ name_end file
 
--- the readers hold what is known of the bytes of the county's files in the folder
+-- The readers are those of the files of types 4, 5 and 6 of a county in the folder, and of all its files.
+pub record HoldJoined (known : List ℕ → Option (List ℕ)) (folder code : List ℕ) (readers : Readers) : Type 0 where
+  pub rt4 : IsUnread (known (file_name folder code Rt4)) readers.rt4
+  pub rt5 : IsUnread (known (file_name folder code Rt5)) readers.rt5
+  pub rt6 : IsUnread (known (file_name folder code Rt6)) readers.rt6
+
 pub record HoldCounty (known : List ℕ → Option (List ℕ)) (folder code : List ℕ) (readers : CountyReaders) : Type 0 where
-  pub rt1 : Keeps (known (file_name folder code Rt1)) readers.rt1.left
-  pub rt4 : Keeps (known (file_name folder code Rt4)) readers.joined.rt4.left
-  pub rt5 : Keeps (known (file_name folder code Rt5)) readers.joined.rt5.left
-  pub rt6 : Keeps (known (file_name folder code Rt6)) readers.joined.rt6.left
+  pub rt1 : IsUnread (known (file_name folder code Rt1)) readers.rt1
+  pub joined : HoldJoined known folder code readers.joined
 
 -- the readers of a county's inputs
+abbrev pub joined_readers : {R : Type 0} → (R → Option (List ℕ)) → (R → ℕ) → JoinedInputs R → Readers
+joined_readers remaining failed_reads inputs =
+    readers (input_remaining remaining) (input_failed_reads failed_reads) inputs.rt4 inputs.rt5 inputs.rt6
+
 abbrev pub county_readers : {R : Type 0} → (R → Option (List ℕ)) → (R → ℕ) → CountyInputs R → CountyReaders
 county_readers remaining failed_reads inputs = record {
-  rt1 = reader (input_remaining remaining) (input_failed_reads failed_reads) inputs.rt1;
-  joined = readers (input_remaining remaining) (input_failed_reads failed_reads) inputs.joined.rt4 inputs.joined.rt5 inputs.joined.rt6;
+  rt1 = input_reader remaining failed_reads inputs.rt1;
+  joined = joined_readers remaining failed_reads inputs.joined;
 }
 
 -- there is a file
@@ -41,25 +47,12 @@ abbrev pub IsOpened : {R : Type 0} → Input R → Type 0
 IsOpened (input.Opened reader) = ⊤
 IsOpened input.Nothing = ⊥
 
--- no read of them failed
-pub record HaveNoFailure (readers : CountyReaders) : Type 0 where
-  pub rt1 : readers.rt1.failed ≡ 0
-  pub rt4 : readers.joined.rt4.failed ≡ 0
-  pub rt5 : readers.joined.rt5.failed ≡ 0
-  pub rt6 : readers.joined.rt6.failed ≡ 0
-
--- a read of one of them failed, and none of the others
-pub data HaveOneFailure (readers : CountyReaders) : Type 0 where
-  of_rt1 : readers.rt1.failed ≢ 0 → readers.joined.rt4.failed ≡ 0 → readers.joined.rt5.failed ≡ 0 → readers.joined.rt6.failed ≡ 0
-      → HaveOneFailure readers
-  of_rt4 : readers.rt1.failed ≡ 0 → readers.joined.rt4.failed ≢ 0 → readers.joined.rt5.failed ≡ 0 → readers.joined.rt6.failed ≡ 0
-      → HaveOneFailure readers
-  of_rt5 : readers.rt1.failed ≡ 0 → readers.joined.rt4.failed ≡ 0 → readers.joined.rt5.failed ≢ 0 → readers.joined.rt6.failed ≡ 0
-      → HaveOneFailure readers
-  of_rt6 : readers.rt1.failed ≡ 0 → readers.joined.rt4.failed ≡ 0 → readers.joined.rt5.failed ≡ 0 → readers.joined.rt6.failed ≢ 0
-      → HaveOneFailure readers
-
--- closing them changes the count where a read of one of them failed, and leaves it where none did
+-- what closing them counts, one after the other
 pub record ClosesCounty (readers : CountyReaders) (failed failed' : ℕ) : Type 0 where
-  pub none : HaveNoFailure readers → failed' ≡ failed
-  pub one : HaveOneFailure readers → failed' ≢ failed
+  pub after_rt1 : ℕ
+  pub rt1 : CountsClose readers.rt1.failed failed after_rt1
+  pub after_rt4 : ℕ
+  pub rt4 : CountsClose readers.joined.rt4.failed after_rt1 after_rt4
+  pub after_rt5 : ℕ
+  pub rt5 : CountsClose readers.joined.rt5.failed after_rt4 after_rt5
+  pub rt6 : CountsClose readers.joined.rt6.failed after_rt5 failed'

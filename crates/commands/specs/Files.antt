@@ -1,5 +1,5 @@
 -- The files that a command reads: what opening, reading and closing one counts, and what an input has left.
-use Rattle.std.specs.Prelude.{◌≡◌, ◌≢◌, ◌⊎◌, ◌<◌, ◌*◌, ℕ, List, [], length, Option, Some, None, ⊤, Result, Ok, Err}
+use Rattle.std.specs.Prelude.{◌≡◌, ◌≢◌, ◌⊎◌, ◌<◌, ◌*◌, ℕ, List, [], length, Option, Some, None, ⊤, Result, Ok, Err, MatchResult}
 use Rattle.std.specs.Io.KnownBytes.{Keeps}
 use Rattle.std.specs.Option.{option_map_or}
 use Rattle.std.specs.IoError.{error_kind}
@@ -9,6 +9,7 @@ use Rattle.bpf_insn.specs.Code.{IsFirstFault}
 use Rattle.bpf_insn.specs.declared.fault.CodeFault.{CodeFault}
 use Rattle.bpf_insn.specs.declared.fault.CodeFault.TheVariants as code_fault
 use Rattle.bpf_insn.specs.declared.code.TheConstants.{WORD_LIMIT}
+use Rattle.tl_fields.specs.Device.{Reader, reader}
 use Rattle.commands.specs.declared.files.FileFault.{FileFault}
 use Rattle.commands.specs.declared.files.FileFault.TheVariants.{Unusable, Memory}
 use Rattle.commands.specs.declared.files.ProgramInputFault.{ProgramInputFault}
@@ -58,6 +59,15 @@ abbrev pub input_failed_reads : {R : Type 0} → (R → ℕ) → Input R → ℕ
 input_failed_reads failed_reads (input.Opened reader) = failed_reads reader
 input_failed_reads failed_reads input.Nothing = 0
 
+-- its reader
+abbrev pub input_reader : {R : Type 0} → (R → Option (List ℕ)) → (R → ℕ) → Input R → Reader
+input_reader remaining failed_reads input = reader (input_remaining remaining) (input_failed_reads failed_reads) input
+
+-- a reader of bytes of which so much is known, and no read of it failed
+pub record IsUnread (known : Option (List ℕ)) (reader : Reader) : Type 0 where
+  pub left : Keeps known reader.left
+  pub failed : reader.failed ≡ 0
+
 -- the files: what is known of their bytes by name, and the counts of opens that failed and of readers with a failed read
 pub record Disk : Type 0 where
   pub known : List ℕ → Option (List ℕ)
@@ -77,6 +87,19 @@ pub record IsUnfailed (disk disk' : Disk) : Type 0 where
 -- an open failed, or a read
 abbrev pub IsFailed : Disk → Disk → Type 0
 IsFailed disk disk' = (disk'.failed_opens ≢ disk.failed_opens) ⊎ (disk'.failed_reads ≢ disk.failed_reads)
+
+-- What is known of the files stays. An open that failed is counted where a file can't be used, and nothing else is.
+pub record Opens {T E : Type 0} (result : Result T E) (fault_of : E → FileFault) (disk disk' : Disk) : Type 0 where
+  pub stays : (name : List ℕ) → disk'.known name ≡ disk.known name
+  pub opens : MatchResult result (λ _. disk'.failed_opens ≡ disk.failed_opens)
+      (λ fault. CountsFileFault (fault_of fault) disk.failed_opens disk'.failed_opens)
+  pub reads : disk'.failed_reads ≡ disk.failed_reads
+
+-- What is known of the files stays. Readers are closed, which counts those of a failed read so, and no open is counted.
+pub record Closes (CountsReads : ℕ → ℕ → Type 0) (disk disk' : Disk) : Type 0 where
+  pub stays : (name : List ℕ) → disk'.known name ≡ disk.known name
+  pub opens : disk'.failed_opens ≡ disk.failed_opens
+  pub reads : CountsReads disk.failed_reads disk'.failed_reads
 
 -- a file can't be used where its open failed, or a read of it
 abbrev pub CountsUse : FileFault → Disk → Disk → Type 0

@@ -1,5 +1,6 @@
 -- What `run` and `trace` read, and why they can't.
-use Rattle.std.specs.Prelude.{◌≡◌, ◌≢◌, ℕ, List, Option, ⊤}
+use Rattle.std.specs.Prelude.{◌≡◌, ◌≢◌, ℕ, List, Option, Some, ⊤}
+use Rattle.std.specs.Io.KnownBytes.{Keeps}
 use Rattle.bpf_insn.specs.CodeFault as code_fault
 use Rattle.bpf_insn.specs.declared.fault.CodeFault.{CodeFault}
 use Rattle.refusals.specs.Refusal.{RefusalParts}
@@ -8,6 +9,11 @@ use Rattle.commands.specs.County.{HoldCounty}
 use Rattle.commands.specs.Files.{Disk, IsFailed, IsTooLong}
 use Rattle.commands.specs.declared.failure.Failure.{Failure}
 use Rattle.commands.specs.declared.failure.Failure.TheVariants.{Refusal, Memory, File, CountyFile}
+
+-- these are the bytes of the program of this name and the readers of the county's files, which hold what is known of them
+pub record HoldInputs (known : List ℕ → Option (List ℕ)) (name folder code program : List ℕ) (readers : CountyReaders) : Type 0 where
+  pub is_program : Keeps (known name) (Some program)
+  pub county : HoldCounty known folder code readers
 
 -- The program of this name is too long, and refused so. The county's files hold the bytes that are known of them.
 pub record HoldTooLong (name folder code : List ℕ) (known : List ℕ → Option (List ℕ)) (refusal : RefusalParts) : Type 0 where

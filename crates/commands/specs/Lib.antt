@@ -10,4 +10,3 @@ pub mod Verify
 pub mod Assemble
 pub mod Disassemble
 pub mod Command
-pub mod Unusable

@@ -1,6 +1,5 @@
 -- What `run` writes, and what it is refused for.
-use Rattle.std.specs.Prelude.{◌≡◌, ℕ, List, Option, Some, Result, Ok, Err}
-use Rattle.std.specs.Io.KnownBytes.{Keeps}
+use Rattle.std.specs.Prelude.{◌≡◌, ℕ, List, Option, Result, Ok, Err}
 use Rattle.refusals.specs.Refusal.{RefusalParts}
 use Rattle.tl_fields.specs.Device.{Writer}
 use Rattle.tl_fields.specs.declared.writing.WriteFault.{WriteFault}
@@ -9,15 +8,14 @@ use Rattle.extract.specs.ExtractFault as extract_fault
 use Rattle.extract.specs.Extracting.{IsOutcome}
 use Rattle.extract.specs.declared.fault.ExtractFault.{ExtractFault}
 use Rattle.extract.specs.declared.fault.ExtractFault.TheVariants as extract
-use Rattle.commands.specs.County.{HoldCounty}
+use Rattle.commands.specs.Inputs.{HoldInputs}
 use Rattle.commands.specs.declared.run.Run.{Run}
 
 -- the outcome of an extract of the program that is named over the county's files, which hold the bytes that are known of them
 pub record IsOutcomeOf (run : Run) (known : List ℕ → Option (List ℕ)) (result : Result ℕ ExtractFault) (out out' : Writer) : Type 0 where
   pub program : List ℕ
-  pub is_program : Keeps (known run.program.now) (Some program)
   pub old : CountyReaders
-  pub hold : HoldCounty known run.«data».now run.code.now old
+  pub hold : HoldInputs known run.program.now run.«data».now run.code.now program old
   pub new : CountyReaders
   pub outcome : IsOutcome program result old new out out'
 

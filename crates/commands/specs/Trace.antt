@@ -1,6 +1,5 @@
 -- What `trace` writes, and what it is refused for.
 use Rattle.std.specs.Prelude.{◌≡◌, ◌<◌, ◌⊎◌, ℕ, suc, List, [], ◌∷◌, ◌++◌, length, codes, decimal, Option, Some, Result, Ok, Err}
-use Rattle.std.specs.Io.KnownBytes.{Keeps}
 use Rattle.std.specs.List.{slice_get}
 use Rattle.std.specs.Option.{unwrap_or}
 use Rattle.bpf_insn.specs.Code.{IsCodeOf, IsFirstFault}
@@ -19,7 +18,7 @@ use Rattle.tl_segments.specs.County.{CountyParts, CountyReaders, IsCountyFault, 
 use Rattle.tl_segments.specs.LoadFault as load_fault
 use Rattle.tl_segments.specs.Segment.{Contents}
 use Rattle.tl_segments.specs.declared.fault.LoadFault.{LoadFault}
-use Rattle.commands.specs.County.{HoldCounty}
+use Rattle.commands.specs.Inputs.{HoldInputs}
 use Rattle.commands.specs.declared.trace.Trace.{Trace}
 use Rattle.commands.specs.declared.failure.Failure.{Failure}
 use Rattle.commands.specs.declared.failure.Failure.TheVariants.{Refusal, NoLine}
@@ -77,17 +76,16 @@ EndsAs trace program old new (Err (Refusal refusal)) = IsTraceFault program old 
 EndsAs trace program old new (Err (NoLine line)) = (line ≡ trace.line) × IsWithoutLine trace program old new
 EndsAs trace program old new (Err failure) = ⊥
 
--- the bytes that are known of the program and of the county's files are these
-pub record HoldInputs (trace : Trace) (known : List ℕ → Option (List ℕ)) (program : List ℕ) (readers : CountyReaders) : Type 0 where
-  pub is_program : Keeps (known trace.program.now) (Some program)
-  pub county : HoldCounty known trace.«data».now trace.code.now readers
+-- they are read from the program and the county's files that are named
+abbrev pub HoldAsked : Trace → (List ℕ → Option (List ℕ)) → List ℕ → CountyReaders → Type 0
+HoldAsked trace known program readers = HoldInputs known trace.program.now trace.«data».now trace.code.now program readers
 
 -- The outcome was written, or a beginning of it up to the fault of the output.
 pub record Writes (trace : Trace) (known : List ℕ → Option (List ℕ)) (result : Result (Unit {0}) WriteFault)
     (out out' : Writer) : Type 0 where
   pub program : List ℕ
   pub old : CountyReaders
-  pub hold : HoldInputs trace known program old
+  pub hold : HoldAsked trace known program old
   pub new : CountyReaders
   pub outcome : Outcome
   pub is_outcome : IsOutcomeOn trace program old new outcome
@@ -97,7 +95,7 @@ pub record Writes (trace : Trace) (known : List ℕ → Option (List ℕ)) (resu
 pub record IsRefused (trace : Trace) (known : List ℕ → Option (List ℕ)) (refusal : RefusalParts) (out out' : Writer) : Type 0 where
   pub program : List ℕ
   pub old : CountyReaders
-  pub hold : HoldInputs trace known program old
+  pub hold : HoldAsked trace known program old
   pub new : CountyReaders
   pub fault : IsTraceFault program old new refusal
   pub unwritten : out' ≡ out
@@ -107,6 +105,6 @@ pub record LacksLine (trace : Trace) (known : List ℕ → Option (List ℕ)) (l
   pub is_line : line ≡ trace.line
   pub program : List ℕ
   pub old : CountyReaders
-  pub hold : HoldInputs trace known program old
+  pub hold : HoldAsked trace known program old
   pub new : CountyReaders
   pub without : IsWithoutLine trace program old new

@@ -1,11 +1,10 @@
 //! The files of a county (TIGER/Line 2006, record types 1, 4, 5 and 6), opened by name.
-ghost use Rattle.std.specs.Prelude.{◌≡◌, ℕ, List, IfErr, IfOk, MatchResult, string_bytes};
-ghost use Rattle.std.specs.Io.KnownBytes.{Keeps};
+ghost use Rattle.std.specs.Prelude.{◌≡◌, IfErr, IfOk, string_bytes};
 ghost use Rattle.tl_fields.specs.Device.{writer};
 ghost use Rattle.extract.specs.Extracting.{IsOutcome};
 ghost use Rattle.tl_segments.specs.County.{IsCountyFault, LoadsCounty};
-ghost use Rattle.commands.specs.County.{ClosesCounty, HaveNoFailure, HoldCounty, IsOpened, county_readers, file_name, name_end};
-ghost use Rattle.commands.specs.Files.{CountsFileFault, TellsFailure, input_failed_reads, input_remaining};
+ghost use Rattle.commands.specs.County.{ClosesCounty, HoldCounty, HoldJoined, IsOpened, county_readers, file_name, joined_readers, name_end};
+ghost use Rattle.commands.specs.Files.{Closes, IsUnread, Opens, disk, input_reader};
 ghost use Rattle.commands.specs.declared.files.FileFault.TheVariants.{Memory};
 
 use crate::files::{FileFault, Files, Input, close, open, open_if_there};
@@ -84,21 +83,13 @@ pub fn open_county<A: Allocator + Copy, F: Files>(
 ) -> Result<CountyInputs<F::Reader>, CountyFileFault>
     ensures hold { IfOk result (λ inputs. HoldCounty (F.bytes files.old) folder.now code.now
         (county_readers F.Reader.remaining F.Reader.failed_reads inputs)) }
-    ensures unread { IfOk result (λ inputs. HaveNoFailure (county_readers F.Reader.remaining F.Reader.failed_reads inputs)) }
     ensures there { IfOk result (λ inputs. IsOpened inputs.rt1) }
-    ensures stay { (other : List ℕ) → F.bytes files.new other ≡ F.bytes files.old other }
-    ensures opens { MatchResult result (λ _. F.failed_opens files.new ≡ F.failed_opens files.old)
-        (λ fault. CountsFileFault fault.fault (F.failed_opens files.old) (F.failed_opens files.new)) }
-    ensures reads { F.failed_reads files.new ≡ F.failed_reads files.old }
+    ensures opens { Opens result (λ fault. fault.fault) (disk F.bytes F.failed_opens F.failed_reads files.old)
+        (disk F.bytes F.failed_opens F.failed_reads files.new) }
 {
-    let rt1 = match open_rt1(alloc, files, folder, code) {
+    let rt1 = match open_file(alloc, files, folder, code, CountyFile::Rt1) {
         Ok(input) => input,
-        Err(fault) => {
-            return Err(CountyFileFault {
-                file: CountyFile::Rt1,
-                fault,
-            });
-        }
+        Err(fault) => return Err(fault),
     };
     match open_joined(alloc, files, folder, code) {
         Ok(joined) => Ok(CountyInputs { rt1, joined }),
@@ -109,28 +100,6 @@ pub fn open_county<A: Allocator + Copy, F: Files>(
     }
 }
 
-/// Opens the type 1 file, which has to be there.
-fn open_rt1<A: Allocator + Copy, F: Files>(
-    alloc: A,
-    files: &mut F,
-    folder: &str,
-    code: &str,
-) -> Result<Input<F::Reader>, FileFault>
-    ensures known { IfOk result (λ input. Keeps (F.bytes files.old (file_name folder.now code.now CountyFile.Rt1))
-        (input_remaining F.Reader.remaining input)) }
-    ensures unread { IfOk result (λ input. input_failed_reads F.Reader.failed_reads input ≡ 0) }
-    ensures there { IfOk result IsOpened }
-    ensures stay { (other : List ℕ) → F.bytes files.new other ≡ F.bytes files.old other }
-    ensures opens { TellsFailure result (F.failed_opens files.old) (F.failed_opens files.new) }
-    ensures reads { F.failed_reads files.new ≡ F.failed_reads files.old }
-{
-    let name = file_name(alloc, folder, code, CountyFile::Rt1)?;
-    match open(files, name.as_str()) {
-        Ok(reader) => Ok(Input::Opened(reader)),
-        Err(fault) => Err(fault),
-    }
-}
-
 /// Opens the files whose lines are joined to those of type 1. What is open is closed again where one of them can't be opened.
 fn open_joined<A: Allocator + Copy, F: Files>(
     alloc: A,
@@ -138,18 +107,10 @@ fn open_joined<A: Allocator + Copy, F: Files>(
     folder: &str,
     code: &str,
 ) -> Result<JoinedInputs<F::Reader>, CountyFileFault>
-    ensures rt4 { IfOk result (λ inputs. Keeps (F.bytes files.old (file_name folder.now code.now CountyFile.Rt4))
-        (input_remaining F.Reader.remaining inputs.rt4)) }
-    ensures rt5 { IfOk result (λ inputs. Keeps (F.bytes files.old (file_name folder.now code.now CountyFile.Rt5))
-        (input_remaining F.Reader.remaining inputs.rt5)) }
-    ensures rt6 { IfOk result (λ inputs. Keeps (F.bytes files.old (file_name folder.now code.now CountyFile.Rt6))
-        (input_remaining F.Reader.remaining inputs.rt6)) }
-    ensures unread { IfOk result (λ inputs. (input_failed_reads F.Reader.failed_reads inputs.rt4 ≡ 0)
-        × (input_failed_reads F.Reader.failed_reads inputs.rt5 ≡ 0) × (input_failed_reads F.Reader.failed_reads inputs.rt6 ≡ 0)) }
-    ensures stay { (other : List ℕ) → F.bytes files.new other ≡ F.bytes files.old other }
-    ensures opens { MatchResult result (λ _. F.failed_opens files.new ≡ F.failed_opens files.old)
-        (λ fault. CountsFileFault fault.fault (F.failed_opens files.old) (F.failed_opens files.new)) }
-    ensures reads { F.failed_reads files.new ≡ F.failed_reads files.old }
+    ensures hold { IfOk result (λ inputs. HoldJoined (F.bytes files.old) folder.now code.now
+        (joined_readers F.Reader.remaining F.Reader.failed_reads inputs)) }
+    ensures opens { Opens result (λ fault. fault.fault) (disk F.bytes F.failed_opens F.failed_reads files.old)
+        (disk F.bytes F.failed_opens F.failed_reads files.new) }
 {
     let rt4 = match open_file(alloc, files, folder, code, CountyFile::Rt4) {
         Ok(input) => input,
@@ -172,7 +133,7 @@ fn open_joined<A: Allocator + Copy, F: Files>(
     }
 }
 
-/// Opens a file whose lines are joined to those of type 1, where it is there.
+/// Opens a county's file. That of type 1 has to be there, and another is an empty input where there is none.
 fn open_file<A: Allocator + Copy, F: Files>(
     alloc: A,
     files: &mut F,
@@ -180,30 +141,32 @@ fn open_file<A: Allocator + Copy, F: Files>(
     code: &str,
     file: CountyFile,
 ) -> Result<Input<F::Reader>, CountyFileFault>
-    ensures known { IfOk result (λ input. Keeps (F.bytes files.old (file_name folder.now code.now file))
-        (input_remaining F.Reader.remaining input)) }
-    ensures unread { IfOk result (λ input. input_failed_reads F.Reader.failed_reads input ≡ 0) }
-    ensures stay { (other : List ℕ) → F.bytes files.new other ≡ F.bytes files.old other }
-    ensures opens { MatchResult result (λ _. F.failed_opens files.new ≡ F.failed_opens files.old)
-        (λ fault. CountsFileFault fault.fault (F.failed_opens files.old) (F.failed_opens files.new)) }
-    ensures reads { F.failed_reads files.new ≡ F.failed_reads files.old }
+    ensures known { IfOk result (λ input. IsUnread (F.bytes files.old (file_name folder.now code.now file))
+        (input_reader F.Reader.remaining F.Reader.failed_reads input)) }
+    ensures there { IfOk result (λ input. file ≡ CountyFile.Rt1 → IsOpened input) }
+    ensures opens { Opens result (λ fault. fault.fault) (disk F.bytes F.failed_opens F.failed_reads files.old)
+        (disk F.bytes F.failed_opens F.failed_reads files.new) }
 {
     let Ok(name) = file_name(alloc, folder, code, file) else {
         let fault = FileFault::Memory;
         return Err(CountyFileFault { file, fault });
     };
-    match open_if_there(files, name.as_str()) {
-        Ok(input) => Ok(input),
-        Err(fault) => Err(CountyFileFault { file, fault }),
+    match file {
+        CountyFile::Rt1 => match open(files, name.as_str()) {
+            Ok(reader) => Ok(Input::Opened(reader)),
+            Err(fault) => Err(CountyFileFault { file, fault }),
+        },
+        _ => match open_if_there(files, name.as_str()) {
+            Ok(input) => Ok(input),
+            Err(fault) => Err(CountyFileFault { file, fault }),
+        },
     }
 }
 
 /// Closes the inputs of a county.
 pub fn close_county<F: Files>(files: &mut F, inputs: CountyInputs<F::Reader>)
-    ensures stay { (other : List ℕ) → F.bytes files.new other ≡ F.bytes files.old other }
-    ensures opens { F.failed_opens files.new ≡ F.failed_opens files.old }
-    ensures reads { ClosesCounty (county_readers F.Reader.remaining F.Reader.failed_reads inputs)
-        (F.failed_reads files.old) (F.failed_reads files.new) }
+    ensures { Closes (ClosesCounty (county_readers F.Reader.remaining F.Reader.failed_reads inputs))
+        (disk F.bytes F.failed_opens F.failed_reads files.old) (disk F.bytes F.failed_opens F.failed_reads files.new) }
 {
     let CountyInputs { rt1, joined } = inputs;
     let JoinedInputs { rt4, rt5, rt6 } = joined;

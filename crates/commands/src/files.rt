@@ -3,7 +3,8 @@ ghost use Rattle.std.specs.Prelude.{◌≡◌, ◌≤◌, ◌*◌, ◌%◌, ℕ,
 ghost use Rattle.std.specs.Io.{ReadsAtMost};
 ghost use Rattle.std.specs.Io.KnownBytes.{Keeps, ReadConsumes};
 ghost use Rattle.tl_fields.specs.Counted.{CountsFailure};
-ghost use Rattle.commands.specs.Files.{CountsClose, CountsOpen, CountsProgramFault, IsIfThere, IsTooLong, TellsFailure, TellsProgram, TellsProgramUse, TellsUse, disk, input_failed_reads, input_remaining};
+ghost use Rattle.tl_fields.specs.Device.{reader};
+ghost use Rattle.commands.specs.Files.{Closes, CountsClose, CountsOpen, CountsProgramFault, IsIfThere, IsTooLong, IsUnread, Opens, TellsFailure, TellsProgram, TellsProgramUse, TellsUse, disk, input_failed_reads, input_reader, input_remaining};
 ghost use Rattle.commands.specs.declared.files.FileFault.TheVariants.{Memory};
 ghost use Rattle.commands.specs.declared.files.ProgramInputFault.TheVariants.{File};
 ghost use Rattle.commands.specs.declared.files.TheConstants.{MOST_KEPT};
@@ -180,11 +181,10 @@ fn if_there<T>(opened: io::Result<T>) -> io::Result<Option<T>>
 
 /// Opens a file.
 pub fn open<F: Files>(files: &mut F, name: &str) -> Result<F::Reader, FileFault>
-    ensures known { IfOk result (λ reader. Keeps (F.bytes files.old name.now) (F.Reader.remaining reader)) }
-    ensures unread { IfOk result (λ reader. F.Reader.failed_reads reader ≡ 0) }
-    ensures stay { (other : List ℕ) → F.bytes files.new other ≡ F.bytes files.old other }
-    ensures opens { TellsFailure result (F.failed_opens files.old) (F.failed_opens files.new) }
-    ensures reads { F.failed_reads files.new ≡ F.failed_reads files.old }
+    ensures known { IfOk result (λ opened. IsUnread (F.bytes files.old name.now)
+        (reader F.Reader.remaining F.Reader.failed_reads opened)) }
+    ensures opens { Opens result (λ fault. fault) (disk F.bytes F.failed_opens F.failed_reads files.old)
+        (disk F.bytes F.failed_opens F.failed_reads files.new) }
 {
     match files.open(name) {
         Ok(reader) => Ok(reader),
@@ -195,11 +195,10 @@ pub fn open<F: Files>(files: &mut F, name: &str) -> Result<F::Reader, FileFault>
 
 /// Opens a file where there is one of the name. Where there is none the input is empty.
 pub fn open_if_there<F: Files>(files: &mut F, name: &str) -> Result<Input<F::Reader>, FileFault>
-    ensures known { IfOk result (λ input. Keeps (F.bytes files.old name.now) (input_remaining F.Reader.remaining input)) }
-    ensures unread { IfOk result (λ input. input_failed_reads F.Reader.failed_reads input ≡ 0) }
-    ensures stay { (other : List ℕ) → F.bytes files.new other ≡ F.bytes files.old other }
-    ensures opens { TellsFailure result (F.failed_opens files.old) (F.failed_opens files.new) }
-    ensures reads { F.failed_reads files.new ≡ F.failed_reads files.old }
+    ensures known { IfOk result (λ input. IsUnread (F.bytes files.old name.now)
+        (input_reader F.Reader.remaining F.Reader.failed_reads input)) }
+    ensures opens { Opens result (λ fault. fault) (disk F.bytes F.failed_opens F.failed_reads files.old)
+        (disk F.bytes F.failed_opens F.failed_reads files.new) }
 {
     match files.open_if_there(name) {
         Ok(Some(reader)) => Ok(Input::Opened(reader)),
@@ -211,10 +210,8 @@ pub fn open_if_there<F: Files>(files: &mut F, name: &str) -> Result<Input<F::Rea
 
 /// Closes an input's reader.
 pub fn close<F: Files>(files: &mut F, input: Input<F::Reader>)
-    ensures stay { (other : List ℕ) → F.bytes files.new other ≡ F.bytes files.old other }
-    ensures opens { F.failed_opens files.new ≡ F.failed_opens files.old }
-    ensures reads { CountsClose (input_failed_reads F.Reader.failed_reads input)
-        (F.failed_reads files.old) (F.failed_reads files.new) }
+    ensures { Closes (CountsClose (input_failed_reads F.Reader.failed_reads input))
+        (disk F.bytes F.failed_opens F.failed_reads files.old) (disk F.bytes F.failed_opens F.failed_reads files.new) }
 {
     match input {
         Input::Opened(reader) => files.close(reader),
@@ -367,7 +364,6 @@ impl<R: CountedRead> Read for Input<R> {
         ensures bound { ReadsAtMost result buf.new }
         ensures bytes { ReadConsumes (input_remaining R.remaining self.old) (input_remaining R.remaining self.new) result buf.new }
         ensures failures { CountsFailure result (input_failed_reads R.failed_reads self.old) (input_failed_reads R.failed_reads self.new) }
-        ensures nothing { self.old ≡ Input.Nothing → result ≡ Ok 0 }
     {
         match self {
             Input::Opened(reader) => reader.read_counted(buf),
@@ -382,12 +378,7 @@ impl<R: CountedRead> CountedRead for Input<R> {
     ghost failed_reads = { input_failed_reads R.failed_reads };
 
     #[inline]
-    fn read_counted(&mut self, buf: &mut [u8]) -> io::Result<usize>
-        ensures bound { ReadsAtMost result buf.new }
-        ensures bytes { ReadConsumes (input_remaining R.remaining self.old) (input_remaining R.remaining self.new) result buf.new }
-        ensures failures { CountsFailure result (input_failed_reads R.failed_reads self.old) (input_failed_reads R.failed_reads self.new) }
-        ensures nothing { self.old ≡ Input.Nothing → result ≡ Ok 0 }
-    {
+    fn read_counted(&mut self, buf: &mut [u8]) -> io::Result<usize> {
         self.read(buf)
     }
 

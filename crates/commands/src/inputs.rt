@@ -1,10 +1,9 @@
 //! What `run` and `trace` read: a program and a county.
-ghost use Rattle.std.specs.Prelude.{◌≡◌, IfErr, IfOk, Some};
-ghost use Rattle.std.specs.Io.KnownBytes.{Keeps};
-ghost use Rattle.commands.specs.County.{HaveNoFailure, HoldCounty, IsOpened, county_readers};
+ghost use Rattle.std.specs.Prelude.{IfErr, IfOk};
+ghost use Rattle.commands.specs.County.{IsOpened, county_readers};
 ghost use Rattle.commands.specs.Failure.{TellsCounts};
 ghost use Rattle.commands.specs.Files.{disk};
-ghost use Rattle.commands.specs.Inputs.{TellsInputs};
+ghost use Rattle.commands.specs.Inputs.{HoldInputs, TellsInputs};
 
 use crate::county::{CountyInputs, close_county, open_county};
 use crate::failure::Failure;
@@ -25,10 +24,8 @@ pub fn open_inputs<'a, A: Allocator + Copy, F: Files>(
     folder: &'a str,
     code: &'a str,
 ) -> Result<Inputs<A, F::Reader>, Failure<'a>>
-    ensures program { IfOk result (λ inputs. Keeps (F.bytes files.old name.now) (Some inputs.program.items)) }
-    ensures hold { IfOk result (λ inputs. HoldCounty (F.bytes files.old) folder.now code.now
+    ensures hold { IfOk result (λ inputs. HoldInputs (F.bytes files.old) name.now folder.now code.now inputs.program.items
         (county_readers F.Reader.remaining F.Reader.failed_reads inputs.county)) }
-    ensures unread { IfOk result (λ inputs. HaveNoFailure (county_readers F.Reader.remaining F.Reader.failed_reads inputs.county)) }
     ensures there { IfOk result (λ inputs. IsOpened inputs.county.rt1) }
     ensures err { IfErr result (TellsInputs name.now folder.now code.now
         (disk F.bytes F.failed_opens F.failed_reads files.old) (disk F.bytes F.failed_opens F.failed_reads files.new)) }

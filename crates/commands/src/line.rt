@@ -25,9 +25,6 @@ impl<W: CountedWrite> fmt::Write for Line<'_, W> {
         × Appends (W.contents old.out.now) (W.contents new.out.now) text };
 
     fn write_str(&mut self, text: &str) -> fmt::Result {
-        match write_whole(self.out, text.as_bytes()) {
-            Ok(()) => Ok(()),
-            Err(_) => Err(fmt::Error),
-        }
+        write_whole(self.out, text.as_bytes()).map_err(|_| fmt::Error)
     }
 }

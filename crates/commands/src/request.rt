@@ -1,10 +1,9 @@
 //! What a command is asked for, done, and its exit status.
 ghost use Rattle.std.specs.Prelude.{◌≡◌, ◌≢◌, ◌≤◌, ◌⊎◌};
 ghost use Rattle.tl_fields.specs.Device.{writer};
-ghost use Rattle.commands.specs.Command.{CarriesOut, IsDone, IsFlushed, IsLackOfLine, IsOutOfMemory, IsRefusal};
+ghost use Rattle.commands.specs.Command.{CarriesOut, IsDone, IsFlushed, IsLackOfLine, IsOutOfMemory, IsRefusal, IsUnusable};
 ghost use Rattle.commands.specs.Failure.{KeepsOnUsage};
 ghost use Rattle.commands.specs.Files.{disk};
-ghost use Rattle.commands.specs.Unusable.{IsUnusable};
 
 use crate::assemble::Assemble;
 use crate::disassemble::Disassemble;

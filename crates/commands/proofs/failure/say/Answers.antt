@@ -1,31 +1,22 @@
 use Rattle.std.proofs.Common.{List, ℕ, Bor, Ok, Err}
-use Rattle.tl_fields.specs.Device.{writer}
 use Rattle.commands.proofs.PieceLemmas.{piece_stopped, piece_written, pieces_done}
 use Rattle.commands.proofs.failure.say.Goals as goal
 
 pub loop-piece-preserved : goal.loop-piece-preserved
 loop-piece-preserved g c =
-    piece_written (λ (piece : Bor (List ℕ)). piece.now) c.args.pieces.now c.loop-piece.piece-index _ c.loop-piece-test.true
-    (writer g.E.Write.contents g.E.CountedWrite.counts c.args.errors.now)
-    (writer g.E.Write.contents g.E.CountedWrite.counts c.loop-piece.errors)
-    (writer g.E.Write.contents g.E.CountedWrite.counts c.write_whole.new.out) c.as_bytes.result.now c.as_bytes.ensures.value
-    c.loop-piece.invariant c.in-Ok.ensures
+    piece_written (λ (piece : Bor (List ℕ)). piece.now) c.args.pieces.now c.loop-piece.piece-index _ c.loop-piece-test.true _ _ _ _
+    c.as_bytes.ensures.value c.loop-piece.invariant c.in-Ok.ensures
 
 pub returns-in-Err : goal.returns-in-Err
 returns-in-Err g c = (
   Err c.in-Err.field-0,
-  piece_stopped (λ (piece : Bor (List ℕ)). piece.now) c.args.pieces.now c.loop-piece.piece-index _ c.loop-piece-test.true
-      (writer g.E.Write.contents g.E.CountedWrite.counts c.args.errors.now)
-      (writer g.E.Write.contents g.E.CountedWrite.counts c.loop-piece.errors)
-      (writer g.E.Write.contents g.E.CountedWrite.counts c.write_whole.new.out) c.as_bytes.result.now c.in-Err.field-0
-      c.as_bytes.ensures.value
-      c.loop-piece.invariant c.in-Err.ensures,
+  piece_stopped (λ (piece : Bor (List ℕ)). piece.now) c.args.pieces.now c.loop-piece.piece-index _ c.loop-piece-test.true _ _ _ _ _
+      c.as_bytes.ensures.value c.loop-piece.invariant c.in-Err.ensures,
 )
 
 pub returns : goal.returns
 returns g c = (
   Ok tt,
-  pieces_done (λ (piece : Bor (List ℕ)). piece.now) c.args.pieces.now c.loop-piece.piece-index (Ok tt)
-      (writer g.E.Write.contents g.E.CountedWrite.counts c.args.errors.now)
-      (writer g.E.Write.contents g.E.CountedWrite.counts c.loop-piece.errors) c.loop-piece-test.false c.loop-piece.invariant,
+  pieces_done (λ (piece : Bor (List ℕ)). piece.now) c.args.pieces.now c.loop-piece.piece-index (Ok tt) _ _ c.loop-piece-test.false
+      c.loop-piece.invariant,
 )

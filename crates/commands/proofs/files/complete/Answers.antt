@@ -14,5 +14,5 @@ returns-then-remainder-eq0-clause-err g c = λ program is of.
 
 pub returns-clause-err : goal.returns-clause-err
 returns-clause-err g c = λ program is of.
-    not_whole program c.args.kept.items c.args.remainder is (omega (arith, c.if-len.false, c.len.ensures)) of
+    not_whole program c.args.kept.items is c.args.remainder (omega (arith, c.if-len.false, c.len.ensures)) of
     (omega (arith, c.if-remainder-eq0.false))

@@ -1,23 +1,44 @@
-use Rattle.std.proofs.Common.{◌∙◌, ℕ, Err}
-use Rattle.commands.specs.County.{county_readers}
-use Rattle.commands.specs.Files.{disk}
-use Rattle.commands.proofs.CountyLemmas.{hold_as}
-use Rattle.commands.proofs.FileLemmas.{closes_behind, used_program}
-use Rattle.commands.proofs.InputLemmas.{program_told}
+use Rattle.std.proofs.Common.{◌∙◌, ℕ, List, Option, Bor, Err, refl, subst}
+use Rattle.std.specs.Io.KnownBytes.{Keeps}
+use Rattle.std.proofs.Math.Path.{fun_ext}
+use Rattle.tl_segments.specs.County.{CountyReaders}
+use Rattle.commands.specs.County.{HoldCounty, county_readers}
+use Rattle.commands.specs.Failure.{of_program}
+use Rattle.commands.specs.Files.{Disk, TellsProgram, TellsProgramUse, disk}
+use Rattle.commands.specs.Inputs.{TellsInputs}
+use Rattle.commands.specs.declared.files.FileFault.TheVariants as fault
+use Rattle.commands.specs.declared.files.ProgramInputFault.{ProgramInputFault}
+use Rattle.commands.specs.declared.files.ProgramInputFault.TheVariants as input
+use Rattle.commands.proofs.FileLemmas.{used_program}
+use Rattle.commands.proofs.ProgramLemmas.{too_long_as}
+use Rattle.commands.proofs.ReadLemmas.{fresh_closed}
 use Rattle.commands.proofs.inputs.open_inputs.Goals as goal
+
+-- the program's file can't be read, or the program is too long
+program_told : (disk disk' : Disk) (name folder code : Bor (List ℕ)) (left : Option (List ℕ)) {readers : CountyReaders}
+    (of : ProgramInputFault) → Keeps (disk.known name.now) left → TellsProgram left of → TellsProgramUse {T = ℕ} (Err of) disk disk'
+    → HoldCounty disk.known folder.now code.now readers → TellsInputs name.now folder.now code.now disk disk' (of_program name of)
+program_told disk disk' name folder code left (input.File (fault.Unusable error)) kept told uses hold = uses
+program_told disk disk' name folder code left (input.File fault.Memory) kept told uses hold = tt
+program_told disk disk' name folder code left {readers} (input.Code of) kept told uses hold = record {
+  fault = of;
+  long = too_long_as (disk.known name.now) left of kept told;
+  is_refusal = refl;
+  readers = readers;
+  hold = hold;
+}
 
 pub returns-in-Err-read-clause-err : goal.returns-in-Err-read-clause-err
 returns-in-Err-read-clause-err g c =
+    let opened = c.in-Ok.ensures in
+    let county = c.in-Ok-open_county.ensures in
+    let closed = c.close_county.ensures in
     rw c.of_program.ensures (program_told (disk g.F.Files.bytes g.F.Files.failed_opens g.F.Files.failed_reads c.args.files.now)
-    (disk g.F.Files.bytes g.F.Files.failed_opens g.F.Files.failed_reads c.close_county.new.files) c.args.name c.args.folder c.args.code
-    (g.F.Reader.Read.remaining c.in-Ok.reader) (county_readers g.F.Reader.Read.remaining g.F.Reader.CountedRead.failed_reads
-    c.in-Ok-open_county.county) c.in-Err-read.fault
-    c.in-Ok.ensures.known c.in-Err-read.ensures.refused
-    (used_program (disk g.F.Files.bytes g.F.Files.failed_opens g.F.Files.failed_reads c.args.files.now)
-    (disk g.F.Files.bytes g.F.Files.failed_opens g.F.Files.failed_reads c.close_county.new.files)
-    (g.F.Reader.CountedRead.failed_reads c.in-Ok.reader) _ _
-    (c.close_county.ensures.opens ∙ c.close-2.ensures.opens ∙ c.in-Ok-open_county.ensures.opens ∙ c.in-Ok.ensures.opens)
-    c.in-Ok.ensures.unread (c.in-Ok-open_county.ensures.reads ∙ c.in-Ok.ensures.reads) {T = ℕ} (Err c.in-Err-read.fault)
-    c.in-Err-read.ensures.reads
-    (closes_behind _ _ _ _ (c.close_county.ensures.reads.none c.in-Ok-open_county.ensures.unread) c.close-2.ensures.reads))
-    (hold_as _ _ _ _ _ c.in-Ok.ensures.stay c.in-Ok-open_county.ensures.hold))
+    (disk g.F.Files.bytes g.F.Files.failed_opens g.F.Files.failed_reads c.close_county.new.files) c.args.name c.args.folder c.args.code _
+    c.in-Err-read.fault opened.known.left c.in-Err-read.ensures.refused
+    (used_program _ _ (closed.opens ∙ c.close-2.ensures.opens ∙ county.opens.opens ∙ opened.opens.opens) opened.known.failed
+    (county.opens.reads ∙ opened.opens.reads) {T = ℕ} (Err c.in-Err-read.fault) c.in-Err-read.ensures.reads
+    (rw (fresh_closed county.hold closed.reads) c.close-2.ensures.reads))
+    (subst (λ (known : List ℕ → Option (List ℕ)). HoldCounty known c.args.folder.now c.args.code.now
+    (county_readers g.F.Reader.Read.remaining g.F.Reader.CountedRead.failed_reads c.in-Ok-open_county.county))
+    (fun_ext opened.opens.stays) county.hold))

@@ -1,18 +1,44 @@
-use Rattle.std.proofs.Common.{List, ℕ, refl, sym, subst}
-use Rattle.bpf_text.specs.Conversion.{IsAssembled}
+use Rattle.std.proofs.Common.{ℕ, List, Some, Err, refl, subst}
+use Rattle.std.specs.Io.KnownBytes.{Keeps}
 use Rattle.bpf_text.specs.SourceFault.{IsSourceFault}
-use Rattle.tl_fields.specs.Device.{writer}
-use Rattle.commands.specs.Files.{disk}
+use Rattle.bpf_text.specs.TextFault as text_fault
+use Rattle.bpf_text.specs.declared.fault.SourceFault.{SourceFault}
+use Rattle.bpf_text.specs.declared.fault.SourceFault.TheVariants as source
+use Rattle.bpf_text.specs.declared.fault.TextFault.TheVariants as text
+use Rattle.tl_fields.specs.Device.{Writer}
+use Rattle.commands.specs.Command.{CarriesOut}
+use Rattle.commands.specs.Failure.{of_source}
+use Rattle.commands.specs.Files.{Disk, IsUnfailed}
+use Rattle.commands.specs.declared.assemble.Assemble.{Assemble}
 use Rattle.commands.specs.declared.request.Request.TheVariants as request
-use Rattle.commands.proofs.CarriedLemmas.{file_carried, written_usage}
-use Rattle.commands.proofs.WrittenLemmas.{asm_refused}
+use Rattle.commands.proofs.CarriedLemmas.{refused_carried}
+use Rattle.commands.proofs.ClassLemmas.{text_status}
+use Rattle.commands.proofs.ReadLemmas.{sound}
 use Rattle.commands.proofs.assemble.Assemble.carry_out.Goals as goal
+
+source_refused : {disk disk' : Disk} {out : Writer} (asked : Assemble) (bytes : List ℕ) (fault : SourceFault) → IsUnfailed disk disk'
+    → Keeps (disk.known asked.source.now) (Some bytes) → IsSourceFault bytes fault
+    → CarriesOut (request.Assemble asked) (Err (of_source asked.source fault)) disk disk' out out
+source_refused asked bytes source.NotUtf8 counts is no_text = record {
+  outcome = (refl, record { is_source = refl; source = bytes; holds = is; no_text = no_text });
+  counts = λ other. counts;
+  unflushed = refl;
+}
+source_refused asked bytes (source.Text text.Memory) counts is faulty =
+    record { outcome = refl; counts = λ other. counts; unflushed = refl }
+source_refused asked bytes (source.Text (text.InLine line flaw)) counts is faulty =
+    refused_carried (text_fault.refusal (text.InLine line flaw)) (record {
+      source = bytes;
+      is_source = is;
+      is_text = faulty.0;
+      fault = text.InLine line flaw;
+      first = faulty.1;
+      is_refusal = refl;
+      unwritten = refl;
+    }) counts.opens (sound (text_status (text.InLine line flaw)) counts.reads) refl
 
 pub returns-clause-carried : goal.returns-clause-carried
 returns-clause-carried g c =
-    rw c.of_source.ensures (asm_refused (disk g.F.Files.bytes g.F.Files.failed_opens g.F.Files.failed_reads c.args.files.now)
-    (disk g.F.Files.bytes g.F.Files.failed_opens g.F.Files.failed_reads c.read_file.new.files) c.in-Ok.ensures.uses
-    (writer g.W.Write.contents g.W.CountedWrite.counts c.args.out.now) c.in-Ok.source.items c.args.self c.in-Err-assemble_source.fault
-    c.in-Ok.ensures.known
+    rw c.of_source.ensures (source_refused c.args.self _ c.in-Err-assemble_source.fault c.in-Ok.ensures.uses c.in-Ok.ensures.known
     (subst (λ (bytes : List ℕ). IsSourceFault bytes c.in-Err-assemble_source.fault) c.as_slice.ensures.value
     c.in-Err-assemble_source.ensures.err))
