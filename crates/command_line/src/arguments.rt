@@ -1,5 +1,4 @@
 //! The arguments of a command line, and what they ask for.
-ghost use Rattle.std.specs.Prelude.{◌≤◌, IfOk, vec_len};
 
 // How a help ends, behind its examples.
 macro_rules! help_end {
@@ -31,33 +30,28 @@ use commands::Request;
 pub use serve::Serve;
 use std::alloc::{AllocError, Global};
 
-/// Reads the arguments after the program's name, of a command over files.
+/// What the program is called for.
+#[derive(Drop)]
+pub enum Invocation<'a> {
+    /// A command over files.
+    Request(Request<'a>),
+    Serve(Serve<'a>),
+}
+
+/// Reads the arguments after the program's name.
 pub fn read_arguments<'a>(
     alloc: Global,
     arguments: &'a [&'a str],
-) -> Result<Request<'a>, ArgumentsFault<'a>> {
+) -> Result<Invocation<'a>, ArgumentsFault<'a>> {
     let matches = program_command(alloc)?.try_get_matches_from(arguments)?;
     match matches.subcommand() {
-        Some((name, matches)) => request(alloc, name, matches),
+        Some(("serve", matches)) => Ok(Invocation::Serve(serve::request(alloc, matches)?)),
+        Some((name, matches)) => Ok(Invocation::Request(request(alloc, name, matches)?)),
         None => Err(ArgumentsFault::Missing("COMMAND")),
     }
 }
 
-/// Reads the arguments after the program's name, of `serve`.
-pub fn read_serve<'a>(
-    alloc: Global,
-    arguments: &'a [&'a str],
-) -> Result<Serve<'a>, ArgumentsFault<'a>>
-    ensures { IfOk result (λ serve. vec_len serve.codes ≤ 100_000) }
-{
-    let matches = program_command(alloc)?.try_get_matches_from(arguments)?;
-    match matches.subcommand() {
-        Some(("serve", matches)) => serve::request(alloc, matches),
-        _ => Err(ArgumentsFault::Missing("serve")),
-    }
-}
-
-/// What the command of this name is asked for.
+/// What the command over files of this name is asked for.
 fn request<'a>(
     alloc: Global,
     name: &str,
@@ -70,7 +64,6 @@ fn request<'a>(
         "verify" => Ok(Request::Verify(verify::request(matches)?)),
         "asm" => Ok(Request::Assemble(assemble::request(matches)?)),
         "dis" => Ok(Request::Disassemble(disassemble::request(matches)?)),
-        "serve" => Err(ArgumentsFault::Serve),
         _ => Err(ArgumentsFault::Missing("COMMAND")),
     }
 }

@@ -5,8 +5,9 @@ ghost use Rattle.commands.specs.Command.{IsDone, IsOutOfMemory, IsRefusal, IsUnu
 ghost use Rattle.commands.specs.Files.{disk};
 ghost use Rattle.commands.specs.declared.request.Request.{Request};
 
-use crate::arguments::read_arguments;
-use commands::Files;
+use crate::arguments::{Invocation, read_arguments};
+use crate::fault::ArgumentsFault;
+use commands::{Files, Request};
 use std::alloc::Global;
 use tl_fields::CountedWrite;
 
@@ -41,11 +42,22 @@ pub fn command<F: Files, W: CountedWrite, E: CountedWrite>(
     ensures opens { result ≢ 3 → F.failed_opens files.new ≡ F.failed_opens files.old }
     ensures reads { result ≢ 3 → F.failed_reads files.new ≡ F.failed_reads files.old }
 {
-    match read_arguments(alloc, arguments) {
+    match read_request(alloc, arguments) {
         Ok(request) => request.answer(alloc, files, out, errors),
         Err(fault) => {
             fault.report(errors);
             fault.status()
         }
+    }
+}
+
+/// Reads the arguments of a command over files.
+fn read_request<'a>(
+    alloc: Global,
+    arguments: &'a [&'a str],
+) -> Result<Request<'a>, ArgumentsFault<'a>> {
+    match read_arguments(alloc, arguments)? {
+        Invocation::Request(request) => Ok(request),
+        Invocation::Serve(_) => Err(ArgumentsFault::Serve),
     }
 }

@@ -6,6 +6,6 @@ mod dispatch;
 mod fault;
 mod options;
 
-pub use arguments::{Serve, read_serve};
+pub use arguments::{Invocation, Serve, read_arguments};
 pub use dispatch::command;
 pub use fault::ArgumentsFault;

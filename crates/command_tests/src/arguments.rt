@@ -1,6 +1,6 @@
 //! Arguments that ask for nothing: usage faults, and calls for help.
 use super::cases::Case;
-use command_line::{ArgumentsFault, read_serve};
+use command_line::{ArgumentsFault, Invocation, read_arguments};
 use fixtures::{Device, bytes, cell, table, taken, writer};
 use std::alloc::{AllocError, Global};
 use std::test::Fail;
@@ -134,8 +134,9 @@ fn is_serve(alloc: Global, row: &str) -> Result<bool, AllocError> {
     let words: Vec<&str> = cell(row, 0).split_whitespace().collect(alloc)?;
     let text = bytes(alloc, cell(row, 2))?;
     let number = cell(row, 1);
-    Ok(match read_serve(alloc, &words) {
-        Ok(serve) => {
+    Ok(match read_arguments(alloc, &words) {
+        Ok(Invocation::Request(_)) => false,
+        Ok(Invocation::Serve(serve)) => {
             serve.data == "d"
                 && number.parse() == Ok(serve.port)
                 && cell(row, 2).parse() == Ok(serve.codes.len())

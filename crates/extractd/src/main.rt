@@ -6,8 +6,8 @@ ghost use Rattle.command_line.specs.declared.fault.ArgumentsFault.TheVariants.{M
 
 mod serving;
 
-use command_line::{ArgumentsFault, command};
-use commands::SystemFiles;
+use command_line::{ArgumentsFault, Invocation, read_arguments};
+use commands::{Request, SystemFiles};
 use serving::serve;
 use std::io::BufWriter;
 use std::process::ExitCode;
@@ -42,7 +42,7 @@ fn status_of(answered: &Result<u8, ArgumentsFault<'_>>) -> u8
     }
 }
 
-/// Reads the arguments after the program's name, opens the output, and does what they ask for.
+/// Reads the arguments after the program's name, and does what they ask for.
 fn answer<E: CountedWrite>(
     rt: &HostRuntime,
     errors: &mut E,
@@ -52,15 +52,27 @@ fn answer<E: CountedWrite>(
         .iter()
         .map(|argument| argument.as_str())
         .collect(rt.alloc())?;
-    if let Some(&"serve") = arguments.first() {
-        return Ok(serve(rt, arguments.as_slice(), errors));
+    match read_arguments(rt.alloc(), arguments.as_slice()) {
+        Ok(Invocation::Request(request)) => answer_request(rt, request, errors),
+        Ok(Invocation::Serve(asked)) => Ok(serve(rt, &asked, errors)),
+        Err(fault) => {
+            fault.report(errors);
+            Ok(fault.status())
+        }
     }
+}
+
+/// Opens the output, and does what is asked for over the system's files.
+fn answer_request<E: CountedWrite>(
+    rt: &HostRuntime,
+    request: Request<'_>,
+    errors: &mut E,
+) -> Result<u8, ArgumentsFault<'static>> {
     let out = BufWriter::with_capacity(rt.alloc(), OUTPUT_BUFFER, io::writer(rt)).map_err(
         |_wanting| ArgumentsFault::Memory,
     )?;
-    Ok(command(
+    Ok(request.answer(
         rt.alloc(),
-        arguments.as_slice(),
         &mut SystemFiles::new(rt),
         &mut Counting::new(out),
         errors,

@@ -1,10 +1,10 @@
 //! `serve`: counties served over HTTP.
-ghost use Rattle.std.specs.Prelude.{◌≡◌, ◌≤◌, IfErr, IfOk, map, vec_len};
+ghost use Rattle.std.specs.Prelude.{◌≡◌, IfErr, IfOk, map};
 ghost use Rattle.commands.specs.Counties.{AreCountiesOf, HaveRefusedCounty, TellsLoad};
 ghost use Rattle.commands.specs.Files.{disk};
 ghost use Rattle.wire.specs.State.{counties_of, new_state};
 
-use command_line::{Serve, read_serve};
+use command_line::Serve;
 use commands::{Failure, Files, Line, SystemFiles, UNUSABLE, load_counties};
 use server::{Acceptor, Limits, Tally, serve_all};
 use std::alloc::Global;
@@ -57,29 +57,15 @@ impl ServeFault<'_> {
     }
 }
 
-/// Serves as the arguments ask for, and answers the exit status. It ends only by a fault.
-pub fn serve<E: CountedWrite>(rt: &HostRuntime, arguments: &[&str], errors: &mut E) -> u8 {
-    match read_serve(rt.alloc(), arguments) {
-        Ok(asked) => serve_asked(rt, asked, errors),
-        Err(fault) => {
-            fault.report(errors);
-            fault.status()
-        }
-    }
-}
-
-fn serve_asked<E: CountedWrite>(rt: &HostRuntime, asked: Serve<'_>, errors: &mut E) -> u8
-    requires { vec_len asked.codes ≤ 100_000 }
-{
-    let fault = serve_counties(rt, &asked);
+/// Serves as is asked for, and answers the exit status. It ends only by a fault.
+pub fn serve<E: CountedWrite>(rt: &HostRuntime, asked: &Serve<'_>, errors: &mut E) -> u8 {
+    let fault = serve_counties(rt, asked);
     fault.report(errors);
     fault.status()
 }
 
 /// Loads the counties, listens, and serves until a fault.
-fn serve_counties<'a>(rt: &HostRuntime, asked: &Serve<'a>) -> ServeFault<'a>
-    requires { vec_len asked.now.codes ≤ 100_000 }
-{
+fn serve_counties<'a>(rt: &HostRuntime, asked: &Serve<'a>) -> ServeFault<'a> {
     let state = match load_state(rt.alloc(), &mut SystemFiles::new(rt), asked) {
         Ok(state) => state,
         Err(failure) => return ServeFault::Counties(failure),
@@ -106,7 +92,6 @@ fn load_state<'a, F: Files>(
     files: &mut F,
     asked: &Serve<'a>,
 ) -> Result<State<Global>, Failure<'a>>
-    requires { vec_len asked.now.codes ≤ 100_000 }
     ensures ok { IfOk result (λ state. (state ≡ new_state (counties_of state)) × AreCountiesOf (F.bytes files.old)
         asked.now.«data».now (map (λ code. code.now) asked.now.codes.items) (counties_of state)) }
     ensures err { IfErr result (TellsLoad (HaveRefusedCounty (F.bytes files.old) asked.now.«data».now (map (λ code. code.now) asked.now.codes.items))

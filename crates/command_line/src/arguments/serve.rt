@@ -1,5 +1,5 @@
 //! The arguments of `serve`.
-ghost use Rattle.std.specs.Prelude.{◌≤◌, IfOk, vec_len};
+ghost use Rattle.std.specs.Prelude.{◌≤◌, vec_len};
 
 use crate::fault::ArgumentsFault;
 use crate::options::{codes, counties_option, option, port, value};
@@ -15,6 +15,8 @@ pub struct Serve<'a> {
     pub port: u16,
     /// The counties: five digits each, of the state and of the county in it.
     pub codes: Vec<&'a str>,
+    // A server takes no more of them.
+    ghost few: { vec_len codes ≤ 100_000 },
 }
 
 pub fn command<'a>(alloc: Global) -> Result<Command<'a>, AllocError> {
@@ -40,9 +42,10 @@ Example:
 }
 
 /// What the arguments that were matched ask for.
-pub fn request<'a>(alloc: Global, matches: &ArgMatches<'a>) -> Result<Serve<'a>, ArgumentsFault<'a>>
-    ensures { IfOk result (λ serve. vec_len serve.codes ≤ 100_000) }
-{
+pub fn request<'a>(
+    alloc: Global,
+    matches: &ArgMatches<'a>,
+) -> Result<Serve<'a>, ArgumentsFault<'a>> {
     Ok(Serve {
         data: value(matches, "data")?,
         port: port(matches)?,
