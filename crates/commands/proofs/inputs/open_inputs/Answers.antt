@@ -15,18 +15,19 @@ use Rattle.commands.proofs.ReadLemmas.{fresh_closed}
 use Rattle.commands.proofs.inputs.open_inputs.Goals as goal
 
 -- the program's file can't be read, or the program is too long
-program_told : (disk disk' : Disk) (name folder code : Bor (List ℕ)) (left : Option (List ℕ)) {readers : CountyReaders}
-    (of : ProgramInputFault) → Keeps (disk.known name.now) left → TellsProgram left of → TellsProgramUse {T = ℕ} (Err of) disk disk'
-    → HoldCounty disk.known folder.now code.now readers → TellsInputs name.now folder.now code.now disk disk' (of_program name of)
-program_told disk disk' name folder code left (input.File (fault.Unusable error)) kept told uses hold = uses
-program_told disk disk' name folder code left (input.File fault.Memory) kept told uses hold = tt
-program_told disk disk' name folder code left {readers} (input.Code of) kept told uses hold = record {
-  fault = of;
-  long = too_long_as (disk.known name.now) left of kept told;
-  is_refusal = refl;
-  readers = readers;
-  hold = hold;
-}
+module _ (disk disk' : Disk) (name folder code : Bor (List ℕ)) (left : Option (List ℕ)) {readers : CountyReaders} where
+  program_told : (of : ProgramInputFault) → Keeps (disk.known name.now) left → TellsProgram left of
+      → TellsProgramUse {T = ℕ} (Err of) disk disk' → HoldCounty disk.known folder.now code.now readers
+      → TellsInputs name.now folder.now code.now disk disk' (of_program name of)
+  program_told (input.File (fault.Unusable error)) kept told uses hold = uses
+  program_told (input.File fault.Memory) kept told uses hold = tt
+  program_told (input.Code of) kept told uses hold = record {
+    fault = of;
+    long = too_long_as (disk.known name.now) left of kept told;
+    is_refusal = refl;
+    readers = readers;
+    hold = hold;
+  }
 
 pub returns-in-Err-read-clause-err : goal.returns-in-Err-read-clause-err
 returns-in-Err-read-clause-err g c =
