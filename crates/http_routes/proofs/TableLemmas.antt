@@ -21,13 +21,8 @@ use Rattle.http_routes.specs.declared.route.Route.TheVariants.{Verify, Assemble,
 pub row_inserted : (route : Route) (old new : RowsOf (RouteOf Route)) (result : Result (Unit {0}) InsertError)
     → InsertsRead (parse_route (row route).path) route old new result → Inserted (entry route).1 old new result
 unfolding matchit_on_literals
-row_inserted Verify old new result is = is
-row_inserted Assemble old new result is = is
-row_inserted Disassemble old new result is = is
-row_inserted Extract old new result is = is
-row_inserted Geocode old new result is = is
-row_inserted Jobs old new result is = is
 row_inserted Job old new result is = is
+row_inserted route old new result is = is
 
 -- a path that conflicts with none is refused for want of memory alone
 pub refused_for_memory : (route : Route) (old new : RowsOf (RouteOf Route)) (error : InsertError)
