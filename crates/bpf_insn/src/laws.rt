@@ -1,8 +1,10 @@
 //! What holds of the definitions themselves. The functions do nothing: each one's contract is the
 //! law.
-ghost use Rattle.std.specs.Prelude.{◌≡◌, ◌≢◌, ◌<◌, ◌*◌, ◌↔◌, ℕ, List, All, Some};
+ghost use Rattle.std.specs.Prelude.{◌≡◌, ◌≢◌, ◌<◌, ◌*◌, ◌↔◌, ℕ, List, All, Some, filter, is_some};
+ghost use Rattle.std.specs.List.{range_with_len};
 ghost use Rattle.bpf_insn.specs.Code.{IsCodeOf, IsFirstFault};
 ghost use Rattle.bpf_insn.specs.Frame.{slot_at};
+ghost use Rattle.bpf_insn.specs.Opcode.{form_of, opcodes};
 ghost use Rattle.bpf_insn.specs.declared.code.TheConstants.{WORD_LIMIT};
 ghost use Rattle.bpf_insn.specs.declared.fault.CodeFault.{CodeFault};
 ghost use Rattle.bpf_insn.specs.declared.instruction.Insn.{Insn};
@@ -17,6 +19,11 @@ pub fn one_code()
 pub fn one_spelling()
     ensures { (a b : List ℕ) (code : List Insn) → All (λ byte. byte < 256) a → All (λ byte. byte < 256) b
         → IsCodeOf a code → IsCodeOf b code → a ≡ b }
+{}
+
+/// An opcode has a form exactly if the standard gives it an instruction in the groups base32, base64, divmul32 or divmul64.
+pub fn opcodes()
+    ensures { filter (λ opcode. is_some (form_of opcode)) (range_with_len 0 256) ≡ opcodes }
 {}
 
 /// A program has 65,536 words at most.

@@ -4,7 +4,10 @@ ghost use Rattle.bpf_text.specs.declared.fault.SourceFault.TheVariants.{Text};
 ghost use Rattle.bpf_text.specs.declared.fault.TextFault.TheVariants.{Memory};
 ghost use Rattle.bpf_text.specs.TextFlaw as text_flaw;
 ghost use Rattle.bpf_text.specs.TextFlaw.{of_code};
+ghost use Rattle.bpf_text.specs.TextFault as text_fault;
+ghost use Rattle.refusals.specs.Refusal.{line as refusal_line};
 
+use arrayvec::ArrayString;
 use bpf_insn::{CodeFault, WordFault};
 use refusals::{Fault, Refusal};
 use std::alloc::{AllocError, AllocFailed};
@@ -110,6 +113,15 @@ fn of_code(code: &Refusal) -> Refusal
     ensures { result ≡ of_code code.now }
 {
     Refusal::detailed(26, "CodeFault", code.number())
+}
+
+impl TextFault {
+    /// Returns the refusal's line of text, as `refused 21 line 3 UnknownMnemonic`, without an end of line. It takes no memory.
+    pub fn line(&self) -> ArrayString<64>
+        ensures { result.bytes ≡ refusal_line (text_fault.refusal self.now) }
+    {
+        Fault::line(self)
+    }
 }
 
 impl Fault for TextFault {

@@ -2,8 +2,11 @@
 ghost use Rattle.std.specs.Prelude.{◌≡◌};
 ghost use Rattle.extract.specs.ExtractFault.{of_program, of_load};
 ghost use Rattle.extract.specs.declared.fault.ExtractFault.TheVariants.{Write};
+ghost use Rattle.extract.specs.ExtractFault as extract_fault;
+ghost use Rattle.refusals.specs.Refusal.{line as refusal_line};
 
 use crate::program::ProgramFault;
+use arrayvec::ArrayString;
 use refusals::{Fault, Refusal};
 use thiserror::Error;
 use tl_fields::WriteFault;
@@ -50,6 +53,15 @@ impl From<WriteFault> for ExtractFault {
 
     fn from(fault: WriteFault) -> ExtractFault {
         ExtractFault::Write(fault)
+    }
+}
+
+impl ExtractFault {
+    /// Returns the refusal's line of text, as `refused 1 rt1 line 2 WrongLength`, without an end of line. It takes no memory.
+    pub fn line(&self) -> ArrayString<64>
+        ensures { result.bytes ≡ refusal_line (extract_fault.refusal self.now) }
+    {
+        Fault::line(self)
     }
 }
 

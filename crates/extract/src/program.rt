@@ -3,7 +3,10 @@ ghost use Rattle.std.specs.Prelude.{◌≡◌, List, IfOk, IfErr};
 ghost use Rattle.bpf_insn.specs.declared.instruction.Insn.{Insn};
 ghost use Rattle.extract.specs.Program.{IsSafeProgram, IsProgramFault, IsSafeCode, IsFaultOfCode};
 ghost use Rattle.extract.specs.ProgramFault.{of_code, of_flow, of_verify};
+ghost use Rattle.extract.specs.ProgramFault as program_fault;
+ghost use Rattle.refusals.specs.Refusal.{line as refusal_line};
 
+use arrayvec::ArrayString;
 use bpf_flow::{Flow, FlowFault};
 use bpf_insn::{Code, CodeFault, decode};
 use bpf_verify::{Verified, VerifyFault, verify};
@@ -54,6 +57,15 @@ impl From<VerifyFault> for ProgramFault {
             VerifyFault::Memory => ProgramFault::Memory,
             fault => ProgramFault::Verify(fault),
         }
+    }
+}
+
+impl ProgramFault {
+    /// Returns the refusal's line of text, as `refused 44 place 2 OutOfBounds`, without an end of line. It takes no memory.
+    pub fn line(&self) -> ArrayString<64>
+        ensures { result.bytes ≡ refusal_line (program_fault.refusal self.now) }
+    {
+        Fault::line(self)
     }
 }
 

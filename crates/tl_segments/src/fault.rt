@@ -3,7 +3,10 @@ ghost use Rattle.std.specs.Prelude.{◌≡◌};
 ghost use Rattle.tl_segments.specs.CountyFile.{record_type};
 ghost use Rattle.tl_segments.specs.LoadFault.{in_file};
 ghost use Rattle.tl_segments.specs.declared.fault.LoadFault.TheVariants.{Memory};
+ghost use Rattle.tl_segments.specs.LoadFault as load_fault;
+ghost use Rattle.refusals.specs.Refusal.{line as refusal_line};
 
+use arrayvec::ArrayString;
 use refusals::{Fault, Refusal};
 use std::alloc::{AllocError, AllocFailed};
 use thiserror::Error;
@@ -60,6 +63,15 @@ impl<T: Drop> From<AllocFailed<T>> for LoadFault {
 
     fn from(_error: AllocFailed<T>) -> LoadFault {
         LoadFault::Memory
+    }
+}
+
+impl LoadFault {
+    /// Returns the refusal's line of text, as `refused 6 rt4 line 1001 TooManyNames`, without an end of line. It takes no memory.
+    pub fn line(&self) -> ArrayString<64>
+        ensures { result.bytes ≡ refusal_line (load_fault.refusal self.now) }
+    {
+        Fault::line(self)
     }
 }
 
