@@ -1,7 +1,8 @@
 //! `dis`: the program text of instruction words.
+ghost use Rattle.std.specs.Prelude.{◌≢◌, IfErr};
 ghost use Rattle.tl_fields.specs.Device.{writer};
 ghost use Rattle.commands.specs.Command.{CarriesOut};
-ghost use Rattle.commands.specs.Failure.{KeepsOnUsage};
+ghost use Rattle.commands.specs.Failure.{status};
 ghost use Rattle.commands.specs.Files.{disk};
 ghost use Rattle.commands.specs.declared.request.Request.{Request};
 
@@ -30,7 +31,7 @@ impl<'a> Disassemble<'a> {
         ensures carried { CarriesOut (Request.Disassemble self.entry) result
             (disk F.bytes F.failed_opens F.failed_reads files.old) (disk F.bytes F.failed_opens F.failed_reads files.new)
             (writer W.contents W.counts out.old) (writer W.contents W.counts out.new) }
-        ensures usage { KeepsOnUsage result out.old out.new }
+        ensures usage { IfErr result (λ failure. status failure ≢ 2) }
     {
         let program = match read_program_file(alloc, files, self.program) {
             Ok(program) => program,

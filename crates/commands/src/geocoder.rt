@@ -1,10 +1,10 @@
 //! `geocode`: where a house number is, over counties.
+ghost use Rattle.std.specs.Prelude.{◌≢◌, IfErr};
 ghost use Rattle.tl_fields.specs.Device.{writer};
 ghost use Rattle.commands.specs.Command.{CarriesOut};
-ghost use Rattle.commands.specs.Failure.{KeepsOnUsage};
 ghost use Rattle.commands.specs.Files.{disk};
 ghost use Rattle.commands.specs.declared.request.Request.{Request};
-ghost use Rattle.commands.specs.Failure.{WritesAs};
+ghost use Rattle.commands.specs.Failure.{WritesAs, status};
 ghost use Rattle.geocode.specs.HitLine.{hit_lines};
 
 use crate::counties::load_counties;
@@ -35,7 +35,7 @@ impl<'a> Geocode<'a> {
         ensures carried { CarriesOut (Request.Geocode self.entry) result
             (disk F.bytes F.failed_opens F.failed_reads files.old) (disk F.bytes F.failed_opens F.failed_reads files.new)
             (writer W.contents W.counts out.old) (writer W.contents W.counts out.new) }
-        ensures usage { KeepsOnUsage result out.old out.new }
+        ensures usage { IfErr result (λ failure. status failure ≢ 2) }
     {
         let counties = match load_counties(alloc, files, self.data, self.codes.as_slice()) {
             Ok(counties) => counties,

@@ -1,7 +1,8 @@
 //! `run`: the rows of the segments that a program chooses in a county's files.
+ghost use Rattle.std.specs.Prelude.{◌≢◌, IfErr};
 ghost use Rattle.tl_fields.specs.Device.{writer};
 ghost use Rattle.commands.specs.Command.{CarriesOut};
-ghost use Rattle.commands.specs.Failure.{KeepsOnUsage};
+ghost use Rattle.commands.specs.Failure.{status};
 ghost use Rattle.commands.specs.Files.{disk};
 ghost use Rattle.commands.specs.declared.request.Request.{Request};
 
@@ -34,7 +35,7 @@ impl<'a> Run<'a> {
         ensures carried { CarriesOut (Request.Run self.entry) result
             (disk F.bytes F.failed_opens F.failed_reads files.old) (disk F.bytes F.failed_opens F.failed_reads files.new)
             (writer W.contents W.counts out.old) (writer W.contents W.counts out.new) }
-        ensures usage { KeepsOnUsage result out.old out.new }
+        ensures usage { IfErr result (λ failure. status failure ≢ 2) }
     {
         let inputs = match open_inputs(alloc, files, self.program, self.data, self.code) {
             Ok(inputs) => inputs,

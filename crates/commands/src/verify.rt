@@ -1,10 +1,10 @@
 //! `verify`: whether a program is accepted.
 ghost use Rattle.tl_fields.specs.Device.{writer};
 ghost use Rattle.commands.specs.Command.{CarriesOut};
-ghost use Rattle.commands.specs.Failure.{KeepsOnUsage};
+ghost use Rattle.commands.specs.Failure.{status};
 ghost use Rattle.commands.specs.Files.{disk};
 ghost use Rattle.commands.specs.declared.request.Request.{Request};
-ghost use Rattle.std.specs.Prelude.{IfOk, IfErr};
+ghost use Rattle.std.specs.Prelude.{◌≢◌, IfOk, IfErr};
 ghost use Rattle.extract.specs.Program.{IsSafeProgram, IsProgramFault};
 
 use crate::failure::{Failure, write};
@@ -34,7 +34,7 @@ impl<'a> Verify<'a> {
         ensures carried { CarriesOut (Request.Verify self.entry) result
             (disk F.bytes F.failed_opens F.failed_reads files.old) (disk F.bytes F.failed_opens F.failed_reads files.new)
             (writer W.contents W.counts out.old) (writer W.contents W.counts out.new) }
-        ensures usage { KeepsOnUsage result out.old out.new }
+        ensures usage { IfErr result (λ failure. status failure ≢ 2) }
     {
         let program = match read_program_file(alloc, files, self.program) {
             Ok(program) => program,
