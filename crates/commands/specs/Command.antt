@@ -9,7 +9,7 @@ use Rattle.tl_fields.specs.Writing as write_fault
 use Rattle.tl_fields.specs.declared.writing.WriteFault.{WriteFault}
 use Rattle.commands.specs.Assemble as assemble
 use Rattle.commands.specs.Disassemble as disassemble
-use Rattle.commands.specs.Failure.{SaysFile, SaysLine, SaysText, TellsCounts, refusal_status}
+use Rattle.commands.specs.Failure.{SaysFile, SaysLine, SaysOutput, SaysText, TellsCounts, refusal_status}
 use Rattle.commands.specs.Files.{Disk, IsFailed}
 use Rattle.commands.specs.Geocode as geocode
 use Rattle.commands.specs.Run as run
@@ -87,6 +87,12 @@ pub record IsFlushed (out out' : Writer) : Type 0 where
   pub failed : out'.counts.failed ≡ out.counts.failed
   pub empty : out'.counts.empty ≡ out.counts.empty
 
+-- The flush of the output failed, which was said. The output keeps what it held.
+pub record FailsFlush (out out' errors errors' : Writer) : Type 0 where
+  pub kept : Keeps out.held out'.held
+  pub failed : out'.counts.failed ≢ out.counts.failed
+  pub said : SaysOutput errors errors'
+
 -- what was asked for was written whole behind what the output held, and then the output was flushed
 pub record IsDone (request : Request) (known : List ℕ → Option (List ℕ)) (out out' : Writer) : Type 0 where
   pub unflushed : Writer
@@ -120,7 +126,7 @@ pub data IsOutOfMemory (request : Request) (known : List ℕ → Option (List �
 
 -- Why a request isn't answered, where the status is 3. An open of a file failed, or a read, and nothing was written. A read of a county's
 -- file failed, and a library refused what was asked for. A source isn't UTF-8, and nothing was written. A write failed or took no byte: a
--- beginning was written, and a flush was tried. Each of these was said. Or what was asked for was written whole, and the flush failed.
+-- beginning was written, and a flush was tried. Or what was asked for was written whole, and the flush failed. Each of these was said.
 pub data IsUnusable (request : Request) (disk disk' : Disk) (out out' errors errors' : Writer) : Type 0 where
   of_file : (name : List ℕ) → IsFailed disk disk' → Keeps out.held out'.held → SaysFile name errors errors'
       → IsUnusable request disk disk' out out' errors errors'
@@ -133,5 +139,5 @@ pub data IsUnusable (request : Request) (disk disk' : Disk) (out out' errors err
       → CountsFault fault out.counts unflushed.counts → SaysLine (line (write_fault.refusal fault)) errors errors'
       → Keeps unflushed.held out'.held → (flush : Result (Unit {0}) Error) → CountsFlush flush unflushed.counts out'.counts
       → IsUnusable request disk disk' out out' errors errors'
-  of_flush : (unflushed : Writer) → IsWritten request disk.known out unflushed → out'.counts.failed ≢ unflushed.counts.failed
+  of_flush : (unflushed : Writer) → IsWritten request disk.known out unflushed → FailsFlush unflushed out' errors errors'
       → IsUnusable request disk disk' out out' errors errors'

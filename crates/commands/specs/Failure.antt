@@ -79,6 +79,10 @@ SaysLine text errors errors' = SaysText (text ++ 10 ∷ []) errors errors'
 abbrev pub SaysFile : List ℕ → Writer → Writer → Type 0
 SaysFile name errors errors' = (reason : List ℕ) × SaysText (codes "error: " ++ name ++ codes ": " ++ reason ++ 10 ∷ []) errors errors'
 
+-- it is said why the output can't be written
+abbrev pub SaysOutput : Writer → Writer → Type 0
+SaysOutput errors errors' = (reason : List ℕ) × SaysText (codes "error: the output can't be written: " ++ reason ++ 10 ∷ []) errors errors'
+
 -- what is said of a failure: a refusal's line, and else a line that begins with `error: `
 abbrev pub Says : Failure → Writer → Writer → Type 0
 Says (Refusal refusal) errors errors' = SaysLine (line refusal) errors errors'
@@ -88,8 +92,7 @@ Says (File name error) errors errors' = SaysFile name.now errors errors'
 Says (CountyFile folder code file error) errors errors' = SaysFile (file_name folder.now code.now file) errors errors'
 Says (NotUtf8 name) errors errors' = SaysText (codes "error: " ++ name.now ++ codes ": not UTF-8" ++ 10 ∷ []) errors errors'
 Says (NoLine number) errors errors' = SaysText (codes "error: the type 1 file has no line " ++ decimal number ++ 10 ∷ []) errors errors'
-Says (Output error) errors errors' = (reason : List ℕ) × SaysText (codes "error: the output can't be written: " ++ reason ++ 10 ∷ []) errors
-    errors'
+Says (Output error) errors errors' = SaysOutput errors errors'
 
 -- no open failed and no read, but where the status is 3
 abbrev pub TellsCounts : {T : Type 0} → Result T Failure → Disk → Disk → Type 0

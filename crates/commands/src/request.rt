@@ -1,7 +1,7 @@
 //! What a command is asked for, done, and its exit status.
 ghost use Rattle.std.specs.Prelude.{◌≡◌, ◌≢◌, ◌≤◌, ◌⊎◌};
 ghost use Rattle.tl_fields.specs.Device.{writer};
-ghost use Rattle.commands.specs.Command.{CarriesOut, IsDone, IsFlushed, IsLackOfLine, IsOutOfMemory, IsRefusal, IsUnusable};
+ghost use Rattle.commands.specs.Command.{CarriesOut, FailsFlush, IsDone, IsFlushed, IsLackOfLine, IsOutOfMemory, IsRefusal, IsUnusable};
 ghost use Rattle.commands.specs.Failure.{KeepsOnUsage};
 ghost use Rattle.commands.specs.Files.{disk};
 
@@ -103,7 +103,8 @@ impl<'a> Request<'a> {
 fn flush<W: CountedWrite, E: CountedWrite>(out: &mut W, errors: &mut E) -> u8
     ensures status { (result ≡ 0) ⊎ (result ≡ 3) }
     ensures done { result ≡ 0 → IsFlushed (writer W.contents W.counts out.old) (writer W.contents W.counts out.new) }
-    ensures failed { result ≡ 3 → (W.counts out.new).failed ≢ (W.counts out.old).failed }
+    ensures failed { result ≡ 3 → FailsFlush (writer W.contents W.counts out.old) (writer W.contents W.counts out.new)
+        (writer E.contents E.counts errors.old) (writer E.contents E.counts errors.new) }
     ensures flushed { (W.counts out.new).flushes ≢ (W.counts out.old).flushes }
 {
     match out.flush_counted() {
