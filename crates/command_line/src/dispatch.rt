@@ -2,6 +2,7 @@
 ghost use Rattle.std.specs.Prelude.{◌≡◌, ◌≢◌, ◌≤◌, ◌⊎◌};
 ghost use Rattle.tl_fields.specs.Device.{writer};
 ghost use Rattle.commands.specs.Command.{IsDone, IsOutOfMemory, IsRefusal, IsUnusable};
+ghost use Rattle.commands.specs.Failure.{SaysMemory};
 ghost use Rattle.commands.specs.Files.{disk};
 ghost use Rattle.commands.specs.declared.request.Request.{Request};
 
@@ -35,7 +36,9 @@ pub fn command<F: Files, W: CountedWrite, E: CountedWrite>(
         (writer W.contents W.counts out.old) (writer W.contents W.counts out.new)
         (writer E.contents E.counts errors.old) (writer E.contents E.counts errors.new) }
     // Nothing is written if the arguments run out of memory.
-    ensures memory { result ≡ 4 → (out.new ≡ out.old) ⊎ ((request : Request) × IsOutOfMemory request (F.bytes files.old)
+    ensures memory { result ≡ 4
+        → ((out.new ≡ out.old) × SaysMemory (writer E.contents E.counts errors.old) (writer E.contents E.counts errors.new))
+        ⊎ ((request : Request) × IsOutOfMemory request (F.bytes files.old)
         (writer W.contents W.counts out.old) (writer W.contents W.counts out.new)
         (writer E.contents E.counts errors.old) (writer E.contents E.counts errors.new)) }
     // An open that failed is never passed over, nor a read.

@@ -2,6 +2,8 @@
 ghost use Rattle.std.specs.Prelude.{◌≡◌, ◌≢◌};
 ghost use Rattle.std.specs.IoError.{error_kind};
 ghost use Rattle.std.specs.declared.io.ErrorKind.TheVariants as io_kind;
+ghost use Rattle.tl_fields.specs.Device.{writer};
+ghost use Rattle.commands.specs.Failure.{SaysMemory};
 ghost use Rattle.clap.specs.Values.{kind_of};
 ghost use Rattle.clap.specs.declared.error.kind.ErrorKind.TheVariants as usage_kind;
 ghost use Rattle.command_line.specs.declared.fault.ArgumentsFault.TheVariants.{Memory, NotUtf8, Usage};
@@ -49,6 +51,7 @@ impl ArgumentsFault<'_> {
     pub fn status(&self) -> u8
         ensures usage { self.now ≢ ArgumentsFault.Memory → result ≡ 2 }
         ensures memory { self.now ≡ ArgumentsFault.Memory → result ≡ 4 }
+        ensures only { result ≡ 4 → self.now ≡ ArgumentsFault.Memory }
     {
         match self {
             ArgumentsFault::Memory => OUT_OF_MEMORY,
@@ -57,7 +60,10 @@ impl ArgumentsFault<'_> {
     }
 
     /// Says what is wrong. A write that fails, or takes no byte, isn't tried again.
-    pub fn report<E: CountedWrite>(&self, errors: &mut E) {
+    pub fn report<E: CountedWrite>(&self, errors: &mut E)
+        ensures memory { self.now ≡ ArgumentsFault.Memory
+            → SaysMemory (writer E.contents E.counts errors.old) (writer E.contents E.counts errors.new) }
+    {
         if let ArgumentsFault::Memory = self {
             Failure::Memory.report(errors);
             return;

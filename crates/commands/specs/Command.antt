@@ -2,14 +2,14 @@
 use Rattle.std.specs.Prelude.{◌≡◌, ◌≢◌, ℕ, List, [], ◌∷◌, ◌++◌, codes, decimal, Option, Some, None, Result, Ok, Err, IsUtf8}
 use Rattle.std.specs.Io.KnownBytes.{Keeps}
 use Rattle.std.specs.declared.io.Error.{Error}
-use Rattle.refusals.specs.Refusal.{RefusalParts, line, memory}
+use Rattle.refusals.specs.Refusal.{RefusalParts, line}
 use Rattle.tl_fields.specs.Counted.{CountsFault, CountsFlush}
 use Rattle.tl_fields.specs.Device.{Writer}
 use Rattle.tl_fields.specs.Writing as write_fault
 use Rattle.tl_fields.specs.declared.writing.WriteFault.{WriteFault}
 use Rattle.commands.specs.Assemble as assemble
 use Rattle.commands.specs.Disassemble as disassemble
-use Rattle.commands.specs.Failure.{SaysFile, SaysLine, SaysOutput, SaysText, TellsCounts, refusal_status}
+use Rattle.commands.specs.Failure.{SaysFile, SaysLine, SaysMemory, SaysOutput, SaysText, TellsCounts, refusal_status}
 use Rattle.commands.specs.Files.{Disk, IsFailed}
 use Rattle.commands.specs.Geocode as geocode
 use Rattle.commands.specs.Run as run
@@ -121,8 +121,7 @@ pub record IsLackOfLine (request : Request) (known : List ℕ → Option (List �
 -- An allocation failed, which was said: of a library, which refused what was asked for so; or for something else, and nothing was written.
 pub data IsOutOfMemory (request : Request) (known : List ℕ → Option (List ℕ)) (out out' errors errors' : Writer) : Type 0 where
   of_library : IsRefusalOf 4 request known out out' errors errors' → IsOutOfMemory request known out out' errors errors'
-  of_other : Keeps out.held out'.held → SaysLine (line memory) errors errors'
-      → IsOutOfMemory request known out out' errors errors'
+  of_other : Keeps out.held out'.held → SaysMemory errors errors' → IsOutOfMemory request known out out' errors errors'
 
 -- Why a request isn't answered, where the status is 3. An open of a file failed, or a read, and nothing was written. A read of a county's
 -- file failed, and a library refused what was asked for. A source isn't UTF-8, and nothing was written. A write failed or took no byte: a

@@ -75,6 +75,10 @@ SaysText text errors errors' = (written : Result (Unit {0}) WriteFault) × Write
 abbrev pub SaysLine : List ℕ → Writer → Writer → Type 0
 SaysLine text errors errors' = SaysText (text ++ 10 ∷ []) errors errors'
 
+-- it is said that memory ran out
+abbrev pub SaysMemory : Writer → Writer → Type 0
+SaysMemory errors errors' = SaysLine (line memory) errors errors'
+
 -- it is said of the file of this name why it can't be used
 abbrev pub SaysFile : List ℕ → Writer → Writer → Type 0
 SaysFile name errors errors' = (reason : List ℕ) × SaysText (codes "error: " ++ name ++ codes ": " ++ reason ++ 10 ∷ []) errors errors'
@@ -86,7 +90,7 @@ SaysOutput errors errors' = (reason : List ℕ) × SaysText (codes "error: the o
 -- what is said of a failure: a refusal's line, and else a line that begins with `error: `
 abbrev pub Says : Failure → Writer → Writer → Type 0
 Says (Refusal refusal) errors errors' = SaysLine (line refusal) errors errors'
-Says Memory errors errors' = SaysLine (line memory) errors errors'
+Says Memory errors errors' = SaysMemory errors errors'
 Says (Write fault) errors errors' = SaysLine (line (write_fault.refusal fault)) errors errors'
 Says (File name error) errors errors' = SaysFile name.now errors errors'
 Says (CountyFile folder code file error) errors errors' = SaysFile (file_name folder.now code.now file) errors errors'
