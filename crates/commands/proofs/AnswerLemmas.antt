@@ -73,9 +73,9 @@ module _ {request : Request} {disk disk' : Disk} {out unflushed out' errors erro
   unusable_said (Write fault) flush carried said kept flushed three =
       of_write fault unflushed carried.outcome (write_counts request disk.known fault out unflushed carried.outcome) said kept flush flushed
   unusable_said (File name error) flush carried said kept flushed three =
-      of_file name.now carried.outcome.1 (kept_as out'.held carried.outcome.0 kept) said
+      of_file name.now carried.names carried.outcome.1 (kept_as out'.held carried.outcome.0 kept) said
   unusable_said (CountyFile folder code file error) flush carried said kept flushed three =
-      of_file (file_name folder.now code.now file) (inl carried.outcome.1) (kept_as out'.held carried.outcome.0 kept) said
+      of_file (file_name folder.now code.now file) carried.names (inl carried.outcome.1) (kept_as out'.held carried.outcome.0 kept) said
   unusable_said (NotUtf8 name) flush carried said kept flushed three =
       of_source name.now carried.outcome.1 (kept_as out'.held carried.outcome.0 kept) said
   unusable_said (Output error) flush carried said kept flushed three = absurd carried.outcome

@@ -7,8 +7,8 @@ use Rattle.tl_fields.specs.Counted.{CountsFault}
 use Rattle.tl_fields.specs.Device.{WriteCounts, Writer}
 use Rattle.tl_fields.specs.Writing.{WritesText}
 use Rattle.tl_fields.specs.declared.writing.WriteFault.{WriteFault}
-use Rattle.commands.specs.Command.{CarriesOut, IsRefused, Writes}
-use Rattle.commands.specs.Failure.{KeepsOnUsage, TellsCounts, WritesAs, of_file, of_program, refusal_status}
+use Rattle.commands.specs.Command.{CarriesOut, IsFileOf, IsRefused, Writes}
+use Rattle.commands.specs.Failure.{KeepsOnUsage, NamesFile, TellsCounts, WritesAs, of_file, of_program, refusal_status}
 use Rattle.commands.specs.Files.{CountsUse, Disk, IsTooLong, IsUnfailed, TellsProgram, TellsProgramUse}
 use Rattle.commands.specs.Inputs.{HoldTooLong, TellsInputs}
 use Rattle.commands.specs.declared.request.Request.{Request}
@@ -40,6 +40,7 @@ module _ {request : Request} {disk disk' : Disk} {out out' : Writer} where
       → CarriesOut request (Err (Refusal refusal)) disk disk' out out'
   refused_carried refusal refused opens reads unflushed = record {
     outcome = (refused, reads.fails);
+    names = tt;
     counts = λ other. record { opens = opens; reads = reads.stays other };
     unflushed = unflushed;
   }
@@ -49,30 +50,31 @@ module _ {request : Request} {disk disk' : Disk} {out out' : Writer} where
       → ((outcome : Result (Unit {0}) WriteFault) → WritesText text outcome out out' → Writes request disk.known outcome out out')
       → CarriesOut request result disk disk' out out'
   written_carried text (Ok done) wrote counts each =
-      record { outcome = each (Ok done) wrote; counts = counts; unflushed = ap (λ (counts : WriteCounts). counts.flushes) wrote.1 }
+      record { outcome = each (Ok done) wrote; names = tt; counts = counts; unflushed = ap (λ (counts : WriteCounts). counts.flushes) wrote.1 }
   written_carried text (Err failure) wrote counts each =
       subst (λ (failure : Failure). CarriesOut request (Err failure) disk disk' out out') (sym wrote.1) (record {
         outcome = each (Err wrote.0) wrote.2;
+        names = tt;
         counts = λ no. counts;
         unflushed = fault_unflushed wrote.0 out.counts out'.counts wrote.2.1;
       })
 
 module _ {request : Request} {disk disk' : Disk} {out : Writer} where
   -- a file can't be used
-  pub file_carried : (name : Bor (List ℕ)) (fault : FileFault) → CountsUse fault disk disk'
+  pub file_carried : (name : Bor (List ℕ)) (fault : FileFault) → IsFileOf request name.now → CountsUse fault disk disk'
       → CarriesOut request (Err (of_file name fault)) disk disk' out out
-  file_carried name fault uses = grind (arith, uses)
+  file_carried name fault is uses = grind (arith, is, uses)
 
   -- nor that of a program, or the program is too long
   pub program_carried : (name : Bor (List ℕ)) (known : Option (List ℕ)) (fault : ProgramInputFault)
-      → TellsProgram known fault → TellsProgramUse {T = ℕ} (Err fault) disk disk'
+      → IsFileOf request name.now → TellsProgram known fault → TellsProgramUse {T = ℕ} (Err fault) disk disk'
       → ((code : CodeFault) → IsTooLong known code → IsRefused request disk.known (code_fault.refusal code) out out)
       → CarriesOut request (Err (of_program name fault)) disk disk' out out
-  program_carried name known fault told uses each = grind (arith, told, uses, code_status)
+  program_carried name known fault is told uses each = grind (arith, is, told, uses, code_status)
 
   -- neither a program nor a county can be read
   pub inputs_carried : (name folder code : List ℕ) (failure : Failure) → TellsInputs name folder code disk disk' failure
-      → TellsCounts {T = ℕ} (Err failure) disk disk'
+      → NamesFile (IsFileOf request) failure → TellsCounts {T = ℕ} (Err failure) disk disk'
       → ((refusal : RefusalParts) → HoldTooLong name folder code disk.known refusal → IsRefused request disk.known refusal out out)
       → CarriesOut request (Err failure) disk disk' out out
-  inputs_carried name folder code failure told counts each = grind (arith, code_status)
+  inputs_carried name folder code failure told names counts each = grind (arith, code_status)

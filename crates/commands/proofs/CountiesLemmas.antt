@@ -1,19 +1,21 @@
 -- Counties loaded one after the other: what is known of the files stays.
 use Rattle.std.proofs.Common.{◌≡◌, ℕ, ◌+◌, ◌<◌, suc, List, [], ◌∷◌, ◌++◌, length, get_or, take, drop, map, Option, Bor, Result}
-use Rattle.std.proofs.Common.{IsErrAnd, IfErr, ap, sym, subst, ◌≢◌, ◌∙◌, arith}
+use Rattle.std.proofs.Common.{IsErrAnd, IfErr, refl, ap, sym, subst, ◌≢◌, ◌∙◌, arith}
 use Rattle.std.proofs.Math.Path.{fun_ext}
 use Rattle.std.proofs.Math.Seq.{drop-cons}
 use Rattle.std.proofs.lemmas.List.{map-append, map_more, take-append-drop}
 use Rattle.std.proofs.lemmas.Slice.Zip.{all_zipped_more}
 use Rattle.tl_segments.specs.County.{CountyParts}
 use Rattle.refusals.specs.Refusal.{RefusalParts}
-use Rattle.commands.specs.Counties.{AreCountiesOf, HaveRefusedCounty, IsCountyOf, IsRefusedCounty, TellsLoad}
-use Rattle.commands.specs.Failure.{of_county_file, status}
+use Rattle.commands.specs.Counties.{AreCountiesOf, HaveRefusedCounty, IsCountyOf, IsFileOfCounties, IsRefusedCounty, TellsLoad}
+use Rattle.commands.specs.County.{IsFileOfCounty, file_name}
+use Rattle.commands.specs.Failure.{NamesFile, of_county_file, status}
 use Rattle.commands.specs.Files.{CountsFileFault, Disk, IsUnfailed}
 use Rattle.tl_segments.specs.declared.fault.CountyFile as county_file
 use Rattle.commands.specs.declared.files.FileFault.{FileFault}
+use Rattle.commands.specs.declared.files.FileFault.TheVariants as fault
 use Rattle.commands.specs.declared.failure.Failure.{Failure}
-use Rattle.commands.specs.declared.failure.Failure.TheVariants.{Memory}
+use Rattle.commands.specs.declared.failure.Failure.TheVariants.{Memory, File, CountyFile}
 use Rattle.commands.proofs.CarriedLemmas.{refusal_not_usage}
 
 abbrev texts : List (Bor (List ℕ)) → List (List ℕ)
@@ -52,6 +54,23 @@ module _ {known later : List ℕ → Option (List ℕ)} (same : (name : List ℕ
     refused = subst (λ (known : List ℕ → Option (List ℕ)). IsRefusedCounty known folder (get_or codes i d).now refusal) (fun_ext same) is;
   }
 
+-- a file that is named in the failure of one county
+module _ (folder : List ℕ) (codes : List (Bor (List ℕ))) (i : ℕ) (d : Bor (List ℕ)) (inside : i < length codes) where
+  file_behind : (name : List ℕ) → IsFileOfCounty folder (get_or codes i d).now name → IsFileOfCounties folder (texts codes) name
+  file_behind name is = record {
+    before = texts (take i codes);
+    code = (get_or codes i d).now;
+    behind = texts (drop (suc i) codes);
+    are_codes = codes_at codes i d inside;
+    is_file = is;
+  }
+
+  pub named_behind : (failure : Failure) → NamesFile (IsFileOfCounty folder (get_or codes i d).now) failure
+      → NamesFile (IsFileOfCounties folder (texts codes)) failure
+  named_behind (File name error) is = file_behind name.now is
+  named_behind (CountyFile of_folder of_code file error) is = file_behind (file_name of_folder.now of_code.now file) is
+  named_behind failure is = tt
+
 -- the same failure from earlier on, where no open failed and no read
 pub load_told : {IsRefusedNow IsRefusedSo : RefusalParts → Type 0} (disk later disk' : Disk) (failure : Failure) → IsUnfailed disk later
     → ((refusal : RefusalParts) → IsRefusedNow refusal → IsRefusedSo refusal) → TellsLoad IsRefusedNow later disk' failure
@@ -68,6 +87,11 @@ pub open_counts : {disk disk' : Disk} (folder code : Bor (List ℕ)) (file : cou
     → CountsFileFault of disk.failed_opens disk'.failed_opens → disk'.failed_reads ≡ disk.failed_reads
     → status (of_county_file folder code file of) ≢ 3 → IsUnfailed disk disk'
 open_counts folder code file of opens reads other = grind (arith, opens)
+
+pub open_named : (folder code : Bor (List ℕ)) (file : county_file.CountyFile) (of : FileFault)
+    → NamesFile (IsFileOfCounty folder.now code.now) (of_county_file folder code file of)
+open_named folder code file (fault.Unusable error) = (file, refl)
+open_named folder code file fault.Memory = tt
 
 -- none of these is a fault of usage
 pub load_usage : (IsRefusedSo : RefusalParts → Type 0) (disk disk' : Disk) (failure : Failure) → TellsLoad IsRefusedSo disk disk' failure

@@ -74,6 +74,7 @@ module _ {run : Run} {disk between disk' : Disk} {out out' : Writer} {program by
       (load_unflushed fault bytes old new out out' is)
   run_stopped (extract.Write fault) is = record {
     outcome = outcome_of (extract.Write fault) is;
+    names = tt;
     counts = λ other. absurd (other refl);
     unflushed = fault_unflushed fault is.between.counts out'.counts is.row.5 ∙ flushes_as is.before.counts;
   }

@@ -67,6 +67,7 @@ module _ {trace : Trace} {disk between disk' : Disk} {program bytes : List ℕ} 
       (closes.opens ∙ before.opens) (fault_closed hold.county (closes_from before closes) refusal is) refl
   stopped (NoLine line) is = record {
     outcome = (refl, record { is_line = is.0; program = program; old = old; hold = hold; new = new; without = is.1 });
+    names = tt;
     counts = λ no. record {
       opens = closes.opens ∙ before.opens;
       reads = loads_closed hold.county (closes_from before closes) is.1.county is.1.loads;

@@ -1,5 +1,5 @@
 -- What a command promises by its exit status.
-use Rattle.std.specs.Prelude.{◌≡◌, ◌≢◌, ℕ, List, [], ◌∷◌, ◌++◌, codes, decimal, Option, Some, None, Result, Ok, Err, IsUtf8}
+use Rattle.std.specs.Prelude.{◌≡◌, ◌≢◌, ℕ, List, [], ◌∷◌, ◌++◌, codes, decimal, Option, Some, None, Result, Ok, Err, IfErr, IsUtf8}
 use Rattle.std.specs.Io.KnownBytes.{Keeps}
 use Rattle.std.specs.declared.io.Error.{Error}
 use Rattle.refusals.specs.Refusal.{RefusalParts, line}
@@ -8,10 +8,12 @@ use Rattle.tl_fields.specs.Device.{Writer}
 use Rattle.tl_fields.specs.Writing as write_fault
 use Rattle.tl_fields.specs.declared.writing.WriteFault.{WriteFault}
 use Rattle.commands.specs.Assemble as assemble
+use Rattle.commands.specs.Counties.{IsFileOfCounties}
 use Rattle.commands.specs.Disassemble as disassemble
-use Rattle.commands.specs.Failure.{SaysFile, SaysLine, SaysMemory, SaysOutput, SaysText, TellsCounts, refusal_status}
+use Rattle.commands.specs.Failure.{NamesFile, SaysFile, SaysLine, SaysMemory, SaysOutput, SaysText, TellsCounts, refusal_status}
 use Rattle.commands.specs.Files.{Disk, IsFailed}
 use Rattle.commands.specs.Geocode as geocode
+use Rattle.commands.specs.Inputs.{IsInput}
 use Rattle.commands.specs.Run as run
 use Rattle.commands.specs.Trace as trace
 use Rattle.commands.specs.Verify as verify
@@ -59,6 +61,15 @@ pub record IsNotUtf8 (request : Request) (known : List ℕ → Option (List ℕ)
   pub holds : Keeps (known name) (Some source)
   pub no_text : ¬ IsUtf8 source
 
+-- a file of this name is one that is read for the request
+abbrev pub IsFileOf : Request → List ℕ → Type 0
+IsFileOf (Run asked) name = IsInput asked.program.now asked.«data».now asked.code.now name
+IsFileOf (Trace asked) name = IsInput asked.program.now asked.«data».now asked.code.now name
+IsFileOf (Geocode asked) name = IsFileOfCounties asked.«data».now (geocode.codes_of asked) name
+IsFileOf (Verify asked) name = name ≡ asked.program.now
+IsFileOf (Assemble asked) name = name ≡ asked.source.now
+IsFileOf (Disassemble asked) name = name ≡ asked.program.now
+
 -- How a request is carried out. It is written, whole or up to a fault of the output. Or a library refuses it, and where the status is 3 a
 -- read failed. Or nothing was written, since a file can't be used, or memory ran out, or what was asked for isn't there. The output isn't
 -- flushed.
@@ -74,9 +85,11 @@ IsCarriedOut request (Err (NoLine number)) disk disk' out out' = (out' ≡ out) 
 IsCarriedOut request (Err Memory) disk disk' out out' = out' ≡ out
 IsCarriedOut request (Err (Output error)) disk disk' out out' = ⊥
 
--- the same, and that no open failed and no read, but where the status is 3, and that the output wasn't flushed
+-- the same, and that a file that is named is the request's, that no open failed and no read, but where the status is 3, and that the output
+-- wasn't flushed
 pub record CarriesOut (request : Request) (result : Result (Unit {0}) Failure) (disk disk' : Disk) (out out' : Writer) : Type 0 where
   pub outcome : IsCarriedOut request result disk disk' out out'
+  pub names : IfErr result (NamesFile (IsFileOf request))
   pub counts : TellsCounts result disk disk'
   pub unflushed : out'.counts.flushes ≡ out.counts.flushes
 
@@ -123,11 +136,11 @@ pub data IsOutOfMemory (request : Request) (known : List ℕ → Option (List �
   of_library : IsRefusalOf 4 request known out out' errors errors' → IsOutOfMemory request known out out' errors errors'
   of_other : Keeps out.held out'.held → SaysMemory errors errors' → IsOutOfMemory request known out out' errors errors'
 
--- Why a request isn't answered, where the status is 3. An open of a file failed, or a read, and nothing was written. A read of a county's
+-- Why a request isn't answered, where the status is 3. An open of a file of its own failed, or a read, and nothing was written. A read of a county's
 -- file failed, and a library refused what was asked for. A source isn't UTF-8, and nothing was written. A write failed or took no byte: a
 -- beginning was written, and a flush was tried. Or what was asked for was written whole, and the flush failed. Each of these was said.
 pub data IsUnusable (request : Request) (disk disk' : Disk) (out out' errors errors' : Writer) : Type 0 where
-  of_file : (name : List ℕ) → IsFailed disk disk' → Keeps out.held out'.held → SaysFile name errors errors'
+  of_file : (name : List ℕ) → IsFileOf request name → IsFailed disk disk' → Keeps out.held out'.held → SaysFile name errors errors'
       → IsUnusable request disk disk' out out' errors errors'
   of_county : disk'.failed_reads ≢ disk.failed_reads → IsRefusalOf 3 request disk.known out out' errors errors'
       → IsUnusable request disk disk' out out' errors errors'

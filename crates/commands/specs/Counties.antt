@@ -5,7 +5,7 @@ use Rattle.tl_segments.specs.County.{CountyParts, CountyReaders, IsCountyFault, 
 use Rattle.refusals.specs.Refusal.{RefusalParts}
 use Rattle.tl_segments.specs.LoadFault as load_fault
 use Rattle.tl_segments.specs.declared.fault.LoadFault.{LoadFault}
-use Rattle.commands.specs.County.{HoldCounty}
+use Rattle.commands.specs.County.{HoldCounty, IsFileOfCounty}
 use Rattle.commands.specs.Failure.{refusal_status}
 use Rattle.commands.specs.Files.{Disk}
 use Rattle.commands.specs.declared.failure.Failure.{Failure}
@@ -41,6 +41,14 @@ pub record HaveRefusedCounty (known : List ℕ → Option (List ℕ)) (folder : 
   pub counties : List CountyParts
   pub loaded : AreCountiesOf known folder before counties
   pub refused : IsRefusedCounty known folder code refusal
+
+-- a file of this name is one of the county of one of the codes
+pub record IsFileOfCounties (folder : List ℕ) (codes : List (List ℕ)) (name : List ℕ) : Type 0 where
+  pub before : List (List ℕ)
+  pub code : List ℕ
+  pub behind : List (List ℕ)
+  pub are_codes : codes ≡ before ++ code ∷ behind
+  pub is_file : IsFileOfCounty folder code name
 
 -- Why counties aren't loaded: one is refused so, and where the status is 3 a read failed; or a file of theirs can't be opened; or an
 -- allocation fails.

@@ -1,5 +1,5 @@
 -- The files of a county in a folder, by name, and what their readers hold.
-use Rattle.std.specs.Prelude.{ℕ, List, ◌++◌, codes, Option, ⊤}
+use Rattle.std.specs.Prelude.{◌≡◌, ℕ, List, ◌++◌, codes, Option, ⊤}
 use Rattle.tl_segments.specs.County.{CountyReaders}
 use Rattle.tl_segments.specs.Loading.{Readers, readers}
 use Rattle.tl_segments.specs.declared.fault.CountyFile.{CountyFile}
@@ -20,6 +20,10 @@ name_end Rt6 = codes ".RT6"
 -- the name of a county's file in the folder of the data (TIGER/Line 2006: `TGR`, the state, the county, and the record type)
 abbrev pub file_name : List ℕ → List ℕ → CountyFile → List ℕ
 file_name folder code file = folder ++ codes "/TGR" ++ code ++ name_end file
+
+-- a file of this name is one of the county's in the folder
+abbrev pub IsFileOfCounty : List ℕ → List ℕ → List ℕ → Type 0
+IsFileOfCounty folder code name = (file : CountyFile) × (name ≡ file_name folder code file)
 
 -- The readers are those of the files of types 4, 5 and 6 of a county in the folder, and of all its files.
 pub record HoldJoined (known : List ℕ → Option (List ℕ)) (folder code : List ℕ) (readers : Readers) : Type 0 where

@@ -98,6 +98,12 @@ Says (NotUtf8 name) errors errors' = SaysText (codes "error: " ++ name.now ++ co
 Says (NoLine number) errors errors' = SaysText (codes "error: the type 1 file has no line " ++ decimal number ++ 10 ∷ []) errors errors'
 Says (Output error) errors errors' = SaysOutput errors errors'
 
+-- a file that is named in a failure is such a one
+abbrev pub NamesFile : (List ℕ → Type 0) → Failure → Type 0
+NamesFile IsFile (File name error) = IsFile name.now
+NamesFile IsFile (CountyFile folder code file error) = IsFile (file_name folder.now code.now file)
+NamesFile IsFile failure = ⊤
+
 -- no open failed and no read, but where the status is 3
 abbrev pub TellsCounts : {T : Type 0} → Result T Failure → Disk → Disk → Type 0
 TellsCounts (Ok value) disk disk' = IsUnfailed disk disk'

@@ -1,14 +1,18 @@
 -- What `run` and `trace` read, and why they can't.
-use Rattle.std.specs.Prelude.{◌≡◌, ◌≢◌, ℕ, List, Option, Some, ⊤}
+use Rattle.std.specs.Prelude.{◌≡◌, ◌≢◌, ◌⊎◌, ℕ, List, Option, Some, ⊤}
 use Rattle.std.specs.Io.KnownBytes.{Keeps}
 use Rattle.bpf_insn.specs.CodeFault as code_fault
 use Rattle.bpf_insn.specs.declared.fault.CodeFault.{CodeFault}
 use Rattle.refusals.specs.Refusal.{RefusalParts}
 use Rattle.tl_segments.specs.County.{CountyReaders}
-use Rattle.commands.specs.County.{HoldCounty}
+use Rattle.commands.specs.County.{HoldCounty, IsFileOfCounty}
 use Rattle.commands.specs.Files.{Disk, IsFailed, IsTooLong}
 use Rattle.commands.specs.declared.failure.Failure.{Failure}
 use Rattle.commands.specs.declared.failure.Failure.TheVariants.{Refusal, Memory, File, CountyFile}
+
+-- a file of this name is the program's or one of the county's
+abbrev pub IsInput : List ℕ → List ℕ → List ℕ → List ℕ → Type 0
+IsInput program folder code name = (name ≡ program) ⊎ IsFileOfCounty folder code name
 
 -- these are the bytes of the program of this name and the readers of the county's files, which hold what is known of them
 pub record HoldInputs (known : List ℕ → Option (List ℕ)) (name folder code program : List ℕ) (readers : CountyReaders) : Type 0 where

@@ -1,9 +1,9 @@
 //! What `run` and `trace` read: a program and a county.
 ghost use Rattle.std.specs.Prelude.{IfErr, IfOk};
 ghost use Rattle.commands.specs.County.{IsOpened, county_readers};
-ghost use Rattle.commands.specs.Failure.{TellsCounts};
+ghost use Rattle.commands.specs.Failure.{NamesFile, TellsCounts};
 ghost use Rattle.commands.specs.Files.{disk};
-ghost use Rattle.commands.specs.Inputs.{HoldInputs, TellsInputs};
+ghost use Rattle.commands.specs.Inputs.{HoldInputs, IsInput, TellsInputs};
 
 use crate::county::{CountyInputs, close_county, open_county};
 use crate::failure::Failure;
@@ -29,6 +29,7 @@ pub fn open_inputs<'a, A: Allocator + Copy, F: Files>(
     ensures there { IfOk result (λ inputs. IsOpened inputs.county.rt1) }
     ensures err { IfErr result (TellsInputs name.now folder.now code.now
         (disk F.bytes F.failed_opens F.failed_reads files.old) (disk F.bytes F.failed_opens F.failed_reads files.new)) }
+    ensures names { IfErr result (NamesFile (IsInput name.now folder.now code.now)) }
     ensures counts { TellsCounts result (disk F.bytes F.failed_opens F.failed_reads files.old)
         (disk F.bytes F.failed_opens F.failed_reads files.new) }
 {

@@ -1,7 +1,7 @@
 use Rattle.std.proofs.Common.{◌∙◌, subst, sym}
 use Rattle.commands.specs.Counties.{AreCountiesOf}
 use Rattle.commands.specs.Files.{disk}
-use Rattle.commands.proofs.CountiesLemmas.{counties_more, load_told, load_usage, memory_told, refused_behind}
+use Rattle.commands.proofs.CountiesLemmas.{counties_more, load_told, load_usage, memory_told, named_behind, refused_behind}
 use Rattle.commands.proofs.FileLemmas.{unfailed_both}
 use Rattle.commands.proofs.counties.load_counties.Goals as goal
 
@@ -19,6 +19,10 @@ pub returns-in-Err-clause-usage : goal.returns-in-Err-clause-usage
 returns-in-Err-clause-usage g c =
     load_usage _ (disk g.F.Files.bytes g.F.Files.failed_opens g.F.Files.failed_reads c.loop-code.files)
     (disk g.F.Files.bytes g.F.Files.failed_opens g.F.Files.failed_reads c.load_county.new.files) c.in-Err.failure c.in-Err.ensures.err
+
+pub returns-in-Err-clause-names : goal.returns-in-Err-clause-names
+returns-in-Err-clause-names g c =
+    named_behind c.args.folder.now c.args.codes.now c.loop-code.code-index _ c.loop-code-test.true c.in-Err.failure c.in-Err.ensures.names
 
 pub returns-in-Err-clause-counts : goal.returns-in-Err-clause-counts
 returns-in-Err-clause-counts g c = λ other. unfailed_both c.loop-code.invariant.counts (c.in-Err.ensures.counts other)

@@ -1,5 +1,5 @@
 use Rattle.commands.specs.Files.{disk}
-use Rattle.commands.proofs.CountiesLemmas.{open_counts, open_told}
+use Rattle.commands.proofs.CountiesLemmas.{open_counts, open_named, open_told}
 use Rattle.commands.proofs.counties.load_county.Goals as goal
 
 pub returns-in-Err-clause-err : goal.returns-in-Err-clause-err
@@ -12,3 +12,7 @@ pub returns-in-Err-clause-counts : goal.returns-in-Err-clause-counts
 returns-in-Err-clause-counts g c =
     rw c.of_county_file.ensures (open_counts c.args.folder c.args.code c.in-Err.fault.file c.in-Err.fault.fault
     c.in-Err.ensures.opens.opens c.in-Err.ensures.opens.reads)
+
+pub returns-in-Err-clause-names : goal.returns-in-Err-clause-names
+returns-in-Err-clause-names g c =
+    rw c.of_county_file.ensures (open_named c.args.folder c.args.code c.in-Err.fault.file c.in-Err.fault.fault)

@@ -1,11 +1,11 @@
-use Rattle.std.proofs.Common.{◌∙◌, ℕ, List, Option, Bor, Err, refl, subst}
+use Rattle.std.proofs.Common.{◌∙◌, ℕ, List, Option, Bor, Err, inl, refl, subst}
 use Rattle.std.specs.Io.KnownBytes.{Keeps}
 use Rattle.std.proofs.Math.Path.{fun_ext}
 use Rattle.tl_segments.specs.County.{CountyReaders}
 use Rattle.commands.specs.County.{HoldCounty, county_readers}
-use Rattle.commands.specs.Failure.{of_program}
+use Rattle.commands.specs.Failure.{NamesFile, of_program}
 use Rattle.commands.specs.Files.{Disk, TellsProgram, TellsProgramUse, disk}
-use Rattle.commands.specs.Inputs.{TellsInputs}
+use Rattle.commands.specs.Inputs.{IsInput, TellsInputs}
 use Rattle.commands.specs.declared.files.FileFault.TheVariants as fault
 use Rattle.commands.specs.declared.files.ProgramInputFault.{ProgramInputFault}
 use Rattle.commands.specs.declared.files.ProgramInputFault.TheVariants as input
@@ -29,6 +29,13 @@ module _ (disk disk' : Disk) (name folder code : Bor (List ℕ)) (left : Option 
     hold = hold;
   }
 
+-- the file that is named then
+module _ (name folder code : Bor (List ℕ)) where
+  program_named : (of : ProgramInputFault) → NamesFile (IsInput name.now folder.now code.now) (of_program name of)
+  program_named (input.File (fault.Unusable error)) = inl refl
+  program_named (input.File fault.Memory) = tt
+  program_named (input.Code of) = tt
+
 pub returns-in-Err-read-clause-err : goal.returns-in-Err-read-clause-err
 returns-in-Err-read-clause-err g c =
     let opened = c.in-Ok.ensures in
@@ -43,3 +50,6 @@ returns-in-Err-read-clause-err g c =
     (subst (λ (known : List ℕ → Option (List ℕ)). HoldCounty known c.args.folder.now c.args.code.now
     (county_readers g.F.Reader.Read.remaining g.F.Reader.CountedRead.failed_reads c.in-Ok-open_county.county))
     (fun_ext opened.opens.stays) county.hold))
+
+pub returns-in-Err-read-clause-names : goal.returns-in-Err-read-clause-names
+returns-in-Err-read-clause-names g c = rw c.of_program.ensures (program_named c.args.name c.args.folder c.args.code c.in-Err-read.fault)

@@ -21,11 +21,12 @@ source_refused : {disk disk' : Disk} {out : Writer} (asked : Assemble) (bytes : 
     → CarriesOut (request.Assemble asked) (Err (of_source asked.source fault)) disk disk' out out
 source_refused asked bytes source.NotUtf8 counts is no_text = record {
   outcome = (refl, record { is_source = refl; source = bytes; holds = is; no_text = no_text });
+  names = tt;
   counts = λ other. counts;
   unflushed = refl;
 }
 source_refused asked bytes (source.Text text.Memory) counts is faulty =
-    record { outcome = refl; counts = λ other. counts; unflushed = refl }
+    record { outcome = refl; names = tt; counts = λ other. counts; unflushed = refl }
 source_refused asked bytes (source.Text (text.InLine line flaw)) counts is faulty =
     refused_carried (text_fault.refusal (text.InLine line flaw)) (record {
       source = bytes;

@@ -4,7 +4,8 @@ use Rattle.commands.proofs.run.Run.carry_out.Goals as goal
 
 pub returns-in-Err-clause-carried : goal.returns-in-Err-clause-carried
 returns-in-Err-clause-carried g c =
-    inputs_carried _ _ _ c.in-Err.failure c.in-Err.ensures.err c.in-Err.ensures.counts (run_too_long c.args.self _ _)
+    inputs_carried _ _ _ c.in-Err.failure c.in-Err.ensures.err c.in-Err.ensures.names c.in-Err.ensures.counts
+    (run_too_long c.args.self _ _)
 
 pub returns-clause-carried : goal.returns-clause-carried
 returns-clause-carried g c =

@@ -5,7 +5,8 @@ use Rattle.commands.proofs.trace.Trace.carry_out.Goals as goal
 
 pub returns-in-Err-clause-carried : goal.returns-in-Err-clause-carried
 returns-in-Err-clause-carried g c =
-    inputs_carried _ _ _ c.in-Err.failure c.in-Err.ensures.err c.in-Err.ensures.counts (trace_too_long c.args.self _ _)
+    inputs_carried _ _ _ c.in-Err.failure c.in-Err.ensures.err c.in-Err.ensures.names c.in-Err.ensures.counts
+    (trace_too_long c.args.self _ _)
 
 pub returns-in-Ok-traced-clause-carried : goal.returns-in-Ok-traced-clause-carried
 returns-in-Ok-traced-clause-carried g c =
