@@ -49,8 +49,12 @@ module _ {request : Request} {disk disk' : Disk} {out out' : Writer} where
   pub written_carried : (text : List ℕ) (result : Result (Unit {0}) Failure) → WritesAs text result out out' → IsUnfailed disk disk'
       → ((outcome : Result (Unit {0}) WriteFault) → WritesText text outcome out out' → Writes request disk.known outcome out out')
       → CarriesOut request result disk disk' out out'
-  written_carried text (Ok done) wrote counts each =
-      record { outcome = each (Ok done) wrote; names = tt; counts = counts; unflushed = ap (λ (counts : WriteCounts). counts.flushes) wrote.1 }
+  written_carried text (Ok done) wrote counts each = record {
+    outcome = each (Ok done) wrote;
+    names = tt;
+    counts = counts;
+    unflushed = ap (λ (counts : WriteCounts). counts.flushes) wrote.1;
+  }
   written_carried text (Err failure) wrote counts each =
       subst (λ (failure : Failure). CarriesOut request (Err failure) disk disk' out out') (sym wrote.1) (record {
         outcome = each (Err wrote.0) wrote.2;

@@ -136,9 +136,10 @@ pub data IsOutOfMemory (request : Request) (known : List ℕ → Option (List �
   of_library : IsRefusalOf 4 request known out out' errors errors' → IsOutOfMemory request known out out' errors errors'
   of_other : Keeps out.held out'.held → SaysMemory errors errors' → IsOutOfMemory request known out out' errors errors'
 
--- Why a request isn't answered, where the status is 3. An open of a file of its own failed, or a read, and nothing was written. A read of a county's
--- file failed, and a library refused what was asked for. A source isn't UTF-8, and nothing was written. A write failed or took no byte: a
--- beginning was written, and a flush was tried. Or what was asked for was written whole, and the flush failed. Each of these was said.
+-- Why a request isn't answered, where the status is 3. An open failed, or a read, so that one of the request's files can't be used, and
+-- nothing was written. A read of a county's file failed, and a library refused what was asked for. A source isn't UTF-8, and nothing was
+-- written. A write failed or took no byte: a beginning was written, and a flush was tried. Or what was asked for was written whole, and the
+-- flush failed. Each of these was said.
 pub data IsUnusable (request : Request) (disk disk' : Disk) (out out' errors errors' : Writer) : Type 0 where
   of_file : (name : List ℕ) → IsFileOf request name → IsFailed disk disk' → Keeps out.held out'.held → SaysFile name errors errors'
       → IsUnusable request disk disk' out out' errors errors'
