@@ -135,7 +135,7 @@ fn is_serve(alloc: Global, row: &str) -> Result<bool, AllocError> {
     let text = bytes(alloc, cell(row, 2))?;
     let number = cell(row, 1);
     Ok(match read_arguments(alloc, &words) {
-        Ok(Invocation::Request(_)) => false,
+        Ok(Invocation::Request(_request)) => false,
         Ok(Invocation::Serve(serve)) => {
             serve.data == "d"
                 && number.parse() == Ok(serve.port)
