@@ -1,0 +1,72 @@
+-- The truth of a filter on a segment (CQL2, 21-065r2: an expression is true, false or NULL). A segment is selected where its filter is true.
+use Rattle.std.specs.Prelude.{ℕ, ◌+◌, Bool, true, false, not, ◌||◌, nat_le, List, length, take, Option, Some, None, is_none, option_map, if◌then◌else◌}
+use Rattle.std.specs.Bool.{beq}
+use Rattle.std.specs.List.{list_any}
+use Rattle.tl_segments.specs.Name.{name_equals}
+use Rattle.tl_segments.specs.Range.{lies_on}
+use Rattle.tl_segments.specs.Segment.{Contents, names_of, ranges_of}
+use Rattle.tl_segments.specs.declared.range.RangeFields.{RangeFields}
+use Rattle.cql2.specs.Column.{numeric_value, text_value}
+use Rattle.cql2.specs.Filter.{compares, compares_text}
+use Rattle.cql2.specs.Pattern.{is_like}
+use Rattle.cql2.specs.declared.column.Column.{Column}
+use Rattle.cql2.specs.declared.column.Column.TheVariants.{Numeric, Text}
+use Rattle.cql2.specs.declared.filter.Filter.{Filter}
+use Rattle.cql2.specs.declared.filter.Filter.TheVariants.{Constant, And', Or', Not', IsNull, CompareNumber, CompareText, Like, HasNumber, HasName}
+
+-- the truth tables of AND, OR and NOT: false decides AND alone, and true decides OR, whatever the other one is
+abbrev pub and : Option Bool → Option Bool → Option Bool
+and (Some true) other = other
+and (Some false) other = Some false
+and None (Some false) = Some false
+and None (Some true) = None
+and None None = None
+
+abbrev pub or : Option Bool → Option Bool → Option Bool
+or (Some true) other = Some true
+or (Some false) other = other
+or None (Some true) = Some true
+or None (Some false) = None
+or None None = None
+
+abbrev pub negation : Option Bool → Option Bool
+negation truth = option_map not truth
+
+abbrev pub is_null : Column → List ℕ → Bool
+is_null (Numeric column) line = is_none (numeric_value column line)
+is_null (Text column) line = is_none (text_value column line)
+
+-- a house number lies on one of the sides of a range
+abbrev pub has_number : ℕ → RangeFields → Bool
+has_number number range = lies_on number range.fraddl range.toaddl || lies_on number range.fraddr range.toaddr
+
+-- The segment has a name among its own and so many alternate ones. If it has more, and none of these is the name, it isn't known.
+abbrev pub has_name : List ℕ → ℕ → Contents → Option Bool
+has_name text most segment =
+    if list_any (λ name. name_equals name text) (take (1 + most) (names_of segment)) then Some true
+    else (if nat_le (length segment.names) most then Some false else None)
+
+-- the truth of a filter, none where it is neither true nor false
+abbrev pub truth : {A : Type 0} → Filter A → Contents → Option Bool
+truth (Constant value) segment = Some value
+truth (And' p first q second) segment = and (truth first segment) (truth second segment)
+truth (Or' p first q second) segment = or (truth first segment) (truth second segment)
+truth (Not' p inner) segment = negation (truth inner segment)
+truth (IsNull column) segment = Some (is_null column segment.bytes)
+truth (CompareNumber column comparison literal) segment =
+    option_map (λ value. compares comparison value literal.number) (numeric_value column segment.bytes)
+truth (CompareText column comparison text) segment =
+    option_map (λ value. compares_text comparison value text.bytes.items) (text_value column segment.bytes)
+truth (Like column pattern) segment =
+    option_map (λ value. is_like pattern.wanted.items pattern.is_open value) (text_value column segment.bytes)
+truth (HasNumber house) segment = Some (list_any (has_number house.number) (ranges_of segment))
+truth (HasName text limit) segment = has_name text.bytes.items limit.number segment
+
+-- it is known to be this
+abbrev pub is : Option Bool → Bool → Bool
+is None asked = false
+is (Some truth) asked = beq truth asked
+
+-- a filter selects a segment
+abbrev pub selects : {A : Type 0} → Filter A → Contents → Bool
+selects filter segment = is (truth filter segment) true

@@ -1,0 +1,54 @@
+//! Filters.
+use crate::column::{Column, NumericColumn, TextColumn};
+use crate::number::{HouseNumber, Literal, NameLimit};
+use crate::pattern::Pattern;
+use crate::text::Text;
+use std::alloc::Allocator;
+
+/// How one value is compared with another.
+#[derive(Clone, Copy)]
+pub enum Comparison {
+    Equal,
+    NotEqual,
+    Less,
+    LessOrEqual,
+    Greater,
+    GreaterOrEqual,
+}
+
+/// A filter. AND and OR of many terms lean to the left: `a OR b OR c` is `Or(Or(a, b), c)`.
+pub enum Filter<A: Allocator> {
+    /// `TRUE` or `FALSE`.
+    Constant(bool),
+    And(Box<Filter<A>, A>, Box<Filter<A>, A>),
+    Or(Box<Filter<A>, A>, Box<Filter<A>, A>),
+    Not(Box<Filter<A>, A>),
+    IsNull(Column),
+    CompareNumber(NumericColumn, Comparison, Literal),
+    CompareText(TextColumn, Comparison, Text<A>),
+    Like(TextColumn, Pattern<A>),
+    /// Some range of the segment has the house number on some side.
+    HasNumber(HouseNumber),
+    /// The segment's own name is this text, or one of its first alternate names is.
+    HasName(Text<A>, NameLimit),
+}
+
+impl<A: Allocator> Drop for Filter<A> {
+    // A chain of terms is as deep as it is long, so its own drop is a loop.
+    fn drop(mut self) {
+        loop {
+            match self {
+                Filter::And(first, _second) => self = Box::into_inner(first),
+                Filter::Or(first, _second) => self = Box::into_inner(first),
+                Filter::Not(inner) => self = Box::into_inner(inner),
+                Filter::Constant(_value) => return,
+                Filter::IsNull(_column) => return,
+                Filter::CompareNumber(_column, _comparison, _literal) => return,
+                Filter::CompareText(_column, _comparison, _text) => return,
+                Filter::Like(_column, _pattern) => return,
+                Filter::HasNumber(_house) => return,
+                Filter::HasName(_name, _limit) => return,
+            }
+        }
+    }
+}
