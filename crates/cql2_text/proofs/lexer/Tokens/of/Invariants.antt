@@ -1,0 +1,12 @@
+use Rattle.std.proofs.Common.{◌≤◌, length}
+use Rattle.cql2_text.specs.Lexed.{Lexes}
+use Rattle.cql2_text.proofs.lexer.Tokens.of.Given as goal
+
+abbrev pub invariant-loop-byte : goal.invariant-loop-byte
+invariant-loop-byte g l = record {
+  lexes : Lexes l.text l.rest l.tokens.items;
+  within : length l.rest ≤ length l.text;
+}
+
+abbrev pub decreases-loop-byte : goal.decreases-loop-byte
+decreases-loop-byte g l = length l.rest

@@ -1,0 +1,13 @@
+-- The refusal of a flaw in a filter's text, without its position.
+use Rattle.std.specs.Prelude.{codes}
+use Rattle.refusals.specs.Refusal.{RefusalParts, refused}
+use Rattle.cql2_text.specs.declared.fault.FilterFlaw.{FilterFlaw}
+use Rattle.cql2_text.specs.declared.fault.FilterFlaw.TheVariants.{Syntax, UnknownColumn, WrongType, NumberRange, LongText, TooDeep}
+
+abbrev pub refusal : FilterFlaw → RefusalParts
+refusal (Syntax expected) = refused 90 (codes "Syntax")
+refusal UnknownColumn = refused 91 (codes "UnknownColumn")
+refusal WrongType = refused 92 (codes "WrongType")
+refusal NumberRange = refused 93 (codes "NumberRange")
+refusal LongText = refused 94 (codes "LongText")
+refusal TooDeep = refused 95 (codes "TooDeep")

@@ -1,0 +1,10 @@
+pub mod Character
+pub mod FilterFault
+pub mod FilterFlaw
+pub mod Lexed
+pub mod Name
+pub mod Number
+pub mod Pattern
+pub mod Position
+pub mod Predicate
+pub mod Spelled

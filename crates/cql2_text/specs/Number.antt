@@ -1,0 +1,64 @@
+-- The values of numericLiterals.
+use Rattle.std.specs.Prelude.{ℕ, ℤ, pos, neg_ℤ, ◌+◌, ◌-◌, ◌*◌, ◌^◌, Bool, nat_le, nat_lt, if◌then◌else◌, List, [], ◌∷◌, length, Option, Some, None, Result, Ok, Err}
+use Rattle.tl_fields.specs.Number.{decimal_in}
+use Rattle.cql2.specs.declared.column.NumericColumn.{NumericColumn}
+use Rattle.cql2.specs.declared.column.NumericColumn.TheVariants.{Number, Coordinate}
+use Rattle.cql2_text.specs.declared.fault.FilterFlaw.{FilterFlaw}
+use Rattle.cql2_text.specs.declared.fault.FilterFlaw.TheVariants.{WrongType, NumberRange}
+use Rattle.cql2_text.specs.declared.token.Numeral.{Numeral}
+
+abbrev pub signed : Bool → ℕ → ℤ
+signed is_negative amount = if is_negative then neg_ℤ (pos amount) else pos amount
+
+-- the amount of a column's number, which has up to 18 digits, and no fraction
+abbrev pub in_range : Option ℕ → Result ℕ FilterFlaw
+in_range (Some amount) = Ok amount
+in_range None = Err NumberRange
+
+abbrev pub whole_amount : ℕ → List ℕ → List ℕ → Result ℕ FilterFlaw
+whole_amount most whole [] = in_range (decimal_in most whole)
+whole_amount most whole (digit ∷ decimals) = Err WrongType
+
+-- the millionths that decimals are, of which there are up to six
+abbrev pub parts_of : List ℕ → Option ℕ
+parts_of [] = Some 0
+parts_of (digit ∷ decimals) =
+    elim (decimal_in 6 (digit ∷ decimals)) [ Some parts ↦ Some (parts * 10 ^ (6 - length (digit ∷ decimals))) | None ↦ None ]
+
+-- a coordinate has fewer than 1000 degrees
+abbrev pub millionths : Option ℕ → Option ℕ → Result ℕ FilterFlaw
+millionths (Some degrees) (Some parts) = if nat_lt degrees 1000 then Ok (degrees * 1000000 + parts) else Err NumberRange
+millionths (Some degrees) None = Err NumberRange
+millionths None parts = Err NumberRange
+
+abbrev pub amount_of : NumericColumn → Numeral → Result ℕ FilterFlaw
+amount_of (Number column) numeral = whole_amount 18 numeral.whole.now numeral.decimals.now
+amount_of (Coordinate column) numeral = millionths (decimal_in 18 numeral.whole.now) (parts_of numeral.decimals.now)
+
+abbrev pub signed_by : Bool → Result ℕ FilterFlaw → Result ℤ FilterFlaw
+signed_by is_negative (Ok amount) = Ok (signed is_negative amount)
+signed_by is_negative (Err flaw) = Err flaw
+
+-- the number of a numeral that is compared with a column
+abbrev pub number_of : NumericColumn → Numeral → Result ℤ FilterFlaw
+number_of column numeral = signed_by numeral.is_negative (amount_of column numeral)
+
+-- a numeral of so many digits at most, without a fraction, that isn't negative
+abbrev pub count_of : ℕ → Numeral → Result ℕ FilterFlaw
+count_of most numeral =
+    elim (whole_amount most numeral.whole.now numeral.decimals.now) [
+      | Ok amount ↦ (if numeral.is_negative then Err NumberRange else Ok amount)
+      | Err flaw ↦ Err flaw
+    ]
+
+-- a house number has up to 11 digits
+abbrev pub house_number_of : Numeral → Result ℕ FilterFlaw
+house_number_of numeral = count_of 11 numeral
+
+-- up to 5000 alternate names may be looked at
+abbrev pub up_to_5000 : Result ℕ FilterFlaw → Result ℕ FilterFlaw
+up_to_5000 (Ok amount) = if nat_le amount 5000 then Ok amount else Err NumberRange
+up_to_5000 (Err flaw) = Err flaw
+
+abbrev pub name_limit_of : Numeral → Result ℕ FilterFlaw
+name_limit_of numeral = up_to_5000 (count_of 18 numeral)

@@ -1,0 +1,111 @@
+//! Characters of a characterLiteral: those of Latin-1, each one byte as in the Bureau's files.
+ghost use Rattle.std.specs.Prelude.{◌≡◌, ◌∷◌, ◌≤◌, ◌<◌, length, IfOk, IfSome};
+ghost use Rattle.tl_segments.specs.declared.name.TheConstants.{NAME_LENGTH};
+ghost use Rattle.cql2.specs.Column.{trim_end};
+ghost use Rattle.cql2_text.specs.Character.{HasCharacters, IsCharacter, IsComparedText};
+
+use crate::fault::Expected;
+use crate::syntax_fault::TextFlaw;
+use cql2::Text;
+use std::alloc::Allocator;
+
+/// The character that the inside of a literal begins with, as one byte, and what follows it.
+pub(crate) fn character(spelling: &[u8]) -> Option<(u8, &[u8])>
+    ensures is { IfSome result (λ read. IsCharacter spelling.now read.0 read.1.now) }
+    ensures shorter { IfSome result (λ read. length read.1.now < length spelling.now) }
+{
+    let (first, rest) = spelling.split_first()?;
+    match *first {
+        b'\'' => {
+            let (second, rest) = rest.split_first()?;
+            quote(*second, rest)
+        }
+        b' '..=b'~' => Some((*first, rest)),
+        0xc2 => {
+            let (second, rest) = rest.split_first()?;
+            low(*second, rest)
+        }
+        0xc3 => {
+            let (second, rest) = rest.split_first()?;
+            high(*second, rest)
+        }
+        _ => None,
+    }
+}
+
+/// A quote is written as two.
+fn quote(second: u8, rest: &[u8]) -> Option<(u8, &[u8])>
+    ensures { IfSome result (λ read. IsCharacter (39 ∷ second ∷ rest.now) read.0 read.1.now) }
+{
+    if second == b'\'' {
+        Some((b'\'', rest))
+    } else {
+        None
+    }
+}
+
+/// A character from U+00A0 to U+00BF, by the second byte of its UTF-8.
+fn low(second: u8, rest: &[u8]) -> Option<(u8, &[u8])>
+    ensures { IfSome result (λ read. IsCharacter (194 ∷ second ∷ rest.now) read.0 read.1.now) }
+{
+    if second >= 0xa0 && second <= 0xbf {
+        Some((second, rest))
+    } else {
+        None
+    }
+}
+
+/// A character from U+00C0 to U+00FF, by the second byte of its UTF-8.
+fn high(second: u8, rest: &[u8]) -> Option<(u8, &[u8])>
+    ensures { IfSome result (λ read. IsCharacter (195 ∷ second ∷ rest.now) read.0 read.1.now) }
+{
+    if second >= 0x80 && second <= 0xbf {
+        Some((second + 0x40, rest))
+    } else {
+        None
+    }
+}
+
+/// The bytes of the inside of a literal.
+fn bytes_of<A: Allocator + Copy>(alloc: A, spelling: &[u8]) -> Result<Vec<u8, A>, TextFlaw>
+    ensures { IfOk result (λ bytes. HasCharacters spelling.now bytes.items) }
+{
+    let mut bytes = Vec::new(alloc);
+    let mut rest = spelling;
+    while !rest.is_empty() {
+        let Some((byte, after)) = character(rest) else {
+            return Err(TextFlaw::expected(spelling, rest, Expected::Character));
+        };
+        bytes.push(byte)?;
+        rest = after;
+    }
+    Ok(bytes)
+}
+
+fn without_trailing_blanks(bytes: &[u8]) -> &[u8]
+    ensures { result.now ≡ trim_end bytes.now }
+{
+    let mut rest = bytes;
+    while let [before @ .., b' '] = rest {
+        rest = before;
+    }
+    rest
+}
+
+/// The text that is compared with a column of so many bytes.
+pub(crate) fn compared_text<A: Allocator + Copy>(
+    alloc: A,
+    spelling: &[u8],
+    width: usize,
+) -> Result<Text<A>, TextFlaw>
+    requires { width ≤ NAME_LENGTH }
+    ensures { IfOk result (λ text. IsComparedText width spelling.now text.bytes.items) }
+{
+    let bytes = bytes_of(alloc, spelling)?;
+    let trimmed = without_trailing_blanks(&bytes);
+    if trimmed.is_empty() || trimmed.len() > width {
+        return Err(TextFlaw::Long);
+    }
+    let bytes = Vec::from_slice(alloc, trimmed)?;
+    Ok(Text { bytes })
+}

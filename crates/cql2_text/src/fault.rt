@@ -1,0 +1,134 @@
+//! Why a text is no filter.
+ghost use Rattle.std.specs.Prelude.{◌≡◌};
+ghost use Rattle.refusals.specs.Refusal.{at_line};
+ghost use Rattle.cql2_text.specs.FilterFlaw as filter_flaw;
+ghost use Rattle.cql2_text.specs.declared.fault.FilterFault.TheVariants.{Memory};
+
+use refusals::{Fault, Refusal};
+use std::alloc::{AllocError, AllocFailed};
+use thiserror::Error;
+
+/// What should stand where something else does. The derived text is for people.
+#[derive(Clone, Copy, Debug, PartialEq, Eq, Error)]
+pub enum Expected {
+    #[error("UTF-8")]
+    Utf8,
+    #[error("a predicate, TRUE, FALSE or a parenthesis")]
+    Predicate,
+    #[error("the name of a column")]
+    Column,
+    #[error("a comparison, LIKE, BETWEEN, IN or IS")]
+    Operator,
+    #[error("LIKE, BETWEEN or IN")]
+    Negatable,
+    #[error("NULL")]
+    Null,
+    #[error("a number")]
+    Number,
+    #[error("a text in single quotes")]
+    Text,
+    #[error("CASEI")]
+    Casei,
+    #[error("BBOX")]
+    Bbox,
+    #[error("AND")]
+    And,
+    #[error("a comma")]
+    Comma,
+    #[error("an opening parenthesis")]
+    Opening,
+    #[error("a closing parenthesis")]
+    Closing,
+    #[error("AND, OR or the end")]
+    End,
+    #[error("a character of Latin-1")]
+    Character,
+    #[error("no more of the pattern, since `%` may only end it")]
+    PatternEnd,
+    #[error("a character that the backslash makes literal")]
+    Escaped,
+}
+
+/// What is wrong with a filter's text. The derived text is for people.
+#[derive(Clone, Copy, Debug, PartialEq, Eq, Error)]
+pub enum FilterFlaw {
+    #[error("expected {0}")]
+    Syntax(Expected),
+    #[error("no column has this name")]
+    UnknownColumn,
+    #[error("the column isn't of this type")]
+    WrongType,
+    #[error("a number doesn't fit")]
+    NumberRange,
+    #[error("a text is empty, or longer than its column")]
+    LongText,
+    #[error("parentheses stand in too many others")]
+    TooDeep,
+}
+
+/// Why a text is no filter, or that an allocation failed.
+#[derive(Clone, Copy, Debug, PartialEq, Eq, Error)]
+pub enum FilterFault {
+    #[error("line {line}, column {column}: {flaw}")]
+    At {
+        /// The line, counted from 1.
+        line: usize,
+        /// The character of the line, counted from 1.
+        column: usize,
+        flaw: FilterFlaw,
+    },
+    #[error("out of memory")]
+    Memory,
+}
+
+impl From<AllocError> for FilterFault {
+    ghost from_gives = { λ _ fault. fault ≡ Memory };
+
+    fn from(_error: AllocError) -> FilterFault {
+        FilterFault::Memory
+    }
+}
+
+impl<T: Drop> From<AllocFailed<T>> for FilterFault {
+    ghost from_gives = { λ _ fault. fault ≡ Memory };
+
+    fn from(_error: AllocFailed<T>) -> FilterFault {
+        FilterFault::Memory
+    }
+}
+
+impl FilterFlaw {
+    /// Returns the flaw as a refusal, without its position.
+    pub fn refusal(self) -> Refusal
+        ensures { result ≡ filter_flaw.refusal self }
+    {
+        match self {
+            FilterFlaw::Syntax(_expected) => Refusal::refused(90, "Syntax"),
+            FilterFlaw::UnknownColumn => Refusal::refused(91, "UnknownColumn"),
+            FilterFlaw::WrongType => Refusal::refused(92, "WrongType"),
+            FilterFlaw::NumberRange => Refusal::refused(93, "NumberRange"),
+            FilterFlaw::LongText => Refusal::refused(94, "LongText"),
+            FilterFlaw::TooDeep => Refusal::refused(95, "TooDeep"),
+        }
+    }
+}
+
+/// Puts a refusal where it belongs. It has no place for the column yet.
+fn at(refusal: Refusal, line: usize, _column: usize) -> Refusal
+    ensures { result ≡ at_line line refusal }
+{
+    refusal.at_line(line)
+}
+
+impl Fault for FilterFault {
+    ghost use Rattle.cql2_text.specs.FilterFault.{refusal};
+
+    ghost refusal_of = { refusal };
+
+    fn refusal(&self) -> Refusal {
+        match *self {
+            FilterFault::At { line, column, flaw } => at(flaw.refusal(), line, column),
+            FilterFault::Memory => Refusal::memory(),
+        }
+    }
+}

@@ -1,0 +1,22 @@
+//! Filters read from text (OGC CQL2, 21-065r2, Text encoding).
+#![tactic(auto)]
+
+mod character;
+mod fault;
+mod function;
+mod lexer;
+mod literal;
+mod name;
+mod parser;
+mod pattern;
+mod predicate;
+mod reader;
+mod syntax_fault;
+mod token;
+
+pub use fault::{Expected, FilterFault, FilterFlaw};
+pub use name::nearest;
+pub use reader::read;
+
+#[cfg(test)]
+mod tests;

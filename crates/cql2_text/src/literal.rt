@@ -1,0 +1,185 @@
+//! Numbers.
+ghost use Rattle.std.specs.Prelude.{◌≡◌, ◌≤◌, ◌<◌, ◌^◌, ◌-◌, Ok, Err, Some, None, if◌then◌else◌, length, IfOk, IfSome, MatchResult};
+ghost use Rattle.std.specs.List.{list_all};
+ghost use Rattle.std.specs.Char.{is_ascii_digit};
+ghost use Rattle.std.specs.Str.Parse.{digits_value};
+ghost use Rattle.tl_fields.specs.Number.{decimal_in};
+ghost use Rattle.cql2_text.specs.Number.{number_of, house_number_of, name_limit_of, count_of, signed, whole_amount, millionths, parts_of};
+
+use crate::fault::FilterFlaw;
+use crate::token::Numeral;
+use cql2::{HouseNumber, Literal, NameLimit, NumericColumn};
+
+/// A number of a column has so many digits at most.
+const MOST_DIGITS: usize = 18;
+/// A house number has so many.
+const MOST_HOUSE_DIGITS: usize = 11;
+/// A coordinate has so many decimals.
+const MOST_DECIMALS: usize = 6;
+/// A coordinate has fewer degrees.
+const DEGREES: u64 = 1000;
+/// A segment has so many alternate names at most.
+const MOST_NAMES: u64 = 5000;
+
+/// The number that a numeral writes, as a column's fields have it.
+pub(crate) fn literal_of(column: NumericColumn, numeral: Numeral) -> Result<Literal, FilterFlaw>
+    ensures { MatchResult result (λ literal. number_of column numeral.entry ≡ Ok literal.number)
+        (λ flaw. number_of column numeral.entry ≡ Err flaw) }
+{
+    let amount = match column {
+        NumericColumn::Number(_column) => whole_amount(
+            numeral.whole,
+            numeral.decimals,
+            MOST_DIGITS,
+        ),
+        NumericColumn::Coordinate(_column) => millionths(numeral),
+    };
+    match amount {
+        Ok(amount) => Ok(signed(numeral.is_negative, amount)),
+        Err(flaw) => Err(flaw),
+    }
+}
+
+/// A whole number of so many digits at most.
+fn whole_amount(whole: &[u8], decimals: &[u8], most: usize) -> Result<u64, FilterFlaw>
+    requires few { most ≤ 18 }
+    ensures value { result ≡ whole_amount most whole.now decimals.now }
+    ensures small { IfOk result (λ amount. amount < 10 ^ most) }
+{
+    if !decimals.is_empty() {
+        return Err(FilterFlaw::WrongType);
+    }
+    match decimal(whole, most) {
+        Some(amount) => Ok(amount),
+        None => Err(FilterFlaw::NumberRange),
+    }
+}
+
+/// Degrees as millionths.
+fn millionths(numeral: Numeral) -> Result<u64, FilterFlaw>
+    ensures value { result ≡ millionths (decimal_in 18 numeral.entry.whole.now) (parts_of numeral.entry.decimals.now) }
+    ensures small { IfOk result (λ amount. amount < 10 ^ 18) }
+{
+    let Some(degrees) = decimal(numeral.whole, MOST_DIGITS) else {
+        return Err(FilterFlaw::NumberRange);
+    };
+    let Some(parts) = parts_of(numeral.decimals) else {
+        return Err(FilterFlaw::NumberRange);
+    };
+    if degrees < DEGREES {
+        Ok(degrees * 1_000_000 + parts)
+    } else {
+        Err(FilterFlaw::NumberRange)
+    }
+}
+
+/// The millionths that decimals are.
+fn parts_of(decimals: &[u8]) -> Option<u64>
+    ensures value { result ≡ parts_of decimals.now }
+    ensures small { IfSome result (λ parts. parts < 10 ^ 12) }
+{
+    if decimals.is_empty() {
+        return Some(0);
+    }
+    let parts = decimal(decimals, MOST_DECIMALS)?;
+    Some(parts * unit(decimals.len()))
+}
+
+/// How many millionths the last of so many decimals stands for.
+fn unit(decimals: usize) -> u64
+    ensures value { result ≡ 10 ^ (6 - decimals) }
+    ensures small { result ≤ 1000000 }
+{
+    match decimals {
+        0 => 1_000_000,
+        1 => 100_000,
+        2 => 10_000,
+        3 => 1_000,
+        4 => 100,
+        5 => 10,
+        _ => 1,
+    }
+}
+
+fn signed(is_negative: bool, amount: u64) -> Literal
+    requires { amount < 10 ^ 18 }
+    ensures { result.number ≡ signed is_negative amount }
+{
+    let number = if is_negative {
+        -(amount as i64)
+    } else {
+        amount as i64
+    };
+    Literal { number }
+}
+
+/// The number that digits write, of which there are one or more, up to a number of them.
+fn decimal(digits: &[u8], most: usize) -> Option<u64>
+    requires few { most ≤ 18 }
+    ensures value { result ≡ decimal_in most digits.now }
+    ensures small { IfSome result (λ n. n < 10 ^ most) }
+{
+    if digits.is_empty() || digits.len() > most {
+        return None;
+    }
+    decimal_value(digits)
+}
+
+fn decimal_value(digits: &[u8]) -> Option<u64>
+    requires { length digits.now ≤ 18 }
+    ensures { result ≡ (if list_all is_ascii_digit digits.now then Some (digits_value 10 digits.now) else None) }
+{
+    let mut value = 0u64;
+    for byte in digits {
+        if !byte.is_ascii_digit() {
+            return None;
+        }
+        value = value * 10 + u64::from(*byte - b'0');
+    }
+    Some(value)
+}
+
+/// A house number.
+pub(crate) fn house_number(numeral: Numeral) -> Result<HouseNumber, FilterFlaw>
+    ensures { MatchResult result (λ house. house_number_of numeral.entry ≡ Ok house.number)
+        (λ flaw. house_number_of numeral.entry ≡ Err flaw) }
+{
+    match count(numeral, MOST_HOUSE_DIGITS) {
+        Ok(number) => Ok(HouseNumber { number }),
+        Err(flaw) => Err(flaw),
+    }
+}
+
+/// How many alternate names are looked at.
+pub(crate) fn name_limit(numeral: Numeral) -> Result<NameLimit, FilterFlaw>
+    ensures { MatchResult result (λ limit. name_limit_of numeral.entry ≡ Ok limit.number) (λ flaw. name_limit_of numeral.entry ≡ Err flaw) }
+{
+    match count(numeral, MOST_DIGITS) {
+        Ok(number) => {
+            if number > MOST_NAMES {
+                return Err(FilterFlaw::NumberRange);
+            }
+            Ok(NameLimit {
+                number: number as u16,
+            })
+        }
+        Err(flaw) => Err(flaw),
+    }
+}
+
+/// A whole number of so many digits at most, which isn't negative.
+fn count(numeral: Numeral, most: usize) -> Result<u64, FilterFlaw>
+    requires { most ≤ 18 }
+    ensures value { result ≡ count_of most numeral.entry }
+    ensures small { IfOk result (λ number. number < 10 ^ most) }
+{
+    match whole_amount(numeral.whole, numeral.decimals, most) {
+        Ok(amount) => {
+            if numeral.is_negative {
+                return Err(FilterFlaw::NumberRange);
+            }
+            Ok(amount)
+        }
+        Err(flaw) => Err(flaw),
+    }
+}

@@ -1,0 +1,206 @@
+//! Tokens read as a filter.
+ghost use Rattle.std.specs.Prelude.{◌≡◌, ◌<◌, ◌∷◌, [], List, length, IfOk, Err, MatchOption};
+ghost use Rattle.cql2_text.specs.Predicate.{IsBoth, IsEither, IsNot};
+ghost use Rattle.cql2_text.specs.Spelled.{Expression, Term, Factor, Primary, Spells};
+ghost use Rattle.cql2_text.specs.declared.syntax_fault.SyntaxFault.TheVariants as syntax_fault;
+ghost use Rattle.cql2_text.specs.declared.token.Token.{Token};
+ghost use Rattle.cql2_text.specs.declared.token.Token.TheVariants as token;
+
+use crate::fault::{Expected, FilterFlaw};
+use crate::predicate::predicate;
+use crate::syntax_fault::SyntaxFault;
+use crate::token::{Keyword, Token};
+use cql2::Filter;
+use std::alloc::Allocator;
+
+/// Parentheses stand in at most so many others.
+const MOST_PARENTHESES: u32 = 64;
+
+/// The filter that all of the tokens spell.
+pub(crate) fn filter<'a, A: Allocator + Copy>(
+    alloc: A,
+    words: &'a [Token<'a>],
+) -> Result<Filter<A>, SyntaxFault>
+    ensures { IfOk result (Spells Expression words.now []) }
+{
+    let (filter, rest) = expression(alloc, words, MOST_PARENTHESES)?;
+    if rest.is_empty() {
+        return Ok(filter);
+    }
+    Err(SyntaxFault::unexpected(rest, Expected::End))
+}
+
+/// Terms that are joined by OR.
+#[cycle(parsing)]
+fn expression<'a, A: Allocator + Copy>(
+    alloc: A,
+    words: &'a [Token<'a>],
+    depth: u32,
+) -> Result<(Filter<A>, &'a [Token<'a>]), SyntaxFault>
+    requires { depth < 1000 }
+    ensures { IfOk result (λ read. Spells Expression words.now read.1.now read.0) }
+{
+    let (mut filter, mut rest) = term(alloc, words, depth)?;
+    while let Some((Token::Keyword(Keyword::Or), after)) = next(rest) {
+        let (second, after) = term(alloc, after, depth)?;
+        filter = either(alloc, filter, second)?;
+        rest = after;
+    }
+    Ok((filter, rest))
+}
+
+/// Factors that are joined by AND.
+#[cycle(parsing)]
+fn term<'a, A: Allocator + Copy>(
+    alloc: A,
+    words: &'a [Token<'a>],
+    depth: u32,
+) -> Result<(Filter<A>, &'a [Token<'a>]), SyntaxFault>
+    requires { depth < 1000 }
+    ensures { IfOk result (λ read. Spells Term words.now read.1.now read.0) }
+{
+    let (mut filter, mut rest) = factor(alloc, words, depth)?;
+    while let Some((Token::Keyword(Keyword::And), after)) = next(rest) {
+        let (second, after) = factor(alloc, after, depth)?;
+        filter = both(alloc, filter, second)?;
+        rest = after;
+    }
+    Ok((filter, rest))
+}
+
+/// A primary, or its opposite.
+#[cycle(parsing)]
+fn factor<'a, A: Allocator + Copy>(
+    alloc: A,
+    words: &'a [Token<'a>],
+    depth: u32,
+) -> Result<(Filter<A>, &'a [Token<'a>]), SyntaxFault>
+    requires { depth < 1000 }
+    ensures { IfOk result (λ read. Spells Factor words.now read.1.now read.0) }
+{
+    match next(words) {
+        Some((Token::Keyword(Keyword::Not), after)) => {
+            let (inner, rest) = primary(alloc, after, depth)?;
+            let filter = negated(alloc, inner)?;
+            Ok((filter, rest))
+        }
+        _ => {
+            let (filter, rest) = primary(alloc, words, depth)?;
+            Ok((filter, rest))
+        }
+    }
+}
+
+/// An expression in parentheses, or a predicate.
+#[cycle(parsing)]
+fn primary<'a, A: Allocator + Copy>(
+    alloc: A,
+    words: &'a [Token<'a>],
+    depth: u32,
+) -> Result<(Filter<A>, &'a [Token<'a>]), SyntaxFault>
+    requires { depth < 1000 }
+    ensures ok { IfOk result (λ read. Spells Primary words.now read.1.now read.0) }
+
+    // A parenthesis inside as many others as there may be is refused.
+    ensures too_deep { (rest : List Token) → depth ≡ 0 → words.now ≡ token.Open ∷ rest
+        → result ≡ Err (syntax_fault.At (length words.now) 0 FilterFlaw.TooDeep) }
+{
+    match next(words) {
+        Some((Token::Open, after)) => {
+            if depth == 0 {
+                return Err(SyntaxFault::at(words, FilterFlaw::TooDeep));
+            }
+            let (filter, rest) = expression(alloc, after, depth - 1)?;
+            let rest = closing(rest)?;
+            Ok((filter, rest))
+        }
+        _ => {
+            let (filter, rest) = predicate(alloc, words)?;
+            Ok((filter, rest))
+        }
+    }
+}
+
+/// The first token, and those after it.
+pub(crate) fn next<'a>(words: &'a [Token<'a>]) -> Option<(Token<'a>, &'a [Token<'a>])>
+    ensures { MatchOption result (words.now ≡ []) (λ read. words.now ≡ read.0 ∷ read.1.now) }
+{
+    let (first, rest) = words.split_first()?;
+    Some((*first, rest))
+}
+
+/// What follows an opening parenthesis.
+pub(crate) fn opening<'a>(words: &'a [Token<'a>]) -> Result<&'a [Token<'a>], SyntaxFault>
+    ensures { IfOk result (λ rest. words.now ≡ token.Open ∷ rest.now) }
+{
+    match next(words) {
+        Some((Token::Open, rest)) => Ok(rest),
+        _ => Err(SyntaxFault::unexpected(words, Expected::Opening)),
+    }
+}
+
+/// What follows a closing parenthesis.
+pub(crate) fn closing<'a>(words: &'a [Token<'a>]) -> Result<&'a [Token<'a>], SyntaxFault>
+    ensures { IfOk result (λ rest. words.now ≡ token.Close ∷ rest.now) }
+{
+    match next(words) {
+        Some((Token::Close, rest)) => Ok(rest),
+        _ => Err(SyntaxFault::unexpected(words, Expected::Closing)),
+    }
+}
+
+/// What follows a comma.
+pub(crate) fn comma<'a>(words: &'a [Token<'a>]) -> Result<&'a [Token<'a>], SyntaxFault>
+    ensures { IfOk result (λ rest. words.now ≡ token.Comma ∷ rest.now) }
+{
+    match next(words) {
+        Some((Token::Comma, rest)) => Ok(rest),
+        _ => Err(SyntaxFault::unexpected(words, Expected::Comma)),
+    }
+}
+
+/// Both filters.
+pub(crate) fn both<A: Allocator + Copy>(
+    alloc: A,
+    first: Filter<A>,
+    second: Filter<A>,
+) -> Result<Filter<A>, SyntaxFault>
+    ensures { IfOk result (IsBoth first second) }
+{
+    let first = boxed(alloc, first)?;
+    let second = boxed(alloc, second)?;
+    Ok(Filter::And(first, second))
+}
+
+/// Either filter.
+pub(crate) fn either<A: Allocator + Copy>(
+    alloc: A,
+    first: Filter<A>,
+    second: Filter<A>,
+) -> Result<Filter<A>, SyntaxFault>
+    ensures { IfOk result (IsEither first second) }
+{
+    let first = boxed(alloc, first)?;
+    let second = boxed(alloc, second)?;
+    Ok(Filter::Or(first, second))
+}
+
+/// The opposite of a filter.
+pub(crate) fn negated<A: Allocator + Copy>(
+    alloc: A,
+    inner: Filter<A>,
+) -> Result<Filter<A>, SyntaxFault>
+    ensures { IfOk result (IsNot inner) }
+{
+    let inner = boxed(alloc, inner)?;
+    Ok(Filter::Not(inner))
+}
+
+fn boxed<A: Allocator + Copy>(alloc: A, filter: Filter<A>) -> Result<Box<Filter<A>, A>, SyntaxFault>
+    ensures { IfOk result (λ made. made.value ≡ filter) }
+{
+    match Box::new(alloc, filter) {
+        Ok(made) => Ok(made),
+        Err(_) => Err(SyntaxFault::Memory),
+    }
+}

@@ -1,0 +1,123 @@
+//! Patterns of LIKE.
+ghost use Rattle.std.specs.Prelude.{◌≡◌, ◌<◌, ◌≤◌, ◌∷◌, [], IsTrue, ◌↔◌, true, false, map, length, IfOk};
+ghost use Rattle.cql2.specs.Pattern.{are_bytes, is_byte};
+ghost use Rattle.cql2_text.specs.Pattern.{IsLikePattern, IsPatternByte, is_special, wanted_by};
+
+use crate::character::character;
+use crate::fault::Expected;
+use crate::syntax_fault::TextFlaw;
+use cql2::{Pattern, PatternByte};
+use std::alloc::Allocator;
+
+/// The pattern byte that a character is, also in the other case where case is ignored.
+fn literal(byte: u8, ignores_case: bool) -> PatternByte
+    ensures wanted { result ≡ wanted_by ignores_case byte }
+    ensures is_byte { is_byte result ≡ true }
+{
+    if ignores_case && byte.is_ascii_alphabetic() {
+        PatternByte::EitherCase(byte.to_ascii_lowercase())
+    } else {
+        PatternByte::Exactly(byte)
+    }
+}
+
+/// What the inside of a literal begins with as a pattern, and what follows it: `_` is any character, and `\` makes the next one an
+/// ordinary one.
+fn pattern_byte<'a>(
+    spelling: &[u8],
+    text: &'a [u8],
+    ignores_case: bool,
+) -> Result<(PatternByte, &'a [u8]), TextFlaw>
+    ensures byte { IfOk result (λ read. IsPatternByte ignores_case text.now read.0 read.1.now) }
+    ensures is_byte { IfOk result (λ read. is_byte read.0 ≡ true) }
+    ensures shorter { IfOk result (λ read. length read.1.now < length text.now) }
+{
+    let Some((byte, rest)) = character(text) else {
+        return Err(TextFlaw::expected(spelling, text, Expected::Character));
+    };
+    if !is_special(byte) {
+        return Ok((literal(byte, ignores_case), rest));
+    }
+    match byte {
+        b'_' => Ok((PatternByte::Any, rest)),
+        b'\\' => match character(rest) {
+            Some((next, rest)) => Ok((literal(next, ignores_case), rest)),
+            None => Err(TextFlaw::expected(spelling, rest, Expected::Escaped)),
+        },
+        _ => Err(TextFlaw::expected(spelling, text, Expected::PatternEnd)),
+    }
+}
+
+/// Whether it's `%`, `_` or `\`.
+fn is_special(byte: u8) -> bool
+    ensures { result ≡ is_special byte }
+{
+    byte == b'%' || byte == b'_' || byte == b'\\'
+}
+
+/// Whether nothing but `%` is left.
+fn is_percent(text: &[u8]) -> bool
+    ensures { IsTrue result ↔ (text.now ≡ 37 ∷ []) }
+{
+    match text {
+        [b'%'] => true,
+        _ => false,
+    }
+}
+
+/// A pattern of so many bytes at most.
+fn short<A: Allocator>(
+    wanted: Vec<PatternByte, A>,
+    is_open: bool,
+    width: usize,
+) -> Result<Pattern<A>, TextFlaw>
+    requires { are_bytes wanted.items ≡ true }
+    ensures wanted { IfOk result (λ pattern. pattern.wanted.items ≡ wanted.items) }
+    ensures open { IfOk result (λ pattern. pattern.is_open ≡ is_open) }
+    ensures few { IfOk result (λ pattern. length pattern.wanted.items ≤ width) }
+{
+    if wanted.len() > width {
+        return Err(TextFlaw::Long);
+    }
+    Ok(Pattern { wanted, is_open })
+}
+
+/// The pattern that the inside of a literal is. It is open where `%` ends it.
+pub(crate) fn pattern<A: Allocator + Copy>(
+    alloc: A,
+    spelling: &[u8],
+    ignores_case: bool,
+    width: usize,
+) -> Result<Pattern<A>, TextFlaw>
+    ensures { IfOk result (λ pattern. IsLikePattern width ignores_case spelling.now pattern) }
+{
+    let mut wanted = Vec::new(alloc);
+    let mut rest = spelling;
+    while !rest.is_empty() {
+        if is_percent(rest) {
+            return short(wanted, true, width);
+        }
+        let (byte, after) = pattern_byte(spelling, rest, ignores_case)?;
+        wanted.push(byte)?;
+        rest = after;
+    }
+    short(wanted, false, width)
+}
+
+/// The pattern that a text is, but for the case of letters.
+pub(crate) fn same_but_for_case<A: Allocator + Copy>(
+    alloc: A,
+    bytes: &[u8],
+) -> Result<Pattern<A>, TextFlaw>
+    ensures letters { IfOk result (λ pattern. pattern.wanted.items ≡ map (wanted_by true) bytes.now) }
+    ensures closed { IfOk result (λ pattern. pattern.is_open ≡ false) }
+{
+    let mut wanted = Vec::new(alloc);
+    for byte in bytes {
+        wanted.push(literal(*byte, true))?;
+    }
+    Ok(Pattern {
+        wanted,
+        is_open: false,
+    })
+}

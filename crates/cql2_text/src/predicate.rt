@@ -1,0 +1,469 @@
+//! Predicates.
+ghost use Rattle.std.specs.Prelude.{◌≡◌, ◌∷◌, ◌≤◌, List, length, IfOk, Err};
+ghost use Rattle.tl_segments.specs.declared.name.TheConstants.{NAME_LENGTH};
+ghost use Rattle.cql2.specs.declared.column.Column.TheVariants as column;
+ghost use Rattle.cql2.specs.declared.filter.Comparison.TheVariants.{Equal};
+ghost use Rattle.cql2.specs.declared.filter.Filter.TheVariants as filter;
+ghost use Rattle.cql2_text.specs.Predicate.{IsSubject, IsNumber, IsText, IsCaseiText, IsLikeColumn, IsWithin, SpellsBetween, SpellsComparison, SpellsList, SpellsLike, SpellsNegatable, SpellsOf, SpellsPredicate, column_of, width_of};
+ghost use Rattle.cql2_text.specs.Number.{number_of};
+ghost use Rattle.cql2_text.specs.declared.syntax_fault.SyntaxFault.TheVariants as syntax_fault;
+ghost use Rattle.cql2_text.specs.declared.token.Keyword.TheVariants as word;
+ghost use Rattle.cql2_text.specs.declared.token.Numeral.{Numeral};
+ghost use Rattle.cql2_text.specs.declared.token.Token.{Token};
+ghost use Rattle.cql2_text.specs.declared.token.Token.TheVariants as token;
+ghost use Rattle.cql2_text.specs.declared.predicate.Subject.TheVariants as subject;
+
+use crate::character::compared_text;
+use crate::fault::{Expected, FilterFlaw};
+use crate::function::{has_name, has_number, starts_in};
+use crate::literal::literal_of;
+use crate::parser::{both, closing, either, negated, next, opening};
+use crate::pattern::{pattern, same_but_for_case};
+use crate::syntax_fault::SyntaxFault;
+use crate::token::{Keyword, Token};
+use cql2::{Column, Comparison, Filter, Literal, NumericColumn, Pattern, Text, TextColumn};
+use std::alloc::Allocator;
+
+/// What a predicate speaks of.
+#[derive(Clone, Copy)]
+pub(crate) enum Subject {
+    Numeric(NumericColumn),
+    Text(TextColumn),
+    /// `CASEI(column)`.
+    Casei(TextColumn),
+}
+
+/// A predicate, a function, or TRUE or FALSE.
+pub(crate) fn predicate<'a, A: Allocator + Copy>(
+    alloc: A,
+    words: &'a [Token<'a>],
+) -> Result<(Filter<A>, &'a [Token<'a>]), SyntaxFault>
+    ensures { IfOk result (λ read. SpellsPredicate words.now read.1.now read.0) }
+{
+    match next(words) {
+        Some((Token::Keyword(Keyword::True), rest)) => Ok((Filter::Constant(true), rest)),
+        Some((Token::Keyword(Keyword::False), rest)) => Ok((Filter::Constant(false), rest)),
+        Some((Token::Keyword(Keyword::HasNumber), after)) => {
+            let (filter, rest) = has_number(after)?;
+            Ok((filter, rest))
+        }
+        Some((Token::Keyword(Keyword::HasName), after)) => {
+            let (filter, rest) = has_name(alloc, after)?;
+            Ok((filter, rest))
+        }
+        Some((Token::Keyword(Keyword::StartsIn), after)) => {
+            let (filter, rest) = starts_in(alloc, after)?;
+            Ok((filter, rest))
+        }
+        _ => {
+            let (subject, after) = first_subject(words)?;
+            let (filter, rest) = of_subject(alloc, subject, after)?;
+            Ok((filter, rest))
+        }
+    }
+}
+
+/// A column, or one whose case is ignored.
+fn first_subject<'a>(words: &'a [Token<'a>]) -> Result<(Subject, &'a [Token<'a>]), SyntaxFault>
+    ensures { IfOk result (λ read. IsSubject read.0 words.now read.1.now) }
+{
+    match next(words) {
+        Some((Token::Column(Column::Numeric(column)), rest)) => {
+            Ok((Subject::Numeric(column), rest))
+        }
+        Some((Token::Column(Column::Text(column)), rest)) => Ok((Subject::Text(column), rest)),
+        Some((Token::Keyword(Keyword::Casei), after)) => {
+            let (column, rest) = casei_column(after)?;
+            Ok((Subject::Casei(column), rest))
+        }
+        Some((Token::UnknownColumn, _rest)) => {
+            Err(SyntaxFault::at(words, FilterFlaw::UnknownColumn))
+        }
+        _ => Err(SyntaxFault::unexpected(words, Expected::Predicate)),
+    }
+}
+
+/// A text column in parentheses, after CASEI.
+fn casei_column<'a>(words: &'a [Token<'a>]) -> Result<(TextColumn, &'a [Token<'a>]), SyntaxFault>
+    ensures { IfOk result (λ read. words.now ≡ token.Open ∷ token.Column (column.Text read.0) ∷ token.Close ∷ read.1.now) }
+{
+    let words = opening(words)?;
+    match next(words) {
+        Some((Token::Column(Column::Text(column)), rest)) => {
+            let rest = closing(rest)?;
+            Ok((column, rest))
+        }
+        Some((Token::Column(_column), _rest)) => {
+            Err(SyntaxFault::at(words, FilterFlaw::WrongType))
+        }
+        Some((Token::UnknownColumn, _rest)) => {
+            Err(SyntaxFault::at(words, FilterFlaw::UnknownColumn))
+        }
+        _ => Err(SyntaxFault::unexpected(words, Expected::Column)),
+    }
+}
+
+/// What is said of a subject.
+fn of_subject<'a, A: Allocator + Copy>(
+    alloc: A,
+    subject: Subject,
+    words: &'a [Token<'a>],
+) -> Result<(Filter<A>, &'a [Token<'a>]), SyntaxFault>
+    ensures { IfOk result (λ read. SpellsOf subject words.now read.1.now read.0) }
+{
+    match next(words) {
+        Some((Token::Compared(comparison), after)) => {
+            if !is_compared(subject, comparison) {
+                return Err(SyntaxFault::at(words, FilterFlaw::WrongType));
+            }
+            let (filter, rest) = compared(alloc, subject, comparison, after)?;
+            Ok((filter, rest))
+        }
+        Some((Token::Keyword(Keyword::Is), after)) => {
+            let (filter, rest) = null(alloc, subject, after)?;
+            Ok((filter, rest))
+        }
+        Some((Token::Keyword(Keyword::Not), after)) => {
+            let (inner, rest) = negatable(alloc, subject, after, Expected::Negatable)?;
+            let filter = negated(alloc, inner)?;
+            Ok((filter, rest))
+        }
+        _ => {
+            let (filter, rest) = negatable(alloc, subject, words, Expected::Operator)?;
+            Ok((filter, rest))
+        }
+    }
+}
+
+/// Whether a subject may be compared so: but for case, texts are the same or not.
+fn is_compared(subject: Subject, comparison: Comparison) -> bool {
+    match (subject, comparison) {
+        (Subject::Casei(_column), Comparison::Equal) => true,
+        (Subject::Casei(_column), Comparison::NotEqual) => true,
+        (Subject::Casei(_column), _) => false,
+        _ => true,
+    }
+}
+
+/// NULL or NOT NULL, after IS.
+fn null<'a, A: Allocator + Copy>(
+    alloc: A,
+    subject: Subject,
+    words: &'a [Token<'a>],
+) -> Result<(Filter<A>, &'a [Token<'a>]), SyntaxFault>
+    ensures { IfOk result (λ read. SpellsOf subject (token.Keyword word.Is ∷ words.now) read.1.now read.0) }
+{
+    let Some(column) = column_of(subject) else {
+        return Err(SyntaxFault::at(words, FilterFlaw::WrongType));
+    };
+    match next(words) {
+        Some((Token::Keyword(Keyword::Null), rest)) => Ok((Filter::IsNull(column), rest)),
+        Some((Token::Keyword(Keyword::Not), after)) => {
+            let rest = null_word(after)?;
+            let filter = negated(alloc, Filter::IsNull(column))?;
+            Ok((filter, rest))
+        }
+        _ => Err(SyntaxFault::unexpected(words, Expected::Null)),
+    }
+}
+
+/// The column of a subject whose case isn't ignored.
+fn column_of(subject: Subject) -> Option<Column>
+    ensures { result ≡ column_of subject }
+{
+    match subject {
+        Subject::Numeric(column) => Some(Column::Numeric(column)),
+        Subject::Text(column) => Some(Column::Text(column)),
+        Subject::Casei(_column) => None,
+    }
+}
+
+/// What follows NULL.
+fn null_word<'a>(words: &'a [Token<'a>]) -> Result<&'a [Token<'a>], SyntaxFault>
+    ensures { IfOk result (λ rest. words.now ≡ token.Keyword word.Null ∷ rest.now) }
+{
+    match next(words) {
+        Some((Token::Keyword(Keyword::Null), rest)) => Ok(rest),
+        _ => Err(SyntaxFault::unexpected(words, Expected::Null)),
+    }
+}
+
+/// What NOT may stand before: LIKE, BETWEEN and IN.
+fn negatable<'a, A: Allocator + Copy>(
+    alloc: A,
+    subject: Subject,
+    words: &'a [Token<'a>],
+    expected: Expected,
+) -> Result<(Filter<A>, &'a [Token<'a>]), SyntaxFault>
+    ensures { IfOk result (λ read. SpellsNegatable subject words.now read.1.now read.0) }
+{
+    match next(words) {
+        Some((Token::Keyword(Keyword::Like), after)) => match subject {
+            Subject::Numeric(_column) => Err(SyntaxFault::at(words, FilterFlaw::WrongType)),
+            Subject::Text(column) => {
+                let (filter, rest) = like(alloc, column, after)?;
+                Ok((filter, rest))
+            }
+            Subject::Casei(column) => {
+                let (filter, rest) = casei_like(alloc, column, after)?;
+                Ok((filter, rest))
+            }
+        },
+        Some((Token::Keyword(Keyword::Between), after)) => match subject {
+            Subject::Numeric(column) => {
+                let (filter, rest) = between(alloc, column, after)?;
+                Ok((filter, rest))
+            }
+            _ => Err(SyntaxFault::at(words, FilterFlaw::WrongType)),
+        },
+        Some((Token::Keyword(Keyword::In), after)) => {
+            let (filter, rest) = among(alloc, subject, after)?;
+            Ok((filter, rest))
+        }
+        _ => Err(SyntaxFault::unexpected(words, expected)),
+    }
+}
+
+/// A subject compared with the literal that the tokens begin with.
+fn compared<'a, A: Allocator + Copy>(
+    alloc: A,
+    subject: Subject,
+    comparison: Comparison,
+    words: &'a [Token<'a>],
+) -> Result<(Filter<A>, &'a [Token<'a>]), SyntaxFault>
+    ensures { IfOk result (λ read. SpellsComparison subject comparison words.now read.1.now read.0) }
+{
+    match subject {
+        Subject::Numeric(column) => {
+            let (literal, rest) = number(column, words)?;
+            Ok((Filter::CompareNumber(column, comparison, literal), rest))
+        }
+        Subject::Text(column) => {
+            let (text, rest) = text(alloc, width(column), words)?;
+            Ok((Filter::CompareText(column, comparison, text), rest))
+        }
+        Subject::Casei(column) => {
+            let (filter, rest) = casei_same(alloc, column, words)?;
+            match comparison {
+                Comparison::Equal => Ok((filter, rest)),
+                Comparison::NotEqual => {
+                    let filter = negated(alloc, filter)?;
+                    Ok((filter, rest))
+                }
+                _ => Err(SyntaxFault::at(words, FilterFlaw::WrongType)),
+            }
+        }
+    }
+}
+
+/// How many bytes a column has.
+fn width(column: TextColumn) -> usize
+    ensures value { result ≡ width_of column }
+    ensures small { result ≤ NAME_LENGTH }
+{
+    let places = column.places();
+    places.1 + 1 - places.0
+}
+
+/// A number that a column is compared with.
+pub(crate) fn number<'a>(
+    column: NumericColumn,
+    words: &'a [Token<'a>],
+) -> Result<(Literal, &'a [Token<'a>]), SyntaxFault>
+    ensures ok { IfOk result (λ read. IsNumber column words.now read.1.now read.0) }
+
+    // A number that the column can't have is refused, with its flaw.
+    ensures refused { (numeral : Numeral) (rest : List Token) (flaw : FilterFlaw) → words.now ≡ token.Number numeral ∷ rest
+        → number_of column numeral ≡ Err flaw → result ≡ Err (syntax_fault.At (length words.now) 0 flaw) }
+{
+    match next(words) {
+        Some((Token::Number(numeral), rest)) => match literal_of(column, numeral) {
+            Ok(literal) => Ok((literal, rest)),
+            Err(flaw) => Err(SyntaxFault::at(words, flaw)),
+        },
+        Some((Token::Text(_spelling), _rest)) => {
+            Err(SyntaxFault::at(words, FilterFlaw::WrongType))
+        }
+        Some((Token::Keyword(Keyword::Casei), _rest)) => {
+            Err(SyntaxFault::at(words, FilterFlaw::WrongType))
+        }
+        _ => Err(SyntaxFault::unexpected(words, Expected::Number)),
+    }
+}
+
+/// The inside of a characterLiteral.
+fn spelling<'a>(words: &'a [Token<'a>]) -> Result<(&'a [u8], &'a [Token<'a>]), SyntaxFault>
+    ensures { IfOk result (λ read. words.now ≡ token.Text read.0 ∷ read.1.now) }
+{
+    match next(words) {
+        Some((Token::Text(spelling), rest)) => Ok((spelling, rest)),
+        Some((Token::Number(_numeral), _rest)) => {
+            Err(SyntaxFault::at(words, FilterFlaw::WrongType))
+        }
+        Some((Token::Keyword(Keyword::Casei), _rest)) => {
+            Err(SyntaxFault::at(words, FilterFlaw::WrongType))
+        }
+        _ => Err(SyntaxFault::unexpected(words, Expected::Text)),
+    }
+}
+
+/// A text that a column of so many bytes is compared with.
+pub(crate) fn text<'a, A: Allocator + Copy>(
+    alloc: A,
+    width: usize,
+    words: &'a [Token<'a>],
+) -> Result<(Text<A>, &'a [Token<'a>]), SyntaxFault>
+    requires { width ≤ NAME_LENGTH }
+    ensures { IfOk result (λ read. IsText width words.now read.1.now read.0) }
+{
+    let (spelling, rest) = spelling(words)?;
+    match compared_text(alloc, spelling, width) {
+        Ok(text) => Ok((text, rest)),
+        Err(flaw) => Err(SyntaxFault::in_text(words, flaw)),
+    }
+}
+
+/// What follows CASEI and an opening parenthesis.
+fn casei<'a>(words: &'a [Token<'a>]) -> Result<&'a [Token<'a>], SyntaxFault>
+    ensures { IfOk result (λ rest. words.now ≡ token.Keyword word.Casei ∷ token.Open ∷ rest.now) }
+{
+    match next(words) {
+        Some((Token::Keyword(Keyword::Casei), rest)) => opening(rest),
+        Some((Token::Text(_spelling), _rest)) => {
+            Err(SyntaxFault::at(words, FilterFlaw::WrongType))
+        }
+        Some((Token::Number(_numeral), _rest)) => {
+            Err(SyntaxFault::at(words, FilterFlaw::WrongType))
+        }
+        _ => Err(SyntaxFault::unexpected(words, Expected::Casei)),
+    }
+}
+
+/// A column that is the same as `CASEI('..')`.
+fn casei_same<'a, A: Allocator + Copy>(
+    alloc: A,
+    column: TextColumn,
+    words: &'a [Token<'a>],
+) -> Result<(Filter<A>, &'a [Token<'a>]), SyntaxFault>
+    ensures { IfOk result (λ read. SpellsComparison (subject.Casei column) Equal words.now read.1.now read.0) }
+{
+    let words = casei(words)?;
+    let (text, rest) = text(alloc, width(column), words)?;
+    let rest = closing(rest)?;
+    match same_but_for_case(alloc, &text.bytes) {
+        Ok(pattern) => Ok((Filter::Like(column, pattern), rest)),
+        Err(flaw) => Err(SyntaxFault::in_text(words, flaw)),
+    }
+}
+
+/// A pattern for a column.
+fn column_pattern<'a, A: Allocator + Copy>(
+    alloc: A,
+    column: TextColumn,
+    ignores_case: bool,
+    words: &'a [Token<'a>],
+) -> Result<(Pattern<A>, &'a [Token<'a>]), SyntaxFault>
+    ensures { IfOk result (λ read. IsLikeColumn column ignores_case words.now read.1.now read.0) }
+{
+    let (spelling, rest) = spelling(words)?;
+    match pattern(alloc, spelling, ignores_case, width(column)) {
+        Ok(pattern) => Ok((pattern, rest)),
+        Err(flaw) => Err(SyntaxFault::in_text(words, flaw)),
+    }
+}
+
+/// A column that is like a pattern.
+fn like<'a, A: Allocator + Copy>(
+    alloc: A,
+    column: TextColumn,
+    words: &'a [Token<'a>],
+) -> Result<(Filter<A>, &'a [Token<'a>]), SyntaxFault>
+    ensures { IfOk result (λ read. SpellsLike (subject.Text column) words.now read.1.now read.0) }
+{
+    let (pattern, rest) = column_pattern(alloc, column, false, words)?;
+    Ok((Filter::Like(column, pattern), rest))
+}
+
+/// A column that is like a pattern in either case.
+fn casei_like<'a, A: Allocator + Copy>(
+    alloc: A,
+    column: TextColumn,
+    words: &'a [Token<'a>],
+) -> Result<(Filter<A>, &'a [Token<'a>]), SyntaxFault>
+    ensures { IfOk result (λ read. SpellsLike (subject.Casei column) words.now read.1.now read.0) }
+{
+    let words = casei(words)?;
+    let (pattern, rest) = column_pattern(alloc, column, true, words)?;
+    let rest = closing(rest)?;
+    Ok((Filter::Like(column, pattern), rest))
+}
+
+/// A column between two numbers.
+fn between<'a, A: Allocator + Copy>(
+    alloc: A,
+    column: NumericColumn,
+    words: &'a [Token<'a>],
+) -> Result<(Filter<A>, &'a [Token<'a>]), SyntaxFault>
+    ensures { IfOk result (λ read. SpellsBetween column words.now read.1.now read.0) }
+{
+    let (low, rest) = number(column, words)?;
+    let rest = and_word(rest)?;
+    let (high, rest) = number(column, rest)?;
+    let filter = within(alloc, column, low, high)?;
+    Ok((filter, rest))
+}
+
+/// What follows AND.
+fn and_word<'a>(words: &'a [Token<'a>]) -> Result<&'a [Token<'a>], SyntaxFault>
+    ensures { IfOk result (λ rest. words.now ≡ token.Keyword word.And ∷ rest.now) }
+{
+    match next(words) {
+        Some((Token::Keyword(Keyword::And), rest)) => Ok(rest),
+        _ => Err(SyntaxFault::unexpected(words, Expected::And)),
+    }
+}
+
+/// A column that is at least one number and at most another.
+pub(crate) fn within<A: Allocator + Copy>(
+    alloc: A,
+    column: NumericColumn,
+    low: Literal,
+    high: Literal,
+) -> Result<Filter<A>, SyntaxFault>
+    ensures { IfOk result (IsWithin column low high) }
+{
+    let first = Filter::CompareNumber(column, Comparison::GreaterOrEqual, low);
+    let second = Filter::CompareNumber(column, Comparison::LessOrEqual, high);
+    both(alloc, first, second)
+}
+
+/// A subject that is one of the literals in parentheses.
+fn among<'a, A: Allocator + Copy>(
+    alloc: A,
+    subject: Subject,
+    words: &'a [Token<'a>],
+) -> Result<(Filter<A>, &'a [Token<'a>]), SyntaxFault>
+    ensures { IfOk result (λ read. SpellsNegatable subject (token.Keyword word.In ∷ words.now) read.1.now read.0) }
+{
+    let inner = opening(words)?;
+    let (filter, rest) = list(alloc, subject, inner)?;
+    let rest = closing(rest)?;
+    Ok((filter, rest))
+}
+
+/// A subject that is one of some literals.
+fn list<'a, A: Allocator + Copy>(
+    alloc: A,
+    subject: Subject,
+    words: &'a [Token<'a>],
+) -> Result<(Filter<A>, &'a [Token<'a>]), SyntaxFault>
+    ensures { IfOk result (λ read. SpellsList subject words.now read.1.now read.0) }
+{
+    let (mut filter, mut rest) = compared(alloc, subject, Comparison::Equal, words)?;
+    while let Some((Token::Comma, after)) = next(rest) {
+        let (second, after) = compared(alloc, subject, Comparison::Equal, after)?;
+        filter = either(alloc, filter, second)?;
+        rest = after;
+    }
+    Ok((filter, rest))
+}

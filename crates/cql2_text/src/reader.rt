@@ -1,0 +1,117 @@
+//! Texts read as filters.
+ghost use Rattle.std.specs.Prelude.{◌≡◌, ◌<◌, ◌≤◌, ◌+◌, ◌-◌, ◌^◌, take, IfOk, Err};
+ghost use Rattle.std.specs.Str.{IsUtf8};
+ghost use Rattle.std.specs.Str.Lossy.{utf8_valid_len};
+ghost use Rattle.cql2_text.specs.Position.{column_after, fault_after, is_continuation, line_after, next_column};
+ghost use Rattle.cql2_text.specs.Spelled.{IsFilterText};
+
+use crate::fault::{Expected, FilterFault, FilterFlaw};
+use crate::lexer::Tokens;
+use crate::parser::filter;
+use crate::syntax_fault::SyntaxFault;
+use cql2::Filter;
+use std::alloc::Allocator;
+
+/// Reads a text as a filter.
+pub fn read<A: Allocator + Copy>(alloc: A, text: &[u8]) -> Result<Filter<A>, FilterFault>
+    ensures ok { IfOk result (IsFilterText text.now) }
+
+    // A text that isn't UTF-8 is refused at its first bad byte.
+    ensures not_utf8 { ¬ (IsUtf8 text.now)
+        → result ≡ Err (fault_after (take (utf8_valid_len text.now) text.now) (FilterFlaw.Syntax Expected.Utf8)) }
+{
+    match std::str::from_utf8(text) {
+        Ok(_) => read_utf8(alloc, text),
+        Err(error) => {
+            let flaw = FilterFlaw::Syntax(Expected::Utf8);
+            Err(fault_after(&text[..error.valid_up_to()], flaw))
+        }
+    }
+}
+
+/// Reads a text that is UTF-8.
+fn read_utf8<A: Allocator + Copy>(alloc: A, text: &[u8]) -> Result<Filter<A>, FilterFault>
+    ensures { IfOk result (IsFilterText text.now) }
+{
+    let tokens = Tokens::of(alloc, text)?;
+    match filter(alloc, &tokens.tokens) {
+        Ok(filter) => {
+            if tokens.rest.is_empty() {
+                return Ok(filter);
+            }
+            let flaw = FilterFlaw::Syntax(Expected::End);
+            Err(fault_after(front(text, tokens.start(text, 0)), flaw))
+        }
+        Err(SyntaxFault::At { left, offset, flaw }) => {
+            let start = tokens.start(text, left).saturating_add(offset);
+            Err(fault_after(front(text, start), flaw))
+        }
+        Err(SyntaxFault::Memory) => Err(FilterFault::Memory),
+    }
+}
+
+/// So many bytes of a text, if it has as many.
+fn front(text: &[u8], count: usize) -> &[u8] {
+    if count < text.len() {
+        &text[..count]
+    } else {
+        text
+    }
+}
+
+/// The fault that a flaw is, after so much of a text.
+fn fault_after(front: &[u8], flaw: FilterFlaw) -> FilterFault
+    ensures { result ≡ fault_after front.now flaw }
+{
+    FilterFault::At {
+        line: line_after(front),
+        column: column_after(front),
+        flaw,
+    }
+}
+
+/// The line, counted from 1, of what follows so much of a text.
+fn line_after(front: &[u8]) -> usize
+    ensures { result ≡ line_after front.now }
+{
+    let mut line = 1;
+    for byte in front {
+        if *byte == b'\n' {
+            line += 1;
+        }
+    }
+    line
+}
+
+/// The character of its line, counted from 1, of what follows so much of a text.
+fn column_after(front: &[u8]) -> usize
+    ensures { result ≡ column_after front.now }
+{
+    let mut column = 1;
+    for byte in front {
+        column = next_column(column, *byte);
+    }
+    column
+}
+
+/// The column after a byte.
+fn next_column(column: usize, byte: u8) -> usize
+    requires { column < 2 ^ 64 - 1 }
+    ensures value { result ≡ next_column column byte }
+    ensures small { result ≤ column + 1 }
+{
+    if byte == b'\n' {
+        1
+    } else if is_continuation(byte) {
+        column
+    } else {
+        column + 1
+    }
+}
+
+/// Whether a byte belongs to a character that an earlier byte begins.
+fn is_continuation(byte: u8) -> bool
+    ensures { result ≡ is_continuation byte }
+{
+    byte >= 0x80 && byte < 0xc0
+}

@@ -1,0 +1,102 @@
+//! Faults of tokens, before their lines and columns are known.
+ghost use Rattle.std.specs.Prelude.{◌≡◌, ◌-◌, length};
+ghost use Rattle.cql2_text.specs.declared.syntax_fault.SyntaxFault.TheVariants as syntax_fault;
+ghost use Rattle.cql2_text.specs.declared.syntax_fault.TextFlaw.TheVariants as text_flaw;
+
+use crate::fault::{Expected, FilterFlaw};
+use crate::token::Token;
+use std::alloc::{AllocError, AllocFailed};
+
+/// What is wrong with the inside of a characterLiteral.
+#[derive(Clone, Copy, Drop)]
+pub(crate) enum TextFlaw {
+    /// Something else is expected so many bytes after the opening quote.
+    At { offset: usize, expected: Expected },
+    Long,
+    Memory,
+}
+
+impl TextFlaw {
+    /// Something else is expected where this much of a literal's inside is left.
+    pub fn expected(spelling: &[u8], rest: &[u8], expected: Expected) -> TextFlaw
+        ensures { result ≡ text_flaw.At (length spelling.now - length rest.now) expected }
+    {
+        TextFlaw::At {
+            offset: spelling.len().saturating_sub(rest.len()),
+            expected,
+        }
+    }
+}
+
+impl From<AllocError> for TextFlaw {
+    ghost from_gives = { λ _ flaw. flaw ≡ text_flaw.Memory };
+
+    fn from(_error: AllocError) -> TextFlaw {
+        TextFlaw::Memory
+    }
+}
+
+impl<T: Drop> From<AllocFailed<T>> for TextFlaw {
+    ghost from_gives = { λ _ flaw. flaw ≡ text_flaw.Memory };
+
+    fn from(_error: AllocFailed<T>) -> TextFlaw {
+        TextFlaw::Memory
+    }
+}
+
+/// What is wrong with tokens.
+#[derive(Clone, Copy)]
+pub(crate) enum SyntaxFault {
+    At {
+        /// How many tokens are left, the one at fault among them.
+        left: usize,
+        /// How many bytes after that token's first one the fault is.
+        offset: usize,
+        flaw: FilterFlaw,
+    },
+    Memory,
+}
+
+impl From<AllocError> for SyntaxFault {
+    ghost from_gives = { λ _ fault. fault ≡ syntax_fault.Memory };
+
+    fn from(_error: AllocError) -> SyntaxFault {
+        SyntaxFault::Memory
+    }
+}
+
+impl SyntaxFault {
+    /// The first of these tokens has a flaw.
+    pub fn at(words: &[Token], flaw: FilterFlaw) -> SyntaxFault
+        ensures { result ≡ syntax_fault.At (length words.now) 0 flaw }
+    {
+        SyntaxFault::At {
+            left: words.len(),
+            offset: 0,
+            flaw,
+        }
+    }
+
+    /// Something else than the first of these tokens is expected.
+    pub fn unexpected(words: &[Token], expected: Expected) -> SyntaxFault
+        ensures { result ≡ syntax_fault.At (length words.now) 0 (FilterFlaw.Syntax expected) }
+    {
+        SyntaxFault::at(words, FilterFlaw::Syntax(expected))
+    }
+
+    /// The first of these tokens is a characterLiteral that has a flaw.
+    pub fn in_text(words: &[Token], flaw: TextFlaw) -> SyntaxFault
+        ensures long { flaw ≡ TextFlaw.Long → result ≡ syntax_fault.At (length words.now) 0 FilterFlaw.LongText }
+        ensures memory { flaw ≡ TextFlaw.Memory → result ≡ syntax_fault.Memory }
+    {
+        match flaw {
+            TextFlaw::At { offset, expected } => SyntaxFault::At {
+                left: words.len(),
+                offset: offset.saturating_add(1),
+                flaw: FilterFlaw::Syntax(expected),
+            },
+            TextFlaw::Long => SyntaxFault::at(words, FilterFlaw::LongText),
+            TextFlaw::Memory => SyntaxFault::Memory,
+        }
+    }
+}
