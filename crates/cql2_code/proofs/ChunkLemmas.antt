@@ -1,0 +1,64 @@
+-- Bytes as little-endian numbers, and what is asked of several at once.
+use Rattle.std.proofs.Common.{◌≡◌, ℕ, zero, suc, ◌+◌, ◌-◌, ◌<◌, ◌≤◌, List, [], ◌∷◌, ◌++◌, length, true, false, refl, ap, ◌∙◌, arith}
+use Rattle.std.specs.Prelude.{take, replicate}
+use Rattle.std.proofs.lemmas.List.{take-replicate}
+use Rattle.byteorder.specs.Endian.{little_number}
+use Rattle.cql2.specs.declared.filter.Comparison.TheVariants.{Equal, Greater}
+use Rattle.cql2_code.specs.Lowering.{byte_test, chunk_test, has_bytes, is_blank, is_greater}
+use Rattle.cql2_code.specs.Question.{Joined, Opposite, bytes_value}
+use Rattle.cql2_code.specs.declared.question.Chunk.TheVariants.{DoubleWord}
+
+pub four_bytes : (bytes : List ℕ) → length bytes ≡ 4 → little_number 4 bytes ≡ bytes_value bytes
+four_bytes (a ∷ b ∷ c ∷ d ∷ []) count = refl
+four_bytes (a ∷ b ∷ c ∷ d ∷ e ∷ more) count = absurd (omega arith)
+four_bytes (a ∷ b ∷ c ∷ []) count = absurd (omega arith)
+four_bytes (a ∷ b ∷ []) count = absurd (omega arith)
+four_bytes (a ∷ []) count = absurd (omega arith)
+four_bytes [] count = absurd (omega arith)
+
+pub eight_bytes : (bytes : List ℕ) → length bytes ≡ 8 → little_number 8 bytes ≡ bytes_value bytes
+eight_bytes (a ∷ b ∷ c ∷ d ∷ e ∷ f ∷ g ∷ h ∷ []) count = refl
+eight_bytes (a ∷ b ∷ c ∷ d ∷ e ∷ f ∷ g ∷ h ∷ i ∷ more) count = absurd (omega arith)
+eight_bytes (a ∷ b ∷ c ∷ d ∷ e ∷ f ∷ g ∷ []) count = absurd (omega arith)
+eight_bytes (a ∷ b ∷ c ∷ d ∷ e ∷ f ∷ []) count = absurd (omega arith)
+eight_bytes (a ∷ b ∷ c ∷ d ∷ e ∷ []) count = absurd (omega arith)
+eight_bytes (a ∷ b ∷ c ∷ d ∷ []) count = absurd (omega arith)
+eight_bytes (a ∷ b ∷ c ∷ []) count = absurd (omega arith)
+eight_bytes (a ∷ b ∷ []) count = absurd (omega arith)
+eight_bytes (a ∷ []) count = absurd (omega arith)
+eight_bytes [] count = absurd (omega arith)
+
+-- eight bytes, and more
+pub has_bytes-more : (at : ℕ) (bytes front rest : List ℕ) → bytes ≡ front ++ rest → length front ≡ 8 → 0 < length rest
+    → has_bytes at bytes ≡ Joined true (chunk_test DoubleWord at front) (has_bytes (at + 8) rest)
+has_bytes-more at bytes front [] is count some = absurd (omega arith)
+has_bytes-more at bytes (a ∷ b ∷ c ∷ d ∷ e ∷ f ∷ g ∷ h ∷ []) (next ∷ rest) is count some = ap (has_bytes at) is
+has_bytes-more at bytes (a ∷ b ∷ c ∷ d ∷ e ∷ f ∷ g ∷ h ∷ i ∷ more) (next ∷ rest) is count some = absurd (omega arith)
+has_bytes-more at bytes (a ∷ b ∷ c ∷ d ∷ e ∷ f ∷ g ∷ []) (next ∷ rest) is count some = absurd (omega arith)
+has_bytes-more at bytes (a ∷ b ∷ c ∷ d ∷ e ∷ f ∷ []) (next ∷ rest) is count some = absurd (omega arith)
+has_bytes-more at bytes (a ∷ b ∷ c ∷ d ∷ e ∷ []) (next ∷ rest) is count some = absurd (omega arith)
+has_bytes-more at bytes (a ∷ b ∷ c ∷ d ∷ []) (next ∷ rest) is count some = absurd (omega arith)
+has_bytes-more at bytes (a ∷ b ∷ c ∷ []) (next ∷ rest) is count some = absurd (omega arith)
+has_bytes-more at bytes (a ∷ b ∷ []) (next ∷ rest) is count some = absurd (omega arith)
+has_bytes-more at bytes (a ∷ []) (next ∷ rest) is count some = absurd (omega arith)
+has_bytes-more at bytes [] (next ∷ rest) is count some = absurd (omega arith)
+
+-- as many blanks as a field has
+pub blank_bytes : (at count : ℕ) → count ≤ 30 → has_bytes at (take count (replicate 30 32)) ≡ is_blank at count
+blank_bytes at count few = ap (has_bytes at) (take-replicate count 30 32 few)
+
+-- what is left of a field is greater than no text if it isn't blank
+pub greater_blank : (at left : ℕ) (text : List ℕ) → 0 < left → length text ≡ 0 → is_greater at left text ≡ Opposite (is_blank at left)
+greater_blank at zero text some none = absurd (omega arith)
+greater_blank at (suc left) [] some none = refl
+greater_blank at (suc left) (byte ∷ text) some none = absurd (omega arith)
+
+-- it is greater than a text by its first byte, or by what follows
+pub greater_more : (at left : ℕ) (text : List ℕ) (byte : ℕ) (rest : List ℕ) → 0 < left → text ≡ byte ∷ rest
+    → is_greater at left text
+    ≡ Joined false (byte_test at Greater byte) (Joined true (byte_test at Equal byte) (is_greater (at + 1) (left - 1) rest))
+greater_more at zero text byte rest some is = absurd (omega arith)
+greater_more at (suc left) text byte rest some is =
+    let fewer : left ≡ suc left - 1 = omega arith in
+    ap (is_greater at (suc left)) is
+    ∙ ap (λ (n : ℕ). Joined false (byte_test at Greater byte) (Joined true (byte_test at Equal byte) (is_greater (at + 1) n rest))) fewer

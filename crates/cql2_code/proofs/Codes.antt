@@ -1,0 +1,114 @@
+-- The parts of a question's code: comparisons, and two questions that are joined.
+use Rattle.std.proofs.Common.{◌≡◌, ℤ, ℕ, ◌+◌, pos, Bool, true, false, List, [], ◌∷◌, ◌++◌, if◌then◌else◌, refl, sym, subst, arith}
+use Rattle.bpf_insn.specs.Arithmetic.{immediate_operand}
+use Rattle.bpf_insn.specs.Code.{word_count}
+use Rattle.bpf_insn.specs.declared.instruction.Insn.{Insn}
+use Rattle.bpf_insn.specs.declared.instruction.Source.TheVariants.{Immediate, Register}
+use Rattle.bpf_insn.proofs.PlaceLemmas.{word_count-append}
+use Rattle.cql2.specs.declared.filter.Comparison.{Comparison}
+use Rattle.cql2_code.specs.Layout.{comparison_code, first_beyond, is_narrow, jump_if, opposite, question_code, r1, w1, wide_load}
+use Rattle.cql2_code.proofs.Steps.{HasAt, has_back, has_front}
+use Rattle.cql2_code.specs.Question.{Question}
+use Rattle.cql2_code.specs.declared.question.Test.{Test}
+
+-- the comparison by which a test's code jumps: the opposite one if it falls through when the test holds
+abbrev pub jumping : Test → Bool → Comparison
+jumping test falls = if falls then opposite test.comparison else test.comparison
+
+-- the code of a comparison, by whether its operand fits an immediate
+abbrev pub comparison_by : Bool → Comparison → ℤ → ℕ → List Insn
+comparison_by true comparison operand beyond = jump_if comparison (Immediate operand) (pos beyond) ∷ []
+comparison_by false comparison operand beyond =
+    wide_load w1 (immediate_operand operand) ∷ jump_if comparison (Register r1) (pos beyond) ∷ []
+
+pub comparison_is : (comparison : Comparison) (operand : ℤ) (beyond : ℕ)
+    → comparison_by (is_narrow operand) comparison operand beyond ≡ comparison_code comparison operand beyond
+comparison_is comparison operand beyond = by_size (is_narrow operand)
+  where
+    by_size : (narrow : Bool)
+        → comparison_by narrow comparison operand beyond
+        ≡ (if narrow then comparison_by true comparison operand beyond else comparison_by false comparison operand beyond)
+    by_size true = refl
+    by_size false = refl
+
+-- two codes, one after the other: the places where they begin and end, the words of the second one, and how far it jumps past its end
+pub record Joint : Type 0 where
+  pub start : ℕ
+  pub middle : ℕ
+  pub end : ℕ
+  pub words : ℕ
+  pub beyond : ℕ
+  pub is : middle + words ≡ end
+
+abbrev pub joint_of : (place : ℕ) (first second : List Insn) (beyond : ℕ) → Joint
+joint_of place first second beyond = record {
+  start = place;
+  middle = place + word_count first;
+  end = place + word_count (first ++ second);
+  words = word_count second;
+  beyond = beyond;
+  is = let count = word_count-append first second in omega arith;
+}
+
+-- where the first of them jumps to
+abbrev pub first_jump : Joint → Bool → Bool → ℕ
+first_jump joint falls neutral = joint.middle + first_beyond falls neutral joint.words joint.beyond
+
+pub jumps_on : (joint : Joint) → joint.middle + (joint.words + joint.beyond) ≡ joint.end + joint.beyond
+jumps_on joint = let e = joint.is in omega arith
+
+-- what holds at both ways out of the second one holds where the first one jumps to
+pub first_target : (Such : ℕ → Type 0) (joint : Joint) (falls neutral : Bool) → Such joint.end → Such (joint.end + joint.beyond)
+    → Such (first_jump joint falls neutral)
+first_target Such joint true true end target = subst Such (sym (jumps_on joint)) target
+first_target Such joint false true end target = subst Such (sym joint.is) end
+first_target Such joint true false end target = subst Such (sym joint.is) end
+first_target Such joint false false end target = subst Such (sym (jumps_on joint)) target
+
+-- a code at a place, with its two ways out: its end, and a number of words past it
+pub record Placed (Such : ℕ → Type 0) (code : List Insn) (place : ℕ) (insns : List Insn) (beyond : ℕ) : Type 0 where
+  pub has : HasAt code place insns
+  pub end : Such (place + word_count insns)
+  pub target : Such (place + word_count insns + beyond)
+
+-- the second of two codes
+pub second_placed : (Such : ℕ → Type 0) (code : List Insn) (place : ℕ) (insns others : List Insn) (beyond : ℕ)
+    → Placed Such code place (insns ++ others) beyond → Placed Such code (place + word_count insns) others beyond
+second_placed Such code place insns others beyond placed =
+    let count = word_count-append insns others in
+    let e : place + word_count insns + word_count others ≡ place + word_count (insns ++ others) = omega arith in
+    record {
+      has = has_back code place insns others placed.has;
+      end = subst Such (sym e) placed.end;
+      target = subst (λ (p : ℕ). Such (p + beyond)) (sym e) placed.target;
+    }
+
+-- two questions that are joined, and their ways out
+pub record Pair : Type 0 where
+  pub neutral : Bool
+  pub first : Question
+  pub second : Question
+  pub falls : Bool
+  pub beyond : ℕ
+
+abbrev pub second_code : Pair → List Insn
+second_code pair = question_code pair.second pair.falls pair.beyond
+
+abbrev pub beyond_first : Pair → ℕ
+beyond_first pair = first_beyond pair.falls pair.neutral (word_count (second_code pair)) pair.beyond
+
+abbrev pub first_code : Pair → List Insn
+first_code pair = question_code pair.first pair.neutral (beyond_first pair)
+
+abbrev pub both_code : Pair → List Insn
+both_code pair = first_code pair ++ second_code pair
+
+-- the first of them
+pub first_placed : (Such : ℕ → Type 0) (code : List Insn) (place : ℕ) (pair : Pair) → Placed Such code place (both_code pair) pair.beyond
+    → Such (place + word_count (first_code pair)) → Placed Such code place (first_code pair) (beyond_first pair)
+first_placed Such code place pair placed end = record {
+  has = has_front code place (first_code pair) (second_code pair) placed.has;
+  end = end;
+  target = first_target Such (joint_of place (first_code pair) (second_code pair) pair.beyond) pair.falls pair.neutral placed.end
+      placed.target;
+}

@@ -1,0 +1,83 @@
+-- The numbers by which helper functions know columns.
+use Rattle.std.proofs.Common.{◌≡◌, ℕ, zero, suc, ◌<◌, ◌≤◌, ◌^◌, true, [], ◌∷◌, refl, arith, lit≤}
+use Rattle.std.specs.Prelude.{get_or}
+use Rattle.std.proofs.lemmas.Bool.Decides.{nat_tests}
+use Rattle.bpf_helpers.specs.Call.{Meets, MeetsSignature}
+use Rattle.bpf_helpers.specs.Helper.{signature}
+use Rattle.bpf_helpers.specs.Meaning.{coordinate, field_number, or_zero}
+use Rattle.bpf_helpers.specs.declared.helper.Helper.TheVariants as helper
+use Rattle.bpf_helpers.specs.declared.signature.Argument.TheVariants.{Unused}
+use Rattle.bpf_helpers.proofs.CallLemmas.{answer-fits}
+use Rattle.bpf_kinds.specs.Interval.{between}
+use Rattle.bpf_meaning.specs.Effect.{is_allowed}
+use Rattle.cql2.specs.declared.column.CoordinateColumn.{CoordinateColumn}
+use Rattle.cql2.specs.declared.column.CoordinateColumn.TheVariants.{Frlong, Frlat, Tolong, Tolat}
+use Rattle.cql2.specs.declared.column.NumberColumn.{NumberColumn}
+use Rattle.cql2.specs.declared.column.NumberColumn.TheVariants.{Tlid, Fraddl, Toaddl, Fraddr, Toaddr, Zipl, Zipr, Statel, Stater, Countyl}
+use Rattle.cql2.specs.declared.column.NumberColumn.TheVariants.{Countyr, Placel, Placer, Tractl, Tractr, Blockl, Blockr}
+use Rattle.tl_segments.specs.Segment.{Contents, IsSegment}
+use Rattle.cql2_code.specs.Question.{coordinate_id, field_id}
+
+pub field_small : (column : NumberColumn) → field_id column ≤ 16
+field_small Tlid = lit≤ tt
+field_small Fraddl = lit≤ tt
+field_small Toaddl = lit≤ tt
+field_small Fraddr = lit≤ tt
+field_small Toaddr = lit≤ tt
+field_small Zipl = lit≤ tt
+field_small Zipr = lit≤ tt
+field_small Statel = lit≤ tt
+field_small Stater = lit≤ tt
+field_small Countyl = lit≤ tt
+field_small Countyr = lit≤ tt
+field_small Placel = lit≤ tt
+field_small Placer = lit≤ tt
+field_small Tractl = lit≤ tt
+field_small Tractr = lit≤ tt
+field_small Blockl = lit≤ tt
+field_small Blockr = lit≤ tt
+
+pub coordinate_small : (column : CoordinateColumn) → coordinate_id column ≤ 3
+coordinate_small Frlong = lit≤ tt
+coordinate_small Frlat = lit≤ tt
+coordinate_small Tolong = lit≤ tt
+coordinate_small Tolat = lit≤ tt
+
+-- helper functions accept them
+
+small_allowed : (most number : ℕ) → number ≤ most → is_allowed (between 0 most) number ≡ true
+small_allowed most number small = grind (arith, nat_tests)
+
+pub field_allowed : (column : NumberColumn) → is_allowed (between 0 16) (field_id column) ≡ true
+field_allowed column = small_allowed 16 (field_id column) (field_small column)
+
+pub coordinate_allowed : (column : CoordinateColumn) → is_allowed (between 0 3) (coordinate_id column) ≡ true
+coordinate_allowed column = small_allowed 3 (coordinate_id column) (coordinate_small column)
+
+-- their answers have 64 bits
+
+field_meets : (column : NumberColumn) → MeetsSignature helper.Field (field_id column ∷ 0 ∷ 0 ∷ [])
+field_meets column = record { count = refl; each = each; within = tt }
+  where
+    each : (at : ℕ) → Meets (get_or (signature helper.Field).arguments at Unused) (get_or (field_id column ∷ 0 ∷ 0 ∷ []) at 0)
+    each zero = record { above = omega arith; below = field_small column }
+    each (suc zero) = tt
+    each (suc (suc zero)) = tt
+    each (suc (suc (suc at))) = tt
+
+coordinate_meets : (column : CoordinateColumn) → MeetsSignature helper.Coord (coordinate_id column ∷ 0 ∷ 0 ∷ [])
+coordinate_meets column = record { count = refl; each = each; within = tt }
+  where
+    each : (at : ℕ) → Meets (get_or (signature helper.Coord).arguments at Unused) (get_or (coordinate_id column ∷ 0 ∷ 0 ∷ []) at 0)
+    each zero = record { above = omega arith; below = coordinate_small column }
+    each (suc zero) = tt
+    each (suc (suc zero)) = tt
+    each (suc (suc (suc at))) = tt
+
+pub field_fits : (segment : Contents) (column : NumberColumn) → IsSegment segment
+    → or_zero (field_number segment.bytes (field_id column)) < 2 ^ 64
+field_fits segment column is = answer-fits helper.Field segment (field_id column ∷ 0 ∷ 0 ∷ []) [] 0 is (field_meets column)
+
+pub coordinate_fits : (segment : Contents) (column : CoordinateColumn) → IsSegment segment
+    → coordinate segment.bytes (coordinate_id column) < 2 ^ 64
+coordinate_fits segment column is = answer-fits helper.Coord segment (coordinate_id column ∷ 0 ∷ 0 ∷ []) [] 0 is (coordinate_meets column)

@@ -1,0 +1,117 @@
+-- A compiled filter.
+use Rattle.std.proofs.Common.{◌≡◌, ℕ, ◌+◌, ◌-◌, Bool, true, false, List, [], ◌∷◌, ◌++◌, Option, if◌then◌else◌, refl, sym, ap, ◌∙◌, subst}
+use Rattle.std.proofs.Common.{arith, append_assoc}
+use Rattle.std.specs.Prelude.{All, IfOk, Result}
+use Rattle.std.proofs.lemmas.Result.{IfOk-weaker}
+use Rattle.std.proofs.lemmas.List.Elements.{All-head, All-tail}
+use Rattle.bpf_flow.specs.Flow.{IsForward}
+use Rattle.bpf_helpers.specs.Meaning as number
+use Rattle.bpf_insn.proofs.PlaceLemmas.{word_count-append}
+use Rattle.bpf_insn.specs.Code.{word_count}
+use Rattle.bpf_insn.specs.declared.instruction.Insn.{Insn}
+use Rattle.bpf_meaning.specs.Extract.{IsExtract, chosen_count, row_if_chosen, row_of}
+use Rattle.bpf_meaning.specs.Run.{Answers}
+use Rattle.bpf_verify.specs.Annotation.{HasGoodAnnotation}
+use Rattle.cql2.specs.Truth.{selects}
+use Rattle.cql2.specs.declared.column.NumericColumn.{NumericColumn}
+use Rattle.cql2.specs.declared.filter.Filter.{Filter}
+use Rattle.tl_segments.specs.Segment.{Contents, IsSegment}
+use Rattle.cql2_code.specs.Chosen.{Chooses, count_of, rows_of, score_of}
+use Rattle.cql2_code.specs.Layout.{Writes, answer_code, chosen_code, copy, program, question_code, r1, score_code, w6}
+use Rattle.cql2_code.specs.Lowering.{asks_whether}
+use Rattle.cql2_code.specs.Question.{Question}
+use Rattle.cql2_code.specs.declared.question.Exits.{Exits}
+use Rattle.cql2_code.proofs.Accepted.{program_is_accepted, program_is_forward}
+use Rattle.cql2_code.proofs.Lowered.{asks_rightly}
+use Rattle.cql2_code.proofs.Sound.{asks_soundly}
+use Rattle.cql2_code.proofs.Whole.{program_answers}
+
+-- the code is a filter's program
+abbrev pub IsProgram : {A : Type 0} → List Insn → Filter A → Option NumericColumn → Type 0
+IsProgram code filter score = code ≡ program score (asks_whether filter true)
+
+-- it answers yes with the score, or no
+abbrev AnswersBy : List Insn → Contents → Option NumericColumn → Bool → Type 0
+AnswersBy code segment score chosen = Answers code segment (number.truth chosen) (if chosen then score_of score segment else 0)
+
+pub chooses : {A : Type 0} (code : List Insn) (filter : Filter A) (score : Option NumericColumn) → IsProgram code filter score
+    → Chooses code filter score
+chooses code filter score is segment segment_is =
+    subst (λ (c : List Insn). AnswersBy c segment score (selects filter segment)) (sym is)
+    (subst (λ (chosen : Bool). AnswersBy (program score (asks_whether filter true)) segment score chosen)
+    (asks_rightly segment segment_is filter true)
+    (program_answers score (asks_whether filter true) (asks_soundly filter true) segment segment_is))
+
+pub forward : {A : Type 0} (code : List Insn) (filter : Filter A) (score : Option NumericColumn) → IsProgram code filter score
+    → IsForward code
+forward code filter score is = subst IsForward (sym is) (program_is_forward score (asks_whether filter true) (asks_soundly filter true))
+
+pub accepted : {A : Type 0} (code : List Insn) (filter : Filter A) (score : Option NumericColumn) → IsProgram code filter score
+    → HasGoodAnnotation code
+accepted code filter score is =
+    subst HasGoodAnnotation (sym is) (program_is_accepted score (asks_whether filter true) (asks_soundly filter true))
+
+-- what follows a program's question, written from its end on
+pub end_written : {one two three : List Insn} (score : Option NumericColumn) → one ≡ answer_code 0 → two ≡ answer_code 1 ++ one
+    → three ≡ score_code score ++ two → three ≡ chosen_code score ++ answer_code 0
+end_written score first second third =
+    third ∙ ap (λ (rest : List Insn). score_code score ++ rest) (second ∙ ap (λ (rest : List Insn). answer_code 1 ++ rest) first)
+    ∙ sym (append_assoc (score_code score) (answer_code 1) (answer_code 0))
+
+-- the question jumps past the part that follows if the answer is yes
+pub chosen_words : {one three : List Insn} (score : Option NumericColumn) → one ≡ answer_code 0
+    → three ≡ chosen_code score ++ answer_code 0 → word_count three - word_count one ≡ word_count (chosen_code score)
+chosen_words score first all =
+    let there = ap word_count all ∙ word_count-append (chosen_code score) (answer_code 0) in
+    let last = ap word_count first in
+    omega arith
+
+-- a program, put together from its end on
+pub program_written : {question : Question} {exits : Exits} {end whole : List Insn} (score : Option NumericColumn)
+    → end ≡ chosen_code score ++ answer_code 0 → exits.falls ≡ true → exits.beyond ≡ word_count (chosen_code score)
+    → Writes question exits end whole → copy w6 r1 ∷ whole ≡ program score question
+program_written {question} {exits} {end} {whole} score last falls beyond written =
+    ap (λ (rest : List Insn). copy w6 r1 ∷ rest)
+    (written.code ∙ ap (λ (b : Bool). question_code question b exits.beyond ++ end) falls
+    ∙ ap (λ (n : ℕ). question_code question true n ++ end) beyond
+    ∙ ap (λ (rest : List Insn). question_code question true (word_count (chosen_code score)) ++ rest) last)
+
+-- what a result's code has, if there is one
+pub if_ok : {E : Type 0} {whole : List Insn} (P : List Insn → Type 0) (result : Result (List Insn) E) → IfOk result (λ code. code ≡ whole)
+    → P whole → IfOk result P
+if_ok {E} {whole} P result same holds =
+    IfOk-weaker result (λ (code : List Insn). code ≡ whole) P (λ code is. subst P (sym is) holds) same
+
+-- a filter's question is written if that of an equal filter is
+pub asks_as : {A : Type 0} {filter other : Filter A} {exits : Exits} {old new : List Insn} (asked : Bool) → filter ≡ other
+    → Writes (asks_whether other asked) exits old new → Writes (asks_whether filter asked) exits old new
+asks_as {A} {filter} {other} {exits} {old} {new} asked same written =
+    subst (λ (f : Filter A). Writes (asks_whether f asked) exits old new) (sym same) written
+
+-- Extracts
+
+row_is : (chosen : Bool) (score : ℕ) (segment : Contents)
+    → (if chosen then row_of score segment else []) ≡ row_if_chosen (number.truth chosen) (if chosen then score else 0) segment
+row_is true score segment = refl
+row_is false score segment = refl
+
+count_is : (chosen : Bool) → (if chosen then 1 else 0) ≡ chosen_count (number.truth chosen)
+count_is true = refl
+count_is false = refl
+
+-- the extract of a filter's program has the rows of the segments for which the filter is true
+pub extracts : {A : Type 0} (code : List Insn) (filter : Filter A) (score : Option NumericColumn) → Chooses code filter score
+    → (segments : List Contents) → All IsSegment segments
+    → IsExtract code segments (rows_of filter score segments) (count_of filter segments)
+extracts code filter score chooses [] all = (refl, refl)
+extracts code filter score chooses (segment ∷ segments) all =
+    let chosen = selects filter segment in (
+      number.truth chosen,
+      (if chosen then score_of score segment else 0),
+      rows_of filter score segments,
+      count_of filter segments,
+      chooses segment (All-head IsSegment segment segments all),
+      ap (λ (rows : List ℕ). rows ++ rows_of filter score segments) (row_is chosen (score_of score segment) segment),
+      ap (λ (n : ℕ). n + count_of filter segments) (count_is chosen),
+      extracts code filter score chooses segments (All-tail IsSegment segment segments all),
+    )

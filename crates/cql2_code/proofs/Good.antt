@@ -1,0 +1,218 @@
+-- Instructions of a code that pass the verifier's checks, and jumps that lead on.
+use Rattle.std.proofs.Common.{◌≡◌, ℕ, zero, suc, ◌+◌, ◌-◌, ◌<◌, ◌≤◌, ◌^◌, ℤ, pos, ◌+ℤ◌, Bool, true, false, is_some, List, [], ◌∷◌, ◌++◌}
+use Rattle.std.proofs.Common.{length, Option, Some, None, Ok, ◌⊎◌, inl, inr, refl, sym, ap, ◌∙◌, subst, arith}
+use Rattle.std.specs.Int.{w64}
+use Rattle.std.proofs.lemmas.Bool.{cases_lt}
+use Rattle.bpf_frame.specs.FrameMap.{unwritten}
+use Rattle.bpf_flow.specs.Flow.{LeadsOn}
+use Rattle.bpf_insn.specs.Arithmetic.{immediate_operand, low_bits}
+use Rattle.bpf_insn.specs.Code.{instruction_at, spelling, word_count}
+use Rattle.bpf_insn.specs.Jump.{jump_distance}
+use Rattle.bpf_insn.specs.declared.instruction.Condition.{Condition}
+use Rattle.bpf_insn.specs.declared.instruction.Insn.{Insn}
+use Rattle.bpf_insn.specs.declared.instruction.Source.{Source}
+use Rattle.bpf_insn.specs.declared.instruction.Source.TheVariants.{Immediate, Register}
+use Rattle.bpf_insn.specs.declared.instruction.Width.TheVariants.{Bits64}
+use Rattle.bpf_insn.proofs.PlaceLemmas.{instruction_at-behind, instruction_at-inside, word_count-cons}
+use Rattle.bpf_kinds.specs.Interval.{between, single}
+use Rattle.bpf_kinds.specs.Narrowing.{refine}
+use Rattle.bpf_kinds.specs.declared.kind.Kind.TheVariants.{Number}
+use Rattle.bpf_kinds.specs.declared.narrowing.Narrowed.{Narrowed}
+use Rattle.bpf_verify.proofs.StateLaws.{reflexive}
+use Rattle.bpf_verify.specs.Annotation.{PassesAt}
+use Rattle.bpf_verify.specs.AbstractState.{AbstractState, Unreached, Edges, IsWithin}
+use Rattle.bpf_verify.specs.Transfer.{narrowed, on_edge, transfer}
+use Rattle.cql2_code.specs.Layout.{jump, r0, r1}
+use Rattle.cql2_code.proofs.Known.{Held, annotation_of, any_number, before, nothing, registers_of, rests_after, resting, state_before}
+use Rattle.cql2_code.proofs.Passes.{AllPass, Passes, needed_by}
+use Rattle.cql2_code.proofs.Steps.{conditional_jump, HasAt}
+
+-- an instruction at a place passes its checks, and its jump leads on
+pub record IsGoodAt (code : List Insn) (place : ℕ) (insn : Insn) : Type 0 where
+  pub passes : PassesAt (annotation_of code) place insn
+  pub leads : (distance : ℤ) → jump_distance insn ≡ Some distance → LeadsOn code place distance
+
+-- instructions from a place on are good, each of them
+abbrev pub AreGoodAt : List Insn → ℕ → List Insn → Type 0
+AreGoodAt code place [] = Unit {0}
+AreGoodAt code place (insn ∷ rest) = IsGoodAt code place insn × AreGoodAt code (place + length (spelling insn)) rest
+
+pub good-append : (code : List Insn) (place : ℕ) (a b : List Insn) → AreGoodAt code place a → AreGoodAt code (place + word_count a) b
+    → AreGoodAt code place (a ++ b)
+good-append code place [] b one two = let e : place + 0 ≡ place = omega arith in subst (λ (p : ℕ). AreGoodAt code p b) e two
+good-append code place (insn ∷ a) b one two =
+    let count = word_count-cons insn a in
+    let e : place + word_count (insn ∷ a) ≡ place + length (spelling insn) + word_count a = omega arith in
+    (one.0, good-append code (place + length (spelling insn)) a b one.1 (subst (λ (p : ℕ). AreGoodAt code p b) e two))
+
+-- the one at any place is
+pub good_there : (code : List Insn) (base : ℕ) (rest : List Insn) → AreGoodAt code base rest → (place : ℕ) (insn : Insn)
+    → instruction_at rest place ≡ Some insn → IsGoodAt code (base + place) insn
+good_there code base [] good place insn at = absurd cc
+good_there code base (first ∷ rest) good zero insn at =
+    let e : base ≡ base + 0 = omega arith in
+    let same : first ≡ insn = cc in
+    subst (λ (p : ℕ). IsGoodAt code p insn) e (subst (IsGoodAt code base) same good.0)
+good_there code base (first ∷ rest) good (suc place) insn at =
+    by_order (λ p there. good_there code (base + length (spelling first)) rest good.1 p insn there)
+    (cases_lt (suc place) (length (spelling first)))
+  where
+    none_some : None ≡ Some insn → ⊥
+    none_some e = cc
+
+    by_order : ((p : ℕ) → instruction_at rest p ≡ Some insn → IsGoodAt code (base + length (spelling first) + p) insn)
+        → (suc place < length (spelling first)) ⊎ (length (spelling first) ≤ suc place) → IsGoodAt code (base + suc place) insn
+    by_order again (inl inside) = absurd (none_some (sym (instruction_at-inside first rest (suc place) (omega arith) inside) ∙ at))
+    by_order again (inr past) =
+        let e : base + length (spelling first) + (suc place - length (spelling first)) ≡ base + suc place = omega arith in
+        subst (λ (p : ℕ). IsGoodAt code p insn) e
+        (again (suc place - length (spelling first)) (sym (instruction_at-behind first rest (suc place) past) ∙ at))
+
+-- what the annotation says at a place
+abbrev pub Needs : List Insn → ℕ → AbstractState → Type 0
+Needs code place state = annotation_of code place ≡ state
+
+-- instructions at a place need what the first one needs
+pub needs_at : (code : List Insn) (place : ℕ) (insns : List Insn) (end : AbstractState) → HasAt code place insns
+    → Needs code (place + word_count insns) end → Needs code place (needed_by insns end)
+needs_at code place [] end has is = let e : place + 0 ≡ place = omega arith in subst (λ (p : ℕ). Needs code p end) e is
+needs_at code place (insn ∷ rest) end has is = ap state_before has.0
+
+not_some : {A : Type 0} {B : Type 0} (x : A) → None ≡ Some x → B
+not_some x e = absurd cc
+
+-- an instruction that passes is good if the annotation says after it what is needed there
+pub good_passes : (code : List Insn) (place : ℕ) (insn : Insn) (needed : AbstractState) → instruction_at code place ≡ Some insn
+    → Needs code (place + length (spelling insn)) needed → Passes insn needed → IsGoodAt code place insn
+good_passes code place insn needed at is passes = record {
+  passes = record {
+    edges = record { next = passes.after; target = Unreached };
+    passes = ap (λ (found : Option Insn). transfer (state_before found) insn) at ∙ passes.passes;
+    next = subst (IsWithin passes.after) (sym is) passes.within;
+    target = λ distance to jumps leads. tt;
+  };
+  leads = λ distance jumps. not_some distance (sym passes.straight ∙ jumps);
+}
+
+pub all_good : (code : List Insn) (place : ℕ) (insns : List Insn) (end : AbstractState) → HasAt code place insns
+    → Needs code (place + word_count insns) end → AllPass insns end → AreGoodAt code place insns
+all_good code place [] end has is all = tt
+all_good code place (insn ∷ rest) end has is all =
+    let count = word_count-cons insn rest in
+    let e : place + word_count (insn ∷ rest) ≡ place + length (spelling insn) + word_count rest = omega arith in
+    let more = subst (λ (p : ℕ). Needs code p end) e is in (
+      good_passes code place insn _ has.0 (needs_at code (place + length (spelling insn)) rest end has.1 more) all.0,
+      all_good code (place + length (spelling insn)) rest end has.1 more all.1,
+    )
+
+-- jumps
+
+-- an instruction begins at a place, and needs nothing but the record's pointer
+pub record Rests (code : List Insn) (place : ℕ) : Type 0 where
+  pub begins : is_some (instruction_at code place) ≡ true
+  pub needs : Needs code place resting
+
+same_distance : (distance other : ℤ) → Some distance ≡ Some other → distance ≡ other
+same_distance distance other e = cc
+
+same_place : (place other : ℕ) → pos place ≡ pos other → place ≡ other
+same_place place other e = cc
+
+-- a jump leads by its distance
+leads_there : (code : List Insn) (place beyond : ℕ) (distance : ℤ) → Some (pos beyond) ≡ Some distance → Rests code (place + 1 + beyond)
+    → LeadsOn code place distance
+leads_there code place beyond distance jumps target =
+    let e = same_distance (pos beyond) distance jumps in
+    record {
+      target = place + 1 + beyond;
+      is_target = ap (λ (d : ℤ). pos (place + 1) +ℤ d) (sym e);
+      later = omega arith;
+      begins = target.begins;
+    }
+
+-- and nowhere else
+only_there : (place beyond : ℕ) (distance : ℤ) (to : ℕ) → Some (pos beyond) ≡ Some distance → pos (place + 1) +ℤ distance ≡ pos to
+    → place + 1 + beyond ≡ to
+only_there place beyond distance to jumps leads =
+    let e = same_distance (pos beyond) distance jumps in same_place (place + 1 + beyond) to (ap (λ (d : ℤ). pos (place + 1) +ℤ d) e ∙ leads)
+
+pub good_jump : (code : List Insn) (place beyond : ℕ) → instruction_at code place ≡ Some (jump (pos beyond))
+    → Rests code (place + 1 + beyond) → IsGoodAt code place (jump (pos beyond))
+good_jump code place beyond at target = record {
+  passes = record {
+    edges = record { next = Unreached; target = resting };
+    passes = ap (λ (found : Option Insn). transfer (state_before found) (jump (pos beyond))) at;
+    next = tt;
+    target = λ distance to jumps leads.
+        subst (λ (p : ℕ). IsWithin resting (annotation_of code p)) (only_there place beyond distance to jumps leads)
+        (subst (IsWithin resting) (sym target.needs) (reflexive resting));
+  };
+  leads = λ distance jumps. leads_there code place beyond distance jumps target;
+}
+
+-- what is known before a conditional jump: a number in register 0, and in register 1 if it is compared with that
+abbrev held_before : Source → Held
+held_before (Immediate number) = record nothing { v0 = any_number }
+held_before (Register register) = record nothing { v0 = any_number; v1 = any_number }
+
+-- what it tells of its operands if it is taken, and if it isn't
+unfoldable told : Condition → Source → Bool → Option Narrowed
+told condition (Immediate number) taken =
+    refine condition Bits64 (between 0 (2 ^ 64 - 1)) (single (low_bits w64 (immediate_operand number))) taken
+told condition (Register register) taken = refine condition Bits64 (between 0 (2 ^ 64 - 1)) (between 0 (2 ^ 64 - 1)) taken
+
+-- what is known on an edge of it
+abbrev edge_by : Condition → Source → Option Narrowed → AbstractState
+edge_by condition source told =
+    on_edge (record { registers = registers_of (held_before source); frame = unwritten })
+    (record { condition = condition; width = Bits64; left = r0; right = source }) (narrowed told)
+
+abbrev edge : Condition → Source → Bool → AbstractState
+edge condition source taken = edge_by condition source (told condition source taken)
+
+abbrev edges : Condition → Source → Edges
+edges condition source = record { next = edge condition source false; target = edge condition source true }
+
+-- the operand of a conditional jump is an immediate, or register 1
+pub data IsOperand : Source → Type 0 where
+  is_immediate : (number : ℤ) → IsOperand (Immediate number)
+  is_register : IsOperand (Register r1)
+
+-- on its edges no more is needed than the record's pointer
+edge_rests : (condition : Condition) (source : Source) (told : Option Narrowed) → IsOperand source
+    → IsWithin (edge_by condition source told) resting
+edge_rests condition source None operand = tt
+edge_rests condition source (Some both) (is_immediate number) = rests_after (record nothing { v0 = Number both.left })
+edge_rests condition source (Some both) is_register = rests_after (record nothing { v0 = Number both.left; v1 = Number both.right })
+
+edge_leads : (code : List Insn) (place : ℕ) (condition : Condition) (source : Source) (taken : Bool) → IsOperand source → Rests code place
+    → IsWithin (edge condition source taken) (annotation_of code place)
+edge_leads code place condition source taken operand rests =
+    subst (IsWithin (edge condition source taken)) (sym rests.needs) (edge_rests condition source (told condition source taken) operand)
+
+branch_passes : (condition : Condition) (source : Source) (beyond : ℕ) → IsOperand source
+    → transfer (before (conditional_jump condition source beyond)) (conditional_jump condition source beyond) ≡ Ok (edges condition source)
+unfolding told
+branch_passes condition source beyond (is_immediate number) = refl
+branch_passes condition source beyond is_register = refl
+
+-- a conditional jump at a place, with ways on that need nothing more
+pub record BranchAt (code : List Insn) (place : ℕ) (condition : Condition) (source : Source) (beyond : ℕ) : Type 0 where
+  pub at : instruction_at code place ≡ Some (conditional_jump condition source beyond)
+  pub next : Rests code (place + 1)
+  pub target : Rests code (place + 1 + beyond)
+
+pub good_branch : (code : List Insn) (place : ℕ) (condition : Condition) (source : Source) (beyond : ℕ) → IsOperand source
+    → BranchAt code place condition source beyond → IsGoodAt code place (conditional_jump condition source beyond)
+good_branch code place condition source beyond operand branch = record {
+  passes = record {
+    edges = edges condition source;
+    passes = ap (λ (found : Option Insn). transfer (state_before found) (conditional_jump condition source beyond)) branch.at
+        ∙ branch_passes condition source beyond operand;
+    next = edge_leads code (place + 1) condition source false operand branch.next;
+    target = λ distance to jumps leads.
+        subst (λ (p : ℕ). IsWithin (edge condition source true) (annotation_of code p)) (only_there place beyond distance to jumps leads)
+        (edge_leads code (place + 1 + beyond) condition source true operand branch.target);
+  };
+  leads = λ distance jumps. leads_there code place beyond distance jumps branch.target;
+}

@@ -1,0 +1,49 @@
+-- A filter's questions have the answers that its truth gives.
+use Rattle.std.proofs.Common.{◌≡◌, Bool, not, is_none, refl, sym, ap, ◌∙◌}
+use Rattle.std.specs.Bool.{beq}
+use Rattle.tl_segments.specs.Segment.{Contents, IsSegment}
+use Rattle.cql2.specs.Column.{numeric_value}
+use Rattle.cql2.specs.Truth.{is, is_null as is_column_null, truth}
+use Rattle.cql2.specs.declared.column.Column.{Column}
+use Rattle.cql2.specs.declared.column.Column.TheVariants.{Numeric, Text}
+use Rattle.cql2.specs.declared.filter.Filter.{Filter}
+use Rattle.cql2.specs.declared.filter.Filter.TheVariants.{Constant, And', Or', Not', IsNull, CompareNumber, CompareText, Like, HasNumber}
+use Rattle.cql2.specs.declared.filter.Filter.TheVariants.{HasName}
+use Rattle.cql2_code.specs.Lowering.{asks_whether, is_null}
+use Rattle.cql2_code.specs.Question.{answer}
+use Rattle.cql2_code.proofs.FieldLemmas.{field_of, null_found, text_null, text_value_is}
+use Rattle.cql2_code.proofs.JoinLemmas.{and_joins, asked_answers, joined_answers, not_exchanges, or_joins}
+use Rattle.cql2_code.proofs.LikeLemmas.{asks_like_rightly}
+use Rattle.cql2_code.proofs.NameLemmas.{has_name_rightly}
+use Rattle.cql2_code.proofs.NumberLemmas.{compares_number_rightly, has_value_rightly, none_is}
+use Rattle.cql2_code.proofs.RangeLemmas.{has_number_rightly}
+use Rattle.cql2_code.proofs.TextLemmas.{compares_text_rightly, text_wanted}
+
+null_rightly : (segment : Contents) → IsSegment segment → (column : Column)
+    → answer (is_null column) segment ≡ is_column_null column segment.bytes
+null_rightly segment is (Numeric column) = ap not (has_value_rightly column segment) ∙ none_is (numeric_value column segment.bytes)
+null_rightly segment is (Text column) =
+    null_found segment is column ∙ sym (text_null (field_of column segment)) ∙ sym (ap is_none (text_value_is column segment))
+
+-- the question whether a filter is true, and the one whether it is false
+pub asks_rightly : {A : Type 0} (segment : Contents) → IsSegment segment → (filter : Filter A) (asked : Bool)
+    → answer (asks_whether filter asked) segment ≡ is (truth filter segment) asked
+asks_rightly segment is (Constant value) asked = refl
+asks_rightly segment is (And' p first q second) asked =
+    joined_answers asked (asks_rightly segment is first asked) (asks_rightly segment is second asked)
+    ∙ and_joins (truth first segment) (truth second segment) asked
+asks_rightly segment is (Or' p first q second) asked =
+    joined_answers (not asked) (asks_rightly segment is first asked) (asks_rightly segment is second asked)
+    ∙ or_joins (truth first segment) (truth second segment) asked
+asks_rightly segment is (Not' p inner) asked = asks_rightly segment is inner (not asked) ∙ not_exchanges (truth inner segment) asked
+asks_rightly segment is (IsNull column) asked =
+    asked_answers (is_null column) segment asked ∙ ap (λ (null : Bool). beq null asked) (null_rightly segment is column)
+asks_rightly segment is (CompareNumber column comparison literal) asked =
+    compares_number_rightly column comparison literal.number segment literal.fits asked
+asks_rightly segment is (CompareText column comparison text) asked =
+    compares_text_rightly segment is column text.bytes.items (text_wanted text.bytes.items text.is_text) comparison asked
+asks_rightly segment is (Like column pattern) asked =
+    asks_like_rightly segment is column pattern.wanted.items pattern.are_bytes pattern.is_open asked
+asks_rightly segment is (HasNumber house) asked = has_number_rightly segment is house.number asked
+asks_rightly segment is (HasName text limit) asked =
+    has_name_rightly segment is text.bytes.items limit.number (text_wanted text.bytes.items text.is_text).few limit.fits asked

@@ -1,0 +1,305 @@
+-- The verifier passes the instructions of a filter's program that are no jumps, one after the other.
+use Rattle.std.proofs.Common.{◌≡◌, ℕ, ◌+◌, ◌-◌, ◌/◌, ◌%◌, ◌^◌, ◌<◌, ◌≤◌, pos, Bool, true, false, List, [], ◌∷◌, ◌++◌, Option, Some, None}
+use Rattle.std.proofs.Common.{Ok, if◌then◌else◌, refl, sym, subst, arith, rules, lit<}
+use Rattle.std.specs.Prelude.{nat_le}
+use Rattle.std.specs.Int.{cast_signed, w32}
+use Rattle.bpf_frame.specs.FrameMap as map
+use Rattle.bpf_frame.specs.OrderLaws as maps
+use Rattle.bpf_insn.specs.Arithmetic.{wide_number}
+use Rattle.bpf_insn.specs.Jump.{jump_distance}
+use Rattle.bpf_insn.specs.declared.instruction.Insn.{Insn}
+use Rattle.bpf_insn.specs.declared.instruction.Insn.TheVariants.{Exit}
+use Rattle.bpf_insn.specs.declared.memory.TheConstants.{FRAME_LENGTH}
+use Rattle.bpf_kinds.proofs.KindLemmas as kinds
+use Rattle.bpf_kinds.specs.Interval.{between, single}
+use Rattle.bpf_kinds.specs.Kind as kind
+use Rattle.bpf_kinds.specs.Offsets as offsets
+use Rattle.bpf_kinds.specs.declared.kind.Kind.TheVariants.{Number}
+use Rattle.bpf_verify.proofs.StateLaws.{reflexive}
+use Rattle.bpf_verify.specs.AbstractState.{AbstractState, Unreached, IsWithin}
+use Rattle.bpf_verify.specs.Transfer.{lie_within, transfer}
+use Rattle.tl_segments.specs.declared.segment.TheConstants.{RECORD_LENGTH}
+use Rattle.cql2.specs.declared.column.NumericColumn.{NumericColumn}
+use Rattle.cql2.specs.declared.column.NumericColumn.TheVariants as column
+use Rattle.cql2_code.specs.Layout.{answer_code, call, chosen_code, copy, load, move, move_to_name, r0, r1, r10, set_number, store_name}
+use Rattle.cql2_code.specs.Layout.{store_word, subject_code, w0, w1, w2, w3, w6, wide_load}
+use Rattle.cql2_code.specs.Question.{IsSoundSubject, chunk_length, coordinate_id, field_id}
+use Rattle.cql2_code.specs.declared.question.Chunk.{Chunk}
+use Rattle.cql2_code.specs.declared.question.Chunk.TheVariants.{Byte, Word, DoubleWord}
+use Rattle.cql2_code.specs.declared.question.Subject.{Subject}
+use Rattle.cql2_code.specs.declared.question.Subject.TheVariants as subject
+use Rattle.cql2_code.proofs.Columns.{coordinate_small, field_small}
+use Rattle.cql2_code.proofs.Operands.{wide_is}
+use Rattle.cql2_code.proofs.Known.{Held, KnowsMore, answered, any_number, before, compared, given, given_any, given_two, knowing}
+use Rattle.cql2_code.proofs.Known.{knows_more, named, nothing, pointed, rests_after, resting, stored, to_record, up_to, within_unwritten}
+
+-- an instruction that is no jump passes, and what is known after it is enough there
+pub record Passes (insn : Insn) (needed : AbstractState) : Type 0 where
+  pub after : AbstractState
+  pub passes : transfer (before insn) insn ≡ Ok (record { next = after; target = Unreached })
+  pub straight : jump_distance insn ≡ None
+  pub within : IsWithin after needed
+
+-- what instructions need before them, by what is needed after them
+abbrev pub needed_by : List Insn → AbstractState → AbstractState
+needed_by [] end = end
+needed_by (insn ∷ rest) end = before insn
+
+-- all instructions pass
+abbrev pub AllPass : List Insn → AbstractState → Type 0
+AllPass [] end = Unit {0}
+AllPass (insn ∷ rest) end = Passes insn (needed_by rest end) × AllPass rest end
+
+pub needed_by-append : (a b : List Insn) (end : AbstractState) → needed_by (a ++ b) end ≡ needed_by a (needed_by b end)
+needed_by-append [] b end = refl
+needed_by-append (insn ∷ a) b end = refl
+
+pub all_pass-append : (a b : List Insn) (end : AbstractState) → AllPass a (needed_by b end) → AllPass b end → AllPass (a ++ b) end
+all_pass-append [] b end one two = two
+all_pass-append (insn ∷ a) b end one two = (
+  subst (Passes insn) (sym (needed_by-append a b end)) one.0,
+  all_pass-append a b end one.1 two,
+)
+
+-- an instruction after which this is known
+passes : (insn : Insn) (held other : Held) → transfer (before insn) insn ≡ Ok (record { next = knowing held; target = Unreached })
+    → jump_distance insn ≡ None → KnowsMore held other → Passes insn (knowing other)
+passes insn held other is straight more =
+    record { after = knowing held; passes = is; straight = straight; within = knows_more held other more }
+
+-- a number up to another
+among : (number most : ℕ) → number ≤ most → kind.IsWithin (Number (single number)) (up_to most)
+among number most small = record { low = omega arith; high = small }
+
+-- an interval of numbers up to another
+fewer : (low high most : ℕ) → high ≤ most → kind.IsWithin (Number (between low high)) (up_to most)
+fewer low high most small = record { low = omega arith; high = small }
+
+-- numbers that are moved
+
+pub passes_move_0 : (number : ℕ) → number < 2 ^ 64 → Passes (move w0 (pos number)) answered
+passes_move_0 number fits =
+    passes (move w0 (pos number)) (record nothing { v0 = Number (single number) }) (record nothing { v0 = any_number }) refl refl
+    (record { v0 = among number (2 ^ 64 - 1) (omega arith); v1 = tt; v2 = tt; v3 = tt; frame = maps.reflexive map.unwritten })
+
+pub passes_move_1 : (number most : ℕ) → number ≤ most → Passes (move w1 (pos number)) (given most)
+passes_move_1 number most small =
+    passes (move w1 (pos number)) (record nothing { v1 = Number (single number) }) (record nothing { v1 = up_to most }) refl refl
+    (record { v0 = tt; v1 = among number most small; v2 = tt; v3 = tt; frame = maps.reflexive map.unwritten })
+
+-- the end of a program
+pub passes_exit : (needed : AbstractState) → Passes Exit needed
+passes_exit needed = record { after = Unreached; passes = refl; straight = refl; within = tt }
+
+-- an instruction that takes numbers into register 0
+takes : (insn : Insn) (low high : ℕ) (frame : map.Contents) → high < 2 ^ 64
+    → (let held : Held = record nothing { v0 = Number (between low high); frame = frame } in
+    transfer (before insn) insn ≡ Ok (record { next = knowing held; target = Unreached }))
+    → jump_distance insn ≡ None → Passes insn answered
+takes insn low high frame fits is straight =
+    passes insn (record nothing { v0 = Number (between low high); frame = frame }) (record nothing { v0 = any_number }) is straight
+    (record { v0 = fewer low high (2 ^ 64 - 1) (omega arith); v1 = tt; v2 = tt; v3 = tt; frame = within_unwritten frame })
+
+-- calls
+
+passes_field : Passes (call 1) answered
+passes_field = takes (call 1) 0 99999999999 map.unwritten (lit< tt) refl refl
+
+passes_has : Passes (call 2) answered
+passes_has = takes (call 2) 0 1 map.unwritten (lit< tt) refl refl
+
+passes_names : Passes (call 3) answered
+passes_names = takes (call 3) 0 5000 map.unwritten (lit< tt) refl refl
+
+passes_ranges : Passes (call 4) answered
+passes_ranges = takes (call 4) 1 1001 map.unwritten (lit< tt) refl refl
+
+passes_in_range : Passes (call 5) answered
+passes_in_range = takes (call 5) 0 3 map.unwritten (lit< tt) refl refl
+
+passes_name_is : Passes (call 7) answered
+passes_name_is = takes (call 7) 0 1 (stored 8) (lit< tt) refl refl
+
+passes_coordinate : Passes (call 9) answered
+passes_coordinate = takes (call 9) 0 (2 ^ 64 - 1) map.unwritten (lit< tt) refl refl
+
+passes_emit : Passes (call 8) resting
+passes_emit = record {
+  after = knowing (record nothing { v0 = Number (single 0) });
+  passes = refl;
+  straight = refl;
+  within = rests_after (record nothing { v0 = Number (single 0) });
+}
+
+-- loads
+
+lies_inside : (i count : ℕ) → i + count ≤ RECORD_LENGTH → lie_within (offsets.between (pos 0) (pos 0)) (pos i) count RECORD_LENGTH ≡ true
+lies_inside i count within = search rules
+
+passes_load : (chunk : Chunk) (i : ℕ) → i + chunk_length chunk ≤ RECORD_LENGTH → Passes (load chunk i) answered
+passes_load Byte i within = takes (load Byte i) 0 (2 ^ 8 - 1) map.unwritten (lit< tt) (rw (lies_inside i 1 within)) refl
+passes_load Word i within = takes (load Word i) 0 (2 ^ 32 - 1) map.unwritten (lit< tt) (rw (lies_inside i 4 within)) refl
+passes_load DoubleWord i within = takes (load DoubleWord i) 0 (2 ^ 64 - 1) map.unwritten (lit< tt) (rw (lies_inside i 8 within)) refl
+
+-- numbers by their halves
+
+-- the number of a wide load
+abbrev wide : ℕ → ℕ
+wide number = wide_number (cast_signed w32 (number % 2 ^ 32)) (cast_signed w32 (number / 2 ^ 32))
+
+wide_fits : (number : ℕ) → number < 2 ^ 64 → wide number ≤ 2 ^ 64 - 1
+wide_fits number fits = let is = wide_is number fits in omega arith
+
+pub passes_wide_load_1 : (number : ℕ) → number < 2 ^ 64 → Passes (wide_load w1 number) compared
+passes_wide_load_1 number fits =
+    passes (wide_load w1 number) (record nothing { v0 = any_number; v1 = Number (single (wide number)) })
+    (record nothing { v0 = any_number; v1 = any_number }) refl refl
+    (record {
+      v0 = kinds.reflexive any_number;
+      v1 = among (wide number) (2 ^ 64 - 1) (wide_fits number fits);
+      v2 = tt;
+      v3 = tt;
+      frame = maps.reflexive map.unwritten;
+    })
+
+-- register 2 gets a number
+passes_second : (insn : Insn) (number : ℕ) → number ≤ 2 ^ 64 - 1
+    → (let held : Held = record nothing { v1 = any_number; v2 = Number (single number) } in
+    transfer (before insn) insn ≡ Ok (record { next = knowing held; target = Unreached }))
+    → jump_distance insn ≡ None → Passes insn given_two
+passes_second insn number fits is straight =
+    passes insn (record nothing { v1 = any_number; v2 = Number (single number) }) (record nothing { v1 = any_number; v2 = any_number }) is
+    straight
+    (record {
+      v0 = tt;
+      v1 = kinds.reflexive any_number;
+      v2 = among number (2 ^ 64 - 1) fits;
+      v3 = tt;
+      frame = maps.reflexive map.unwritten;
+    })
+
+passes_set_number : (number : ℕ) → number < 2 ^ 64 → Passes (set_number w2 number) given_two
+passes_set_number number fits = by_size (nat_le number 2147483647)
+  where
+    by_size : (small : Bool) → Passes (if small then move w2 (pos number) else wide_load w2 number) given_two
+    by_size true = passes_second (move w2 (pos number)) number (omega arith) refl refl
+    by_size false = passes_second (wide_load w2 number) (wide number) (wide_fits number fits) refl refl
+
+before_set_number : (number : ℕ) → before (set_number w2 number) ≡ given_any
+before_set_number number = by_size (nat_le number 2147483647)
+  where
+    by_size : (small : Bool) → before (if small then move w2 (pos number) else wide_load w2 number) ≡ given_any
+    by_size true = refl
+    by_size false = refl
+
+-- an instruction after which exactly this is known
+exactly : (insn : Insn) (needed : AbstractState) → transfer (before insn) insn ≡ Ok (record { next = needed; target = Unreached })
+    → jump_distance insn ≡ None → Passes insn needed
+exactly insn needed is straight = record { after = needed; passes = is; straight = straight; within = reflexive needed }
+
+passes_copy_10 : Passes (copy w2 r10) (pointed FRAME_LENGTH)
+passes_copy_10 = exactly (copy w2 r10) (pointed FRAME_LENGTH) refl refl
+
+passes_move_to_name : Passes move_to_name (pointed 480)
+passes_move_to_name = exactly move_to_name (pointed 480) refl refl
+
+passes_move_3 : Passes (move w3 (pos 30)) (named 0)
+passes_move_3 = exactly (move w3 (pos 30)) (named 0) refl refl
+
+passes_copy_0 : Passes (copy w1 r0) given_any
+passes_copy_0 =
+    passes (copy w1 r0) (record nothing { v0 = any_number; v1 = any_number }) (record nothing { v1 = any_number }) refl refl
+    (record { v0 = tt; v1 = kinds.reflexive any_number; v2 = tt; v3 = tt; frame = maps.reflexive map.unwritten })
+
+-- the first instruction of a program
+pub passes_keep : Passes (copy w6 r1) resting
+passes_keep = record {
+  after = knowing (record nothing { v1 = to_record });
+  passes = refl;
+  straight = refl;
+  within = rests_after (record nothing { v1 = to_record });
+}
+
+-- the stores of a name
+
+store_passes : (wanted : List ℕ) → AllPass (store_name wanted) (named 8)
+store_passes wanted = (
+  exactly (store_word 0 wanted) (named 1) refl refl,
+  (
+    exactly (store_word 1 wanted) (named 2) refl refl,
+    (
+      exactly (store_word 2 wanted) (named 3) refl refl,
+      (
+        exactly (store_word 3 wanted) (named 4) refl refl,
+        (
+          exactly (store_word 4 wanted) (named 5) refl refl,
+          (
+            exactly (store_word 5 wanted) (named 6) refl refl,
+            (exactly (store_word 6 wanted) (named 7) refl refl, (exactly (store_word 7 wanted) (named 8) refl refl, tt)),
+          ),
+        ),
+      ),
+    ),
+  ),
+)
+
+-- codes
+
+name_is_passes : (name : ℕ) (wanted : List ℕ) → name < 2 ^ 16 → AllPass (subject_code (subject.NameIs name wanted)) answered
+name_is_passes name wanted fits = (
+  passes_move_1 name (2 ^ 64 - 1) (omega arith),
+  (
+    passes_copy_10,
+    (
+      passes_move_to_name,
+      (passes_move_3, all_pass-append (store_name wanted) (call 7 ∷ []) answered (store_passes wanted) (passes_name_is, tt)),
+    ),
+  ),
+)
+
+pub subject_passes : (s : Subject) → IsSoundSubject s → AllPass (subject_code s) answered
+subject_passes (subject.Number column) sound = (passes_move_1 (field_id column) 16 (field_small column), (passes_field, tt))
+subject_passes (subject.HasNumber column) sound = (passes_move_1 (field_id column) 16 (field_small column), (passes_has, tt))
+subject_passes (subject.Coordinate column) sound = (
+  passes_move_1 (coordinate_id column) 3 (coordinate_small column),
+  (passes_coordinate, tt),
+)
+subject_passes subject.Names sound = (passes_names, tt)
+subject_passes subject.Ranges sound = (passes_ranges, tt)
+subject_passes (subject.InRange range house) sound =
+    let fits = sound.0 in (
+      subst (Passes (move w1 (pos range))) (sym (before_set_number house)) (passes_move_1 range (2 ^ 64 - 1) (omega arith)),
+      (passes_set_number house sound.1, (passes_in_range, tt)),
+    )
+subject_passes (subject.NameIs name wanted) sound = name_is_passes name wanted sound.0
+subject_passes (subject.Load chunk at) sound = (passes_load chunk at sound, tt)
+
+-- the code of a subject needs nothing but the record's pointer
+pub subject_rests : (s : Subject) → needed_by (subject_code s) answered ≡ resting
+subject_rests (subject.Number column) = refl
+subject_rests (subject.HasNumber column) = refl
+subject_rests (subject.Coordinate column) = refl
+subject_rests subject.Names = refl
+subject_rests subject.Ranges = refl
+subject_rests (subject.InRange range house) = refl
+subject_rests (subject.NameIs name wanted) = refl
+subject_rests (subject.Load chunk at) = refl
+
+pub answer_passes : (number : ℕ) (needed : AbstractState) → number < 2 ^ 64 → AllPass (answer_code number) needed
+answer_passes number needed fits = (passes_move_0 number fits, (passes_exit needed, tt))
+
+pub chosen_passes : (score : Option NumericColumn) (needed : AbstractState) → AllPass (chosen_code score) needed
+chosen_passes None needed = answer_passes 1 needed (lit< tt)
+chosen_passes (Some (column.Number field)) needed = (
+  passes_move_1 (field_id field) 16 (field_small field),
+  (passes_field, (passes_copy_0, (passes_emit, answer_passes 1 needed (lit< tt)))),
+)
+chosen_passes (Some (column.Coordinate end)) needed = (
+  passes_move_1 (coordinate_id end) 3 (coordinate_small end),
+  (passes_coordinate, (passes_copy_0, (passes_emit, answer_passes 1 needed (lit< tt)))),
+)
+
+pub chosen_rests : (score : Option NumericColumn) (needed : AbstractState) → needed_by (chosen_code score) needed ≡ resting
+chosen_rests None needed = refl
+chosen_rests (Some (column.Number field)) needed = refl
+chosen_rests (Some (column.Coordinate end)) needed = refl

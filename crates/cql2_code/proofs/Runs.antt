@@ -1,0 +1,229 @@
+-- Runs of a question's code: they reach the way out that belongs to the answer.
+use Rattle.std.proofs.Common.{◌≡◌, ℕ, ◌+◌, pos, Bool, true, false, not, is_some, List, [], ◌∷◌, if◌then◌else◌, refl, sym, ap, ◌∙◌, subst}
+use Rattle.std.proofs.Common.{arith}
+use Rattle.std.specs.Prelude.{FitsSigned}
+use Rattle.std.specs.Bool.{beq}
+use Rattle.std.specs.Int.{w64}
+use Rattle.bpf_insn.specs.Arithmetic.{immediate_operand, is_met}
+use Rattle.bpf_insn.specs.Code.{word_count}
+use Rattle.bpf_insn.specs.declared.instruction.Insn.{Insn}
+use Rattle.bpf_insn.specs.declared.instruction.Source.TheVariants.{Register}
+use Rattle.bpf_insn.specs.declared.instruction.Width.TheVariants.{Bits64}
+use Rattle.bpf_insn.proofs.PlaceLemmas.{word_count-append}
+use Rattle.bpf_meaning.specs.Step.{Configuration, after}
+use Rattle.tl_segments.specs.Segment.{IsSegment}
+use Rattle.cql2.specs.declared.filter.Comparison.{Comparison}
+use Rattle.cql2_code.specs.Layout.{comparison_code, first_beyond, is_narrow, jump, opposite, question_code, r1, subject_code, test_code, w1}
+use Rattle.cql2_code.specs.Layout.{wide_load}
+use Rattle.cql2_code.specs.Question.{IsSound, IsSoundTest, Question, Decided, Holds, Opposite, Joined, answer, condition_of, is_so, joined}
+use Rattle.cql2_code.specs.Question.{value as number_in}
+use Rattle.cql2_code.specs.declared.question.Test.{Test}
+use Rattle.cql2_code.proofs.Codes.{Joint, Pair, Placed, beyond_first, comparison_by, comparison_is, first_code, first_placed, joint_of}
+use Rattle.cql2_code.proofs.Codes.{jumping, jumps_on, second_code, second_placed}
+use Rattle.cql2_code.proofs.Operands.{operand_fits, opposite_is_not, wide_is}
+use Rattle.cql2_code.proofs.Steps.{with_0, with_1, Begins, Reaches, Does, JumpsAt, Scratch, Setting, and_on, begins_at, has_front, jumps}
+use Rattle.cql2_code.proofs.Steps.{jumps_by_immediate, jumps_by_register, loads_wide_1, running, state, stays, steps_on}
+use Rattle.cql2_code.proofs.Subjects.{Takes, takes}
+
+-- a run that reaches a place, whatever registers and frame hold there
+pub record Arrives (on : Setting) (from : Configuration) (place : ℕ) : Type 0 where
+  pub scratch : Scratch
+  pub reaches : Reaches on from (running on scratch place)
+
+-- runs from a place reach another, whatever they hold at first
+abbrev pub Leads : Setting → ℕ → ℕ → Type 0
+Leads on from to = (scratch : Scratch) → Arrives on (running on scratch from) to
+
+leads_on : (on : Setting) (from middle to : ℕ) → Leads on from middle → Leads on middle to → Leads on from to
+leads_on on from middle to one two scratch =
+    let there = one scratch in
+    let further = two there.scratch in
+    record { scratch = further.scratch; reaches = and_on on _ (running on there.scratch middle) _ there.reaches further.reaches }
+
+-- a step reaches a place
+arrives_by : (on : Setting) (from scratch : Scratch) (place to : ℕ) → running on scratch to ≡ after on.code on.segment (state on from place)
+    → Arrives on (running on from place) to
+arrives_by on from scratch place to is =
+    record { scratch = scratch; reaches = steps_on on _ (running on scratch to) _ is (stays on (running on scratch to)) }
+
+-- the place that a question's code reaches if it has this answer
+abbrev pub way_out : Bool → Bool → ℕ → ℕ → ℕ
+way_out falls answer end beyond = if beq answer falls then end else end + beyond
+
+-- the condition of a test's jump, by which answer falls through
+taken_to : (comparison : Comparison) (falls : Bool) (x y end beyond : ℕ)
+    → (if is_met (condition_of (if falls then opposite comparison else comparison)) Bits64 x y then end + beyond else end)
+    ≡ way_out falls (is_met (condition_of comparison) Bits64 x y) end beyond
+taken_to comparison true x y end beyond =
+    ap (λ (b : Bool). if b then end + beyond else end) (opposite_is_not comparison x y)
+    ∙ by_answer (is_met (condition_of comparison) Bits64 x y)
+  where
+    by_answer : (b : Bool) → (if not b then end + beyond else end) ≡ way_out true b end beyond
+    by_answer true = refl
+    by_answer false = refl
+taken_to comparison false x y end beyond = by_answer (is_met (condition_of comparison) Bits64 x y)
+  where
+    by_answer : (b : Bool) → (if b then end + beyond else end) ≡ way_out false b end beyond
+    by_answer true = refl
+    by_answer false = refl
+
+-- a code at a place, with two ways out where instructions begin
+abbrev pub Stands : List Insn → ℕ → List Insn → ℕ → Type 0
+Stands code place insns beyond = Placed (Begins code) code place insns beyond
+
+-- registers and frame once the number that a test looks at is in register 0
+abbrev taken : Setting → Test → Scratch → Scratch
+taken on test from = with_0 from (number_in test.subject on.segment)
+
+-- whether a test's jump is taken
+abbrev is_taken : Setting → Test → Bool → Bool
+is_taken on test falls =
+    is_met (condition_of (jumping test falls)) Bits64 (number_in test.subject on.segment) (immediate_operand test.operand)
+
+-- the place that it reaches, by the place after it
+abbrev jumped : Setting → Test → Bool → ℕ → ℕ → ℕ
+jumped on test falls beyond end = if is_taken on test falls then end + beyond else end
+
+narrow_compares : (on : Setting) (from : Scratch) (test : Test) (falls : Bool) (beyond place : ℕ)
+    → Stands on.code place (comparison_by true (jumping test falls) test.operand beyond) beyond
+    → Arrives on (running on (taken on test from) place) (jumped on test falls beyond (place + 1))
+narrow_compares on from test falls beyond place stands =
+    let n = number_in test.subject on.segment in
+    arrives_by on (taken on test from) (taken on test from) place _
+    (jumps_by_immediate on from n place beyond (condition_of (jumping test falls)) test.operand
+    (record { at = stands.has.0; next = stands.end; target = stands.target }))
+
+wide_compares : (on : Setting) (from : Scratch) (test : Test) (falls : Bool) (beyond place : ℕ) → FitsSigned w64 test.operand
+    → Stands on.code place (comparison_by false (jumping test falls) test.operand beyond) beyond
+    → Arrives on (running on (taken on test from) place) (jumped on test falls beyond (place + 3))
+wide_compares on from test falls beyond place fits stands =
+    let e : place + 2 + 1 ≡ place + 3 = omega arith in
+    let jump : JumpsAt on (place + 2) (condition_of (jumping test falls)) (Register r1) beyond = record {
+      at = stands.has.1.0;
+      next = subst (Begins on.code) (sym e) stands.end;
+      target = subst (λ (p : ℕ). Begins on.code (p + beyond)) (sym e) stands.target;
+    } in
+    let jumps = arrives_by on both both (place + 2) _
+    (jumps_by_register on from (number_in test.subject on.segment) operand (place + 2) beyond (condition_of (jumping test falls)) jump) in
+    let there = subst (λ (p : ℕ). Arrives on (running on both (place + 2)) (jumped on test falls beyond p)) e jumps in
+    record {
+      scratch = there.scratch;
+      reaches = steps_on on _ (running on both (place + 2)) _ (loads.step place stands.has.0 (ap is_some stands.has.1.0)) there.reaches;
+    }
+  where
+    operand : ℕ
+    operand = immediate_operand test.operand
+
+    both : Scratch
+    both = with_1 (taken on test from) operand
+
+    loads : Does on (wide_load w1 operand) (taken on test from) both
+    loads = subst (λ (n : ℕ). Does on (wide_load w1 operand) (taken on test from) (with_1 (taken on test from) n))
+        (wide_is operand (operand_fits test.operand fits)) (loads_wide_1 on (taken on test from) _ _)
+
+-- instructions at a place reach the place that a test's jump reaches
+abbrev Compares : Setting → Scratch → Test → Bool → ℕ → ℕ → List Insn → Type 0
+Compares on from test falls beyond place insns =
+    Stands on.code place insns beyond
+    → Arrives on (running on (taken on test from) place) (jumped on test falls beyond (place + word_count insns))
+
+compares_by : (on : Setting) (from : Scratch) (test : Test) (falls narrow : Bool) (beyond place : ℕ) → FitsSigned w64 test.operand
+    → Compares on from test falls beyond place (comparison_by narrow (jumping test falls) test.operand beyond)
+compares_by on from test falls true beyond place fits stands = narrow_compares on from test falls beyond place stands
+compares_by on from test falls false beyond place fits stands = wide_compares on from test falls beyond place fits stands
+
+compares : (on : Setting) (from : Scratch) (test : Test) (falls : Bool) (beyond place : ℕ) → FitsSigned w64 test.operand
+    → Compares on from test falls beyond place (comparison_code (jumping test falls) test.operand beyond)
+compares on from test falls beyond place fits =
+    subst (Compares on from test falls beyond place) (comparison_is (jumping test falls) test.operand beyond)
+    (compares_by on from test falls (is_narrow test.operand) beyond place fits)
+
+test_leads : (on : Setting) (test : Test) (falls : Bool) (beyond place : ℕ) → IsSoundTest test → IsSegment on.segment
+    → Stands on.code place (test_code test falls beyond) beyond
+    → Leads on place (way_out falls (is_so test on.segment) (place + word_count (test_code test falls beyond)) beyond)
+test_leads on test falls beyond place sound segment stands scratch =
+    let count = word_count-append front back in
+    let e : place + word_count front + word_count back ≡ place + word_count (test_code test falls beyond) = omega arith in
+    let out = taken_to test.comparison falls (number_in test.subject on.segment) (immediate_operand test.operand)
+    (place + word_count (test_code test falls beyond)) beyond in
+    let there = subst (Arrives on (running on (taken on test first.to) (place + word_count front)))
+    (ap (jumped on test falls beyond) e ∙ out) (compares on first.to test falls beyond (place + word_count front) sound.operand after) in
+    record {
+      scratch = there.scratch;
+      reaches = and_on on _ (running on (taken on test first.to) (place + word_count front)) _
+          (first.runs.reaches place (has_front on.code place front back stands.has)
+          (begins_at on.code (place + word_count front) back after.has after.end)) there.reaches;
+    }
+  where
+    front : List Insn
+    front = subject_code test.subject
+
+    back : List Insn
+    back = comparison_code (jumping test falls) test.operand beyond
+
+    after : Stands on.code (place + word_count front) back beyond
+    after = second_placed (Begins on.code) on.code place front back beyond stands
+
+    first : Takes on test.subject scratch
+    first = takes on test.subject scratch sound.subject segment
+
+-- a question that is decided: nothing, or a jump
+decided_leads : (on : Setting) (found falls : Bool) (beyond place : ℕ)
+    → Stands on.code place (question_code (Decided found) falls beyond) beyond
+    → Leads on place (way_out falls found (place + word_count (question_code (Decided found) falls beyond)) beyond)
+decided_leads on found falls beyond place stands = by_test (beq found falls) stands
+  where
+    code_of : Bool → List Insn
+    code_of same = if same then [] else jump (pos beyond) ∷ []
+
+    by_test : (same : Bool) → Stands on.code place (code_of same) beyond
+        → Leads on place (if same then place + word_count (code_of same) else place + word_count (code_of same) + beyond)
+    by_test true stands scratch =
+        let e : place ≡ place + 0 = omega arith in
+        subst (Arrives on (running on scratch place)) e (record { scratch = scratch; reaches = stays on (running on scratch place) })
+    by_test false stands scratch = arrives_by on scratch scratch place _ (jumps on scratch place beyond stands.has.0 stands.target)
+
+-- the first question decides, or the second one
+decides : (on : Setting) (joint : Joint) (falls neutral a b : Bool)
+    → Leads on joint.start (way_out neutral a joint.middle (first_beyond falls neutral joint.words joint.beyond))
+    → Leads on joint.middle (way_out falls b joint.end joint.beyond)
+    → Leads on joint.start (way_out falls (joined neutral a b) joint.end joint.beyond)
+decides on joint true true true b one two = leads_on on joint.start joint.middle _ one two
+decides on joint false true true b one two = leads_on on joint.start joint.middle _ one two
+decides on joint true false false b one two = leads_on on joint.start joint.middle _ one two
+decides on joint false false false b one two = leads_on on joint.start joint.middle _ one two
+decides on joint true true false b one two = subst (Leads on joint.start) (jumps_on joint) one
+decides on joint false true false b one two = subst (Leads on joint.start) joint.is one
+decides on joint true false true b one two = subst (Leads on joint.start) joint.is one
+decides on joint false false true b one two = subst (Leads on joint.start) (jumps_on joint) one
+
+exchanged : (falls answer : Bool) (end beyond : ℕ) → way_out (not falls) answer end beyond ≡ way_out falls (not answer) end beyond
+exchanged true true end beyond = refl
+exchanged true false end beyond = refl
+exchanged false true end beyond = refl
+exchanged false false end beyond = refl
+
+-- from the first instruction of a question's code a run reaches the way out of its answer
+pub question_leads : (on : Setting) (question : Question) (falls : Bool) (beyond place : ℕ) → IsSound question → IsSegment on.segment
+    → Stands on.code place (question_code question falls beyond) beyond
+    → Leads on place (way_out falls (answer question on.segment) (place + word_count (question_code question falls beyond)) beyond)
+question_leads on (Decided found) falls beyond place sound segment stands = decided_leads on found falls beyond place stands
+question_leads on (Holds test) falls beyond place sound segment stands = test_leads on test falls beyond place sound segment stands
+question_leads on (Opposite question) falls beyond place sound segment stands =
+    subst (Leads on place)
+    (exchanged falls (answer question on.segment) (place + word_count (question_code question (not falls) beyond)) beyond)
+    (question_leads on question (not falls) beyond place sound segment stands)
+question_leads on (Joined neutral first second) falls beyond place sound segment stands =
+    let after = second_placed (Begins on.code) on.code place (first_code pair) (second_code pair) beyond stands in
+    let end = begins_at on.code joint.middle (second_code pair) after.has after.end in
+    let before = first_placed (Begins on.code) on.code place pair stands end in
+    decides on joint falls neutral (answer first on.segment) (answer second on.segment)
+    (question_leads on first neutral (beyond_first pair) place sound.0 segment before)
+    (subst (λ (p : ℕ). Leads on joint.middle (way_out falls (answer second on.segment) p beyond)) joint.is
+    (question_leads on second falls beyond joint.middle sound.1 segment after))
+  where
+    pair : Pair
+    pair = record { neutral = neutral; first = first; second = second; falls = falls; beyond = beyond }
+
+    joint : Joint
+    joint = joint_of place (first_code pair) (second_code pair) beyond

@@ -1,0 +1,118 @@
+-- The whole program of a question answers it on every segment, with the score.
+use Rattle.std.proofs.Common.{◌≡◌, ℕ, ◌+◌, ◌<◌, ◌^◌, Bool, true, false, is_some, List, ◌∷◌, ◌++◌, Option, Some, None, if◌then◌else◌, refl}
+use Rattle.std.proofs.Common.{sym, ap, ◌∙◌, subst}
+use Rattle.bpf_helpers.specs.Meaning.{truth}
+use Rattle.bpf_insn.specs.Code.{word_count}
+use Rattle.bpf_insn.specs.declared.instruction.Insn.{Insn}
+use Rattle.bpf_insn.specs.declared.value.Value.TheVariants as value
+use Rattle.bpf_meaning.specs.Run.{Answers}
+use Rattle.bpf_meaning.specs.State.{start}
+use Rattle.bpf_meaning.specs.Step.{Configuration, Exited, Running, after}
+use Rattle.bpf_meaning.specs.declared.effect.Change.TheVariants.{SetRegister}
+use Rattle.tl_segments.specs.Segment.{Contents, IsSegment}
+use Rattle.cql2.specs.declared.column.NumericColumn.{NumericColumn}
+use Rattle.cql2.specs.declared.column.NumericColumn.TheVariants as column
+use Rattle.cql2_code.specs.Chosen.{score_of}
+use Rattle.cql2_code.specs.Layout.{answer_code, call, chosen_code, copy, program, subject_code, r0, r1, w1, w6}
+use Rattle.cql2_code.specs.Question.{value as number_in, IsSoundSubject, IsSound, Question, answer}
+use Rattle.cql2_code.specs.declared.question.Subject.{Subject}
+use Rattle.cql2_code.specs.declared.question.Subject.TheVariants as subject
+use Rattle.cql2_code.proofs.Calls.{answered, calls_emit, scored}
+use Rattle.cql2_code.proofs.Columns.{coordinate_fits, field_fits}
+use Rattle.cql2_code.proofs.Program.{has_all, has_chosen, has_other, middle_of, question_stands}
+use Rattle.cql2_code.proofs.Runs.{Arrives, question_leads, way_out}
+use Rattle.cql2_code.proofs.Subjects.{takes}
+use Rattle.cql2_code.proofs.Steps.{with_0, with_1, Begins, Reaches, HasAt, Scratch, Setting, after_at, and_on, begins_at, copies_0_to_1}
+use Rattle.cql2_code.proofs.Steps.{exits, goes, has_back, has_front, moves_0, running, stays, steps_on, to_record}
+
+-- the end of a program, with its answer
+answers : (on : Setting) (from : Scratch) (n place : ℕ) → HasAt on.code place (answer_code n)
+    → Reaches on (running on from place) (Exited n on.score)
+answers on from n place has =
+    let held : Scratch = with_0 from n in
+    steps_on on _ (running on held (place + 1)) _ ((moves_0 on from n).step place has.0 (ap is_some has.1.0))
+    (steps_on on _ (Exited n on.score) _ (exits on held n (place + 1) has.1.0) (stays on (Exited n on.score)))
+
+-- a number in register 0 is emitted as the score, and the segment is selected
+emits : (on : Setting) (from : Scratch) (number place : ℕ) → number < 2 ^ 64
+    → HasAt on.code place (copy w1 r0 ∷ call 8 ∷ answer_code 1) → Reaches on (running on (with_0 from number) place) (Exited 1 number)
+emits on from number place fits has =
+    let both : Scratch = with_1 (with_0 from number) number in
+    let after = answers (scored on number) (answered both 0 0) 1 (place + 1 + 1) has.1.1 in
+    steps_on on _ (running on both (place + 1)) _ ((copies_0_to_1 on from number).step place has.0 (ap is_some has.1.0))
+    (steps_on on _ (running (scored on number) (answered both 0 0) (place + 1 + 1)) _
+    (calls_emit on both number (place + 1) fits has.1.0 (ap is_some has.1.1.0))
+    (record { run = after.run; follows = after.follows; ends = after.ends }))
+
+-- the number of a subject is
+emits_subject : (on : Setting) (from : Scratch) (subject : Subject) (place : ℕ) → IsSoundSubject subject → IsSegment on.segment
+    → number_in subject on.segment < 2 ^ 64 → HasAt on.code place (subject_code subject ++ (copy w1 r0 ∷ call 8 ∷ answer_code 1))
+    → Reaches on (running on from place) (Exited 1 (number_in subject on.segment))
+emits_subject on from subject place sound segment fits has =
+    let front = subject_code subject in
+    let first = takes on subject from sound segment in
+    let back = has_back on.code place front (copy w1 r0 ∷ call 8 ∷ answer_code 1) has in
+    let there = place + word_count front in
+    let number = number_in subject on.segment in
+    and_on on _ (running on (with_0 first.to number) there) _
+    (first.runs.reaches place (has_front on.code place front (copy w1 r0 ∷ call 8 ∷ answer_code 1) has) (ap is_some back.0))
+    (emits on first.to number there fits back)
+
+-- the end of a program if the answer is yes
+chooses : (on : Setting) (from : Scratch) (score : Option NumericColumn) (place : ℕ) → on.score ≡ 0 → IsSegment on.segment
+    → HasAt on.code place (chosen_code score) → Reaches on (running on from place) (Exited 1 (score_of score on.segment))
+chooses on from None place none segment has =
+    subst (λ (s : ℕ). Reaches on (running on from place) (Exited 1 s)) none (answers on from 1 place has)
+chooses on from (Some (column.Number field)) place none segment has =
+    emits_subject on from (subject.Number field) place tt segment (field_fits on.segment field segment) has
+chooses on from (Some (column.Coordinate end)) place none segment has =
+    emits_subject on from (subject.Coordinate end) place tt segment (coordinate_fits on.segment end segment) has
+
+-- the end of a program: its answer, and the score if that is yes
+abbrev ended : Option NumericColumn → Contents → Bool → Configuration
+ended score segment found = Exited (truth found) (if found then score_of score segment else 0)
+
+-- registers and frame once the record's pointer is kept
+abbrev at_first : Scratch
+at_first = record {
+  v0 = value.Empty;
+  v1 = to_record;
+  v2 = value.Empty;
+  v3 = value.Empty;
+  v4 = value.Empty;
+  v5 = value.Empty;
+  frame = start.frame;
+  whole = refl;
+}
+
+-- on each segment the program of a question has its answer, and the score if that is yes
+pub program_answers : (score : Option NumericColumn) (question : Question) → IsSound question → (segment : Contents) → IsSegment segment
+    → Answers (program score question) segment (truth (answer question segment))
+    (if answer question segment then score_of score segment else 0)
+program_answers score question sound segment is = record { run = all.run; is_run = all.follows; exits = all.ends }
+  where
+    on : Setting
+    on = record { code = program score question; segment = segment; score = 0 }
+
+    middle : List Insn
+    middle = middle_of score question
+
+    beyond : ℕ
+    beyond = word_count (chosen_code score)
+
+    begins : Begins on.code 1
+    begins = begins_at on.code 1 middle (question_stands score question).has (question_stands score question).end
+
+    starts : running on at_first 1 ≡ after on.code on.segment start
+    starts = sym (after_at on start (copy w6 r1) (has_all on.code).0 ∙ goes on start 1 (SetRegister w6 to_record) begins)
+
+    there : Arrives on (running on at_first 1) (way_out true (answer question segment) (1 + word_count middle) beyond)
+    there = question_leads on question true beyond 1 sound is (question_stands score question) at_first
+
+    ends : (found : Bool)
+        → Reaches on (running on there.scratch (way_out true found (1 + word_count middle) beyond)) (ended score segment found)
+    ends true = chooses on there.scratch score (1 + word_count middle) refl is (has_chosen score question)
+    ends false = answers on there.scratch 0 (1 + word_count middle + beyond) (has_other score question)
+
+    all : Reaches on (Running start) (ended score segment (answer question segment))
+    all = steps_on on start (running on at_first 1) _ starts (and_on on _ _ _ there.reaches (ends (answer question segment)))

@@ -1,0 +1,60 @@
+-- Code that is written from its end on.
+use Rattle.std.proofs.Common.{◌≡◌, ℕ, ◌-◌, Bool, true, false, not, if◌then◌else◌, Some, List, ◌++◌, sym, ap, ◌∙◌, arith}
+use Rattle.std.proofs.Common.{append_assoc, subst}
+use Rattle.bpf_insn.proofs.PlaceLemmas.{word_count-append}
+use Rattle.bpf_insn.specs.Code.{word_count}
+use Rattle.bpf_insn.specs.declared.instruction.Insn.{Insn}
+use Rattle.cql2_code.specs.Layout.{IsBefore, Writes, first_beyond, question_code}
+use Rattle.cql2_code.specs.Lowering.{WritesBefore, if_asked}
+use Rattle.cql2_code.specs.Question.{Question, Joined, Opposite}
+use Rattle.cql2_code.specs.declared.question.Exits.{Exits}
+
+-- the second of two questions was written, and then the first one with the ways out that it has before the second
+pub joined : {neutral : Bool} {first second : Question} {exits before : Exits} {old middle new : List Insn} {words : ℕ}
+    → words ≡ word_count old → Writes second exits old middle → IsBefore neutral exits before (word_count middle - words)
+    → Writes first before middle new → Writes (Joined neutral first second) exits old new
+joined {neutral} {first} {second} {exits} {before} {old} {middle} {new} {words} counted last at front =
+    let all = ap word_count last.code ∙ word_count-append code old in
+    let count : word_count middle - words ≡ word_count code = omega arith in
+    record {
+      code = front.code
+          ∙ ap (λ (falls : Bool). question_code first falls before.beyond ++ middle) at.falls
+          ∙ ap (λ (beyond : ℕ). question_code first neutral beyond ++ middle)
+          (at.beyond ∙ ap (λ (words : ℕ). first_beyond exits.falls neutral words exits.beyond) count)
+          ∙ ap (λ (rest : List Insn). question_code first neutral (first_beyond exits.falls neutral (word_count code) exits.beyond) ++ rest)
+          last.code
+          ∙ sym (append_assoc (question_code first neutral (first_beyond exits.falls neutral (word_count code) exits.beyond)) code old);
+    }
+  where
+    code : List Insn
+    code = question_code second exits.falls exits.beyond
+
+-- an opposite is written as its question with the other way out falling through
+pub opposite_written : {question : Question} {exits other : Exits} {old new : List Insn}
+    → other.falls ≡ not exits.falls → other.beyond ≡ exits.beyond → Writes question other old new → Writes (Opposite question) exits old new
+opposite_written {question} {exits} {other} {old} {new} falls beyond written = record {
+  code = written.code
+      ∙ ap (λ (b : Bool). question_code question b other.beyond ++ old) falls
+      ∙ ap (λ (n : ℕ). question_code question (not exits.falls) n ++ old) beyond;
+}
+
+pub written_as : {question other : Question} {exits : Exits} {old new : List Insn} → question ≡ other
+    → Writes question exits old new → Writes other exits old new
+written_as {question} {other} {exits} {old} {new} same written = subst (λ (q : Question). Writes q exits old new) same written
+
+-- a question that is asked for as it is, or its opposite, is written as it is with the ways out that it then has
+pub asked_written : {question : Question} {exits other : Exits} {old new : List Insn} (asked : Bool)
+    → other.falls ≡ (if asked then exits.falls else not exits.falls) → other.beyond ≡ exits.beyond
+    → Writes question other old new → Writes (if_asked question asked) exits old new
+asked_written {question} {exits} {other} {old} {new} true falls beyond written = record {
+  code = written.code
+      ∙ ap (λ (b : Bool). question_code question b other.beyond ++ old) falls
+      ∙ ap (λ (n : ℕ). question_code question exits.falls n ++ old) beyond;
+}
+asked_written {question} {exits} {other} {old} {new} false falls beyond written = opposite_written falls beyond written
+
+-- once the second question is written, the first one can be written before it
+pub before_second : {second : Question} {exits first : Exits} {old new : List Insn} {words : ℕ}
+    → words ≡ word_count old → Writes second exits old new → IsBefore true exits first (word_count new - words)
+    → WritesBefore (Some second) exits first old new
+before_second counted last at = λ wanted all front. joined counted last at front

@@ -1,0 +1,30 @@
+use Rattle.std.proofs.Common.{◌≡◌, ℕ, suc, ◌+◌, ◌-◌, sym, ap, ◌∙◌, arith}
+use Rattle.tl_segments.specs.declared.segment.TheConstants.{RANGE_LIMIT}
+use Rattle.cql2_code.proofs.PartsWritten.{lies_from-none}
+use Rattle.cql2_code.proofs.Written.{asked_written, written_as}
+use Rattle.cql2_code.specs.Lowering.{lies_from}
+use Rattle.cql2_code.proofs.names.put_has_number.Goals as goal
+
+pub loop-range-init : goal.loop-range-init
+loop-range-init g c = (c.words-end.ensures.value, written_as (sym (lies_from-none c.args.house 1001)) c.in_ok-put_decided.ensures)
+
+pub loop-range-preserved : goal.loop-range-preserved
+loop-range-preserved g c =
+    let here : c.loop-range.range ≡ c.loop-range.range - 1 + 1 = omega arith in
+    let more : suc (RANGE_LIMIT - c.loop-range.range) ≡ RANGE_LIMIT - (c.loop-range.range - 1) = omega arith in (
+      c.words-end.ensures.value,
+      written_as
+          (ap (λ (at : ℕ). lies_from c.args.house at (suc (RANGE_LIMIT - c.loop-range.range))) here
+          ∙ ap (lies_from c.args.house (c.loop-range.range - 1 + 1)) more)
+          (c.in_ok-put_range.ensures (RANGE_LIMIT - c.loop-range.range) c.args.code.now (sym c.words-end.ensures.value)
+          c.loop-range.invariant.1),
+    )
+
+pub returns-in_ok-put_range : goal.returns-in_ok-put_range
+returns-in_ok-put_range g c =
+    let here : c.loop-range.range ≡ 0 = omega arith in
+    let all : suc (RANGE_LIMIT - c.loop-range.range) ≡ suc RANGE_LIMIT = omega arith in
+    asked_written c.args.asked c.asked-exits.ensures.falls c.asked-exits.ensures.beyond
+    (written_as
+    (ap (λ (at : ℕ). lies_from c.args.house at (suc (RANGE_LIMIT - c.loop-range.range))) here ∙ ap (lies_from c.args.house 0) all)
+    (c.in_ok-put_range.ensures (RANGE_LIMIT - c.loop-range.range) c.args.code.now (sym c.words-end.ensures.value) c.loop-range.invariant.1))

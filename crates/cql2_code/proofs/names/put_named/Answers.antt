@@ -1,0 +1,35 @@
+use Rattle.std.proofs.Common.{◌≡◌, ℕ, suc, ◌+◌, ◌-◌, sym, ap, ◌∙◌, arith}
+use Rattle.cql2_code.proofs.PartsWritten.{is_named_from-none}
+use Rattle.cql2_code.proofs.Written.{written_as}
+use Rattle.cql2_code.specs.Lowering.{is_named_from}
+use Rattle.cql2_code.proofs.names.put_named.Goals as goal
+
+pub loop-name-init : goal.loop-name-init
+loop-name-init g c =
+    let none : c.args.most - c.args.most ≡ 0 = omega arith in (
+      c.words-end.ensures.value,
+      written_as
+          (sym (ap (is_named_from c.args.wanted.now (c.args.most + 1)) none ∙ is_named_from-none c.args.wanted.now (c.args.most + 1)))
+          c.in_ok-put_decided.ensures,
+    )
+
+pub loop-name-preserved : goal.loop-name-preserved
+loop-name-preserved g c =
+    let here : c.loop-name.name ≡ c.loop-name.name - 1 + 1 = omega arith in
+    let more : suc (c.args.most - c.loop-name.name) ≡ c.args.most - (c.loop-name.name - 1) = omega arith in (
+      c.words-end.ensures.value,
+      written_as
+          (ap (λ (at : ℕ). is_named_from c.args.wanted.now at (suc (c.args.most - c.loop-name.name))) here
+          ∙ ap (is_named_from c.args.wanted.now (c.loop-name.name - 1 + 1)) more)
+          (c.in_ok-put_name.ensures (c.args.most - c.loop-name.name) c.args.code.now (sym c.words-end.ensures.value)
+          c.loop-name.invariant.1),
+    )
+
+pub returns-in_ok-put_name : goal.returns-in_ok-put_name
+returns-in_ok-put_name g c =
+    let here : c.loop-name.name ≡ 0 = omega arith in
+    let all : suc (c.args.most - c.loop-name.name) ≡ suc c.args.most = omega arith in
+    written_as
+    (ap (λ (at : ℕ). is_named_from c.args.wanted.now at (suc (c.args.most - c.loop-name.name))) here
+    ∙ ap (is_named_from c.args.wanted.now 0) all)
+    (c.in_ok-put_name.ensures (c.args.most - c.loop-name.name) c.args.code.now (sym c.words-end.ensures.value) c.loop-name.invariant.1)

@@ -1,0 +1,26 @@
+use Rattle.std.proofs.Common.{◌<◌, ◌^◌, ℤ, sym, ap, ◌∙◌, arith}
+use Rattle.std.proofs.lemmas.Result.{on_ok_weaker}
+use Rattle.cql2.specs.declared.filter.Comparison.TheVariants.{Greater}
+use Rattle.cql2_code.proofs.Casts.{kept_64}
+use Rattle.cql2_code.proofs.PartsWritten.{lies_from-milestone, lies_from-more}
+use Rattle.cql2_code.proofs.Written.{joined, written_as}
+use Rattle.cql2_code.specs.Lowering.{test}
+use Rattle.cql2_code.specs.declared.question.Subject.TheVariants.{Ranges}
+use Rattle.cql2_code.proofs.names.put_range.Goals as goal
+
+pub returns-then-not-is_milestone : goal.returns-then-not-is_milestone
+returns-then-not-is_milestone g c = λ more rest counted after.
+    written_as (sym (lies_from-more c.args.house c.args.range more (sym c.is_milestone.ensures ∙ c.if-not-is_milestone.true)))
+    (joined (sym counted) after c.exits_before-before.ensures.before c.in_ok-put_test.ensures)
+
+pub returns : goal.returns
+returns g c =
+    let is = sym c.is_milestone.ensures ∙ c.if-not-is_milestone.false in
+    let small : c.args.range < 2 ^ 63 = let fits : c.args.range < 2 ^ 16 = c.ranges.range.fits in omega arith in
+    let number = ap (λ (z : ℤ). test Ranges Greater z) (kept_64 c.from.result c.args.range c.from.ensures small) in
+    on_ok_weaker c.put_test-2.result
+    (λ there more rest counted after.
+    written_as (sym (lies_from-milestone c.args.house c.args.range more is))
+    (joined (sym counted) (joined (sym counted) after c.exits_before-before.ensures.before c.in_ok-put_test.ensures)
+    c.exits_before-before-2.ensures.before (written_as number there)))
+    c.put_test-2.ensures

@@ -1,0 +1,22 @@
+use Rattle.std.proofs.Common.{◌≡◌, ℤ, true, sym, ap, ◌∙◌}
+use Rattle.std.proofs.lemmas.Result.{on_ok_weaker}
+use Rattle.std.proofs.Common.{w64}
+use Rattle.std.proofs.lemmas.Int.{to_z-of_z}
+use Rattle.cql2_code.proofs.Written.{joined, written_as}
+use Rattle.cql2_code.specs.Lowering.{holds_of_zero, test}
+use Rattle.cql2_code.specs.declared.question.Subject.{Subject}
+use Rattle.cql2_code.proofs.numbers.put_number.Goals as goal
+
+pub returns : goal.returns
+returns g c =
+    let zero : holds_of_zero c.args.comparison c.args.literal ≡ true =
+    ap (holds_of_zero c.args.comparison) (sym (to_z-of_z w64 c.args.literal c.ranges.literal)) ∙ sym c.holds_of_zero.ensures
+    ∙ c.if-not-holds_of_zero.false in
+    let number =
+    ap (λ (z : ℤ). test c.number_of.result c.args.comparison z) (to_z-of_z w64 c.args.literal c.ranges.literal)
+    ∙ ap (λ (subject : Subject). test subject c.args.comparison c.args.literal) c.number_of.ensures in
+    rw zero
+    (on_ok_weaker c.put_test-2.result
+    (λ has. joined c.words-words.ensures.value (written_as number c.in_ok-put_test.ensures) c.exits_before-exits.ensures.before
+    (written_as c.has_value.ensures has))
+    c.put_test-2.ensures)

@@ -1,0 +1,185 @@
+-- How the code of a question is laid out. It has one entry, its first instruction, and two ways out: it falls through its end if the
+-- answer is a given one, and else jumps some words past its end. All jumps go forward. Register 6 points to the record throughout.
+use Rattle.std.specs.Prelude.{◌≡◌, ℕ, ◌+◌, ◌-◌, ◌*◌, ◌/◌, ◌%◌, ◌^◌, ◌&&◌, ℤ, pos, negsuc, Bool, true, not, int_le, nat_le, List, [], ◌∷◌, ◌++◌, take, drop, Option, Some, None, if◌then◌else◌}
+use Rattle.std.specs.Bool.{beq}
+use Rattle.std.specs.Int.{w32, cast_signed}
+use Rattle.std.proofs.Common.{lit≤}
+use Rattle.bpf_insn.specs.Arithmetic.{immediate_operand}
+use Rattle.bpf_insn.specs.Code.{word_count}
+use Rattle.bpf_insn.specs.declared.instruction.Insn.{Insn}
+use Rattle.bpf_insn.specs.declared.instruction.Insn.TheVariants.{Alu, Jump, JumpIf, Call, Exit, StoreImmediate, WideLoad}
+use Rattle.bpf_insn.specs.declared.instruction.Insn.TheVariants as insn
+use Rattle.bpf_insn.specs.declared.instruction.JumpDistance.TheVariants.{Short}
+use Rattle.bpf_insn.specs.declared.instruction.LoadFormat.{LoadFormat}
+use Rattle.bpf_insn.specs.declared.instruction.LoadFormat.TheVariants as format
+use Rattle.bpf_insn.specs.declared.instruction.Operation.TheVariants.{Add, Move}
+use Rattle.bpf_insn.specs.declared.instruction.Source.{Source}
+use Rattle.bpf_insn.specs.declared.instruction.Source.TheVariants.{Immediate, Register}
+use Rattle.bpf_insn.specs.declared.instruction.StoreSize.TheVariants as store
+use Rattle.bpf_insn.specs.declared.instruction.Width.TheVariants.{Bits64}
+use Rattle.bpf_insn.specs.declared.register.Register.{Register as RegisterParts}
+use Rattle.bpf_insn.specs.declared.register.WritableRegister.{WritableRegister}
+use Rattle.cql2.specs.declared.column.NumericColumn.{NumericColumn}
+use Rattle.cql2.specs.declared.column.NumericColumn.TheVariants as column
+use Rattle.cql2.specs.declared.filter.Comparison.{Comparison}
+use Rattle.cql2.specs.declared.filter.Comparison.TheVariants.{Equal, NotEqual, Less, LessOrEqual, Greater, GreaterOrEqual}
+use Rattle.cql2_code.specs.Question.{Question, Decided, Holds, Opposite, Joined, bytes_value, condition_of, coordinate_id, field_id}
+use Rattle.cql2_code.specs.declared.question.Chunk.{Chunk}
+use Rattle.cql2_code.specs.declared.question.Chunk.TheVariants.{Byte, Word, DoubleWord}
+use Rattle.cql2_code.specs.declared.question.Exits.{Exits}
+use Rattle.cql2_code.specs.declared.question.Subject.{Subject}
+use Rattle.cql2_code.specs.declared.question.Subject.TheVariants.{Number, HasNumber, Coordinate, Names, Ranges, InRange, NameIs, Load}
+use Rattle.cql2_code.specs.declared.question.Test.{Test}
+
+-- registers that the code writes, and reads
+abbrev pub w0 : WritableRegister
+w0 = record { number = 0; in_range = lit≤ tt }
+
+abbrev pub w1 : WritableRegister
+w1 = record { number = 1; in_range = lit≤ tt }
+
+abbrev pub w2 : WritableRegister
+w2 = record { number = 2; in_range = lit≤ tt }
+
+abbrev pub w3 : WritableRegister
+w3 = record { number = 3; in_range = lit≤ tt }
+
+abbrev pub w6 : WritableRegister
+w6 = record { number = 6; in_range = lit≤ tt }
+
+abbrev pub r0 : RegisterParts
+r0 = record { number = 0; in_range = lit≤ tt }
+
+abbrev pub r1 : RegisterParts
+r1 = record { number = 1; in_range = lit≤ tt }
+
+abbrev pub r6 : RegisterParts
+r6 = record { number = 6; in_range = lit≤ tt }
+
+abbrev pub r10 : RegisterParts
+r10 = record { number = 10; in_range = lit≤ tt }
+
+abbrev pub move : WritableRegister → ℤ → Insn
+move register number = Alu Move Bits64 register (Immediate number)
+
+abbrev pub copy : WritableRegister → RegisterParts → Insn
+copy register source = Alu Move Bits64 register (Register source)
+
+-- a number of 64 bits for a register, by its halves
+abbrev pub wide_load : WritableRegister → ℕ → Insn
+wide_load register number = WideLoad register (cast_signed w32 (number % 2 ^ 32)) (cast_signed w32 (number / 2 ^ 32))
+
+-- whether an immediate holds a number
+abbrev pub is_narrow : ℤ → Bool
+is_narrow number = int_le (negsuc 2147483647) number && int_le number (pos 2147483647)
+
+-- a number for a register
+abbrev pub set_number : WritableRegister → ℕ → Insn
+set_number register number = if nat_le number 2147483647 then move register (pos number) else wide_load register number
+
+-- a call of a helper function
+abbrev pub call : ℕ → Insn
+call helper = Call (pos helper)
+
+-- the name that is compared is written into the frame's last 32 bytes, four at once; register 2 points to it
+abbrev pub move_to_name : Insn
+move_to_name = Alu Add Bits64 w2 (Immediate (negsuc 31))
+
+abbrev pub store_word : ℕ → List ℕ → Insn
+store_word word bytes =
+    StoreImmediate store.Word r10 (negsuc (31 - 4 * word)) (cast_signed w32 (bytes_value (take 4 (drop (4 * word) bytes))))
+
+abbrev pub store_name : List ℕ → List Insn
+store_name bytes =
+    store_word 0 bytes ∷ store_word 1 bytes ∷ store_word 2 bytes ∷ store_word 3 bytes ∷ store_word 4 bytes ∷ store_word 5 bytes
+    ∷ store_word 6 bytes ∷ store_word 7 bytes ∷ []
+
+abbrev pub load_format : Chunk → LoadFormat
+load_format Byte = format.Byte
+load_format Word = format.Word
+load_format DoubleWord = format.DoubleWord
+
+-- a chunk of the record, into register 0
+abbrev pub load : Chunk → ℕ → Insn
+load chunk at = insn.Load (load_format chunk) w0 r6 (pos at)
+
+-- the number that a test looks at, into register 0
+abbrev pub subject_code : Subject → List Insn
+subject_code (Number column) = move w1 (pos (field_id column)) ∷ call 1 ∷ []
+subject_code (HasNumber column) = move w1 (pos (field_id column)) ∷ call 2 ∷ []
+subject_code (Coordinate column) = move w1 (pos (coordinate_id column)) ∷ call 9 ∷ []
+subject_code Names = call 3 ∷ []
+subject_code Ranges = call 4 ∷ []
+subject_code (InRange range house) = move w1 (pos range) ∷ set_number w2 house ∷ call 5 ∷ []
+subject_code (NameIs name wanted) =
+    move w1 (pos name) ∷ copy w2 r10 ∷ move_to_name ∷ move w3 (pos 30) ∷ (store_name wanted ++ call 7 ∷ [])
+subject_code (Load chunk at) = load chunk at ∷ []
+
+-- what holds if a comparison doesn't
+abbrev pub opposite : Comparison → Comparison
+opposite Equal = NotEqual
+opposite NotEqual = Equal
+opposite Less = GreaterOrEqual
+opposite GreaterOrEqual = Less
+opposite Greater = LessOrEqual
+opposite LessOrEqual = Greater
+
+-- a jump if a comparison of register 0 holds
+abbrev pub jump_if : Comparison → Source → ℤ → Insn
+jump_if comparison operand distance = JumpIf (condition_of comparison) Bits64 r0 operand distance
+
+abbrev pub jump : ℤ → Insn
+jump distance = Jump (Short distance)
+
+-- a comparison of register 0 with a number, which register 1 gets if no immediate holds it
+abbrev pub comparison_code : Comparison → ℤ → ℕ → List Insn
+comparison_code comparison operand distance =
+    if is_narrow operand
+    then jump_if comparison (Immediate operand) (pos distance) ∷ []
+    else wide_load w1 (immediate_operand operand) ∷ jump_if comparison (Register r1) (pos distance) ∷ []
+
+-- it jumps if the answer isn't the one that falls through
+abbrev pub test_code : Test → Bool → ℕ → List Insn
+test_code test falls beyond =
+    subject_code test.subject ++ comparison_code (if falls then opposite test.comparison else test.comparison) test.operand beyond
+
+-- by how many words the first of two questions jumps, by how many the second one has
+abbrev pub first_beyond : Bool → Bool → ℕ → ℕ → ℕ
+first_beyond falls neutral words beyond = if beq falls neutral then words + beyond else words
+
+-- The first of two questions falls through if the second one is to be asked. If it decides, it jumps: past the second one if that is the
+-- answer that falls through, and else where the second one jumps to.
+abbrev pub question_code : Question → Bool → ℕ → List Insn
+question_code (Decided found) falls beyond = if beq found falls then [] else jump (pos beyond) ∷ []
+question_code (Holds test) falls beyond = test_code test falls beyond
+question_code (Opposite question) falls beyond = question_code question (not falls) beyond
+question_code (Joined neutral first second) falls beyond =
+    question_code first neutral (first_beyond falls neutral (word_count (question_code second falls beyond)) beyond)
+    ++ question_code second falls beyond
+
+-- the code of a question is written before another code
+pub record Writes (question : Question) (exits : Exits) (old new : List Insn) : Type 0 where
+  pub code : new ≡ question_code question exits.falls exits.beyond ++ old
+
+-- these are the ways out of the first of two questions, of which the second one has these and so many words
+pub record IsBefore (neutral : Bool) (exits before : Exits) (words : ℕ) : Type 0 where
+  pub falls : before.falls ≡ neutral
+  pub beyond : before.beyond ≡ first_beyond exits.falls neutral words exits.beyond
+
+-- the column that is the score, if there is one: its number or its coordinate, 0 if it has none
+abbrev pub score_code : Option NumericColumn → List Insn
+score_code None = []
+score_code (Some (column.Number field)) = move w1 (pos (field_id field)) ∷ call 1 ∷ copy w1 r0 ∷ call 8 ∷ []
+score_code (Some (column.Coordinate place)) = move w1 (pos (coordinate_id place)) ∷ call 9 ∷ copy w1 r0 ∷ call 8 ∷ []
+
+abbrev pub answer_code : ℕ → List Insn
+answer_code number = move w0 (pos number) ∷ Exit ∷ []
+
+-- what follows if the answer is yes
+abbrev pub chosen_code : Option NumericColumn → List Insn
+chosen_code score = score_code score ++ answer_code 1
+
+-- the whole program: the record's pointer is kept in register 6
+abbrev pub program : Option NumericColumn → Question → List Insn
+program score question =
+    copy w6 r1 ∷ (question_code question true (word_count (chosen_code score)) ++ (chosen_code score ++ answer_code 0))

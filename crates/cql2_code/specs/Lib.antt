@@ -1,0 +1,4 @@
+pub mod Chosen
+pub mod Layout
+pub mod Lowering
+pub mod Question

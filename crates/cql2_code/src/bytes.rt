@@ -1,0 +1,30 @@
+//! The little-endian numbers of bytes.
+ghost use Rattle.std.specs.Prelude.{◌≡◌, length};
+ghost use Rattle.std.specs.Int.{w32, w64, cast_signed};
+ghost use Rattle.cql2_code.specs.Question.{bytes_value};
+
+use byteorder::{ByteOrder, LittleEndian};
+
+/// Returns the number of four bytes, as one with a sign.
+pub(crate) fn signed_word(bytes: &[u8]) -> i32
+    requires { length bytes.now ≡ 4 }
+    ensures { result ≡ cast_signed w32 (bytes_value bytes.now) }
+{
+    LittleEndian::read_i32(bytes)
+}
+
+/// Returns the number of four bytes.
+pub(crate) fn word(bytes: &[u8]) -> i64
+    requires { length bytes.now ≡ 4 }
+    ensures { result ≡ cast_signed w64 (bytes_value bytes.now) }
+{
+    i64::from(LittleEndian::read_u32(bytes))
+}
+
+/// Returns the number of eight bytes, as one with a sign.
+pub(crate) fn double_word(bytes: &[u8]) -> i64
+    requires { length bytes.now ≡ 8 }
+    ensures { result ≡ cast_signed w64 (bytes_value bytes.now) }
+{
+    LittleEndian::read_i64(bytes)
+}

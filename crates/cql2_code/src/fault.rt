@@ -1,0 +1,23 @@
+//! Why a filter isn't compiled.
+ghost use Rattle.std.specs.Prelude.{◌≡◌};
+ghost use Rattle.cql2_code.specs.declared.fault.CompileFault.TheVariants.{Memory};
+
+use std::alloc::AllocError;
+use thiserror::Error;
+
+/// Why a filter isn't compiled. The derived text is for people.
+#[derive(Clone, Copy, Debug, PartialEq, Eq, Error)]
+pub enum CompileFault {
+    #[error("the program would have more than 65,536 words, or a jump over more than 32,767")]
+    TooLong,
+    #[error("out of memory")]
+    Memory,
+}
+
+impl From<AllocError> for CompileFault {
+    ghost from_gives = { λ _ fault. fault ≡ Memory };
+
+    fn from(_error: AllocError) -> CompileFault {
+        CompileFault::Memory
+    }
+}

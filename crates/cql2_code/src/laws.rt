@@ -1,0 +1,18 @@
+//! What holds of a compiled filter's extract. The function does nothing: its contract is the law.
+ghost use Rattle.std.specs.Prelude.{List, All, Option};
+ghost use Rattle.bpf_insn.specs.declared.instruction.Insn.{Insn};
+ghost use Rattle.bpf_meaning.specs.Extract.{IsExtract};
+ghost use Rattle.cql2.specs.declared.column.NumericColumn.{NumericColumn};
+ghost use Rattle.cql2.specs.declared.filter.Filter.{Filter};
+ghost use Rattle.tl_segments.specs.Segment.{Contents, IsSegment};
+ghost use Rattle.cql2_code.specs.Chosen.{Chooses, count_of, rows_of};
+
+use std::alloc::Allocator;
+
+/// The extract of a compiled filter has the rows of the segments for which the filter is true, in order and with their scores, and no
+/// others.
+pub fn selects_what_is_true<A: Allocator>()
+    ensures { (code : List Insn) (filter : Filter A) (score : Option NumericColumn) → Chooses code filter score
+        → (segments : List Contents) → All IsSegment segments
+        → IsExtract code segments (rows_of filter score segments) (count_of filter segments) }
+{}

@@ -1,0 +1,76 @@
+//! Questions about numeric columns.
+ghost use Rattle.std.specs.Prelude.{◌≡◌, ◌≤◌, OnOk};
+ghost use Rattle.bpf_insn.specs.Code.{word_count};
+ghost use Rattle.cql2_code.specs.Layout.{Writes};
+ghost use Rattle.cql2_code.specs.Lowering as lowering;
+ghost use Rattle.cql2_code.specs.Lowering.{compares_number, holds_of_zero};
+ghost use Rattle.cql2_code.specs.Question.{Holds};
+
+use crate::ending::CodeEnd;
+use crate::fault::CompileFault;
+use crate::question::{Exits, Subject, Test};
+use cql2::{Comparison, NumericColumn};
+use std::alloc::Allocator;
+
+/// Returns the number of a column, 0 if it has none.
+pub(crate) fn number_of(column: NumericColumn) -> Subject
+    ensures { result ≡ lowering.number_of column }
+{
+    match column {
+        NumericColumn::Number(field) => Subject::Number(field),
+        NumericColumn::Coordinate(place) => Subject::Coordinate(place),
+    }
+}
+
+/// Returns the test whether a column has a number.
+pub(crate) fn has_value(column: NumericColumn) -> Test
+    ensures { Holds result ≡ lowering.has_value column }
+{
+    Test {
+        subject: match column {
+            NumericColumn::Number(field) => Subject::HasNumber(field),
+            NumericColumn::Coordinate(place) => Subject::Coordinate(place),
+        },
+        comparison: Comparison::NotEqual,
+        operand: 0,
+    }
+}
+
+/// Writes the code of the question whether a column's number compares so with another.
+pub(crate) fn put_number<A: Allocator + Copy>(
+    code: &mut CodeEnd<A>,
+    column: NumericColumn,
+    comparison: Comparison,
+    literal: i64,
+    exits: Exits,
+) -> Result<(), CompileFault>
+    requires { exits.beyond ≤ word_count code.old }
+    ensures { OnOk result (Writes (compares_number column comparison literal) exits code.old code.new) }
+{
+    let test = Test {
+        subject: number_of(column),
+        comparison,
+        operand: literal,
+    };
+    let words = code.words();
+    code.put_test(test, exits)?;
+    if !holds_of_zero(comparison, literal) {
+        return Ok(());
+    }
+    let exits = code.exits_before(words, true, exits);
+    code.put_test(has_value(column), exits)
+}
+
+/// Whether 0 compares so with a number.
+fn holds_of_zero(comparison: Comparison, literal: i64) -> bool
+    ensures { result ≡ holds_of_zero comparison literal }
+{
+    match comparison {
+        Comparison::Equal => literal == 0,
+        Comparison::NotEqual => literal != 0,
+        Comparison::Less => 0 < literal,
+        Comparison::LessOrEqual => 0 <= literal,
+        Comparison::Greater => literal < 0,
+        Comparison::GreaterOrEqual => literal <= 0,
+    }
+}

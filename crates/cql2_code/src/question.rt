@@ -1,0 +1,131 @@
+//! Tests, and what they look at.
+ghost use Rattle.std.specs.Prelude.{◌≡◌, not, if◌then◌else◌};
+ghost use Rattle.cql2_code.specs.Layout.{opposite};
+ghost use Rattle.cql2_code.specs.Question.{condition_of, coordinate_id, field_id};
+
+use bpf_insn::Condition;
+use cql2::{Comparison, CoordinateColumn, NumberColumn};
+
+/// How many bytes of a record are read at once.
+#[derive(Clone, Copy)]
+pub(crate) enum Chunk {
+    Byte,
+    /// Four bytes.
+    Word,
+    /// Eight bytes.
+    DoubleWord,
+}
+
+/// What a test looks at: a number.
+#[derive(Clone, Copy)]
+pub(crate) enum Subject {
+    /// The number of a column; 0 if it has none.
+    Number(NumberColumn),
+    /// 1 if the column has a number, else 0.
+    HasNumber(NumberColumn),
+    /// A coordinate in two's complement; 0 if there is none.
+    Coordinate(CoordinateColumn),
+    /// How many alternate names the segment has.
+    Names,
+    /// How many ranges it has.
+    Ranges,
+    /// On which sides of the range of this number the house number lies: 0 on none.
+    InRange(u16, u64),
+    /// 1 if the name of this number is these bytes, which are blank after it, else 0.
+    NameIs(u16, [u8; 32]),
+    /// The little-endian number of a chunk of the record, from an offset on.
+    Load(Chunk, u8),
+}
+
+/// A comparison of a number with one that is known.
+#[derive(Clone, Copy)]
+pub(crate) struct Test {
+    pub subject: Subject,
+    pub comparison: Comparison,
+    pub operand: i64,
+}
+
+/// The two ways out of a question's code: it falls through its end if the answer is `falls`, and else jumps so many words past its end.
+#[derive(Clone, Copy)]
+pub(crate) struct Exits {
+    pub falls: bool,
+    pub beyond: usize,
+}
+
+impl Exits {
+    /// Returns the ways out of a question whose opposite has these, unless it is asked for as it is.
+    pub fn asked(self, asked: bool) -> Exits
+        ensures falls { result.falls ≡ (if asked then self.falls else not self.falls) }
+        ensures beyond { result.beyond ≡ self.beyond }
+    {
+        Exits {
+            falls: self.falls == asked,
+            beyond: self.beyond,
+        }
+    }
+}
+
+/// Returns the id by which helper functions know a column.
+pub(crate) fn field_id(column: NumberColumn) -> u8
+    ensures { result ≡ field_id column }
+{
+    match column {
+        NumberColumn::Tlid => 0,
+        NumberColumn::Fraddl => 1,
+        NumberColumn::Toaddl => 2,
+        NumberColumn::Fraddr => 3,
+        NumberColumn::Toaddr => 4,
+        NumberColumn::Zipl => 5,
+        NumberColumn::Zipr => 6,
+        NumberColumn::Statel => 7,
+        NumberColumn::Stater => 8,
+        NumberColumn::Countyl => 9,
+        NumberColumn::Countyr => 10,
+        NumberColumn::Placel => 11,
+        NumberColumn::Placer => 12,
+        NumberColumn::Tractl => 13,
+        NumberColumn::Tractr => 14,
+        NumberColumn::Blockl => 15,
+        NumberColumn::Blockr => 16,
+    }
+}
+
+/// Returns the number by which helper functions know a coordinate.
+pub(crate) fn coordinate_id(column: CoordinateColumn) -> u8
+    ensures { result ≡ coordinate_id column }
+{
+    match column {
+        CoordinateColumn::Frlong => 0,
+        CoordinateColumn::Frlat => 1,
+        CoordinateColumn::Tolong => 2,
+        CoordinateColumn::Tolat => 3,
+    }
+}
+
+/// Returns what holds if a comparison doesn't.
+pub(crate) fn opposite(comparison: Comparison) -> Comparison
+    ensures { result ≡ opposite comparison }
+{
+    match comparison {
+        Comparison::Equal => Comparison::NotEqual,
+        Comparison::NotEqual => Comparison::Equal,
+        Comparison::Less => Comparison::GreaterOrEqual,
+        Comparison::LessOrEqual => Comparison::Greater,
+        Comparison::Greater => Comparison::LessOrEqual,
+        Comparison::GreaterOrEqual => Comparison::Less,
+    }
+}
+
+/// Returns the condition of a jump that makes the comparison, with signs.
+pub(crate) fn condition_of(comparison: Comparison) -> Condition
+    ensures { result ≡ condition_of comparison }
+{
+    match comparison {
+        Comparison::Equal => Condition::Equal,
+        Comparison::NotEqual => Condition::NotEqual,
+        Comparison::Less => Condition::SignedLess,
+        Comparison::LessOrEqual => Condition::SignedLessOrEqual,
+        Comparison::Greater => Condition::SignedGreater,
+        Comparison::GreaterOrEqual => Condition::SignedGreaterOrEqual,
+    }
+}

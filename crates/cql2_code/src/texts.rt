@@ -1,0 +1,465 @@
+//! Questions about text columns.
+ghost use Rattle.std.specs.Prelude.{◌≡◌, ◌≤◌, ◌<◌, ◌+◌, ◌-◌, length, map, IfOk, IfSome, IfNone, IsTrue, OnOk, None, Some};
+ghost use Rattle.bpf_insn.specs.Code.{word_count};
+ghost use Rattle.cql2.specs.Text.{is_text};
+ghost use Rattle.cql2.specs.declared.pattern.PatternByte.TheVariants.{Exactly};
+ghost use Rattle.cql2_code.specs.Layout.{Writes};
+ghost use Rattle.cql2_code.specs.Lowering as lowering;
+ghost use Rattle.cql2_code.specs.Lowering.{WritesBefore, asks_like, byte_test, compares_text, ends_filled, ends_so, exact_bytes, has_bytes, has_each, has_few, is_blank, is_each_wanted, is_filled, is_greater, is_less, is_like, is_null_text, is_wanted, offset_of, width_of};
+ghost use Rattle.cql2_code.specs.Question.{Holds};
+ghost use Rattle.tl_segments.specs.declared.segment.TheConstants.{RECORD_LENGTH};
+
+use crate::bytes::{double_word, word};
+use crate::ending::CodeEnd;
+use crate::fault::CompileFault;
+use crate::question::{Chunk, Exits, Subject, Test};
+use arrayvec::ArrayVec;
+use cql2::{Comparison, Pattern, PatternByte, TextColumn};
+use std::alloc::Allocator;
+use tl_records::Places;
+use tl_segments::NAME_LENGTH;
+
+/// As many blanks as the widest text column has bytes.
+const BLANKS: [u8; NAME_LENGTH] = [b' '; NAME_LENGTH];
+
+/// Writes the code of the question whether a text column compares so with a text.
+pub(crate) fn put_text<A: Allocator + Copy>(
+    code: &mut CodeEnd<A>,
+    column: TextColumn,
+    comparison: Comparison,
+    text: &[u8],
+    exits: Exits,
+) -> Result<(), CompileFault>
+    requires inside { exits.beyond ≤ word_count code.old }
+    requires text { IsTrue (is_text text.now) }
+    ensures { OnOk result (Writes (compares_text column comparison text.now) exits code.old code.new) }
+{
+    let words = code.words();
+    put_compared(code, column, comparison, text, exits)?;
+    if !holds_of_blanks(comparison) {
+        return Ok(());
+    }
+    let exits = code.exits_before(words, true, exits);
+    put_is_null_text(code, column, exits.asked(false))
+}
+
+/// Whether a comparison with a text holds of blanks.
+fn holds_of_blanks(comparison: Comparison) -> bool
+    ensures { result ≡ lowering.holds_of_blanks comparison }
+{
+    match comparison {
+        Comparison::NotEqual | Comparison::Less | Comparison::LessOrEqual => true,
+        Comparison::Equal | Comparison::Greater | Comparison::GreaterOrEqual => false,
+    }
+}
+
+/// Writes the code of the comparison of a column's bytes.
+fn put_compared<A: Allocator + Copy>(
+    code: &mut CodeEnd<A>,
+    column: TextColumn,
+    comparison: Comparison,
+    text: &[u8],
+    exits: Exits,
+) -> Result<(), CompileFault>
+    requires inside { exits.beyond ≤ word_count code.old }
+    requires text { IsTrue (is_text text.now) }
+    ensures { OnOk result (Writes (lowering.compares_bytes column comparison text.now) exits code.old code.new) }
+{
+    let (at, left) = (offset_of(column), width_of(column));
+    match comparison {
+        Comparison::Equal => put_like_bytes(code, column, text, false, exits),
+        Comparison::NotEqual => put_like_bytes(code, column, text, false, exits.asked(false)),
+        Comparison::Less => put_less(code, at, left, text, exits),
+        Comparison::GreaterOrEqual => put_less(code, at, left, text, exits.asked(false)),
+        Comparison::Greater => put_greater(code, at, left, text, exits),
+        Comparison::LessOrEqual => put_greater(code, at, left, text, exits.asked(false)),
+    }
+}
+
+/// Writes the code of the question whether a text column is like a pattern, or whether it isn't.
+pub(crate) fn put_like<A: Allocator + Copy>(
+    code: &mut CodeEnd<A>,
+    column: TextColumn,
+    pattern: &Pattern<A>,
+    asked: bool,
+    exits: Exits,
+) -> Result<(), CompileFault>
+    requires { exits.beyond ≤ word_count code.old }
+    ensures { OnOk result (Writes (asks_like column pattern.now.wanted.items pattern.now.is_open asked) exits code.old code.new) }
+{
+    let words = code.words();
+    put_pattern(code, column, pattern, exits.asked(asked))?;
+    if asked {
+        return Ok(());
+    }
+    let exits = code.exits_before(words, true, exits);
+    put_is_null_text(code, column, exits.asked(false))
+}
+
+fn put_pattern<A: Allocator + Copy>(
+    code: &mut CodeEnd<A>,
+    column: TextColumn,
+    pattern: &Pattern<A>,
+    exits: Exits,
+) -> Result<(), CompileFault>
+    requires { exits.beyond ≤ word_count code.old }
+    ensures { OnOk result (Writes (is_like column pattern.now.wanted.items pattern.now.is_open) exits code.old code.new) }
+{
+    let wanted = pattern.wanted.as_slice();
+    if wanted.len() > usize::from(width_of(column)) {
+        return code.put_decided(false, exits);
+    }
+    if let Some(bytes) = exact_bytes(wanted) {
+        return put_like_bytes(code, column, bytes.as_slice(), pattern.is_open, exits);
+    }
+    let ends = Ending {
+        count: wanted.len() as u8,
+        is_open: pattern.is_open,
+        is_filled: ends_filled(wanted),
+    };
+    let exits = put_ending(code, column, ends, exits)?;
+    put_each_wanted(code, offset_of(column), wanted, exits)
+}
+
+/// Returns the bytes that a pattern wants, if it wants each of them exactly.
+fn exact_bytes(wanted: &[PatternByte]) -> Option<ArrayVec<u8, NAME_LENGTH>>
+    requires { length wanted.now ≤ NAME_LENGTH }
+    ensures some { IfSome result (λ bytes. exact_bytes wanted.now ≡ Some bytes.items) }
+    ensures none { IfNone result (exact_bytes wanted.now ≡ None) }
+{
+    let mut bytes = ArrayVec::new();
+    for byte in wanted {
+        match *byte {
+            PatternByte::Exactly(byte) => bytes.push(byte),
+            _ => return None,
+        }
+    }
+    Some(bytes)
+}
+
+/// Whether a pattern's last byte is no blank.
+fn ends_filled(wanted: &[PatternByte]) -> bool
+    ensures { result ≡ ends_filled wanted.now }
+{
+    match wanted.last() {
+        Some(PatternByte::Exactly(byte)) => *byte != b' ',
+        Some(PatternByte::EitherCase(_)) => true,
+        Some(PatternByte::Any) => false,
+        None => false,
+    }
+}
+
+/// Writes the code of the question whether a column is like a pattern of exact bytes.
+fn put_like_bytes<A: Allocator + Copy>(
+    code: &mut CodeEnd<A>,
+    column: TextColumn,
+    bytes: &[u8],
+    is_open: bool,
+    exits: Exits,
+) -> Result<(), CompileFault>
+    requires { exits.beyond ≤ word_count code.old }
+    ensures { OnOk result (Writes (is_like column (map Exactly bytes.now) is_open) exits code.old code.new) }
+{
+    if bytes.len() > usize::from(width_of(column)) {
+        return code.put_decided(false, exits);
+    }
+    let ends = Ending {
+        count: bytes.len() as u8,
+        is_open,
+        is_filled: is_filled(bytes),
+    };
+    let exits = put_ending(code, column, ends, exits)?;
+    put_bytes(code, offset_of(column), bytes, exits)
+}
+
+/// Whether the last byte is no blank.
+fn is_filled(bytes: &[u8]) -> bool
+    ensures { result ≡ lowering.ends_filled (map Exactly bytes.now) }
+{
+    match bytes.last() {
+        Some(byte) => *byte != b' ',
+        None => false,
+    }
+}
+
+/// How a pattern ends.
+#[derive(Clone, Copy)]
+struct Ending {
+    /// How many bytes it wants.
+    count: u8,
+    is_open: bool,
+    /// Whether the last of them is no blank.
+    is_filled: bool,
+}
+
+/// Writes the code of what is asked after the wanted bytes, and returns the ways out of the question about those.
+fn put_ending<A: Allocator + Copy>(
+    code: &mut CodeEnd<A>,
+    column: TextColumn,
+    ends: Ending,
+    exits: Exits,
+) -> Result<Exits, CompileFault>
+    requires inside { exits.beyond ≤ word_count code.old }
+    requires fits { ends.count ≤ width_of column }
+    ensures before { IfOk result
+        (λ first. WritesBefore (ends_so ends.is_open ends.is_filled column ends.count) exits first code.old code.new) }
+    ensures inside { IfOk result (λ first. first.beyond ≤ word_count code.new) }
+{
+    let words = code.words();
+    match (ends.is_open, ends.is_filled) {
+        (true, true) => Ok(exits),
+        (true, false) => {
+            let from = ends.count.saturating_sub(1);
+            put_blank(code, column, from, exits.asked(false))?;
+            Ok(code.exits_before(words, true, exits))
+        }
+        (false, true) => {
+            if ends.count == width_of(column) {
+                return Ok(exits);
+            }
+            put_blank(code, column, ends.count, exits)?;
+            Ok(code.exits_before(words, true, exits))
+        }
+        (false, false) => {
+            let from = ends.count.saturating_sub(1);
+            put_blank(code, column, from, exits.asked(false))?;
+            let inner = code.exits_before(words, true, exits);
+            put_blank(code, column, ends.count, inner)?;
+            Ok(code.exits_before(words, true, exits))
+        }
+    }
+}
+
+/// Writes the code of the question whether a text column is NULL: its field is blank.
+pub(crate) fn put_is_null_text<A: Allocator + Copy>(
+    code: &mut CodeEnd<A>,
+    column: TextColumn,
+    exits: Exits,
+) -> Result<(), CompileFault>
+    requires { exits.beyond ≤ word_count code.old }
+    ensures { OnOk result (Writes (is_null_text column) exits code.old code.new) }
+{
+    put_blank(code, column, 0, exits)
+}
+
+/// Writes the code of the question whether a field is blank from a byte on, counted from 0.
+fn put_blank<A: Allocator + Copy>(
+    code: &mut CodeEnd<A>,
+    column: TextColumn,
+    from: u8,
+    exits: Exits,
+) -> Result<(), CompileFault>
+    requires inside { exits.beyond ≤ word_count code.old }
+    requires fits { from ≤ width_of column }
+    ensures { OnOk result (Writes (is_blank (offset_of column + from) (width_of column - from)) exits code.old code.new) }
+{
+    let left = usize::from(width_of(column) - from);
+    put_bytes(code, offset_of(column) + from, &BLANKS[..left], exits)
+}
+
+/// Writes the code of the question whether the record has these bytes from an offset on.
+fn put_bytes<A: Allocator + Copy>(
+    code: &mut CodeEnd<A>,
+    at: u8,
+    bytes: &[u8],
+    exits: Exits,
+) -> Result<(), CompileFault>
+    requires inside { exits.beyond ≤ word_count code.old }
+    requires fits { at + length bytes.now ≤ RECORD_LENGTH }
+    ensures { OnOk result (Writes (has_bytes at bytes.now) exits code.old code.new) }
+{
+    let Some((first, rest)) = bytes.split_at_checked(8) else {
+        return put_few(code, at, bytes, exits);
+    };
+    let test = Test {
+        subject: Subject::Load(Chunk::DoubleWord, at),
+        comparison: Comparison::Equal,
+        operand: double_word(first),
+    };
+    if rest.is_empty() {
+        return code.put_test(test, exits);
+    }
+    let words = code.words();
+    put_bytes(code, at + 8, rest, exits)?;
+    let exits = code.exits_before(words, true, exits);
+    code.put_test(test, exits)
+}
+
+/// The same for fewer than eight bytes.
+fn put_few<A: Allocator + Copy>(
+    code: &mut CodeEnd<A>,
+    at: u8,
+    bytes: &[u8],
+    exits: Exits,
+) -> Result<(), CompileFault>
+    requires inside { exits.beyond ≤ word_count code.old }
+    requires fits { at + length bytes.now ≤ RECORD_LENGTH }
+    ensures { OnOk result (Writes (has_few at bytes.now) exits code.old code.new) }
+{
+    let Some((first, rest)) = bytes.split_at_checked(4) else {
+        return put_each(code, at, bytes, exits);
+    };
+    let test = Test {
+        subject: Subject::Load(Chunk::Word, at),
+        comparison: Comparison::Equal,
+        operand: word(first),
+    };
+    if rest.is_empty() {
+        return code.put_test(test, exits);
+    }
+    let words = code.words();
+    put_each(code, at + 4, rest, exits)?;
+    let exits = code.exits_before(words, true, exits);
+    code.put_test(test, exits)
+}
+
+/// The same byte by byte.
+fn put_each<A: Allocator + Copy>(
+    code: &mut CodeEnd<A>,
+    at: u8,
+    bytes: &[u8],
+    exits: Exits,
+) -> Result<(), CompileFault>
+    requires inside { exits.beyond ≤ word_count code.old }
+    requires fits { at + length bytes.now ≤ RECORD_LENGTH }
+    ensures { OnOk result (Writes (has_each at bytes.now) exits code.old code.new) }
+{
+    let Some((byte, rest)) = bytes.split_first() else {
+        return code.put_decided(true, exits);
+    };
+    let test = byte_test(at, Comparison::Equal, *byte);
+    if rest.is_empty() {
+        return code.put_test(test, exits);
+    }
+    let words = code.words();
+    put_each(code, at + 1, rest, exits)?;
+    let exits = code.exits_before(words, true, exits);
+    code.put_test(test, exits)
+}
+
+/// Writes the code of the question whether each byte from an offset on is what a pattern wants.
+fn put_each_wanted<A: Allocator + Copy>(
+    code: &mut CodeEnd<A>,
+    at: u8,
+    wanted: &[PatternByte],
+    exits: Exits,
+) -> Result<(), CompileFault>
+    requires inside { exits.beyond ≤ word_count code.old }
+    requires fits { at + length wanted.now ≤ RECORD_LENGTH }
+    ensures { OnOk result (Writes (is_each_wanted at wanted.now) exits code.old code.new) }
+{
+    let Some((first, rest)) = wanted.split_first() else {
+        return code.put_decided(true, exits);
+    };
+    if rest.is_empty() {
+        return put_wanted(code, at, *first, exits);
+    }
+    let words = code.words();
+    put_each_wanted(code, at + 1, rest, exits)?;
+    let exits = code.exits_before(words, true, exits);
+    put_wanted(code, at, *first, exits)
+}
+
+fn put_wanted<A: Allocator + Copy>(
+    code: &mut CodeEnd<A>,
+    at: u8,
+    wanted: PatternByte,
+    exits: Exits,
+) -> Result<(), CompileFault>
+    requires { exits.beyond ≤ word_count code.old }
+    ensures { OnOk result (Writes (is_wanted at wanted) exits code.old code.new) }
+{
+    match wanted {
+        PatternByte::Exactly(byte) => code.put_test(byte_test(at, Comparison::Equal, byte), exits),
+        PatternByte::EitherCase(letter) => {
+            let words = code.words();
+            let capital = letter.saturating_sub(32);
+            code.put_test(byte_test(at, Comparison::Equal, capital), exits)?;
+            let exits = code.exits_before(words, false, exits);
+            code.put_test(byte_test(at, Comparison::Equal, letter), exits)
+        }
+        PatternByte::Any => code.put_decided(true, exits),
+    }
+}
+
+/// Writes the code of the question whether what is left of a field is less than a text.
+fn put_less<A: Allocator + Copy>(
+    code: &mut CodeEnd<A>,
+    at: u8,
+    left: u8,
+    text: &[u8],
+    exits: Exits,
+) -> Result<(), CompileFault>
+    requires inside { exits.beyond ≤ word_count code.old }
+    requires fits { at + left ≤ RECORD_LENGTH }
+    ensures { OnOk result (Writes (is_less at left text.now) exits code.old code.new) }
+{
+    let Some((byte, rest)) = text.split_first() else {
+        return code.put_decided(false, exits);
+    };
+    if left == 0 {
+        return code.put_decided(true, exits);
+    }
+    let words = code.words();
+    put_less(code, at + 1, left - 1, rest, exits)?;
+    let same = code.exits_before(words, true, exits);
+    code.put_test(byte_test(at, Comparison::Equal, *byte), same)?;
+    let less = code.exits_before(words, false, exits);
+    code.put_test(byte_test(at, Comparison::Less, *byte), less)
+}
+
+/// Writes the code of the question whether what is left of a field is greater than a text.
+fn put_greater<A: Allocator + Copy>(
+    code: &mut CodeEnd<A>,
+    at: u8,
+    left: u8,
+    text: &[u8],
+    exits: Exits,
+) -> Result<(), CompileFault>
+    requires inside { exits.beyond ≤ word_count code.old }
+    requires fits { at + left ≤ RECORD_LENGTH }
+    requires short { left ≤ NAME_LENGTH }
+    ensures { OnOk result (Writes (is_greater at left text.now) exits code.old code.new) }
+{
+    if left == 0 {
+        return code.put_decided(false, exits);
+    }
+    let Some((byte, rest)) = text.split_first() else {
+        return put_bytes(code, at, &BLANKS[..usize::from(left)], exits.asked(false));
+    };
+    let words = code.words();
+    put_greater(code, at + 1, left - 1, rest, exits)?;
+    let same = code.exits_before(words, true, exits);
+    code.put_test(byte_test(at, Comparison::Equal, *byte), same)?;
+    let greater = code.exits_before(words, false, exits);
+    code.put_test(byte_test(at, Comparison::Greater, *byte), greater)
+}
+
+/// Returns the comparison of a byte of the record.
+fn byte_test(at: u8, comparison: Comparison, byte: u8) -> Test
+    ensures { Holds result ≡ byte_test at comparison byte }
+{
+    Test {
+        subject: Subject::Load(Chunk::Byte, at),
+        comparison,
+        operand: i64::from(byte),
+    }
+}
+
+/// Returns how many bytes of the record come before a column's field.
+fn offset_of(column: TextColumn) -> u8
+    ensures value { result ≡ offset_of column }
+    ensures inside { result + width_of column ≤ RECORD_LENGTH }
+{
+    let Places(first, _last) = column.places();
+    (first - 1) as u8
+}
+
+/// Returns how many bytes a column's field has.
+fn width_of(column: TextColumn) -> u8
+    ensures value { result ≡ width_of column }
+    ensures short { result ≤ NAME_LENGTH }
+{
+    let Places(first, last) = column.places();
+    (last - (first - 1)) as u8
+}
