@@ -1,4 +1,4 @@
-//! Filters on a segment, worked by hand.
+//! Filters on a segment.
 use bpf_flow::Flow;
 use bpf_insn::Code;
 use bpf_meaning::{Outcome, trace};
@@ -10,7 +10,7 @@ use std::alloc::Global;
 use std::test::Fail;
 use tl_segments::{RECORD_LENGTH, Segment};
 
-// A filter, the record of a segment, whether the segment is selected, and how many words the program has.
+// A filter, the record of a segment, whether the segment is selected, worked by hand, and how many words the program has, read off the compiler.
 pub(crate) const FILTERS: &str = "\
 TRUE; {rt1}; 1; 5
 FALSE; {rt1}; 0; 6
