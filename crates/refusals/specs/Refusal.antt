@@ -3,7 +3,7 @@ use Rattle.std.specs.Prelude.{ℕ, List, [], ◌++◌, Option, Some, None, codes
 use Rattle.refusals.specs.declared.refusal.Class.{Class}
 use Rattle.refusals.specs.declared.refusal.Class.TheVariants.{Refused, Device, Memory}
 use Rattle.refusals.specs.declared.refusal.Position.{Position}
-use Rattle.refusals.specs.declared.refusal.Position.TheVariants.{Whole, Place, Line, FileLine}
+use Rattle.refusals.specs.declared.refusal.Position.TheVariants.{Whole, Place, Line, Character, FileLine}
 
 -- The class, the number and the name of a refusal; the number of a register, of an argument or of another refusal, if it has one; its position.
 pub record RefusalParts : Type 0 where
@@ -36,6 +36,10 @@ at_place place refusal = record refusal { position = Place place }
 abbrev pub at_line : ℕ → RefusalParts → RefusalParts
 at_line line refusal = record refusal { position = Line line }
 
+-- at a character of a line of a text
+abbrev pub at_character : ℕ → ℕ → RefusalParts → RefusalParts
+at_character line column refusal = record refusal { position = Character line column }
+
 -- at a line of the county's file of a record type
 abbrev pub at_file_line : ℕ → ℕ → RefusalParts → RefusalParts
 at_file_line record_type line refusal = record refusal { position = FileLine record_type line }
@@ -48,11 +52,12 @@ abbrev pub detail_text : Option ℕ → List ℕ
 detail_text None = []
 detail_text (Some detail) = codes "(" ++ decimal detail ++ codes ")"
 
--- the position and the name; at a line of a file there is no detail
+-- the position and the name; at a character and at a line of a file there is no detail
 abbrev pub position_text : Position → List ℕ → Option ℕ → List ℕ
 position_text Whole name detail = name ++ detail_text detail
 position_text (Place place) name detail = codes "place " ++ decimal place ++ codes " " ++ name ++ detail_text detail
 position_text (Line line) name detail = codes "line " ++ decimal line ++ codes " " ++ name ++ detail_text detail
+position_text (Character line column) name detail = codes "line " ++ decimal line ++ codes " column " ++ decimal column ++ codes " " ++ name
 position_text (FileLine record_type line) name detail = codes "rt" ++ decimal record_type ++ codes " line " ++ decimal line ++ codes " " ++ name
 
 -- the line of text, without its end

@@ -27,6 +27,8 @@ pub enum Position {
     Place(usize),
     /// A line of a text, counted from 1.
     Line(usize),
+    /// A character of a text: its line, and its place in the line, both counted from 1.
+    Character { line: u32, column: u32 },
     /// A line of the county's file of a record type (TIGER/Line 2006), counted from 1.
     FileLine { record_type: u8, line: u64 },
 }
@@ -122,6 +124,16 @@ impl Refusal {
         }
     }
 
+    /// Puts the refusal at a character of a text, whose line and place in the line are counted from 1. There it has no detail.
+    pub fn at_character(self, line: u32, column: u32) -> Refusal
+        ensures { result ≡ refusal.at_character line column self }
+    {
+        Refusal {
+            position: Position::Character { line, column },
+            ..self
+        }
+    }
+
     /// Puts the refusal at a line of a county's file, counted from 1.
     pub fn at_file_line(self, record_type: u8, line: u64) -> Refusal
         ensures { result ≡ refusal.at_file_line record_type line self }
@@ -161,6 +173,10 @@ impl Refusal {
             Position::Line(at) => {
                 push_counted(&mut line, "line", at as u64);
                 self.push_name(&mut line);
+            }
+            Position::Character { line: at, column } => {
+                push_character(&mut line, at, column);
+                line.push_str(self.name);
             }
             Position::FileLine {
                 record_type,
@@ -208,5 +224,18 @@ fn push_counted(line: &mut ArrayString<64>, unit: &str, at: u64)
     line.push_str(unit);
     line.push_str(" ");
     line.push_str(Buffer::new().format(at));
+    line.push_str(" ");
+}
+
+/// Pushes the place of a character.
+fn push_character(line: &mut ArrayString<64>, at: u32, column: u32)
+    requires { length line.old.bytes ≤ 12 }
+    ensures value { line.new.bytes ≡ line.old.bytes ++ (codes "line " ++ decimal at ++ codes " column " ++ decimal column ++ codes " ") }
+    ensures short { length line.new.bytes ≤ length line.old.bytes + 34 }
+{
+    line.push_str("line ");
+    line.push_str(Buffer::new().format(at));
+    line.push_str(" column ");
+    line.push_str(Buffer::new().format(column));
     line.push_str(" ");
 }
