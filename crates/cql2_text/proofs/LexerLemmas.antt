@@ -8,7 +8,7 @@ use Rattle.std.proofs.lemmas.List.{take_all, length-drop}
 use denote.Ref.{Bor}
 use Rattle.cql2.specs.declared.filter.Comparison.{Comparison}
 use Rattle.cql2.specs.declared.filter.Comparison.TheVariants.{Equal, NotEqual, Less, LessOrEqual, Greater, GreaterOrEqual}
-use Rattle.cql2_text.specs.Lexed.{HasDecimals, IsClosingQuote, IsLongest, IsSign, IsToken, IsWord, begins}
+use Rattle.cql2_text.specs.Lexed.{ArePaired, HasDecimals, IsClosingQuote, IsLongest, IsSign, IsToken, IsWord, begins}
 use Rattle.cql2_text.specs.Lexed.{is_name_byte, is_name_start, is_quote, sign_of}
 use Rattle.cql2_text.specs.Lexed.{no_point, no_decimals, decimals, left_paren, right_paren, comma}
 use Rattle.cql2_text.specs.Lexed.{comparison_operator, keyword, property_name, unknown_name}
@@ -40,10 +40,11 @@ greater-or-equal text rest is =
 pub only-greater : (text : List ℕ) → begins (λ byte. byte == 61) text ≡ false → IsToken (62 ∷ text) text (Compared Greater)
 only-greater text not_equal = comparison_operator Greater text not_equal
 
-pub text-token : (spelling : Bor (List ℕ)) (text rest : List ℕ) → text ≡ spelling.now ++ 39 ∷ rest → begins is_quote rest ≡ false
+pub text-token : (spelling : Bor (List ℕ)) (text rest : List ℕ) → text ≡ spelling.now ++ 39 ∷ rest → ArePaired spelling.now
+    → begins is_quote rest ≡ false
     → IsToken (39 ∷ text) rest (Text spelling)
-text-token spelling text rest is single =
-    subst (λ (t : List ℕ). IsToken (39 ∷ t) rest (Text spelling)) (sym is) (character_literal spelling rest single)
+text-token spelling text rest is paired single =
+    subst (λ (t : List ℕ). IsToken (39 ∷ t) rest (Text spelling)) (sym is) (character_literal spelling rest paired single)
 
 start-is-byte : (byte : ℕ) → is_name_start byte ≡ true → is_name_byte byte ≡ false → ⊥
 start-is-byte byte starts is_none = grind (arith, nat_tests)
@@ -98,12 +99,12 @@ token-shorter _ _ _ (keyword word rest named is known) = omega (arith, begins-so
 token-shorter _ _ _ (property_name word rest column is no_keyword known) =
     omega (arith, begins-some _ word is.starts, length-append word rest)
 token-shorter _ _ _ (unknown_name word rest is no_keyword unknown) = omega (arith, begins-some _ word is.starts, length-append word rest)
-token-shorter _ _ _ (quoted_property_name word rest column known) = omega (arith, length-append word (34 ∷ rest))
-token-shorter _ _ _ (quoted_unknown_name word rest unknown) = omega (arith, length-append word (34 ∷ rest))
+token-shorter _ _ _ (quoted_property_name word rest column names known) = omega (arith, length-append word (34 ∷ rest))
+token-shorter _ _ _ (quoted_unknown_name word rest names unknown) = omega (arith, length-append word (34 ∷ rest))
 token-shorter _ _ _ (numeric_literal numeral sign after rest signs are fraction) =
     let whole = numeral.whole.now in
     omega (arith, are.some, decimals-le _ _ _ fraction, length-append sign (whole ++ after), length-append whole after)
-token-shorter _ _ _ (character_literal spelling rest single) = omega (arith, length-append spelling.now (39 ∷ rest))
+token-shorter _ _ _ (character_literal spelling rest paired single) = omega (arith, length-append spelling.now (39 ∷ rest))
 
 -- a text and one token more
 pub lexes-white-space : (text rest after : List ℕ) (tokens : List Token) (byte : ℕ) → Lexes text rest tokens → rest ≡ byte ∷ after
@@ -134,4 +135,5 @@ pub text-cut : (spelling : Bor (List ℕ)) (text : List ℕ) (index : ℕ) → s
 text-cut spelling text index same quote =
     let rest = drop (index + 1) text in
     let whole : take (length text - (index + 1)) rest ≡ rest = take_all _ rest (omega (arith, length-drop (index + 1) text)) in
-    rw whole (text-token spelling text rest (quote.split ∙ ap (λ (l : List ℕ). l ++ 39 ∷ rest) (sym same)) quote.single)
+    rw whole (text-token spelling text rest (quote.split ∙ ap (λ (l : List ℕ). l ++ 39 ∷ rest) (sym same))
+    (subst ArePaired (sym same) quote.paired) quote.single)

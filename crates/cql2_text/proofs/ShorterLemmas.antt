@@ -118,21 +118,22 @@ predicate-shorter words rest made (of_subject {s = s} {middle = middle} known is
     let second = of-shorter s middle rest made is in
     omega arith
 
-pub spells-shorter : {A : Type 0} (production : Production) (words rest : List Token) (made : Filter A) → Spells production words rest made
+pub spells-shorter : {A : Type 0} (depth : ℕ) (production : Production) (words rest : List Token) (made : Filter A)
+    → Spells depth production words rest made
     → length rest < length words
-spells-shorter _ words rest made (one_term is) = spells-shorter _ words rest made is
-spells-shorter _ words rest _ (either {middle = middle} {first = first} {second = second} left right joined) =
-    let before = spells-shorter _ words _ first left in
-    let after = spells-shorter _ middle rest second right in
+spells-shorter depth _ words rest made (one_term is) = spells-shorter depth _ words rest made is
+spells-shorter depth _ words rest _ (either {middle = middle} {first = first} {second = second} left right joined) =
+    let before = spells-shorter depth _ words _ first left in
+    let after = spells-shorter depth _ middle rest second right in
     omega arith
-spells-shorter _ words rest made (one_factor is) = spells-shorter _ words rest made is
-spells-shorter _ words rest _ (both {middle = middle} {first = first} {second = second} left right joined) =
-    let before = spells-shorter _ words _ first left in
-    let after = spells-shorter _ middle rest second right in
+spells-shorter depth _ words rest made (one_factor is) = spells-shorter depth _ words rest made is
+spells-shorter depth _ words rest _ (both {middle = middle} {first = first} {second = second} left right joined) =
+    let before = spells-shorter depth _ words _ first left in
+    let after = spells-shorter depth _ middle rest second right in
     omega arith
-spells-shorter _ words rest made (one_primary is) = spells-shorter _ words rest made is
-spells-shorter _ _ rest _ (not_primary {words = words} {inner = inner} is opposite) =
-    let before = spells-shorter _ words rest inner is in omega arith
-spells-shorter _ _ rest made (grouped {words = words} is) =
-    let before = spells-shorter _ words _ made is in omega arith
-spells-shorter _ words rest made (predicate is) = predicate-shorter words rest made is
+spells-shorter depth _ words rest made (one_primary is) = spells-shorter depth _ words rest made is
+spells-shorter depth _ _ rest _ (not_primary {words = words} {inner = inner} is opposite) =
+    let before = spells-shorter depth _ words rest inner is in omega arith
+spells-shorter _ _ _ rest made (grouped {depth = depth} {words = words} is) =
+    let before = spells-shorter depth _ words _ made is in omega arith
+spells-shorter depth _ words rest made (predicate is) = predicate-shorter words rest made is

@@ -2,7 +2,7 @@
 use Rattle.std.specs.Prelude.{codes}
 use Rattle.refusals.specs.Refusal.{RefusalParts, refused}
 use Rattle.cql2_text.specs.declared.fault.FilterFlaw.{FilterFlaw}
-use Rattle.cql2_text.specs.declared.fault.FilterFlaw.TheVariants.{Syntax, UnknownColumn, WrongType, NumberRange, LongText, TooDeep}
+use Rattle.cql2_text.specs.declared.fault.FilterFlaw.TheVariants.{Syntax, UnknownColumn, WrongType, NumberRange, LongText, TooDeep, TooLong}
 
 abbrev pub refusal : FilterFlaw → RefusalParts
 refusal (Syntax expected) = refused 90 (codes "Syntax")
@@ -11,3 +11,4 @@ refusal WrongType = refused 92 (codes "WrongType")
 refusal NumberRange = refused 93 (codes "NumberRange")
 refusal LongText = refused 94 (codes "LongText")
 refusal TooDeep = refused 95 (codes "TooDeep")
+refusal TooLong = refused 96 (codes "TooLong")

@@ -74,9 +74,16 @@ abbrev pub IsSign : Bool → List ℕ → Type 0
 IsSign true sign = sign ≡ 45 ∷ []
 IsSign false sign = (sign ≡ []) ⊎ (sign ≡ 43 ∷ [])
 
--- a quote stands here that isn't one of a pair
+-- the quotes of a text stand in pairs
+pub data ArePaired : List ℕ → Type 0 where
+  none : ArePaired []
+  pair : (text : List ℕ) → ArePaired text → ArePaired (39 ∷ 39 ∷ text)
+  other : (byte : ℕ) (text : List ℕ) → is_quote byte ≡ false → ArePaired text → ArePaired (byte ∷ text)
+
+-- a quote stands here, after pairs, that isn't one of a pair
 pub record IsClosingQuote (text : List ℕ) (index : ℕ) : Type 0 where
   pub within : index < length text
+  pub paired : ArePaired (take index text)
   pub split : text ≡ take index text ++ 39 ∷ drop (index + 1) text
   pub single : begins is_quote (drop (index + 1) text) ≡ false
 
@@ -93,12 +100,13 @@ pub data IsToken : List ℕ → List ℕ → Token → Type 0 where
       → IsToken (word ++ rest) rest (Column column)
   unknown_name : (word rest : List ℕ) → IsWord word rest → keyword_named word ≡ None → column_named word ≡ None
       → IsToken (word ++ rest) rest UnknownColumn
-  quoted_property_name : (word rest : List ℕ) (column : AColumn) → column_named word ≡ Some column
+  quoted_property_name : (word rest : List ℕ) (column : AColumn) → list_all is_name_byte word ≡ true → column_named word ≡ Some column
       → IsToken (34 ∷ (word ++ 34 ∷ rest)) rest (Column column)
-  quoted_unknown_name : (word rest : List ℕ) → column_named word ≡ None → IsToken (34 ∷ (word ++ 34 ∷ rest)) rest UnknownColumn
+  quoted_unknown_name : (word rest : List ℕ) → list_all is_name_byte word ≡ true → column_named word ≡ None
+      → IsToken (34 ∷ (word ++ 34 ∷ rest)) rest UnknownColumn
   numeric_literal : (numeral : Numeral) (sign after rest : List ℕ) → IsSign numeral.is_negative sign → AreDigits numeral.whole.now after
       → HasDecimals after rest numeral.decimals.now → IsToken (sign ++ (numeral.whole.now ++ after)) rest (Number numeral)
-  character_literal : (spelling : Bor (List ℕ)) (rest : List ℕ) → begins is_quote rest ≡ false
+  character_literal : (spelling : Bor (List ℕ)) (rest : List ℕ) → ArePaired spelling.now → begins is_quote rest ≡ false
       → IsToken (39 ∷ (spelling.now ++ 39 ∷ rest)) rest (Text spelling)
 
 -- A text, up to the rest of it, is these tokens. White space may stand before each and at the end.

@@ -1,4 +1,6 @@
+pub mod Alike
 pub mod Character
+pub mod Content
 pub mod FilterFault
 pub mod FilterFlaw
 pub mod Lexed
@@ -7,4 +9,5 @@ pub mod Number
 pub mod Pattern
 pub mod Position
 pub mod Predicate
+pub mod Read
 pub mod Spelled

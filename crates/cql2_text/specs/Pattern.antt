@@ -34,6 +34,11 @@ abbrev pub IsPattern : Bool → List ℕ → List PatternByte → Bool → Type 
 IsPattern ignores_case spelling wanted true = ReadsPattern ignores_case spelling (37 ∷ []) wanted
 IsPattern ignores_case spelling wanted false = ReadsPattern ignores_case spelling [] wanted
 
+-- two patterns want the same
+pub record IsSamePattern {A : Type 0} (pattern other : Pattern A) : Type 0 where
+  pub wanted : pattern.wanted.items ≡ other.wanted.items
+  pub open_alike : pattern.is_open ≡ other.is_open
+
 -- the same, no longer than so many bytes
 pub record IsLikePattern {A : Type 0} (width : ℕ) (ignores_case : Bool) (spelling : List ℕ) (pattern : Pattern A) : Type 0 where
   pub read : IsPattern ignores_case spelling pattern.wanted.items pattern.is_open

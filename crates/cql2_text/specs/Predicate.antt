@@ -76,6 +76,13 @@ pub record IsLikeColumn {A : Type 0} (c : TextColumn) (ignores_case : Bool) (wor
   pub spelled : words ≡ Text spelling ∷ rest
   pub like : IsLikePattern (width_of c) ignores_case spelling.now pattern
 
+-- but for case, texts are the same or not
+abbrev pub is_compared : Subject → Comparison → Bool
+is_compared (subject.Casei c) Equal = true
+is_compared (subject.Casei c) NotEqual = true
+is_compared (subject.Casei c) comparison = false
+is_compared s comparison = true
+
 -- binaryComparisonPredicate, after the operator
 abbrev pub SpellsComparison : {A : Type 0} → Subject → Comparison → List Token → List Token → Filter A → Type 0
 SpellsComparison {A = A} (subject.Numeric c) comparison words rest made =

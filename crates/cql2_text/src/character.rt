@@ -1,8 +1,9 @@
 //! Characters of a characterLiteral: those of Latin-1, each one byte as in the Bureau's files.
-ghost use Rattle.std.specs.Prelude.{◌≡◌, ◌∷◌, ◌≤◌, ◌<◌, length, IfOk, IfSome};
+ghost use Rattle.std.specs.Prelude.{◌≡◌, ◌∷◌, ◌≤◌, ◌<◌, ℕ, List, length, IfOk, IfSome, MatchOption, MatchResult};
 ghost use Rattle.tl_segments.specs.declared.name.TheConstants.{NAME_LENGTH};
 ghost use Rattle.cql2.specs.Column.{trim_end};
 ghost use Rattle.cql2_text.specs.Character.{HasCharacters, IsCharacter, IsComparedText};
+ghost use Rattle.cql2_text.specs.declared.syntax_fault.TextFlaw.TheVariants as text_flaw;
 
 use crate::fault::Expected;
 use crate::syntax_fault::TextFlaw;
@@ -13,6 +14,8 @@ use std::alloc::Allocator;
 pub(crate) fn character(spelling: &[u8]) -> Option<(u8, &[u8])>
     ensures is { IfSome result (λ read. IsCharacter spelling.now read.0 read.1.now) }
     ensures shorter { IfSome result (λ read. length read.1.now < length spelling.now) }
+    ensures only { (byte : ℕ) (rest : List ℕ) → IsCharacter spelling.now byte rest
+        → MatchOption result ⊥ (λ read. (read.0 ≡ byte) × (read.1.now ≡ rest)) }
 {
     let (first, rest) = spelling.split_first()?;
     match *first {
@@ -35,7 +38,9 @@ pub(crate) fn character(spelling: &[u8]) -> Option<(u8, &[u8])>
 
 /// A quote is written as two.
 fn quote(second: u8, rest: &[u8]) -> Option<(u8, &[u8])>
-    ensures { IfSome result (λ read. IsCharacter (39 ∷ second ∷ rest.now) read.0 read.1.now) }
+    ensures is { IfSome result (λ read. IsCharacter (39 ∷ second ∷ rest.now) read.0 read.1.now) }
+    ensures only { (byte : ℕ) (after : List ℕ) → IsCharacter (39 ∷ second ∷ rest.now) byte after
+        → MatchOption result ⊥ (λ read. (read.0 ≡ byte) × (read.1.now ≡ after)) }
 {
     if second == b'\'' {
         Some((b'\'', rest))
@@ -46,7 +51,9 @@ fn quote(second: u8, rest: &[u8]) -> Option<(u8, &[u8])>
 
 /// A character from U+00A0 to U+00BF, by the second byte of its UTF-8.
 fn low(second: u8, rest: &[u8]) -> Option<(u8, &[u8])>
-    ensures { IfSome result (λ read. IsCharacter (194 ∷ second ∷ rest.now) read.0 read.1.now) }
+    ensures is { IfSome result (λ read. IsCharacter (194 ∷ second ∷ rest.now) read.0 read.1.now) }
+    ensures only { (byte : ℕ) (after : List ℕ) → IsCharacter (194 ∷ second ∷ rest.now) byte after
+        → MatchOption result ⊥ (λ read. (read.0 ≡ byte) × (read.1.now ≡ after)) }
 {
     if second >= 0xa0 && second <= 0xbf {
         Some((second, rest))
@@ -57,7 +64,9 @@ fn low(second: u8, rest: &[u8]) -> Option<(u8, &[u8])>
 
 /// A character from U+00C0 to U+00FF, by the second byte of its UTF-8.
 fn high(second: u8, rest: &[u8]) -> Option<(u8, &[u8])>
-    ensures { IfSome result (λ read. IsCharacter (195 ∷ second ∷ rest.now) read.0 read.1.now) }
+    ensures is { IfSome result (λ read. IsCharacter (195 ∷ second ∷ rest.now) read.0 read.1.now) }
+    ensures only { (byte : ℕ) (after : List ℕ) → IsCharacter (195 ∷ second ∷ rest.now) byte after
+        → MatchOption result ⊥ (λ read. (read.0 ≡ byte) × (read.1.now ≡ after)) }
 {
     if second >= 0x80 && second <= 0xbf {
         Some((second + 0x40, rest))
@@ -68,7 +77,9 @@ fn high(second: u8, rest: &[u8]) -> Option<(u8, &[u8])>
 
 /// The bytes of the inside of a literal.
 fn bytes_of<A: Allocator + Copy>(alloc: A, spelling: &[u8]) -> Result<Vec<u8, A>, TextFlaw>
-    ensures { IfOk result (λ bytes. HasCharacters spelling.now bytes.items) }
+    ensures ok { IfOk result (λ bytes. HasCharacters spelling.now bytes.items) }
+    ensures reads { (bytes : List ℕ) → HasCharacters spelling.now bytes
+        → MatchResult result (λ read. read.items ≡ bytes) (λ flaw. flaw ≡ text_flaw.Memory) }
 {
     let mut bytes = Vec::new(alloc);
     let mut rest = spelling;
@@ -99,7 +110,9 @@ pub(crate) fn compared_text<A: Allocator + Copy>(
     width: usize,
 ) -> Result<Text<A>, TextFlaw>
     requires { width ≤ NAME_LENGTH }
-    ensures { IfOk result (λ text. IsComparedText width spelling.now text.bytes.items) }
+    ensures ok { IfOk result (λ text. IsComparedText width spelling.now text.bytes.items) }
+    ensures reads { (text : List ℕ) → IsComparedText width spelling.now text
+        → MatchResult result (λ read. read.bytes.items ≡ text) (λ flaw. flaw ≡ text_flaw.Memory) }
 {
     let bytes = bytes_of(alloc, spelling)?;
     let trimmed = without_trailing_blanks(&bytes);

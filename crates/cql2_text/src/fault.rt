@@ -1,6 +1,5 @@
 //! Why a text is no filter.
 ghost use Rattle.std.specs.Prelude.{◌≡◌};
-ghost use Rattle.refusals.specs.Refusal.{at_line};
 ghost use Rattle.cql2_text.specs.FilterFlaw as filter_flaw;
 ghost use Rattle.cql2_text.specs.declared.fault.FilterFault.TheVariants.{Memory};
 
@@ -64,6 +63,8 @@ pub enum FilterFlaw {
     LongText,
     #[error("parentheses stand in too many others")]
     TooDeep,
+    #[error("the text has more than 1,048,576 bytes")]
+    TooLong,
 }
 
 /// Why a text is no filter, or that an allocation failed.
@@ -72,9 +73,9 @@ pub enum FilterFault {
     #[error("line {line}, column {column}: {flaw}")]
     At {
         /// The line, counted from 1.
-        line: usize,
+        line: u32,
         /// The character of the line, counted from 1.
-        column: usize,
+        column: u32,
         flaw: FilterFlaw,
     },
     #[error("out of memory")]
@@ -109,15 +110,9 @@ impl FilterFlaw {
             FilterFlaw::NumberRange => Refusal::refused(93, "NumberRange"),
             FilterFlaw::LongText => Refusal::refused(94, "LongText"),
             FilterFlaw::TooDeep => Refusal::refused(95, "TooDeep"),
+            FilterFlaw::TooLong => Refusal::refused(96, "TooLong"),
         }
     }
-}
-
-/// Puts a refusal where it belongs. It has no place for the column yet.
-fn at(refusal: Refusal, line: usize, _column: usize) -> Refusal
-    ensures { result ≡ at_line line refusal }
-{
-    refusal.at_line(line)
 }
 
 impl Fault for FilterFault {
@@ -127,7 +122,7 @@ impl Fault for FilterFault {
 
     fn refusal(&self) -> Refusal {
         match *self {
-            FilterFault::At { line, column, flaw } => at(flaw.refusal(), line, column),
+            FilterFault::At { line, column, flaw } => flaw.refusal().at_character(line, column),
             FilterFault::Memory => Refusal::memory(),
         }
     }

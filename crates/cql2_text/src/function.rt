@@ -1,7 +1,12 @@
 //! Functions.
-ghost use Rattle.std.specs.Prelude.{◌≡◌, ◌∷◌, IfOk};
+ghost use Rattle.std.specs.Prelude.{◌≡◌, ◌≢◌, ◌∷◌, List, IfOk, MatchResult};
+ghost use Rattle.cql2.specs.declared.filter.Filter.{Filter};
+ghost use Rattle.cql2.specs.declared.number.NameLimit.{NameLimit as ALimit};
 ghost use Rattle.cql2_text.specs.Predicate.{SpellsLimit, SpellsPredicate};
+ghost use Rattle.cql2_text.specs.Read.{IsRead};
 ghost use Rattle.cql2_text.specs.declared.token.Keyword.TheVariants as word;
+ghost use Rattle.cql2_text.specs.declared.token.Numeral.{Numeral};
+ghost use Rattle.cql2_text.specs.declared.token.Token.{Token};
 ghost use Rattle.cql2_text.specs.declared.token.Token.TheVariants as token;
 
 use crate::fault::{Expected, FilterFlaw};
@@ -19,7 +24,8 @@ const NAMES: u16 = 63;
 
 /// A numericLiteral.
 fn numeral<'a>(words: &'a [Token<'a>]) -> Result<(Numeral<'a>, &'a [Token<'a>]), SyntaxFault>
-    ensures { IfOk result (λ read. words.now ≡ token.Number read.0 ∷ read.1.now) }
+    ensures { MatchResult result (λ read. words.now ≡ token.Number read.0 ∷ read.1.now)
+        (λ fault. (numeral : Numeral) (rest : List Token) → words.now ≢ token.Number numeral ∷ rest) }
 {
     match next(words) {
         Some((Token::Number(numeral), rest)) => Ok((numeral, rest)),
@@ -34,7 +40,9 @@ fn numeral<'a>(words: &'a [Token<'a>]) -> Result<(Numeral<'a>, &'a [Token<'a>]),
 pub(crate) fn has_number<'a, A: Allocator + Copy>(
     words: &'a [Token<'a>],
 ) -> Result<(Filter<A>, &'a [Token<'a>]), SyntaxFault>
-    ensures { IfOk result (λ read. SpellsPredicate (token.Keyword word.HasNumber ∷ words.now) read.1.now read.0) }
+    ensures ok { IfOk result (λ read. SpellsPredicate (token.Keyword word.HasNumber ∷ words.now) read.1.now read.0) }
+    ensures reads { (rest : List Token) (made : Filter A) → SpellsPredicate (token.Keyword word.HasNumber ∷ words.now) rest made
+        → IsRead result rest made }
 {
     let words = opening(words)?;
     let (numeral, rest) = numeral(words)?;
@@ -50,7 +58,9 @@ pub(crate) fn has_name<'a, A: Allocator + Copy>(
     alloc: A,
     words: &'a [Token<'a>],
 ) -> Result<(Filter<A>, &'a [Token<'a>]), SyntaxFault>
-    ensures { IfOk result (λ read. SpellsPredicate (token.Keyword word.HasName ∷ words.now) read.1.now read.0) }
+    ensures ok { IfOk result (λ read. SpellsPredicate (token.Keyword word.HasName ∷ words.now) read.1.now read.0) }
+    ensures reads { (rest : List Token) (made : Filter A) → SpellsPredicate (token.Keyword word.HasName ∷ words.now) rest made
+        → IsRead result rest made }
 {
     let words = opening(words)?;
     let (name, rest) = text(alloc, NAME_LENGTH, words)?;
@@ -61,7 +71,9 @@ pub(crate) fn has_name<'a, A: Allocator + Copy>(
 
 /// How many alternate names are looked at: what follows a comma, if there is one.
 fn names<'a>(words: &'a [Token<'a>]) -> Result<(NameLimit, &'a [Token<'a>]), SyntaxFault>
-    ensures { IfOk result (λ read. SpellsLimit words.now read.1.now read.0) }
+    ensures ok { IfOk result (λ read. SpellsLimit words.now read.1.now read.0) }
+    ensures reads { (rest : List Token) (limit : ALimit) → SpellsLimit words.now (token.Close ∷ rest) limit
+        → MatchResult result (λ read. (read.1.now ≡ token.Close ∷ rest) × (read.0.number ≡ limit.number)) (λ fault. ⊥) }
 {
     match next(words) {
         Some((Token::Comma, words)) => {
@@ -80,7 +92,9 @@ pub(crate) fn starts_in<'a, A: Allocator + Copy>(
     alloc: A,
     words: &'a [Token<'a>],
 ) -> Result<(Filter<A>, &'a [Token<'a>]), SyntaxFault>
-    ensures { IfOk result (λ read. SpellsPredicate (token.Keyword word.StartsIn ∷ words.now) read.1.now read.0) }
+    ensures ok { IfOk result (λ read. SpellsPredicate (token.Keyword word.StartsIn ∷ words.now) read.1.now read.0) }
+    ensures reads { (rest : List Token) (made : Filter A) → SpellsPredicate (token.Keyword word.StartsIn ∷ words.now) rest made
+        → IsRead result rest made }
 {
     let longitude = NumericColumn::Coordinate(CoordinateColumn::Frlong);
     let latitude = NumericColumn::Coordinate(CoordinateColumn::Frlat);
@@ -104,7 +118,8 @@ pub(crate) fn starts_in<'a, A: Allocator + Copy>(
 
 /// What follows BBOX.
 fn bbox_word<'a>(words: &'a [Token<'a>]) -> Result<&'a [Token<'a>], SyntaxFault>
-    ensures { IfOk result (λ rest. words.now ≡ token.Keyword word.Bbox ∷ rest.now) }
+    ensures { MatchResult result (λ rest. words.now ≡ token.Keyword word.Bbox ∷ rest.now)
+        (λ fault. (rest : List Token) → words.now ≢ token.Keyword word.Bbox ∷ rest) }
 {
     match next(words) {
         Some((Token::Keyword(Keyword::Bbox), rest)) => Ok(rest),

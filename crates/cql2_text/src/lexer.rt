@@ -1,8 +1,10 @@
 //! Text cut into tokens.
-ghost use Rattle.std.specs.Prelude.{◌≡◌, ◌<◌, ◌++◌, ◌∷◌, [], true, false, not, ◌==◌, ℕ, List, length, IfOk, IfSome, MatchOption};
+ghost use Rattle.std.specs.Prelude.{◌≡◌, ◌<◌, ◌++◌, ◌∷◌, [], true, false, not, ◌==◌, ℕ, List, length, IfOk, IfSome, IfNone, MatchOption};
 ghost use Rattle.std.specs.Char.{is_ascii_digit};
 ghost use Rattle.std.specs.List.{position};
-ghost use Rattle.cql2_text.specs.Lexed.{is_white_space, is_name_start, is_name_byte, begins, is_quote, IsClosingQuote, IsSign, IsLongest, IsToken, Lexes, HasDecimals, AreDigits};
+ghost use Rattle.cql2_text.specs.declared.token.Token.{Token as AToken};
+ghost use Rattle.cql2_text.specs.Alike.{AreLike};
+ghost use Rattle.cql2_text.specs.Lexed.{ArePaired, is_white_space, is_name_start, is_name_byte, begins, is_quote, IsClosingQuote, IsSign, IsLongest, IsToken, Lexes, HasDecimals, AreDigits};
 
 use crate::name::{column_named, keyword_named};
 use crate::token::{Numeral, Token};
@@ -22,7 +24,9 @@ pub(crate) struct Tokens<'a, A: Allocator> {
 impl<'a, A: Allocator + Copy> Tokens<'a, A> {
     /// Cuts a text into tokens.
     pub fn of(alloc: A, text: &'a [u8]) -> Result<Tokens<'a, A>, AllocError>
-        ensures { IfOk result (λ read. Lexes text.now read.rest.now read.tokens.items) }
+        ensures ok { IfOk result (λ read. Lexes text.now read.rest.now read.tokens.items) }
+        ensures reads { (words : List AToken) → Lexes text.now [] words
+            → IfOk result (λ read. (read.rest.now ≡ []) × AreLike words read.tokens.items) }
     {
         let mut tokens = Vec::new(alloc);
         let mut starts = Vec::new(alloc);
@@ -66,7 +70,7 @@ fn is_name_start(byte: u8) -> bool
     byte.is_ascii_alphabetic() || byte == b'_'
 }
 
-fn is_name_byte(byte: u8) -> bool
+pub(crate) fn is_name_byte(byte: u8) -> bool
     ensures { result ≡ is_name_byte byte }
 {
     byte.is_ascii_alphanumeric() || byte == b'_'
@@ -74,7 +78,8 @@ fn is_name_byte(byte: u8) -> bool
 
 /// The token that a text begins with, and what follows it.
 fn first_token<'a>(text: &'a [u8]) -> Option<(Token<'a>, &'a [u8])>
-    ensures { IfSome result (λ read. IsToken text.now read.1.now read.0) }
+    ensures is { IfSome result (λ read. IsToken text.now read.1.now read.0) }
+    ensures none { IfNone result ((rest : List ℕ) (token : AToken) → IsToken text.now rest token → ⊥) }
 {
     let (first, rest) = text.split_first()?;
     match *first {
@@ -128,7 +133,8 @@ fn greater<'a>(text: &'a [u8]) -> (Token<'a>, &'a [u8])
 
 /// A characterLiteral after its opening quote.
 fn text_token<'a>(text: &'a [u8]) -> Option<(Token<'a>, &'a [u8])>
-    ensures { IfSome result (λ read. IsToken (39 ∷ text.now) read.1.now read.0) }
+    ensures is { IfSome result (λ read. IsToken (39 ∷ text.now) read.1.now read.0) }
+    ensures none { IfNone result ((rest : List ℕ) (token : AToken) → IsToken (39 ∷ text.now) rest token → ⊥) }
 {
     let end = closing_quote(text)?;
     Some((Token::Text(&text[..end]), &text[end + 1..]))
@@ -136,7 +142,9 @@ fn text_token<'a>(text: &'a [u8]) -> Option<(Token<'a>, &'a [u8])>
 
 /// Where a quote stands that isn't one of a pair.
 fn closing_quote(text: &[u8]) -> Option<usize>
-    ensures { IfSome result (λ index. IsClosingQuote text.now index) }
+    ensures is { IfSome result (λ index. IsClosingQuote text.now index) }
+    ensures only { (spelling rest : List ℕ) → text.now ≡ spelling ++ 39 ∷ rest → ArePaired spelling → begins is_quote rest ≡ false
+        → MatchOption result ⊥ (λ index. index ≡ length spelling) }
 {
     let mut at = 0;
     while at < text.len() {
@@ -153,7 +161,8 @@ fn closing_quote(text: &[u8]) -> Option<usize>
 
 /// A column's name in double quotes, after the first of them.
 fn quoted_name<'a>(text: &'a [u8]) -> Option<(Token<'a>, &'a [u8])>
-    ensures { IfSome result (λ read. IsToken (34 ∷ text.now) read.1.now read.0) }
+    ensures is { IfSome result (λ read. IsToken (34 ∷ text.now) read.1.now read.0) }
+    ensures none { IfNone result ((rest : List ℕ) (token : AToken) → IsToken (34 ∷ text.now) rest token → ⊥) }
 {
     let (name, rest) = split_name(text);
     let rest = after_byte(rest, b'"')?;
@@ -165,7 +174,8 @@ fn quoted_name<'a>(text: &'a [u8]) -> Option<(Token<'a>, &'a [u8])>
 
 /// A keyword or a name.
 fn word<'a>(text: &'a [u8]) -> Option<(Token<'a>, &'a [u8])>
-    ensures { IfSome result (λ read. IsToken text.now read.1.now read.0) }
+    ensures is { IfSome result (λ read. IsToken text.now read.1.now read.0) }
+    ensures none { IfNone result (begins is_name_start text.now ≡ false) }
 {
     if begins_name(text) {
         Some(named(text))
@@ -239,7 +249,8 @@ fn digits_end(text: &[u8]) -> Option<usize>
 
 /// A numericLiteral after its sign.
 fn number<'a>(is_negative: bool, text: &'a [u8]) -> Option<(Token<'a>, &'a [u8])>
-    ensures { IfSome result (λ read. (sign : List ℕ) → IsSign is_negative sign → IsToken (sign ++ text.now) read.1.now read.0) }
+    ensures is { IfSome result (λ read. (sign : List ℕ) → IsSign is_negative sign → IsToken (sign ++ text.now) read.1.now read.0) }
+    ensures none { IfNone result (begins is_ascii_digit text.now ≡ false) }
 {
     let (whole, rest) = split_digits(text);
     if whole.is_empty() {

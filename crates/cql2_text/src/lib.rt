@@ -4,9 +4,11 @@
 mod character;
 mod fault;
 mod function;
+pub mod laws;
 mod lexer;
 mod literal;
 mod name;
+mod nearest;
 mod parser;
 mod pattern;
 mod predicate;
@@ -15,8 +17,8 @@ mod syntax_fault;
 mod token;
 
 pub use fault::{Expected, FilterFault, FilterFlaw};
-pub use name::nearest;
-pub use reader::read;
+pub use name::column_named;
+pub use reader::{TEXT_LIMIT, read};
 
 #[cfg(test)]
 mod tests;

@@ -1,6 +1,10 @@
 //! Tokens read as a filter.
-ghost use Rattle.std.specs.Prelude.{◌≡◌, ◌<◌, ◌∷◌, [], List, length, IfOk, Err, MatchOption};
+ghost use Rattle.std.specs.Prelude.{◌≡◌, ◌<◌, ◌∷◌, [], List, length, ◌≢◌, IfOk, Err, MatchOption, MatchResult};
+ghost use Rattle.cql2.specs.declared.filter.Filter.{Filter};
+ghost use Rattle.cql2_text.specs.Content.{content};
 ghost use Rattle.cql2_text.specs.Predicate.{IsBoth, IsEither, IsNot};
+ghost use Rattle.cql2_text.specs.Read.{IsRead, Lacks};
+ghost use Rattle.cql2_text.specs.declared.token.Keyword.TheVariants as word;
 ghost use Rattle.cql2_text.specs.Spelled.{Expression, Term, Factor, Primary, Spells};
 ghost use Rattle.cql2_text.specs.declared.syntax_fault.SyntaxFault.TheVariants as syntax_fault;
 ghost use Rattle.cql2_text.specs.declared.token.Token.{Token};
@@ -21,7 +25,9 @@ pub(crate) fn filter<'a, A: Allocator + Copy>(
     alloc: A,
     words: &'a [Token<'a>],
 ) -> Result<Filter<A>, SyntaxFault>
-    ensures { IfOk result (Spells Expression words.now []) }
+    ensures ok { IfOk result (Spells 64 Expression words.now []) }
+    ensures reads { (made : Filter A) → Spells 64 Expression words.now [] made
+        → MatchResult result (λ read. content read ≡ content made) (λ fault. fault ≡ syntax_fault.Memory) }
 {
     let (filter, rest) = expression(alloc, words, MOST_PARENTHESES)?;
     if rest.is_empty() {
@@ -38,7 +44,9 @@ fn expression<'a, A: Allocator + Copy>(
     depth: u32,
 ) -> Result<(Filter<A>, &'a [Token<'a>]), SyntaxFault>
     requires { depth < 1000 }
-    ensures { IfOk result (λ read. Spells Expression words.now read.1.now read.0) }
+    ensures ok { IfOk result (λ read. Spells depth Expression words.now read.1.now read.0) }
+    ensures reads { (rest : List Token) (made : Filter A) → Lacks word.And rest → Lacks word.Or rest
+        → Spells depth Expression words.now rest made → IsRead result rest made }
 {
     let (mut filter, mut rest) = term(alloc, words, depth)?;
     while let Some((Token::Keyword(Keyword::Or), after)) = next(rest) {
@@ -57,7 +65,9 @@ fn term<'a, A: Allocator + Copy>(
     depth: u32,
 ) -> Result<(Filter<A>, &'a [Token<'a>]), SyntaxFault>
     requires { depth < 1000 }
-    ensures { IfOk result (λ read. Spells Term words.now read.1.now read.0) }
+    ensures ok { IfOk result (λ read. Spells depth Term words.now read.1.now read.0) }
+    ensures reads { (rest : List Token) (made : Filter A) → Lacks word.And rest → Spells depth Term words.now rest made
+        → IsRead result rest made }
 {
     let (mut filter, mut rest) = factor(alloc, words, depth)?;
     while let Some((Token::Keyword(Keyword::And), after)) = next(rest) {
@@ -76,7 +86,8 @@ fn factor<'a, A: Allocator + Copy>(
     depth: u32,
 ) -> Result<(Filter<A>, &'a [Token<'a>]), SyntaxFault>
     requires { depth < 1000 }
-    ensures { IfOk result (λ read. Spells Factor words.now read.1.now read.0) }
+    ensures ok { IfOk result (λ read. Spells depth Factor words.now read.1.now read.0) }
+    ensures reads { (rest : List Token) (made : Filter A) → Spells depth Factor words.now rest made → IsRead result rest made }
 {
     match next(words) {
         Some((Token::Keyword(Keyword::Not), after)) => {
@@ -99,7 +110,8 @@ fn primary<'a, A: Allocator + Copy>(
     depth: u32,
 ) -> Result<(Filter<A>, &'a [Token<'a>]), SyntaxFault>
     requires { depth < 1000 }
-    ensures ok { IfOk result (λ read. Spells Primary words.now read.1.now read.0) }
+    ensures ok { IfOk result (λ read. Spells depth Primary words.now read.1.now read.0) }
+    ensures reads { (rest : List Token) (made : Filter A) → Spells depth Primary words.now rest made → IsRead result rest made }
 
     // A parenthesis inside as many others as there may be is refused.
     ensures too_deep { (rest : List Token) → depth ≡ 0 → words.now ≡ token.Open ∷ rest
@@ -131,7 +143,8 @@ pub(crate) fn next<'a>(words: &'a [Token<'a>]) -> Option<(Token<'a>, &'a [Token<
 
 /// What follows an opening parenthesis.
 pub(crate) fn opening<'a>(words: &'a [Token<'a>]) -> Result<&'a [Token<'a>], SyntaxFault>
-    ensures { IfOk result (λ rest. words.now ≡ token.Open ∷ rest.now) }
+    ensures { MatchResult result (λ rest. words.now ≡ token.Open ∷ rest.now)
+        (λ fault. (rest : List Token) → words.now ≢ token.Open ∷ rest) }
 {
     match next(words) {
         Some((Token::Open, rest)) => Ok(rest),
@@ -141,7 +154,8 @@ pub(crate) fn opening<'a>(words: &'a [Token<'a>]) -> Result<&'a [Token<'a>], Syn
 
 /// What follows a closing parenthesis.
 pub(crate) fn closing<'a>(words: &'a [Token<'a>]) -> Result<&'a [Token<'a>], SyntaxFault>
-    ensures { IfOk result (λ rest. words.now ≡ token.Close ∷ rest.now) }
+    ensures { MatchResult result (λ rest. words.now ≡ token.Close ∷ rest.now)
+        (λ fault. (rest : List Token) → words.now ≢ token.Close ∷ rest) }
 {
     match next(words) {
         Some((Token::Close, rest)) => Ok(rest),
@@ -151,7 +165,8 @@ pub(crate) fn closing<'a>(words: &'a [Token<'a>]) -> Result<&'a [Token<'a>], Syn
 
 /// What follows a comma.
 pub(crate) fn comma<'a>(words: &'a [Token<'a>]) -> Result<&'a [Token<'a>], SyntaxFault>
-    ensures { IfOk result (λ rest. words.now ≡ token.Comma ∷ rest.now) }
+    ensures { MatchResult result (λ rest. words.now ≡ token.Comma ∷ rest.now)
+        (λ fault. (rest : List Token) → words.now ≢ token.Comma ∷ rest) }
 {
     match next(words) {
         Some((Token::Comma, rest)) => Ok(rest),
@@ -165,7 +180,7 @@ pub(crate) fn both<A: Allocator + Copy>(
     first: Filter<A>,
     second: Filter<A>,
 ) -> Result<Filter<A>, SyntaxFault>
-    ensures { IfOk result (IsBoth first second) }
+    ensures { MatchResult result (IsBoth first second) (λ fault. fault ≡ syntax_fault.Memory) }
 {
     let first = boxed(alloc, first)?;
     let second = boxed(alloc, second)?;
@@ -178,7 +193,7 @@ pub(crate) fn either<A: Allocator + Copy>(
     first: Filter<A>,
     second: Filter<A>,
 ) -> Result<Filter<A>, SyntaxFault>
-    ensures { IfOk result (IsEither first second) }
+    ensures { MatchResult result (IsEither first second) (λ fault. fault ≡ syntax_fault.Memory) }
 {
     let first = boxed(alloc, first)?;
     let second = boxed(alloc, second)?;
@@ -190,14 +205,14 @@ pub(crate) fn negated<A: Allocator + Copy>(
     alloc: A,
     inner: Filter<A>,
 ) -> Result<Filter<A>, SyntaxFault>
-    ensures { IfOk result (IsNot inner) }
+    ensures { MatchResult result (IsNot inner) (λ fault. fault ≡ syntax_fault.Memory) }
 {
     let inner = boxed(alloc, inner)?;
     Ok(Filter::Not(inner))
 }
 
 fn boxed<A: Allocator + Copy>(alloc: A, filter: Filter<A>) -> Result<Box<Filter<A>, A>, SyntaxFault>
-    ensures { IfOk result (λ made. made.value ≡ filter) }
+    ensures { MatchResult result (λ made. made.value ≡ filter) (λ fault. fault ≡ syntax_fault.Memory) }
 {
     match Box::new(alloc, filter) {
         Ok(made) => Ok(made),

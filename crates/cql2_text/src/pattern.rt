@@ -1,7 +1,10 @@
 //! Patterns of LIKE.
-ghost use Rattle.std.specs.Prelude.{◌≡◌, ◌<◌, ◌≤◌, ◌∷◌, [], IsTrue, ◌↔◌, true, false, map, length, IfOk};
+ghost use Rattle.std.specs.Prelude.{◌≡◌, ◌<◌, ◌≤◌, ◌∷◌, [], ℕ, List, IsTrue, ◌↔◌, true, false, map, length, IfOk, IfErr, MatchResult};
 ghost use Rattle.cql2.specs.Pattern.{are_bytes, is_byte};
-ghost use Rattle.cql2_text.specs.Pattern.{IsLikePattern, IsPatternByte, is_special, wanted_by};
+ghost use Rattle.cql2.specs.declared.pattern.Pattern.{Pattern as APattern};
+ghost use Rattle.cql2.specs.declared.pattern.PatternByte.{PatternByte as APatternByte};
+ghost use Rattle.cql2_text.specs.declared.syntax_fault.TextFlaw.TheVariants as text_flaw;
+ghost use Rattle.cql2_text.specs.Pattern.{IsLikePattern, IsSamePattern, IsPatternByte, is_special, wanted_by};
 
 use crate::character::character;
 use crate::fault::Expected;
@@ -31,6 +34,8 @@ fn pattern_byte<'a>(
     ensures byte { IfOk result (λ read. IsPatternByte ignores_case text.now read.0 read.1.now) }
     ensures is_byte { IfOk result (λ read. is_byte read.0 ≡ true) }
     ensures shorter { IfOk result (λ read. length read.1.now < length text.now) }
+    ensures only { (wanted : APatternByte) (rest : List ℕ) → IsPatternByte ignores_case text.now wanted rest
+        → MatchResult result (λ read. (read.0 ≡ wanted) × (read.1.now ≡ rest)) (λ flaw. ⊥) }
 {
     let Some((byte, rest)) = character(text) else {
         return Err(TextFlaw::expected(spelling, text, Expected::Character));
@@ -75,6 +80,7 @@ fn short<A: Allocator>(
     ensures wanted { IfOk result (λ pattern. pattern.wanted.items ≡ wanted.items) }
     ensures open { IfOk result (λ pattern. pattern.is_open ≡ is_open) }
     ensures few { IfOk result (λ pattern. length pattern.wanted.items ≤ width) }
+    ensures long { IfErr result (λ flaw. width < length wanted.items) }
 {
     if wanted.len() > width {
         return Err(TextFlaw::Long);
@@ -89,7 +95,9 @@ pub(crate) fn pattern<A: Allocator + Copy>(
     ignores_case: bool,
     width: usize,
 ) -> Result<Pattern<A>, TextFlaw>
-    ensures { IfOk result (λ pattern. IsLikePattern width ignores_case spelling.now pattern) }
+    ensures ok { IfOk result (λ pattern. IsLikePattern width ignores_case spelling.now pattern) }
+    ensures reads { (pattern : APattern A) → IsLikePattern width ignores_case spelling.now pattern
+        → MatchResult result (λ read. IsSamePattern read pattern) (λ flaw. flaw ≡ text_flaw.Memory) }
 {
     let mut wanted = Vec::new(alloc);
     let mut rest = spelling;
@@ -111,6 +119,7 @@ pub(crate) fn same_but_for_case<A: Allocator + Copy>(
 ) -> Result<Pattern<A>, TextFlaw>
     ensures letters { IfOk result (λ pattern. pattern.wanted.items ≡ map (wanted_by true) bytes.now) }
     ensures closed { IfOk result (λ pattern. pattern.is_open ≡ false) }
+    ensures memory { IfErr result (λ flaw. flaw ≡ text_flaw.Memory) }
 {
     let mut wanted = Vec::new(alloc);
     for byte in bytes {

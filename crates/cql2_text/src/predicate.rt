@@ -1,10 +1,19 @@
 //! Predicates.
-ghost use Rattle.std.specs.Prelude.{◌≡◌, ◌∷◌, ◌≤◌, List, length, IfOk, Err};
+ghost use Rattle.std.specs.Prelude.{◌≡◌, ◌≢◌, ◌∷◌, ◌≤◌, ℕ, List, length, IfOk, Err, MatchResult};
 ghost use Rattle.tl_segments.specs.declared.name.TheConstants.{NAME_LENGTH};
 ghost use Rattle.cql2.specs.declared.column.Column.TheVariants as column;
+ghost use Rattle.cql2.specs.declared.column.TextColumn.{TextColumn};
+ghost use denote.Ref.{Bor};
 ghost use Rattle.cql2.specs.declared.filter.Comparison.TheVariants.{Equal};
+ghost use Rattle.cql2.specs.declared.filter.Filter.{Filter};
 ghost use Rattle.cql2.specs.declared.filter.Filter.TheVariants as filter;
-ghost use Rattle.cql2_text.specs.Predicate.{IsSubject, IsNumber, IsText, IsCaseiText, IsLikeColumn, IsWithin, SpellsBetween, SpellsComparison, SpellsList, SpellsLike, SpellsNegatable, SpellsOf, SpellsPredicate, column_of, width_of};
+ghost use Rattle.cql2.specs.declared.number.Literal.{Literal as ALiteral};
+ghost use Rattle.cql2.specs.declared.pattern.Pattern.{Pattern as APattern};
+ghost use Rattle.cql2.specs.declared.text.Text.{Text as AText};
+ghost use Rattle.cql2_text.specs.declared.predicate.Subject.{Subject};
+ghost use Rattle.cql2_text.specs.Read.{IsRead};
+ghost use Rattle.cql2_text.specs.Pattern.{IsSamePattern};
+ghost use Rattle.cql2_text.specs.Predicate.{IsSubject, IsNumber, IsText, IsCaseiText, IsLikeColumn, IsWithin, is_compared, SpellsBetween, SpellsComparison, SpellsList, SpellsLike, SpellsNegatable, SpellsOf, SpellsPredicate, column_of, width_of};
 ghost use Rattle.cql2_text.specs.Number.{number_of};
 ghost use Rattle.cql2_text.specs.declared.syntax_fault.SyntaxFault.TheVariants as syntax_fault;
 ghost use Rattle.cql2_text.specs.declared.token.Keyword.TheVariants as word;
@@ -38,7 +47,8 @@ pub(crate) fn predicate<'a, A: Allocator + Copy>(
     alloc: A,
     words: &'a [Token<'a>],
 ) -> Result<(Filter<A>, &'a [Token<'a>]), SyntaxFault>
-    ensures { IfOk result (λ read. SpellsPredicate words.now read.1.now read.0) }
+    ensures ok { IfOk result (λ read. SpellsPredicate words.now read.1.now read.0) }
+    ensures reads { (rest : List Token) (made : Filter A) → SpellsPredicate words.now rest made → IsRead result rest made }
 {
     match next(words) {
         Some((Token::Keyword(Keyword::True), rest)) => Ok((Filter::Constant(true), rest)),
@@ -65,7 +75,9 @@ pub(crate) fn predicate<'a, A: Allocator + Copy>(
 
 /// A column, or one whose case is ignored.
 fn first_subject<'a>(words: &'a [Token<'a>]) -> Result<(Subject, &'a [Token<'a>]), SyntaxFault>
-    ensures { IfOk result (λ read. IsSubject read.0 words.now read.1.now) }
+    ensures ok { IfOk result (λ read. IsSubject read.0 words.now read.1.now) }
+    ensures reads { (s : Subject) (rest : List Token) → IsSubject s words.now rest
+        → MatchResult result (λ read. (read.0 ≡ s) × (read.1.now ≡ rest)) (λ fault. ⊥) }
 {
     match next(words) {
         Some((Token::Column(Column::Numeric(column)), rest)) => {
@@ -85,7 +97,8 @@ fn first_subject<'a>(words: &'a [Token<'a>]) -> Result<(Subject, &'a [Token<'a>]
 
 /// A text column in parentheses, after CASEI.
 fn casei_column<'a>(words: &'a [Token<'a>]) -> Result<(TextColumn, &'a [Token<'a>]), SyntaxFault>
-    ensures { IfOk result (λ read. words.now ≡ token.Open ∷ token.Column (column.Text read.0) ∷ token.Close ∷ read.1.now) }
+    ensures { MatchResult result (λ read. words.now ≡ token.Open ∷ token.Column (column.Text read.0) ∷ token.Close ∷ read.1.now)
+        (λ fault. (c : TextColumn) (rest : List Token) → words.now ≢ token.Open ∷ token.Column (column.Text c) ∷ token.Close ∷ rest) }
 {
     let words = opening(words)?;
     match next(words) {
@@ -109,7 +122,8 @@ fn of_subject<'a, A: Allocator + Copy>(
     subject: Subject,
     words: &'a [Token<'a>],
 ) -> Result<(Filter<A>, &'a [Token<'a>]), SyntaxFault>
-    ensures { IfOk result (λ read. SpellsOf subject words.now read.1.now read.0) }
+    ensures ok { IfOk result (λ read. SpellsOf subject words.now read.1.now read.0) }
+    ensures reads { (rest : List Token) (made : Filter A) → SpellsOf subject words.now rest made → IsRead result rest made }
 {
     match next(words) {
         Some((Token::Compared(comparison), after)) => {
@@ -136,7 +150,9 @@ fn of_subject<'a, A: Allocator + Copy>(
 }
 
 /// Whether a subject may be compared so: but for case, texts are the same or not.
-fn is_compared(subject: Subject, comparison: Comparison) -> bool {
+fn is_compared(subject: Subject, comparison: Comparison) -> bool
+    ensures { result ≡ is_compared subject comparison }
+{
     match (subject, comparison) {
         (Subject::Casei(_column), Comparison::Equal) => true,
         (Subject::Casei(_column), Comparison::NotEqual) => true,
@@ -151,7 +167,9 @@ fn null<'a, A: Allocator + Copy>(
     subject: Subject,
     words: &'a [Token<'a>],
 ) -> Result<(Filter<A>, &'a [Token<'a>]), SyntaxFault>
-    ensures { IfOk result (λ read. SpellsOf subject (token.Keyword word.Is ∷ words.now) read.1.now read.0) }
+    ensures ok { IfOk result (λ read. SpellsOf subject (token.Keyword word.Is ∷ words.now) read.1.now read.0) }
+    ensures reads { (rest : List Token) (made : Filter A) → SpellsOf subject (token.Keyword word.Is ∷ words.now) rest made
+        → IsRead result rest made }
 {
     let Some(column) = column_of(subject) else {
         return Err(SyntaxFault::at(words, FilterFlaw::WrongType));
@@ -180,7 +198,8 @@ fn column_of(subject: Subject) -> Option<Column>
 
 /// What follows NULL.
 fn null_word<'a>(words: &'a [Token<'a>]) -> Result<&'a [Token<'a>], SyntaxFault>
-    ensures { IfOk result (λ rest. words.now ≡ token.Keyword word.Null ∷ rest.now) }
+    ensures { MatchResult result (λ rest. words.now ≡ token.Keyword word.Null ∷ rest.now)
+        (λ fault. (rest : List Token) → words.now ≢ token.Keyword word.Null ∷ rest) }
 {
     match next(words) {
         Some((Token::Keyword(Keyword::Null), rest)) => Ok(rest),
@@ -195,7 +214,8 @@ fn negatable<'a, A: Allocator + Copy>(
     words: &'a [Token<'a>],
     expected: Expected,
 ) -> Result<(Filter<A>, &'a [Token<'a>]), SyntaxFault>
-    ensures { IfOk result (λ read. SpellsNegatable subject words.now read.1.now read.0) }
+    ensures ok { IfOk result (λ read. SpellsNegatable subject words.now read.1.now read.0) }
+    ensures reads { (rest : List Token) (made : Filter A) → SpellsNegatable subject words.now rest made → IsRead result rest made }
 {
     match next(words) {
         Some((Token::Keyword(Keyword::Like), after)) => match subject {
@@ -231,7 +251,9 @@ fn compared<'a, A: Allocator + Copy>(
     comparison: Comparison,
     words: &'a [Token<'a>],
 ) -> Result<(Filter<A>, &'a [Token<'a>]), SyntaxFault>
-    ensures { IfOk result (λ read. SpellsComparison subject comparison words.now read.1.now read.0) }
+    ensures ok { IfOk result (λ read. SpellsComparison subject comparison words.now read.1.now read.0) }
+    ensures reads { (rest : List Token) (made : Filter A) → SpellsComparison subject comparison words.now rest made
+        → IsRead result rest made }
 {
     match subject {
         Subject::Numeric(column) => {
@@ -275,6 +297,8 @@ pub(crate) fn number<'a>(
     // A number that the column can't have is refused, with its flaw.
     ensures refused { (numeral : Numeral) (rest : List Token) (flaw : FilterFlaw) → words.now ≡ token.Number numeral ∷ rest
         → number_of column numeral ≡ Err flaw → result ≡ Err (syntax_fault.At (length words.now) 0 flaw) }
+    ensures reads { (rest : List Token) (literal : ALiteral) → IsNumber column words.now rest literal
+        → MatchResult result (λ read. (read.1.now ≡ rest) × (read.0.number ≡ literal.number)) (λ fault. ⊥) }
 {
     match next(words) {
         Some((Token::Number(numeral), rest)) => match literal_of(column, numeral) {
@@ -293,7 +317,8 @@ pub(crate) fn number<'a>(
 
 /// The inside of a characterLiteral.
 fn spelling<'a>(words: &'a [Token<'a>]) -> Result<(&'a [u8], &'a [Token<'a>]), SyntaxFault>
-    ensures { IfOk result (λ read. words.now ≡ token.Text read.0 ∷ read.1.now) }
+    ensures { MatchResult result (λ read. words.now ≡ token.Text read.0 ∷ read.1.now)
+        (λ fault. (spelling : Bor (List ℕ)) (rest : List Token) → words.now ≢ token.Text spelling ∷ rest) }
 {
     match next(words) {
         Some((Token::Text(spelling), rest)) => Ok((spelling, rest)),
@@ -314,7 +339,10 @@ pub(crate) fn text<'a, A: Allocator + Copy>(
     words: &'a [Token<'a>],
 ) -> Result<(Text<A>, &'a [Token<'a>]), SyntaxFault>
     requires { width ≤ NAME_LENGTH }
-    ensures { IfOk result (λ read. IsText width words.now read.1.now read.0) }
+    ensures ok { IfOk result (λ read. IsText width words.now read.1.now read.0) }
+    ensures reads { (rest : List Token) (text : AText A) → IsText width words.now rest text
+        → MatchResult result (λ read. (read.1.now ≡ rest) × (read.0.bytes.items ≡ text.bytes.items))
+        (λ fault. fault ≡ syntax_fault.Memory) }
 {
     let (spelling, rest) = spelling(words)?;
     match compared_text(alloc, spelling, width) {
@@ -325,7 +353,8 @@ pub(crate) fn text<'a, A: Allocator + Copy>(
 
 /// What follows CASEI and an opening parenthesis.
 fn casei<'a>(words: &'a [Token<'a>]) -> Result<&'a [Token<'a>], SyntaxFault>
-    ensures { IfOk result (λ rest. words.now ≡ token.Keyword word.Casei ∷ token.Open ∷ rest.now) }
+    ensures { MatchResult result (λ rest. words.now ≡ token.Keyword word.Casei ∷ token.Open ∷ rest.now)
+        (λ fault. (rest : List Token) → words.now ≢ token.Keyword word.Casei ∷ token.Open ∷ rest) }
 {
     match next(words) {
         Some((Token::Keyword(Keyword::Casei), rest)) => opening(rest),
@@ -345,7 +374,9 @@ fn casei_same<'a, A: Allocator + Copy>(
     column: TextColumn,
     words: &'a [Token<'a>],
 ) -> Result<(Filter<A>, &'a [Token<'a>]), SyntaxFault>
-    ensures { IfOk result (λ read. SpellsComparison (subject.Casei column) Equal words.now read.1.now read.0) }
+    ensures ok { IfOk result (λ read. SpellsComparison (subject.Casei column) Equal words.now read.1.now read.0) }
+    ensures reads { (rest : List Token) (made : Filter A) → SpellsComparison (subject.Casei column) Equal words.now rest made
+        → IsRead result rest made }
 {
     let words = casei(words)?;
     let (text, rest) = text(alloc, width(column), words)?;
@@ -363,7 +394,9 @@ fn column_pattern<'a, A: Allocator + Copy>(
     ignores_case: bool,
     words: &'a [Token<'a>],
 ) -> Result<(Pattern<A>, &'a [Token<'a>]), SyntaxFault>
-    ensures { IfOk result (λ read. IsLikeColumn column ignores_case words.now read.1.now read.0) }
+    ensures ok { IfOk result (λ read. IsLikeColumn column ignores_case words.now read.1.now read.0) }
+    ensures reads { (rest : List Token) (pattern : APattern A) → IsLikeColumn column ignores_case words.now rest pattern
+        → MatchResult result (λ read. (read.1.now ≡ rest) × IsSamePattern read.0 pattern) (λ fault. fault ≡ syntax_fault.Memory) }
 {
     let (spelling, rest) = spelling(words)?;
     match pattern(alloc, spelling, ignores_case, width(column)) {
@@ -378,7 +411,8 @@ fn like<'a, A: Allocator + Copy>(
     column: TextColumn,
     words: &'a [Token<'a>],
 ) -> Result<(Filter<A>, &'a [Token<'a>]), SyntaxFault>
-    ensures { IfOk result (λ read. SpellsLike (subject.Text column) words.now read.1.now read.0) }
+    ensures ok { IfOk result (λ read. SpellsLike (subject.Text column) words.now read.1.now read.0) }
+    ensures reads { (rest : List Token) (made : Filter A) → SpellsLike (subject.Text column) words.now rest made → IsRead result rest made }
 {
     let (pattern, rest) = column_pattern(alloc, column, false, words)?;
     Ok((Filter::Like(column, pattern), rest))
@@ -390,7 +424,9 @@ fn casei_like<'a, A: Allocator + Copy>(
     column: TextColumn,
     words: &'a [Token<'a>],
 ) -> Result<(Filter<A>, &'a [Token<'a>]), SyntaxFault>
-    ensures { IfOk result (λ read. SpellsLike (subject.Casei column) words.now read.1.now read.0) }
+    ensures ok { IfOk result (λ read. SpellsLike (subject.Casei column) words.now read.1.now read.0) }
+    ensures reads { (rest : List Token) (made : Filter A) → SpellsLike (subject.Casei column) words.now rest made
+        → IsRead result rest made }
 {
     let words = casei(words)?;
     let (pattern, rest) = column_pattern(alloc, column, true, words)?;
@@ -404,7 +440,8 @@ fn between<'a, A: Allocator + Copy>(
     column: NumericColumn,
     words: &'a [Token<'a>],
 ) -> Result<(Filter<A>, &'a [Token<'a>]), SyntaxFault>
-    ensures { IfOk result (λ read. SpellsBetween column words.now read.1.now read.0) }
+    ensures ok { IfOk result (λ read. SpellsBetween column words.now read.1.now read.0) }
+    ensures reads { (rest : List Token) (made : Filter A) → SpellsBetween column words.now rest made → IsRead result rest made }
 {
     let (low, rest) = number(column, words)?;
     let rest = and_word(rest)?;
@@ -415,7 +452,8 @@ fn between<'a, A: Allocator + Copy>(
 
 /// What follows AND.
 fn and_word<'a>(words: &'a [Token<'a>]) -> Result<&'a [Token<'a>], SyntaxFault>
-    ensures { IfOk result (λ rest. words.now ≡ token.Keyword word.And ∷ rest.now) }
+    ensures { MatchResult result (λ rest. words.now ≡ token.Keyword word.And ∷ rest.now)
+        (λ fault. (rest : List Token) → words.now ≢ token.Keyword word.And ∷ rest) }
 {
     match next(words) {
         Some((Token::Keyword(Keyword::And), rest)) => Ok(rest),
@@ -430,7 +468,7 @@ pub(crate) fn within<A: Allocator + Copy>(
     low: Literal,
     high: Literal,
 ) -> Result<Filter<A>, SyntaxFault>
-    ensures { IfOk result (IsWithin column low high) }
+    ensures { MatchResult result (IsWithin column low high) (λ fault. fault ≡ syntax_fault.Memory) }
 {
     let first = Filter::CompareNumber(column, Comparison::GreaterOrEqual, low);
     let second = Filter::CompareNumber(column, Comparison::LessOrEqual, high);
@@ -443,7 +481,9 @@ fn among<'a, A: Allocator + Copy>(
     subject: Subject,
     words: &'a [Token<'a>],
 ) -> Result<(Filter<A>, &'a [Token<'a>]), SyntaxFault>
-    ensures { IfOk result (λ read. SpellsNegatable subject (token.Keyword word.In ∷ words.now) read.1.now read.0) }
+    ensures ok { IfOk result (λ read. SpellsNegatable subject (token.Keyword word.In ∷ words.now) read.1.now read.0) }
+    ensures reads { (rest : List Token) (made : Filter A) → SpellsNegatable subject (token.Keyword word.In ∷ words.now) rest made
+        → IsRead result rest made }
 {
     let inner = opening(words)?;
     let (filter, rest) = list(alloc, subject, inner)?;
@@ -457,7 +497,9 @@ fn list<'a, A: Allocator + Copy>(
     subject: Subject,
     words: &'a [Token<'a>],
 ) -> Result<(Filter<A>, &'a [Token<'a>]), SyntaxFault>
-    ensures { IfOk result (λ read. SpellsList subject words.now read.1.now read.0) }
+    ensures ok { IfOk result (λ read. SpellsList subject words.now read.1.now read.0) }
+    ensures reads { (rest : List Token) (made : Filter A) → SpellsList subject words.now (token.Close ∷ rest) made
+        → IsRead result (token.Close ∷ rest) made }
 {
     let (mut filter, mut rest) = compared(alloc, subject, Comparison::Equal, words)?;
     while let Some((Token::Comma, after)) = next(rest) {

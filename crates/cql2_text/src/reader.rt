@@ -1,9 +1,12 @@
 //! Texts read as filters.
-ghost use Rattle.std.specs.Prelude.{◌≡◌, ◌<◌, ◌≤◌, ◌+◌, ◌-◌, ◌^◌, take, IfOk, Err};
+ghost use Rattle.std.specs.Prelude.{◌≡◌, ◌<◌, ◌≤◌, ◌+◌, length, take, IfOk, Err, MatchResult};
 ghost use Rattle.std.specs.Str.{IsUtf8};
 ghost use Rattle.std.specs.Str.Lossy.{utf8_valid_len};
 ghost use Rattle.cql2_text.specs.Position.{column_after, fault_after, is_continuation, line_after, next_column};
+ghost use Rattle.cql2.specs.declared.filter.Filter.{Filter as AFilter};
+ghost use Rattle.cql2_text.specs.Content.{content};
 ghost use Rattle.cql2_text.specs.Spelled.{IsFilterText};
+ghost use Rattle.cql2_text.specs.declared.reader.TheConstants.{TEXT_LIMIT};
 
 use crate::fault::{Expected, FilterFault, FilterFlaw};
 use crate::lexer::Tokens;
@@ -12,14 +15,27 @@ use crate::syntax_fault::SyntaxFault;
 use cql2::Filter;
 use std::alloc::Allocator;
 
+/// A filter's text has at most so many bytes.
+pub const TEXT_LIMIT: usize = 1_048_576;
+
 /// Reads a text as a filter.
 pub fn read<A: Allocator + Copy>(alloc: A, text: &[u8]) -> Result<Filter<A>, FilterFault>
     ensures ok { IfOk result (IsFilterText text.now) }
 
-    // A text that isn't UTF-8 is refused at its first bad byte.
-    ensures not_utf8 { ¬ (IsUtf8 text.now)
+    // A text that spells a filter is read as that filter, unless it is too long or an allocation fails.
+    ensures reads { length text.now ≤ TEXT_LIMIT → IsUtf8 text.now → (filter : AFilter A) → IsFilterText text.now filter
+        → MatchResult result (λ read. content read ≡ content filter) (λ fault. fault ≡ FilterFault.Memory) }
+
+    // A text that is too long is refused at its first byte over the limit.
+    ensures too_long { TEXT_LIMIT < length text.now → result ≡ Err (fault_after (take TEXT_LIMIT text.now) FilterFlaw.TooLong) }
+
+    // Another one that isn't UTF-8 is refused at its first bad byte.
+    ensures not_utf8 { length text.now ≤ TEXT_LIMIT → ¬ (IsUtf8 text.now)
         → result ≡ Err (fault_after (take (utf8_valid_len text.now) text.now) (FilterFlaw.Syntax Expected.Utf8)) }
 {
+    if text.len() > TEXT_LIMIT {
+        return Err(fault_after(&text[..TEXT_LIMIT], FilterFlaw::TooLong));
+    }
     match std::str::from_utf8(text) {
         Ok(_) => read_utf8(alloc, text),
         Err(error) => {
@@ -31,7 +47,10 @@ pub fn read<A: Allocator + Copy>(alloc: A, text: &[u8]) -> Result<Filter<A>, Fil
 
 /// Reads a text that is UTF-8.
 fn read_utf8<A: Allocator + Copy>(alloc: A, text: &[u8]) -> Result<Filter<A>, FilterFault>
-    ensures { IfOk result (IsFilterText text.now) }
+    requires { length text.now ≤ TEXT_LIMIT }
+    ensures ok { IfOk result (IsFilterText text.now) }
+    ensures reads { (filter : AFilter A) → IsFilterText text.now filter
+        → MatchResult result (λ read. content read ≡ content filter) (λ fault. fault ≡ FilterFault.Memory) }
 {
     let tokens = Tokens::of(alloc, text)?;
     match filter(alloc, &tokens.tokens) {
@@ -51,7 +70,9 @@ fn read_utf8<A: Allocator + Copy>(alloc: A, text: &[u8]) -> Result<Filter<A>, Fi
 }
 
 /// So many bytes of a text, if it has as many.
-fn front(text: &[u8], count: usize) -> &[u8] {
+fn front(text: &[u8], count: usize) -> &[u8]
+    ensures { result.now ≡ take count text.now }
+{
     if count < text.len() {
         &text[..count]
     } else {
@@ -61,6 +82,7 @@ fn front(text: &[u8], count: usize) -> &[u8] {
 
 /// The fault that a flaw is, after so much of a text.
 fn fault_after(front: &[u8], flaw: FilterFlaw) -> FilterFault
+    requires { length front.now ≤ TEXT_LIMIT }
     ensures { result ≡ fault_after front.now flaw }
 {
     FilterFault::At {
@@ -71,7 +93,8 @@ fn fault_after(front: &[u8], flaw: FilterFlaw) -> FilterFault
 }
 
 /// The line, counted from 1, of what follows so much of a text.
-fn line_after(front: &[u8]) -> usize
+fn line_after(front: &[u8]) -> u32
+    requires { length front.now ≤ TEXT_LIMIT }
     ensures { result ≡ line_after front.now }
 {
     let mut line = 1;
@@ -84,7 +107,8 @@ fn line_after(front: &[u8]) -> usize
 }
 
 /// The character of its line, counted from 1, of what follows so much of a text.
-fn column_after(front: &[u8]) -> usize
+fn column_after(front: &[u8]) -> u32
+    requires { length front.now ≤ TEXT_LIMIT }
     ensures { result ≡ column_after front.now }
 {
     let mut column = 1;
@@ -95,8 +119,8 @@ fn column_after(front: &[u8]) -> usize
 }
 
 /// The column after a byte.
-fn next_column(column: usize, byte: u8) -> usize
-    requires { column < 2 ^ 64 - 1 }
+fn next_column(column: u32, byte: u8) -> u32
+    requires { column ≤ TEXT_LIMIT }
     ensures value { result ≡ next_column column byte }
     ensures small { result ≤ column + 1 }
 {
@@ -110,7 +134,7 @@ fn next_column(column: usize, byte: u8) -> usize
 }
 
 /// Whether a byte belongs to a character that an earlier byte begins.
-fn is_continuation(byte: u8) -> bool
+pub(crate) fn is_continuation(byte: u8) -> bool
     ensures { result ≡ is_continuation byte }
 {
     byte >= 0x80 && byte < 0xc0

@@ -1,7 +1,7 @@
 //! Filters that were worked by hand.
 use crate::fault::{Expected, FilterFault, FilterFlaw};
-use crate::name::{column_name, nearest};
-use crate::read;
+use crate::name::column_name;
+use crate::{TEXT_LIMIT, read};
 use cql2::{Column, Comparison, Filter, NumericColumn, Pattern, PatternByte};
 use refusals::Fault;
 use std::alloc::{AllocError, Global};
@@ -237,15 +237,21 @@ fn flaw_name(flaw: FilterFlaw) -> &'static str {
         FilterFlaw::NumberRange => "NumberRange",
         FilterFlaw::LongText => "LongText",
         FilterFlaw::TooDeep => "TooDeep",
+        FilterFlaw::TooLong => "TooLong",
     }
 }
 
-// What a text is read as, or why it's refused.
-fn outcome(alloc: Global, row: &str) -> Result<String, AllocError> {
+fn with_line_feeds(alloc: Global, row: &str) -> Result<Vec<u8>, AllocError> {
     let mut text = Vec::new(alloc);
     for byte in row.as_bytes() {
         text.push(if *byte == b'|' { b'\n' } else { *byte })?;
     }
+    Ok(text)
+}
+
+// What a text is read as, or why it's refused.
+fn outcome(alloc: Global, row: &str) -> Result<String, AllocError> {
+    let text = with_line_feeds(alloc, row)?;
     match read(alloc, &text) {
         Ok(filter) => {
             let mut written = String::new(alloc);
@@ -293,6 +299,10 @@ fn parentheses_and_chains(rt: HostRuntime) -> Result<(), std::test::Fail> {
     assert!(rt; outcome(rt.alloc(), deeper.as_str())?.as_str() == "1 65 TooDeep");
     let chain = repeated(rt.alloc(), "FALSE AND ", " OR TRUE", 10_000)?;
     assert!(rt; read(rt.alloc(), chain.as_bytes()).is_ok());
+    let longest = repeated(rt.alloc(), " ", " ", 524_286)?;
+    assert!(rt; outcome(rt.alloc(), longest.as_str())?.as_str() == "(true)");
+    let longer = repeated(rt.alloc(), " ", " ", 524_287)?;
+    assert!(rt; outcome(rt.alloc(), longer.as_str())?.as_str() == "1 1048577 TooLong");
     let bad = [b'\n', b'\'', 0xc3, 0xa9, 0xff, b'\''];
     let fault = FilterFault::At {
         line: 2,
@@ -301,17 +311,41 @@ fn parentheses_and_chains(rt: HostRuntime) -> Result<(), std::test::Fail> {
     };
     let given = read(rt.alloc(), &bad).err();
     assert!(rt; given == Some(fault));
-    assert!(rt; fault.line().as_str() == "refused 90 line 2 Syntax");
+    assert!(rt; fault.line().as_str() == "refused 90 line 2 column 3 Syntax");
     Ok(())
 }
 
+// A text, and the column whose name is nearest to the unknown one in it. `|` is a line feed.
+const NEAREST: &str = r#"
+fenam = 1 ;; FENAME
+NAME = 1 ;; FENAME
+é = 1 ;; none
+ZIPL = 1 AND | FENAME = 'é' OR "zip" = 2 ;; ZIPL
+TLIDD=1 ;; TLID
+TRUE AND (frlon > 2) ;; FRLONG
+CFC ;; CFCC
+ZIPL = 'x' ;; none
+"#;
+
+// The column's name that is nearest to the unknown one in a text.
+fn nearest_in(alloc: Global, row: &str) -> Result<&'static str, AllocError> {
+    let text = with_line_feeds(alloc, row)?;
+    let fault = read(alloc, &text).err();
+    Ok(
+        fault
+            .and_then(|fault| fault.nearest_column(&text))
+            .unwrap_or("none"),
+    )
+}
+
 #[test]
-fn nearest_names(rt: HostRuntime) {
-    for row in "fenam FENAME,NAME FENAME,zip ZIPL,TLIDD TLID,,frlon FRLONG,CFC CFCC".split(',') {
-        let Some((name, wanted)) = row.split_once(' ') else {
+fn nearest_names(rt: HostRuntime) -> Result<(), std::test::Fail> {
+    for row in NEAREST.lines() {
+        let Some((text, wanted)) = row.split_once(" ;; ") else {
             continue;
         };
-        let given = nearest(name);
-        assert!(rt; given == wanted, "{name}: {given}");
+        let given = nearest_in(rt.alloc(), text)?;
+        assert!(rt; given == wanted, "{text}");
     }
+    Ok(())
 }

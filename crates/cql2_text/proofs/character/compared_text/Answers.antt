@@ -14,5 +14,5 @@ invariant_of-result g c =
     let is = trimmed.ensures ∙ ap trim_end c.deref.ensures.value in
     record {
       is_text = text-items c.in_ok-bytes-2.bytes.items c.in_ok-bytes.bytes.items trimmed.result.now same is
-          c.in_ok-bytes.ensures.characters some few;
+          c.in_ok-bytes.ensures.ok.characters some few;
     }

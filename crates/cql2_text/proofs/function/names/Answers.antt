@@ -3,11 +3,11 @@ use Rattle.cql2_text.specs.Predicate.{given, usual}
 use Rattle.cql2_text.proofs.TokenLemmas.{first-is}
 use Rattle.cql2_text.proofs.function.names.Goals as goal
 
-pub returns-in-Ok : goal.returns-in-Ok
-returns-in-Ok c =
+pub returns-in-Ok-clause-ok : goal.returns-in-Ok-clause-ok
+returns-in-Ok-clause-ok c =
     let k = c.in-Some-Comma-default in
     let is = first-is _ _ _ _ k.ensures k.field-0-0-is in
     rw (is, c.in_ok-numeral-in-Some-Comma-default.ensures) (given _ c.in-Ok.ensures)
 
-pub returns-in_default : goal.returns-in_default
-returns-in_default c = usual refl
+pub returns-in_default-clause-ok : goal.returns-in_default-clause-ok
+returns-in_default-clause-ok c = usual refl

@@ -3,8 +3,8 @@ use Rattle.std.proofs.lemmas.Bool.Decides.{nat_tests}
 use Rattle.cql2_text.specs.Lexed.{numeric_literal}
 use Rattle.cql2_text.proofs.lexer.number.Goals as goal
 
-pub returns : goal.returns
-returns c =
+pub returns-clause-is : goal.returns-clause-is
+returns-clause-is c =
     let some : 1 ≤ length c.split_digits.result.0.now = grind (arith, nat_tests) in
     let split = c.split_digits.ensures in
     λ sign signs. rw split.all

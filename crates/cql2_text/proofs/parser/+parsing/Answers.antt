@@ -1,55 +1,251 @@
-use Rattle.std.proofs.Common.{ap, length, arith}
+use Rattle.std.proofs.Common.{◌≡◌, ◌≢◌, ◌-◌, suc, List, ◌∷◌, ap, length, arith, rules}
+use Rattle.cql2_text.specs.Read.{Lacks}
 use Rattle.cql2_text.specs.Spelled.{both, either, grouped, not_primary, one_factor, one_primary, one_term, predicate}
-use Rattle.cql2_text.proofs.TokenLemmas.{first-is, word-is}
+use Rattle.cql2_text.specs.declared.syntax_fault.SyntaxFault.TheVariants.{Memory}
+use Rattle.cql2_text.specs.declared.token.Keyword.TheVariants as word
+use Rattle.cql2_text.specs.declared.token.Token.{Token}
+use Rattle.cql2_text.specs.declared.token.Token.TheVariants.{Close, Keyword, Open}
+use Rattle.cql2_text.proofs.ChainLemmas.{chain-first, chain-last, chain-next, expression-parts, lacks-and, term-parts}
 use Rattle.cql2_text.proofs.ShorterLemmas.{spells-shorter}
+use Rattle.cql2_text.proofs.SpelledLemmas.{group-of, negation-of, predicate-of, primary-of, same-both, same-either, same-not}
+use Rattle.cql2_text.proofs.TokenLemmas.{first-is, word-is}
 use Rattle.cql2_text.proofs.parser.+parsing.Goals as goal
 
+pub expression-returns-in_err-filter-clause-reads : goal.expression-returns-in_err-filter-clause-reads
+expression-returns-in_err-filter-clause-reads g t c =
+    λ rest made no_and no_or is.
+    let first = expression-parts is in
+    let memory : c.in_err-filter.field-0.0 ≡ Memory =
+    c.in_err-filter.ensures.reads first.after first.first (lacks-and first.chain no_and) first.part in
+    search rules
+
 pub expression-loop-after-init : goal.expression-loop-after-init
-expression-loop-after-init g t c = one_term c.in_ok-filter.ensures
+expression-loop-after-init g t c =
+    record {
+      spelled = one_term c.in_ok-filter.ensures.ok;
+      reads = λ rest made no_and no_or is.
+          let first = expression-parts is in
+          let read = c.in_ok-filter.ensures.reads first.after first.first (lacks-and first.chain no_and) first.part in
+          chain-first read.0 read.1 first.chain;
+    }
+
+pub expression-returns-in_err-second-clause-reads : goal.expression-returns-in_err-second-clause-reads
+expression-returns-in_err-second-clause-reads g t c =
+    let k = c.in-Some-Keyword-Or-default in
+    let is = word-is _ _ _ _ _ k.ensures k.field-0-0-is k.field-0-0-0-is in
+    λ rest made no_and no_or spelled.
+    let next = chain-next (c.loop-after.invariant.reads rest made no_and no_or spelled) is no_or in
+    let memory : c.in_err-second.field-0.0 ≡ Memory =
+    c.in_err-second.ensures.reads next.after next.second (lacks-and next.chain no_and) next.part in
+    search rules
 
 pub expression-loop-after-preserved : goal.expression-loop-after-preserved
 expression-loop-after-preserved g t c =
     let k = c.in-Some-Keyword-Or-default in
     let is = word-is _ _ _ _ _ k.ensures k.field-0-0-is k.field-0-0-0-is in
-    either (rw is at c.loop-after.invariant) c.in_ok-second.ensures c.in_ok-filter-2.ensures
+    record {
+      spelled = either (rw is at c.loop-after.invariant.spelled) c.in_ok-second.ensures.ok c.in_ok-filter-2.ensures;
+      reads = λ rest made no_and no_or spelled.
+          let so_far = c.loop-after.invariant.reads rest made no_and no_or spelled in
+          let next = chain-next so_far is no_or in
+          let read = c.in_ok-second.ensures.reads next.after next.second (lacks-and next.chain no_and) next.part in
+          chain-first read.0 (same-either c.loop-after.filter c.in_ok-second.second so_far.first next.second _ next.joined
+          so_far.same read.1 c.in_ok-filter-2.ensures next.joins) next.chain;
+    }
 
 pub expression-loop-after-smaller : goal.expression-loop-after-smaller
 expression-loop-after-smaller g t c =
     let k = c.in-Some-Keyword-Or-default in
     let is = word-is _ _ _ _ _ k.ensures k.field-0-0-is k.field-0-0-0-is in
-    omega (arith, ap length is, spells-shorter _ _ _ _ c.in_ok-second.ensures)
+    omega (arith, ap length is, spells-shorter _ _ _ _ _ c.in_ok-second.ensures.ok)
+
+pub expression-returns-clause-reads : goal.expression-returns-clause-reads
+expression-returns-clause-reads g t c =
+    let stops : Lacks word.Or c.loop-after.rest.now = search rules in
+    λ rest made no_and no_or spelled. chain-last (c.loop-after.invariant.reads rest made no_and no_or spelled) stops
+
+pub term-returns-in_err-filter-clause-reads : goal.term-returns-in_err-filter-clause-reads
+term-returns-in_err-filter-clause-reads g t c =
+    λ rest made no_and is.
+    let first = term-parts is in
+    let memory : c.in_err-filter.field-0.0 ≡ Memory = c.in_err-filter.ensures.reads first.after first.first first.part in
+    search rules
 
 pub term-loop-after-init : goal.term-loop-after-init
-term-loop-after-init g t c = one_factor c.in_ok-filter.ensures
+term-loop-after-init g t c =
+    record {
+      spelled = one_factor c.in_ok-filter.ensures.ok;
+      reads = λ rest made no_and is.
+          let first = term-parts is in
+          let read = c.in_ok-filter.ensures.reads first.after first.first first.part in
+          chain-first read.0 read.1 first.chain;
+    }
+
+pub term-returns-in_err-second-clause-reads : goal.term-returns-in_err-second-clause-reads
+term-returns-in_err-second-clause-reads g t c =
+    let k = c.in-Some-Keyword-And-default in
+    let is = word-is _ _ _ _ _ k.ensures k.field-0-0-is k.field-0-0-0-is in
+    λ rest made no_and spelled.
+    let next = chain-next (c.loop-after.invariant.reads rest made no_and spelled) is no_and in
+    let memory : c.in_err-second.field-0.0 ≡ Memory = c.in_err-second.ensures.reads next.after next.second next.part in
+    search rules
 
 pub term-loop-after-preserved : goal.term-loop-after-preserved
 term-loop-after-preserved g t c =
     let k = c.in-Some-Keyword-And-default in
     let is = word-is _ _ _ _ _ k.ensures k.field-0-0-is k.field-0-0-0-is in
-    both (rw is at c.loop-after.invariant) c.in_ok-second.ensures c.in_ok-filter-2.ensures
+    record {
+      spelled = both (rw is at c.loop-after.invariant.spelled) c.in_ok-second.ensures.ok c.in_ok-filter-2.ensures;
+      reads = λ rest made no_and spelled.
+          let so_far = c.loop-after.invariant.reads rest made no_and spelled in
+          let next = chain-next so_far is no_and in
+          let read = c.in_ok-second.ensures.reads next.after next.second next.part in
+          chain-first read.0 (same-both c.loop-after.filter c.in_ok-second.second so_far.first next.second _ next.joined
+          so_far.same read.1 c.in_ok-filter-2.ensures next.joins) next.chain;
+    }
 
 pub term-loop-after-smaller : goal.term-loop-after-smaller
 term-loop-after-smaller g t c =
     let k = c.in-Some-Keyword-And-default in
     let is = word-is _ _ _ _ _ k.ensures k.field-0-0-is k.field-0-0-0-is in
-    omega (arith, ap length is, spells-shorter _ _ _ _ c.in_ok-second.ensures)
+    omega (arith, ap length is, spells-shorter _ _ _ _ _ c.in_ok-second.ensures.ok)
 
-pub factor-returns-in_ok-filter-in-Some-Keyword-Not-default : goal.factor-returns-in_ok-filter-in-Some-Keyword-Not-default
-factor-returns-in_ok-filter-in-Some-Keyword-Not-default g t c =
+pub term-returns-clause-reads : goal.term-returns-clause-reads
+term-returns-clause-reads g t c =
+    let stops : Lacks word.And c.loop-after.rest.now = search rules in
+    λ rest made no_and spelled. chain-last (c.loop-after.invariant.reads rest made no_and spelled) stops
+
+pub factor-returns-in_ok-filter-in-Some-Keyword-Not-default-clause-ok :
+    goal.factor-returns-in_ok-filter-in-Some-Keyword-Not-default-clause-ok
+factor-returns-in_ok-filter-in-Some-Keyword-Not-default-clause-ok g t c =
     let k = c.in-Some-Keyword-Not-default in
     let is = word-is _ _ _ _ _ k.ensures k.field-0-0-is k.field-0-0-0-is in
     rw is
     (not_primary c.in_ok-inner-in-Some-Keyword-Not-default.ensures.ok c.in_ok-filter-in-Some-Keyword-Not-default.ensures)
 
-pub factor-returns-in_ok-filter-in_default : goal.factor-returns-in_ok-filter-in_default
-factor-returns-in_ok-filter-in_default g t c = one_primary c.in_ok-filter-in_default.ensures.ok
+pub factor-returns-in_ok-filter-in_default-clause-ok : goal.factor-returns-in_ok-filter-in_default-clause-ok
+factor-returns-in_ok-filter-in_default-clause-ok g t c = one_primary c.in_ok-filter-in_default.ensures.ok
 
 pub primary-returns-in_ok-rest-in-Some-Open-default-clause-ok : goal.primary-returns-in_ok-rest-in-Some-Open-default-clause-ok
 primary-returns-in_ok-rest-in-Some-Open-default-clause-ok g t c =
     let k = c.in-Some-Open-default in
     let is = first-is _ _ _ _ k.ensures k.field-0-0-is in
-    let inner = rw c.in_ok-rest-in-Some-Open-default.ensures at c.in_ok-filter-in-Some-Open-default.ensures in
-    rw is (grouped inner)
+    let inner = rw c.in_ok-rest-in-Some-Open-default.ensures at c.in_ok-filter-in-Some-Open-default.ensures.ok in
+    let deep : c.args.depth ≡ suc (c.args.depth - 1) = omega arith in
+    rw (is, deep) (grouped inner)
 
 pub primary-returns-in_ok-filter-in_default-clause-ok : goal.primary-returns-in_ok-filter-in_default-clause-ok
-primary-returns-in_ok-filter-in_default-clause-ok g t c = predicate c.in_ok-filter-in_default.ensures
+primary-returns-in_ok-filter-in_default-clause-ok g t c = predicate c.in_ok-filter-in_default.ensures.ok
+
+pub factor-returns-in_err-inner-in-Some-Keyword-Not-default-clause-reads :
+    goal.factor-returns-in_err-inner-in-Some-Keyword-Not-default-clause-reads
+factor-returns-in_err-inner-in-Some-Keyword-Not-default-clause-reads g t c =
+    let k = c.in-Some-Keyword-Not-default in
+    let is = word-is _ _ _ _ _ k.ensures k.field-0-0-is k.field-0-0-0-is in
+    λ rest made spelled.
+    let inner = negation-of (rw is at spelled) in
+    let memory : c.in_err-inner-in-Some-Keyword-Not-default.field-0.0 ≡ Memory =
+    c.in_err-inner-in-Some-Keyword-Not-default.ensures.reads rest inner.0 inner.1 in
+    search rules
+
+pub factor-returns-in_ok-filter-in-Some-Keyword-Not-default-clause-reads :
+    goal.factor-returns-in_ok-filter-in-Some-Keyword-Not-default-clause-reads
+factor-returns-in_ok-filter-in-Some-Keyword-Not-default-clause-reads g t c =
+    let k = c.in-Some-Keyword-Not-default in
+    let is = word-is _ _ _ _ _ k.ensures k.field-0-0-is k.field-0-0-0-is in
+    λ rest made spelled.
+    let inner = negation-of (rw is at spelled) in
+    let read = c.in_ok-inner-in-Some-Keyword-Not-default.ensures.reads rest inner.0 inner.1 in (
+      read.0,
+      same-not c.in_ok-inner-in-Some-Keyword-Not-default.inner inner.0 _ made read.1
+          c.in_ok-filter-in-Some-Keyword-Not-default.ensures inner.2,
+    )
+
+pub factor-returns-in_err-filter-in_default-clause-reads :
+    goal.factor-returns-in_err-filter-in_default-clause-reads
+factor-returns-in_err-filter-in_default-clause-reads g t c =
+    let no_not : (w : List Token) → c.args.words.now ≢ Keyword word.Not ∷ w = search rules in
+    λ rest made spelled.
+    let is = primary-of no_not spelled in
+    let memory : c.in_err-filter-in_default.field-0.0 ≡ Memory =
+    c.in_err-filter-in_default.ensures.reads rest made is in
+    search rules
+
+pub factor-returns-in_ok-filter-in_default-clause-reads :
+    goal.factor-returns-in_ok-filter-in_default-clause-reads
+factor-returns-in_ok-filter-in_default-clause-reads g t c =
+    let no_not : (w : List Token) → c.args.words.now ≢ Keyword word.Not ∷ w = search rules in
+    λ rest made spelled.
+    let is = primary-of no_not spelled in
+    c.in_ok-filter-in_default.ensures.reads rest made is
+
+pub primary-returns-then-depth-eq0-clause-reads :
+    goal.primary-returns-then-depth-eq0-clause-reads
+primary-returns-then-depth-eq0-clause-reads g t c =
+    let k = c.in-Some-Open-default in
+    let is = first-is _ _ _ _ k.ensures k.field-0-0-is in
+    λ rest made spelled.
+    let group = group-of (rw is at spelled) in
+    absurd (omega (arith, group.1))
+
+pub primary-returns-in_err-filter-in-Some-Open-default-clause-reads :
+    goal.primary-returns-in_err-filter-in-Some-Open-default-clause-reads
+primary-returns-in_err-filter-in-Some-Open-default-clause-reads g t c =
+    let k = c.in-Some-Open-default in
+    let is = first-is _ _ _ _ k.ensures k.field-0-0-is in
+    λ rest made spelled.
+    let group = group-of (rw is at spelled) in
+    let e : group.0 ≡ c.args.depth - 1 = omega (arith, group.1) in
+    let no_and : Lacks word.And (Close ∷ rest) = λ w f. cc in
+    let no_or : Lacks word.Or (Close ∷ rest) = λ w f. cc in
+    let inner = rw e at group.2 in
+    let memory : c.in_err-filter-in-Some-Open-default.field-0.0 ≡ Memory =
+    c.in_err-filter-in-Some-Open-default.ensures.reads (Close ∷ rest) made no_and no_or inner in
+    search rules
+
+pub primary-returns-in_err-rest-in-Some-Open-default-clause-reads :
+    goal.primary-returns-in_err-rest-in-Some-Open-default-clause-reads
+primary-returns-in_err-rest-in-Some-Open-default-clause-reads g t c =
+    let k = c.in-Some-Open-default in
+    let is = first-is _ _ _ _ k.ensures k.field-0-0-is in
+    λ rest made spelled.
+    let group = group-of (rw is at spelled) in
+    let e : group.0 ≡ c.args.depth - 1 = omega (arith, group.1) in
+    let no_and : Lacks word.And (Close ∷ rest) = λ w f. cc in
+    let no_or : Lacks word.Or (Close ∷ rest) = λ w f. cc in
+    let inner = rw e at group.2 in
+    let read = c.in_ok-filter-in-Some-Open-default.ensures.reads (Close ∷ rest) made no_and no_or inner in
+    absurd (c.in_err-rest-in-Some-Open-default.ensures _ read.0)
+
+pub primary-returns-in_ok-rest-in-Some-Open-default-clause-reads :
+    goal.primary-returns-in_ok-rest-in-Some-Open-default-clause-reads
+primary-returns-in_ok-rest-in-Some-Open-default-clause-reads g t c =
+    let k = c.in-Some-Open-default in
+    let is = first-is _ _ _ _ k.ensures k.field-0-0-is in
+    λ rest made spelled.
+    let group = group-of (rw is at spelled) in
+    let e : group.0 ≡ c.args.depth - 1 = omega (arith, group.1) in
+    let no_and : Lacks word.And (Close ∷ rest) = λ w f. cc in
+    let no_or : Lacks word.Or (Close ∷ rest) = λ w f. cc in
+    let inner = rw e at group.2 in
+    let read = c.in_ok-filter-in-Some-Open-default.ensures.reads (Close ∷ rest) made no_and no_or inner in
+    let rest_same : c.in_ok-rest-in-Some-Open-default.rest.now ≡ rest = cc (read.0, c.in_ok-rest-in-Some-Open-default.ensures) in
+    (rest_same, read.1)
+
+pub primary-returns-in_err-filter-in_default-clause-reads :
+    goal.primary-returns-in_err-filter-in_default-clause-reads
+primary-returns-in_err-filter-in_default-clause-reads g t c =
+    let no_group : (w : List Token) → c.args.words.now ≢ Open ∷ w = search rules in
+    λ rest made spelled.
+    let is = predicate-of no_group spelled in
+    let memory : c.in_err-filter-in_default.field-0.0 ≡ Memory =
+    c.in_err-filter-in_default.ensures.reads rest made is in
+    search rules
+
+pub primary-returns-in_ok-filter-in_default-clause-reads :
+    goal.primary-returns-in_ok-filter-in_default-clause-reads
+primary-returns-in_ok-filter-in_default-clause-reads g t c =
+    let no_group : (w : List Token) → c.args.words.now ≢ Open ∷ w = search rules in
+    λ rest made spelled.
+    let is = predicate-of no_group spelled in
+    c.in_ok-filter-in_default.ensures.reads rest made is

@@ -1,9 +1,18 @@
-use Rattle.std.proofs.Common.{length}
-use Rattle.cql2_text.specs.Predicate.{SpellsList}
+use Rattle.std.proofs.Common.{List, ◌∷◌, length}
+use Rattle.cql2.specs.declared.filter.Comparison.TheVariants.{Equal}
+use Rattle.cql2.specs.declared.filter.Filter.{Filter}
+use Rattle.cql2_text.specs.Predicate.{IsEither, SpellsComparison, SpellsList}
+use Rattle.cql2_text.specs.declared.token.Token.{Token}
+use Rattle.cql2_text.specs.declared.token.Token.TheVariants.{Close, Comma}
+use Rattle.cql2_text.proofs.ChainLemmas.{ReadChain}
 use Rattle.cql2_text.proofs.predicate.list.Given as goal
 
 abbrev pub invariant-loop-after : goal.invariant-loop-after
-invariant-loop-after g l = SpellsList l.subject l.words l.rest l.filter
+invariant-loop-after g l = record {
+  spelled : SpellsList l.subject l.words l.rest l.filter;
+  reads : (rest : List Token) (made : Filter _) → SpellsList l.subject l.words (Close ∷ rest) made
+      → ReadChain Comma (SpellsComparison l.subject Equal) IsEither l.rest l.filter (Close ∷ rest) made;
+}
 
 abbrev pub decreases-loop-after : goal.decreases-loop-after
 decreases-loop-after g l = length l.rest

@@ -1,11 +1,14 @@
-use Rattle.std.proofs.Common.{◌≤◌, length}
+use Rattle.std.proofs.Common.{◌≤◌, List, [], length}
 use Rattle.cql2_text.specs.Lexed.{Lexes}
+use Rattle.cql2_text.specs.declared.token.Token.{Token}
+use Rattle.cql2_text.proofs.CutLemmas.{MoreTokens}
 use Rattle.cql2_text.proofs.lexer.Tokens.of.Given as goal
 
 abbrev pub invariant-loop-byte : goal.invariant-loop-byte
 invariant-loop-byte g l = record {
   lexes : Lexes l.text l.rest l.tokens.items;
   within : length l.rest ≤ length l.text;
+  more : (words : List Token) → Lexes l.text [] words → MoreTokens l.tokens.items l.rest words;
 }
 
 abbrev pub decreases-loop-byte : goal.decreases-loop-byte

@@ -1,0 +1,23 @@
+use Rattle.std.proofs.Common.{◌≡◌, List, sym, subst}
+use Rattle.cql2_text.specs.Alike.{AreLike}
+use Rattle.cql2_text.specs.Spelled.{Expression}
+use Rattle.cql2_text.specs.declared.syntax_fault.SyntaxFault.TheVariants.{Memory}
+use Rattle.cql2_text.specs.declared.token.Token.{Token}
+use Rattle.cql2_text.proofs.AlikeLemmas.{all-moved}
+use Rattle.cql2_text.proofs.reader.read_utf8.Goals as goal
+
+pub returns-then-is_empty-clause-reads : goal.returns-then-is_empty-clause-reads
+returns-then-is_empty-clause-reads g c =
+    λ filter is.
+    let lexed = c.in_ok-tokens.ensures.reads is.tokens is.lexed in
+    let alike = subst (λ (l : List Token). AreLike is.tokens l) (sym c.deref.ensures.value) lexed.1 in
+    c.in-Ok.ensures.reads filter (all-moved 64 Expression is.tokens c.deref.result.now filter alike is.spelled)
+
+pub returns-in-Err-At-clause-reads : goal.returns-in-Err-At-clause-reads
+returns-in-Err-At-clause-reads g c =
+    λ filter is.
+    let lexed = c.in_ok-tokens.ensures.reads is.tokens is.lexed in
+    let alike = subst (λ (l : List Token). AreLike is.tokens l) (sym c.deref.ensures.value) lexed.1 in
+    let memory = c.in-Err-At.ensures.reads filter (all-moved 64 Expression is.tokens c.deref.result.now filter alike is.spelled) in
+    let e : c.in-Err-At.field-0 ≡ Memory = memory in
+    cc (e, c.in-Err-At.field-0-is)

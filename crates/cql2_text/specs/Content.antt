@@ -1,0 +1,33 @@
+-- What a filter says, wherever its parts lie in memory.
+use Rattle.std.specs.Prelude.{ℕ, ℤ, Bool, List}
+use Rattle.cql2.specs.declared.column.Column.{Column}
+use Rattle.cql2.specs.declared.column.NumericColumn.{NumericColumn}
+use Rattle.cql2.specs.declared.column.TextColumn.{TextColumn}
+use Rattle.cql2.specs.declared.filter.Comparison.{Comparison}
+use Rattle.cql2.specs.declared.filter.Filter.{Filter}
+use Rattle.cql2.specs.declared.filter.Filter.TheVariants as filter
+use Rattle.cql2.specs.declared.pattern.PatternByte.{PatternByte}
+
+pub data Content : Type 0 where
+  Constant : Bool → Content
+  And : Content → Content → Content
+  Or : Content → Content → Content
+  Not : Content → Content
+  IsNull : Column → Content
+  CompareNumber : NumericColumn → Comparison → ℤ → Content
+  CompareText : TextColumn → Comparison → List ℕ → Content
+  Like : TextColumn → List PatternByte → Bool → Content
+  HasNumber : ℕ → Content
+  HasName : List ℕ → ℕ → Content
+
+abbrev pub content : {A : Type 0} → Filter A → Content
+content (filter.Constant value) = Constant value
+content (filter.And' p first q second) = And (content first) (content second)
+content (filter.Or' p first q second) = Or (content first) (content second)
+content (filter.Not' p inner) = Not (content inner)
+content (filter.IsNull column) = IsNull column
+content (filter.CompareNumber column comparison literal) = CompareNumber column comparison literal.number
+content (filter.CompareText column comparison text) = CompareText column comparison text.bytes.items
+content (filter.Like column pattern) = Like column pattern.wanted.items pattern.is_open
+content (filter.HasNumber house) = HasNumber house.number
+content (filter.HasName text limit) = HasName text.bytes.items limit.number

@@ -1,0 +1,18 @@
+-- What is read where tokens spell something: that, up to the rest of the tokens. Only an allocation may fail.
+use Rattle.std.specs.Prelude.{◌≡◌, ◌≢◌, List, ◌∷◌, Result, MatchResult}
+use denote.Ref.{Bor}
+use Rattle.cql2.specs.declared.filter.Filter.{Filter}
+use Rattle.cql2_text.specs.Content.{content}
+use Rattle.cql2_text.specs.declared.syntax_fault.SyntaxFault.{SyntaxFault}
+use Rattle.cql2_text.specs.declared.syntax_fault.SyntaxFault.TheVariants.{Memory}
+use Rattle.cql2_text.specs.declared.token.Keyword.{Keyword as AKeyword}
+use Rattle.cql2_text.specs.declared.token.Token.{Token}
+use Rattle.cql2_text.specs.declared.token.Token.TheVariants.{Keyword}
+
+abbrev pub IsRead : {A : Type 0} → Result (Filter A × Bor (List Token)) SyntaxFault → List Token → Filter A → Type 0
+IsRead {A = A} result rest made =
+    MatchResult result (λ read. (read.1.now ≡ rest) × (content read.0 ≡ content made)) (λ fault. fault ≡ Memory)
+
+-- tokens don't begin with a keyword
+abbrev pub Lacks : AKeyword → List Token → Type 0
+Lacks word words = (rest : List Token) → words ≢ Keyword word ∷ rest
