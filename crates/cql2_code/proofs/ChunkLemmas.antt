@@ -4,9 +4,9 @@ use Rattle.std.specs.Prelude.{take, replicate}
 use Rattle.std.proofs.lemmas.List.{take-replicate}
 use Rattle.byteorder.specs.Endian.{little_number}
 use Rattle.cql2.specs.declared.filter.Comparison.TheVariants.{Equal, Greater}
-use Rattle.cql2_code.specs.Lowering.{byte_test, chunk_test, has_bytes, is_blank, is_greater}
+use Rattle.cql2_code.specs.Lowering.{byte_test, chunk_test, has_bytes, has_each, has_few, is_blank, is_greater}
 use Rattle.cql2_code.specs.Question.{Joined, Opposite, bytes_value}
-use Rattle.cql2_code.specs.declared.question.Chunk.TheVariants.{DoubleWord}
+use Rattle.cql2_code.specs.declared.question.Chunk.TheVariants.{DoubleWord, Word}
 
 pub four_bytes : (bytes : List ℕ) → length bytes ≡ 4 → little_number 4 bytes ≡ bytes_value bytes
 four_bytes (a ∷ b ∷ c ∷ d ∷ []) count = refl
@@ -27,6 +27,23 @@ eight_bytes (a ∷ b ∷ c ∷ []) count = absurd (omega arith)
 eight_bytes (a ∷ b ∷ []) count = absurd (omega arith)
 eight_bytes (a ∷ []) count = absurd (omega arith)
 eight_bytes [] count = absurd (omega arith)
+
+-- a byte, and more
+pub has_each-more : (at : ℕ) (bytes : List ℕ) (byte : ℕ) (rest : List ℕ) → bytes ≡ byte ∷ rest → 0 < length rest
+    → has_each at bytes ≡ Joined true (byte_test at Equal byte) (has_each (at + 1) rest)
+has_each-more at bytes byte [] is some = absurd (omega arith)
+has_each-more at bytes byte (next ∷ rest) is some = ap (has_each at) is
+
+-- four bytes, and more
+pub has_few-more : (at : ℕ) (bytes front rest : List ℕ) → bytes ≡ front ++ rest → length front ≡ 4 → 0 < length rest
+    → has_few at bytes ≡ Joined true (chunk_test Word at front) (has_each (at + 4) rest)
+has_few-more at bytes front [] is count some = absurd (omega arith)
+has_few-more at bytes (a ∷ b ∷ c ∷ d ∷ []) (next ∷ rest) is count some = ap (has_few at) is
+has_few-more at bytes (a ∷ b ∷ c ∷ d ∷ e ∷ more) (next ∷ rest) is count some = absurd (omega arith)
+has_few-more at bytes (a ∷ b ∷ c ∷ []) (next ∷ rest) is count some = absurd (omega arith)
+has_few-more at bytes (a ∷ b ∷ []) (next ∷ rest) is count some = absurd (omega arith)
+has_few-more at bytes (a ∷ []) (next ∷ rest) is count some = absurd (omega arith)
+has_few-more at bytes [] (next ∷ rest) is count some = absurd (omega arith)
 
 -- eight bytes, and more
 pub has_bytes-more : (at : ℕ) (bytes front rest : List ℕ) → bytes ≡ front ++ rest → length front ≡ 8 → 0 < length rest

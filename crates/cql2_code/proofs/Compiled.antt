@@ -17,12 +17,14 @@ use Rattle.cql2.specs.declared.column.NumericColumn.{NumericColumn}
 use Rattle.cql2.specs.declared.filter.Filter.{Filter}
 use Rattle.tl_segments.specs.Segment.{Contents, IsSegment}
 use Rattle.cql2_code.specs.Chosen.{Chooses, count_of, rows_of, score_of}
-use Rattle.cql2_code.specs.Layout.{Writes, answer_code, chosen_code, copy, program, question_code, r1, score_code, w6}
+use Rattle.cql2_code.specs.declared.fault.CompileFault.{CompileFault}
+use Rattle.cql2_code.specs.Layout.{IsTooLong, MayBeRefused, Refuses, Writes, answer_code, chosen_code, copy, program, question_code, r1, score_code, w6}
 use Rattle.cql2_code.specs.Lowering.{asks_whether}
 use Rattle.cql2_code.specs.Question.{Question}
 use Rattle.cql2_code.specs.declared.question.Exits.{Exits}
 use Rattle.cql2_code.proofs.Accepted.{program_is_accepted, program_is_forward}
 use Rattle.cql2_code.proofs.Lowered.{asks_rightly}
+use Rattle.cql2_code.proofs.Refused.{longer}
 use Rattle.cql2_code.proofs.Sound.{asks_soundly}
 use Rattle.cql2_code.proofs.Whole.{program_answers}
 
@@ -75,6 +77,25 @@ program_written {question} {exits} {end} {whole} score last falls beyond written
     (written.code ∙ ap (λ (b : Bool). question_code question b exits.beyond ++ end) falls
     ∙ ap (λ (n : ℕ). question_code question true n ++ end) beyond
     ∙ ap (λ (rest : List Insn). question_code question true (word_count (chosen_code score)) ++ rest) last)
+
+-- a program is refused if its end is
+pub end_refused : {rest : List Insn} {fault : CompileFault} (score : Option NumericColumn) (question : Question) (front : List Insn)
+    → chosen_code score ++ answer_code 0 ≡ front ++ rest → MayBeRefused rest fault → MayBeRefused (program score question) fault
+end_refused score question front is refused = record {
+  too_long = λ other.
+      longer (copy w6 r1 ∷ question_code question true (word_count (chosen_code score)))
+      (subst IsTooLong (sym is) (longer front (refused.too_long other)));
+}
+
+-- it is refused if the code of its question is
+pub question_refused : {question : Question} {exits : Exits} {end : List Insn} {fault : CompileFault} (score : Option NumericColumn)
+    → end ≡ chosen_code score ++ answer_code 0 → exits.falls ≡ true → exits.beyond ≡ word_count (chosen_code score)
+    → Refuses question exits end fault → MayBeRefused (program score question) fault
+question_refused {question} score last falls beyond refused = record {
+  too_long = λ other.
+      subst IsTooLong (program_written {question = question} score last falls beyond (record { code = refl }))
+      (longer (copy w6 r1 ∷ []) (refused.too_long other));
+}
 
 -- what a result's code has, if there is one
 pub if_ok : {E : Type 0} {whole : List Insn} (P : List Insn → Type 0) (result : Result (List Insn) E) → IfOk result (λ code. code ≡ whole)

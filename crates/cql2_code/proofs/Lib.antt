@@ -23,6 +23,7 @@ pub mod Passes
 pub mod Program
 pub mod Proper
 pub mod RangeLemmas
+pub mod Refused
 pub mod Runs
 pub mod Sound
 pub mod Steps

@@ -1,9 +1,16 @@
 -- What is asked of names and ranges, one after the other.
-use Rattle.std.proofs.Common.{◌≡◌, ℕ, suc, ◌+◌, pos, true, false, List, refl}
+use Rattle.std.proofs.Common.{◌≡◌, ℕ, zero, suc, ◌+◌, pos, true, false, List, refl, sym, ap, inl, inr, arith}
+use Rattle.std.proofs.lemmas.Bool.{cases_Bool}
+use Rattle.bpf_insn.specs.declared.instruction.Insn.{Insn}
 use Rattle.cql2.specs.declared.filter.Comparison.TheVariants.{NotEqual, Greater, GreaterOrEqual}
+use Rattle.cql2_code.specs.Layout.{Refuses}
 use Rattle.cql2_code.specs.Lowering.{is_milestone, is_named_from, lies_from, test}
 use Rattle.cql2_code.specs.Question.{Decided, Joined, Question}
+use Rattle.cql2_code.specs.declared.fault.CompileFault.{CompileFault}
+use Rattle.cql2_code.specs.declared.question.Exits.{Exits}
 use Rattle.cql2_code.specs.declared.question.Subject.TheVariants.{InRange, NameIs, Names, Ranges}
+use Rattle.cql2_code.proofs.Refused.{refuses_as, second_refused}
+use Rattle.cql2_code.proofs.Written.{written_as}
 
 -- of none of them anything holds
 pub lies_from-none : (house at : ℕ) → lies_from house at 0 ≡ Decided false
@@ -40,3 +47,37 @@ pub is_named_from-milestone : (wanted : List ℕ) (at more : ℕ) → is_milesto
     → is_named_from wanted at (suc more) ≡ Joined true (test Names GreaterOrEqual (pos at)) (is_named_here wanted at more)
 unfolding is_named_from
 is_named_from-milestone wanted at more there = rw there refl
+
+-- what is asked from the first range on is refused if what is asked from a later one on is
+pub lies_from-here_refused : {exits : Exits} {old : List Insn} {fault : CompileFault} (house : ℕ) (at more : ℕ)
+    → Refuses (lies_here house at more) exits old fault → Refuses (lies_from house at (suc more)) exits old fault
+lies_from-here_refused house at more refused = elim (cases_Bool (is_milestone at)) [
+  | inl there ↦ refuses_as (λ new written. written_as (sym (lies_from-milestone house at more there)) written) (second_refused refused)
+  | inr further ↦ refuses_as (λ new written. written_as (sym (lies_from-more house at more further)) written) refused
+]
+
+pub lies_from-refused : {exits : Exits} {old : List Insn} {fault : CompileFault} (house : ℕ) (at more all : ℕ) → all ≡ at + more
+    → Refuses (lies_from house at more) exits old fault → Refuses (lies_from house 0 all) exits old fault
+lies_from-refused house zero more all is refused =
+    let same : more ≡ all = omega arith in refuses_as (λ new written. written_as (ap (lies_from house 0) same) written) refused
+lies_from-refused house (suc at) more all is refused =
+    let next : suc at ≡ at + 1 = omega arith in
+    let here = refuses_as (λ new written. written_as (ap (λ (n : ℕ). lies_from house n more) next) written) refused in
+    lies_from-refused house at (suc more) all (omega arith) (lies_from-here_refused house at more (second_refused here))
+
+-- what is asked from the first name on is refused if what is asked from a later one on is
+pub is_named_from-here_refused : {exits : Exits} {old : List Insn} {fault : CompileFault} (wanted : List ℕ) (at more : ℕ)
+    → Refuses (is_named_here wanted at more) exits old fault → Refuses (is_named_from wanted at (suc more)) exits old fault
+is_named_from-here_refused wanted at more refused = elim (cases_Bool (is_milestone at)) [
+  | inl there ↦ refuses_as (λ new written. written_as (sym (is_named_from-milestone wanted at more there)) written) (second_refused refused)
+  | inr further ↦ refuses_as (λ new written. written_as (sym (is_named_from-more wanted at more further)) written) refused
+]
+
+pub is_named_from-refused : {exits : Exits} {old : List Insn} {fault : CompileFault} (wanted : List ℕ) (at more all : ℕ) → all ≡ at + more
+    → Refuses (is_named_from wanted at more) exits old fault → Refuses (is_named_from wanted 0 all) exits old fault
+is_named_from-refused wanted zero more all is refused =
+    let same : more ≡ all = omega arith in refuses_as (λ new written. written_as (ap (is_named_from wanted 0) same) written) refused
+is_named_from-refused wanted (suc at) more all is refused =
+    let next : suc at ≡ at + 1 = omega arith in
+    let here = refuses_as (λ new written. written_as (ap (λ (n : ℕ). is_named_from wanted n more) next) written) refused in
+    is_named_from-refused wanted at (suc more) all (omega arith) (is_named_from-here_refused wanted at more (second_refused here))

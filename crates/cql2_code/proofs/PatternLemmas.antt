@@ -1,5 +1,5 @@
 -- What a pattern wants exactly, and how it ends.
-use Rattle.std.proofs.Common.{◌≡◌, ℕ, suc, ◌+◌, ◌-◌, ◌==◌, ◌<◌, ◌≤◌, Bool, not, false, List, [], ◌∷◌, ◌++◌, length, map, take, drop}
+use Rattle.std.proofs.Common.{◌≡◌, ℕ, suc, ◌+◌, ◌-◌, ◌==◌, ◌<◌, ◌≤◌, Bool, not, true, false, List, [], ◌∷◌, ◌++◌, length, map, take, drop}
 use Rattle.std.proofs.Common.{get_or, slice_get, Option, None, Some, refl, sym, ap, ◌∙◌, subst, arith, take-append-drop}
 use Rattle.std.proofs.lemmas.Bool.{le-leb, lt-leb}
 use Rattle.std.proofs.lemmas.List.{drop_more, length-map}
@@ -7,9 +7,16 @@ use Rattle.cql2.specs.declared.column.TextColumn.{TextColumn}
 use Rattle.cql2.specs.declared.pattern.PatternByte.{PatternByte}
 use Rattle.cql2.specs.declared.pattern.PatternByte.TheVariants.{Exactly, EitherCase, Any}
 use Rattle.cql2_code.specs.Lowering.{are_wanted, both, ends_filled, ends_so, exact_bytes, has_bytes, is_each_wanted, is_filled, is_like}
-use Rattle.cql2_code.specs.Lowering.{offset_of, width_of}
-use Rattle.cql2_code.specs.Question.{Decided, Question}
+use Rattle.cql2_code.specs.Lowering.{is_wanted, offset_of, width_of}
+use Rattle.cql2_code.specs.Question.{Decided, Joined, Question}
 use Rattle.cql2_code.proofs.LikeLemmas.{Spells, spells}
+
+-- a byte is wanted, and more
+pub is_each_wanted-more : (at : ℕ) (pattern : List PatternByte) (wanted : PatternByte) (rest : List PatternByte)
+    → pattern ≡ wanted ∷ rest → 0 < length rest
+    → is_each_wanted at pattern ≡ Joined true (is_wanted at wanted) (is_each_wanted (at + 1) rest)
+is_each_wanted-more at pattern wanted [] is some = absurd (omega arith)
+is_each_wanted-more at pattern wanted (next ∷ rest) is some = ap (is_each_wanted at) is
 
 -- the last byte that is wanted, if there is one, is no blank
 abbrev pub is_last_filled : Option PatternByte → Bool

@@ -1,11 +1,13 @@
 -- How the code of a question is laid out. It has one entry, its first instruction, and two ways out: it falls through its end if the
 -- answer is a given one, and else jumps some words past its end. All jumps go forward. Register 6 points to the record throughout.
-use Rattle.std.specs.Prelude.{◌≡◌, ℕ, ◌+◌, ◌-◌, ◌*◌, ◌/◌, ◌%◌, ◌^◌, ◌&&◌, ℤ, pos, negsuc, Bool, true, not, int_le, nat_le, List, [], ◌∷◌, ◌++◌, take, drop, Option, Some, None, if◌then◌else◌}
+use Rattle.std.specs.Prelude.{◌≡◌, ℕ, ◌+◌, ◌-◌, ◌*◌, ◌/◌, ◌%◌, ◌^◌, ◌<◌, ◌&&◌, ℤ, pos, negsuc, Bool, true, false, not, int_le, int_lt, nat_le, List, [], ◌∷◌, ◌++◌, take, drop, Option, Some, None, IsTrue, MatchResult, Result, if◌then◌else◌}
 use Rattle.std.specs.Bool.{beq}
+use Rattle.std.specs.List.{list_any}
 use Rattle.std.specs.Int.{w32, cast_signed}
 use Rattle.std.proofs.Common.{lit≤}
 use Rattle.bpf_insn.specs.Arithmetic.{immediate_operand}
 use Rattle.bpf_insn.specs.Code.{word_count}
+use Rattle.bpf_insn.specs.declared.code.TheConstants.{WORD_LIMIT}
 use Rattle.bpf_insn.specs.declared.instruction.Insn.{Insn}
 use Rattle.bpf_insn.specs.declared.instruction.Insn.TheVariants.{Alu, Jump, JumpIf, Call, Exit, StoreImmediate, WideLoad}
 use Rattle.bpf_insn.specs.declared.instruction.Insn.TheVariants as insn
@@ -23,6 +25,8 @@ use Rattle.cql2.specs.declared.column.NumericColumn.{NumericColumn}
 use Rattle.cql2.specs.declared.column.NumericColumn.TheVariants as column
 use Rattle.cql2.specs.declared.filter.Comparison.{Comparison}
 use Rattle.cql2.specs.declared.filter.Comparison.TheVariants.{Equal, NotEqual, Less, LessOrEqual, Greater, GreaterOrEqual}
+use Rattle.cql2_code.specs.declared.fault.CompileFault.{CompileFault}
+use Rattle.cql2_code.specs.declared.fault.CompileFault.TheVariants.{TooLong}
 use Rattle.cql2_code.specs.Question.{Question, Decided, Holds, Opposite, Joined, bytes_value, condition_of, coordinate_id, field_id}
 use Rattle.cql2_code.specs.declared.question.Chunk.{Chunk}
 use Rattle.cql2_code.specs.declared.question.Chunk.TheVariants.{Byte, Word, DoubleWord}
@@ -65,7 +69,7 @@ move register number = Alu Move Bits64 register (Immediate number)
 abbrev pub copy : WritableRegister → RegisterParts → Insn
 copy register source = Alu Move Bits64 register (Register source)
 
--- a number of 64 bits for a register, by its halves
+-- a 64-bit number for a register, as two halves
 abbrev pub wide_load : WritableRegister → ℕ → Insn
 wide_load register number = WideLoad register (cast_signed w32 (number % 2 ^ 32)) (cast_signed w32 (number / 2 ^ 32))
 
@@ -115,7 +119,7 @@ subject_code (NameIs name wanted) =
     move w1 (pos name) ∷ copy w2 r10 ∷ move_to_name ∷ move w3 (pos 30) ∷ (store_name wanted ++ call 7 ∷ [])
 subject_code (Load chunk at) = load chunk at ∷ []
 
--- what holds if a comparison doesn't
+-- the comparison that holds exactly if this one doesn't
 abbrev pub opposite : Comparison → Comparison
 opposite Equal = NotEqual
 opposite NotEqual = Equal
@@ -143,7 +147,7 @@ abbrev pub test_code : Test → Bool → ℕ → List Insn
 test_code test falls beyond =
     subject_code test.subject ++ comparison_code (if falls then opposite test.comparison else test.comparison) test.operand beyond
 
--- by how many words the first of two questions jumps, by how many the second one has
+-- how far the first of two questions jumps past its end, by the number of words of the second one
 abbrev pub first_beyond : Bool → Bool → ℕ → ℕ → ℕ
 first_beyond falls neutral words beyond = if beq falls neutral then words + beyond else words
 
@@ -157,11 +161,38 @@ question_code (Joined neutral first second) falls beyond =
     question_code first neutral (first_beyond falls neutral (word_count (question_code second falls beyond)) beyond)
     ++ question_code second falls beyond
 
+-- a jump over more words than the 16 bits of its distance can say
+abbrev pub is_far_jump : Insn → Bool
+is_far_jump (Jump (Short distance)) = int_lt (pos 32767) distance
+is_far_jump (JumpIf condition width left right distance) = int_lt (pos 32767) distance
+is_far_jump insn = false
+
+-- a code is too long for a program: it has more words than a program may have, or such a jump
+pub data IsTooLong (code : List Insn) : Type 0 where
+  has_many_words : WORD_LIMIT < word_count code → IsTooLong code
+  has_far_jump : IsTrue (list_any is_far_jump code) → IsTooLong code
+
+-- a code may be refused: as too long only if it is, and otherwise because an allocation fails
+pub record MayBeRefused (code : List Insn) (fault : CompileFault) : Type 0 where
+  pub too_long : fault ≡ TooLong → IsTooLong code
+
+-- a code is written, or refused
+abbrev pub IsPut : {T : Type 0} → Result T CompileFault → List Insn → List Insn → Type 0
+IsPut result code new = MatchResult result (λ _. new ≡ code) (MayBeRefused code)
+
 -- the code of a question is written before another code
 pub record Writes (question : Question) (exits : Exits) (old new : List Insn) : Type 0 where
   pub code : new ≡ question_code question exits.falls exits.beyond ++ old
 
--- these are the ways out of the first of two questions, of which the second one has these and so many words
+-- or it may be refused
+pub record Refuses (question : Question) (exits : Exits) (old : List Insn) (fault : CompileFault) : Type 0 where
+  pub too_long : fault ≡ TooLong → IsTooLong (question_code question exits.falls exits.beyond ++ old)
+
+-- the code of a question is written before another code, or refused
+abbrev pub Puts : {T : Type 0} → Result T CompileFault → Question → Exits → List Insn → List Insn → Type 0
+Puts result question exits old new = MatchResult result (λ _. Writes question exits old new) (Refuses question exits old)
+
+-- the ways out of the first of two questions, by those of the second one and its number of words
 pub record IsBefore (neutral : Bool) (exits before : Exits) (words : ℕ) : Type 0 where
   pub falls : before.falls ≡ neutral
   pub beyond : before.beyond ≡ first_beyond exits.falls neutral words exits.beyond

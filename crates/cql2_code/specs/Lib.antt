@@ -1,3 +1,4 @@
+pub mod CompileFault
 pub mod Chosen
 pub mod Layout
 pub mod Lowering

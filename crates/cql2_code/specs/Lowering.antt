@@ -1,6 +1,6 @@
--- The question whether a filter is true, and the one whether it is false. Each has an answer, also if the filter is neither. NOT
+-- The question whether a filter is true, and the one whether it is false. Each has an answer, even if the filter is neither. NOT
 -- exchanges them.
-use Rattle.std.specs.Prelude.{◌≡◌, ℕ, zero, suc, ◌+◌, ◌-◌, ◌==◌, ◌||◌, ℤ, pos, nat_le, Bool, true, false, not, List, [], ◌∷◌, ◌++◌, length, map, replicate, Option, Some, None, if◌then◌else◌}
+use Rattle.std.specs.Prelude.{◌≡◌, ℕ, zero, suc, ◌+◌, ◌-◌, ◌==◌, ◌||◌, ℤ, pos, nat_le, Bool, true, false, not, List, [], ◌∷◌, ◌++◌, length, map, replicate, Option, Some, None, MatchResult, Result, if◌then◌else◌}
 use Rattle.std.specs.Bool.{beq}
 use Rattle.std.specs.Int.{w64, cast_signed}
 use Rattle.tl_segments.specs.declared.segment.TheConstants.{RANGE_LIMIT}
@@ -21,7 +21,8 @@ use Rattle.cql2.specs.declared.pattern.PatternByte.TheVariants.{Exactly, EitherC
 use Rattle.cql2_code.specs.Question.{Question, Decided, Holds, Opposite, Joined, bytes_value}
 use Rattle.bpf_insn.specs.Code.{word_count}
 use Rattle.bpf_insn.specs.declared.instruction.Insn.{Insn}
-use Rattle.cql2_code.specs.Layout.{Writes, opposite}
+use Rattle.cql2_code.specs.Layout.{Puts, Refuses, Writes, opposite, program}
+use Rattle.cql2_code.specs.declared.fault.CompileFault.{CompileFault}
 use Rattle.cql2_code.specs.declared.question.Exits.{Exits}
 use Rattle.cql2_code.specs.declared.question.Chunk.{Chunk}
 use Rattle.cql2_code.specs.declared.question.Chunk.TheVariants.{Byte, Word, DoubleWord}
@@ -47,11 +48,11 @@ abbrev pub has_value : NumericColumn → Question
 has_value (column.Number field) = test (HasNumber field) NotEqual (pos 0)
 has_value (column.Coordinate place) = test (Coordinate place) NotEqual (pos 0)
 
--- 0 compares so with a number
+-- a comparison holds of 0 and a number
 abbrev pub holds_of_zero : Comparison → ℤ → Bool
 holds_of_zero comparison literal = compares comparison (pos 0) literal
 
--- its number is so; if 0 is too, it also has one
+-- a comparison holds of a column's number and another; if it holds of 0 too, the column also has a number
 abbrev pub compares_number : NumericColumn → Comparison → ℤ → Question
 compares_number column comparison literal =
     if holds_of_zero comparison literal
@@ -63,30 +64,30 @@ compares_number column comparison literal =
 abbrev pub byte_test : ℕ → Comparison → ℕ → Question
 byte_test at comparison byte = test (Load Byte at) comparison (pos byte)
 
--- the bytes from an offset on are these, as many as a chunk has
+-- the chunk of the record at an offset has these bytes
 abbrev pub chunk_test : Chunk → ℕ → List ℕ → Question
 chunk_test chunk at bytes = test (Load chunk at) Equal (cast_signed w64 (bytes_value bytes))
 
--- The record has these bytes from an offset on. They are compared one by one,
+-- The record has these bytes at an offset. They are compared one by one,
 abbrev pub has_each : ℕ → List ℕ → Question
 has_each at [] = Decided true
 has_each at (byte ∷ []) = byte_test at Equal byte
 has_each at (byte ∷ next ∷ bytes) = Joined true (byte_test at Equal byte) (has_each (at + 1) (next ∷ bytes))
 
--- four at once if there are as many,
+-- the first four at once if there are at least four,
 abbrev pub has_few : ℕ → List ℕ → Question
 has_few at (a ∷ b ∷ c ∷ d ∷ []) = chunk_test Word at (a ∷ b ∷ c ∷ d ∷ [])
 has_few at (a ∷ b ∷ c ∷ d ∷ next ∷ bytes) = Joined true (chunk_test Word at (a ∷ b ∷ c ∷ d ∷ [])) (has_each (at + 4) (next ∷ bytes))
 has_few at bytes = has_each at bytes
 
--- and eight at once as long as there are as many.
+-- and eight at once while at least eight are left.
 abbrev pub has_bytes : ℕ → List ℕ → Question
 has_bytes at (a ∷ b ∷ c ∷ d ∷ e ∷ f ∷ g ∷ h ∷ []) = chunk_test DoubleWord at (a ∷ b ∷ c ∷ d ∷ e ∷ f ∷ g ∷ h ∷ [])
 has_bytes at (a ∷ b ∷ c ∷ d ∷ e ∷ f ∷ g ∷ h ∷ next ∷ bytes) =
     Joined true (chunk_test DoubleWord at (a ∷ b ∷ c ∷ d ∷ e ∷ f ∷ g ∷ h ∷ [])) (has_bytes (at + 8) (next ∷ bytes))
 has_bytes at bytes = has_few at bytes
 
--- so many bytes from an offset on are blank
+-- a number of bytes at an offset are blank
 abbrev pub is_blank : ℕ → ℕ → Question
 is_blank at count = has_bytes at (replicate count 32)
 
@@ -141,8 +142,8 @@ ends_filled [] = false
 ends_filled (wanted ∷ []) = is_filled wanted
 ends_filled (wanted ∷ next ∷ pattern) = ends_filled (next ∷ pattern)
 
--- What is asked after the wanted bytes. After those of a closed pattern all is blank; and unless the last of them is no blank itself, the
--- text has as many bytes only if what begins there isn't blank.
+-- What is asked after the wanted bytes. After those of a closed pattern the field is blank. If the last of them may be a blank, the text
+-- is long enough only if the field isn't blank from there.
 abbrev pub ends_so : Bool → Bool → TextColumn → ℕ → Option Question
 ends_so true true column count = None
 ends_so true false column count = Some (Opposite (is_blank (offset_of column + (count - 1)) (width_of column - (count - 1))))
@@ -155,10 +156,15 @@ abbrev pub both : Question → Option Question → Question
 both first None = first
 both first (Some second) = Joined true first second
 
--- before a code that was written for the second question, if there is one, the first one has these ways out
+-- the ways out of the first question, once the code of the second one, if there is one, is written
 abbrev pub WritesBefore : Option Question → Exits → Exits → List Insn → List Insn → Type 0
 WritesBefore second exits first old new = (wanted : Question) (all : List Insn)
     → Writes wanted first new all → Writes (both wanted second) exits old all
+
+-- the code of the second question is written, or refused whatever the first one is
+abbrev pub PutsBefore : Result Exits CompileFault → Option Question → Exits → List Insn → List Insn → Type 0
+PutsBefore result second exits old new = MatchResult result (λ first. WritesBefore second exits first old new)
+    (λ fault. (wanted : Question) → Refuses (both wanted second) exits old fault)
 
 -- a column isn't NULL and is like a pattern
 abbrev pub is_like : TextColumn → List PatternByte → Bool → Question
@@ -172,14 +178,14 @@ abbrev pub asks_like : TextColumn → List PatternByte → Bool → Bool → Que
 asks_like column pattern is_open true = is_like column pattern is_open
 asks_like column pattern is_open false = Joined true (Opposite (is_null_text column)) (Opposite (is_like column pattern is_open))
 
--- the text in a field, of which so many bytes are left, is less than another
+-- what is left of a field, given by its offset and its length, is less than a text
 abbrev pub is_less : ℕ → ℕ → List ℕ → Question
 is_less at left [] = Decided false
 is_less at zero (byte ∷ text) = Decided true
 is_less at (suc left) (byte ∷ text) =
     Joined false (byte_test at Less byte) (Joined true (byte_test at Equal byte) (is_less (at + 1) left text))
 
--- it is greater than another
+-- it is greater than a text
 abbrev pub is_greater : ℕ → ℕ → List ℕ → Question
 is_greater at zero text = Decided false
 is_greater at (suc left) [] = Opposite (is_blank at (suc left))
@@ -203,7 +209,7 @@ holds_of_blanks LessOrEqual = true
 holds_of_blanks Greater = false
 holds_of_blanks GreaterOrEqual = false
 
--- a column isn't NULL and compares so with a text
+-- a column isn't NULL, and a comparison holds of it and a text
 abbrev pub compares_text : TextColumn → Comparison → List ℕ → Question
 compares_text column comparison text =
     if holds_of_blanks comparison
@@ -212,11 +218,11 @@ compares_text column comparison text =
 
 -- Names and ranges
 
--- from how many names or ranges on is looked whether there are more: a power of two
+-- the names and ranges before which the code asks whether there are that many: the powers of two
 abbrev pub is_milestone : ℕ → Bool
 is_milestone at = at == 1 || at == 2 || at == 4 || at == 8 || at == 16 || at == 32 || at == 64 || at == 128 || at == 256 || at == 512
 
--- a house number lies on a side of a range from this one on, of so many
+-- a house number lies on a side of one of several ranges, given by the number of the first one and by their count
 unfoldable pub lies_from : ℕ → ℕ → ℕ → Question
 lies_from house at zero = Decided false
 lies_from house at (suc more) =
@@ -225,19 +231,19 @@ lies_from house at (suc more) =
     (Joined false (test (InRange at house) NotEqual (pos 0)) (lies_from house (at + 1) more))
     else Joined false (test (InRange at house) NotEqual (pos 0)) (lies_from house (at + 1) more)
 
--- before the code of what is asked of the ranges after one, and what follows it, the code of what is asked from that range on is written
-abbrev pub WritesRange : ℕ → ℕ → ℕ → Exits → List Insn → List Insn → Type 0
-WritesRange house range end exits old new = (more : ℕ) (rest : List Insn) → word_count rest ≡ end
-    → Writes (lies_from house (range + 1) more) exits rest old → Writes (lies_from house range (suc more)) exits rest new
+-- the code that asks about a range is written before the code that asks about those after it, or refused
+abbrev pub PutsRange : Result (Unit {0}) CompileFault → ℕ → ℕ → ℕ → Exits → List Insn → List Insn → Type 0
+PutsRange result house range end exits old new = (more : ℕ) (rest : List Insn) → word_count rest ≡ end
+    → Writes (lies_from house (range + 1) more) exits rest old → Puts result (lies_from house range (suc more)) exits rest new
 
 abbrev pub asks_has_number : ℕ → Bool → Question
 asks_has_number house asked = if_asked (lies_from house 0 (suc RANGE_LIMIT)) asked
 
--- a name as it stands in the frame: blank after its bytes
+-- a name as it is in the frame: padded with blanks
 abbrev pub name_block : List ℕ → List ℕ
 name_block text = text ++ replicate (32 - length text) 32
 
--- a name from this one on, of so many, is the wanted one
+-- one of several names, given by the number of the first one and by their count, is the wanted one
 unfoldable pub is_named_from : List ℕ → ℕ → ℕ → Question
 is_named_from wanted at zero = Decided false
 is_named_from wanted at (suc more) =
@@ -246,9 +252,9 @@ is_named_from wanted at (suc more) =
     (Joined false (test (NameIs at wanted) NotEqual (pos 0)) (is_named_from wanted (at + 1) more))
     else Joined false (test (NameIs at wanted) NotEqual (pos 0)) (is_named_from wanted (at + 1) more)
 
-abbrev pub WritesName : List ℕ → ℕ → ℕ → Exits → List Insn → List Insn → Type 0
-WritesName wanted name end exits old new = (more : ℕ) (rest : List Insn) → word_count rest ≡ end
-    → Writes (is_named_from wanted (name + 1) more) exits rest old → Writes (is_named_from wanted name (suc more)) exits rest new
+abbrev pub PutsName : Result (Unit {0}) CompileFault → List ℕ → ℕ → ℕ → Exits → List Insn → List Insn → Type 0
+PutsName result wanted name end exits old new = (more : ℕ) (rest : List Insn) → word_count rest ≡ end
+    → Writes (is_named_from wanted (name + 1) more) exits rest old → Puts result (is_named_from wanted name (suc more)) exits rest new
 
 abbrev pub is_named : List ℕ → ℕ → Question
 is_named text most = is_named_from (name_block text) 0 (suc most)
@@ -277,3 +283,7 @@ asks_whether (CompareText column comparison text) asked =
 asks_whether (Like column pattern) asked = asks_like column pattern.wanted.items pattern.is_open asked
 asks_whether (filter.HasNumber house) asked = asks_has_number house.number asked
 asks_whether (HasName text limit) asked = asks_has_name text.bytes.items limit.number asked
+
+-- the program of a filter
+abbrev pub program_of : {A : Type 0} → Filter A → Option NumericColumn → List Insn
+program_of filter score = program score (asks_whether filter true)

@@ -85,7 +85,7 @@ pub record IsSoundTest (test : Test) : Type 0 where
   pub subject : IsSoundSubject test.subject
   pub operand : FitsSigned w64 test.operand
 
--- the condition of a jump that makes a comparison, with signs
+-- the jump condition for a comparison of signed numbers
 abbrev pub condition_of : Comparison → Condition
 condition_of Equal = condition.Equal
 condition_of NotEqual = condition.NotEqual

@@ -5,7 +5,7 @@ ghost use Rattle.cql2_code.specs.Question.{bytes_value};
 
 use byteorder::{ByteOrder, LittleEndian};
 
-/// Returns the number of four bytes, as one with a sign.
+/// Reads four bytes as a signed number.
 pub(crate) fn signed_word(bytes: &[u8]) -> i32
     requires { length bytes.now ≡ 4 }
     ensures { result ≡ cast_signed w32 (bytes_value bytes.now) }
@@ -13,7 +13,7 @@ pub(crate) fn signed_word(bytes: &[u8]) -> i32
     LittleEndian::read_i32(bytes)
 }
 
-/// Returns the number of four bytes.
+/// Reads four bytes as an unsigned number.
 pub(crate) fn word(bytes: &[u8]) -> i64
     requires { length bytes.now ≡ 4 }
     ensures { result ≡ cast_signed w64 (bytes_value bytes.now) }
@@ -21,7 +21,7 @@ pub(crate) fn word(bytes: &[u8]) -> i64
     i64::from(LittleEndian::read_u32(bytes))
 }
 
-/// Returns the number of eight bytes, as one with a sign.
+/// Reads eight bytes as a signed number.
 pub(crate) fn double_word(bytes: &[u8]) -> i64
     requires { length bytes.now ≡ 8 }
     ensures { result ≡ cast_signed w64 (bytes_value bytes.now) }

@@ -1,12 +1,13 @@
 //! From a filter to a program.
-ghost use Rattle.std.specs.Prelude.{◌≡◌, ◌≤◌, ◌++◌, IfOk, OnOk, if◌then◌else◌};
+ghost use Rattle.std.specs.Prelude.{◌≡◌, ◌≤◌, ◌++◌, IfErr, IfOk, IsErr, if◌then◌else◌};
 ghost use Rattle.bpf_flow.specs.Flow.{IsForward};
 ghost use Rattle.bpf_insn.specs.Code.{word_count};
 ghost use Rattle.bpf_verify.specs.Annotation.{HasGoodAnnotation};
 ghost use Rattle.cql2_code.specs.Chosen.{Chooses};
 ghost use Rattle.cql2_code.specs.Layout as layout;
-ghost use Rattle.cql2_code.specs.Layout.{Writes, answer_code, score_code};
-ghost use Rattle.cql2_code.specs.Lowering.{asks_whether, if_asked, is_null};
+ghost use Rattle.cql2_code.specs.Layout.{IsPut, IsTooLong, Puts, answer_code, score_code};
+ghost use Rattle.cql2_code.specs.Lowering.{asks_whether, if_asked, is_null, program_of};
+ghost use Rattle.cql2_code.specs.declared.fault.CompileFault.TheVariants.{TooLong};
 
 use crate::ending::CodeEnd;
 use crate::fault::CompileFault;
@@ -19,8 +20,8 @@ use bpf_insn::{Code, Insn};
 use cql2::{Column, Comparison, Filter, NumericColumn};
 use std::alloc::Allocator;
 
-/// Returns the program of a filter. On each segment it answers 1 if the filter is true, and else 0. The score of a segment that is
-/// selected is the number of a column, or a coordinate in two's complement.
+/// Returns the program of a filter. On each segment it answers 1 if the filter is true, and 0 otherwise. The score of a segment that is
+/// selected is the number of a column, or a coordinate in two's complement. A filter is refused as too long only if its program would be.
 pub fn compile<A: Allocator + Copy>(
     alloc: A,
     filter: &Filter<A>,
@@ -29,6 +30,9 @@ pub fn compile<A: Allocator + Copy>(
     ensures chooses { IfOk result (λ code. Chooses code filter.now score) }
     ensures forward { IfOk result IsForward }
     ensures accepted { IfOk result HasGoodAnnotation }
+    ensures ok { IfOk result (λ code. code ≡ program_of filter.now score) }
+    ensures err { IfErr result (λ fault. fault ≡ TooLong → IsTooLong (program_of filter.now score)) }
+    ensures too_long { IsTooLong (program_of filter.now score) → IsErr result }
 {
     let mut code = CodeEnd::new(alloc);
     put_answer(&mut code, 0)?;
@@ -47,18 +51,18 @@ pub fn compile<A: Allocator + Copy>(
 
 /// Writes the end of a program, with its answer.
 fn put_answer<A: Allocator + Copy>(code: &mut CodeEnd<A>, answer: u8) -> Result<(), CompileFault>
-    ensures { OnOk result (code.new ≡ answer_code answer ++ code.old) }
+    ensures { IsPut result (answer_code answer ++ code.old) code.new }
 {
     code.prepend(Insn::Exit)?;
     code.prepend(move_number(w0(), i32::from(answer)))
 }
 
-/// Writes what emits a column as the score.
+/// Writes the code that emits a column as the score.
 fn put_score<A: Allocator + Copy>(
     code: &mut CodeEnd<A>,
     score: Option<NumericColumn>,
 ) -> Result<(), CompileFault>
-    ensures { OnOk result (code.new ≡ score_code score ++ code.old) }
+    ensures { IsPut result (score_code score ++ code.old) code.new }
 {
     let Some(column) = score else {
         return Ok(());
@@ -68,7 +72,7 @@ fn put_score<A: Allocator + Copy>(
     code.put_subject(number_of(column))
 }
 
-/// Writes the code of the question whether a filter is true, or whether it is false.
+/// Writes the code that asks whether a filter is true, or whether it is false.
 fn put<A: Allocator + Copy>(
     code: &mut CodeEnd<A>,
     filter: &Filter<A>,
@@ -76,7 +80,7 @@ fn put<A: Allocator + Copy>(
     exits: Exits,
 ) -> Result<(), CompileFault>
     requires { exits.beyond ≤ word_count code.old }
-    ensures { OnOk result (Writes (asks_whether filter.now asked) exits code.old code.new) }
+    ensures { Puts result (asks_whether filter.now asked) exits code.old code.new }
 {
     let mut filter = filter;
     let mut asked = asked;
@@ -118,7 +122,7 @@ fn put<A: Allocator + Copy>(
     }
 }
 
-/// Returns the comparison that is asked for: it, or its opposite.
+/// Returns a comparison, or its opposite if it is asked to be false.
 fn asked_for(comparison: Comparison, asked: bool) -> Comparison
     ensures { result ≡ (if asked then comparison else layout.opposite comparison) }
 {
@@ -129,7 +133,7 @@ fn asked_for(comparison: Comparison, asked: bool) -> Comparison
     }
 }
 
-/// Writes the code of the question whether a column is NULL, or whether it isn't.
+/// Writes the code that asks whether a column is NULL, or whether it isn't.
 fn put_is_null<A: Allocator + Copy>(
     code: &mut CodeEnd<A>,
     column: Column,
@@ -137,7 +141,7 @@ fn put_is_null<A: Allocator + Copy>(
     exits: Exits,
 ) -> Result<(), CompileFault>
     requires { exits.beyond ≤ word_count code.old }
-    ensures { OnOk result (Writes (if_asked (is_null column) asked) exits code.old code.new) }
+    ensures { Puts result (if_asked (is_null column) asked) exits code.old code.new }
 {
     match column {
         Column::Numeric(column) => code.put_test(has_value(column), exits.asked(!asked)),

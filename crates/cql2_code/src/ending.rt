@@ -1,9 +1,10 @@
-//! Codes that are written from their end on, so that each jump's distance is known when it is written.
-ghost use Rattle.std.specs.Prelude.{◌≡◌, ◌≤◌, ◌-◌, ◌∷◌, ◌++◌, [], pos, IfOk, OnOk};
+//! Codes that are written from their end to their start, so that each jump's distance is known when it is written.
+ghost use Rattle.std.specs.Prelude.{◌≡◌, ◌≤◌, ◌<◌, ◌-◌, ◌∷◌, ◌++◌, [], pos, IfErr, IfOk, MatchResult};
 ghost use Rattle.bpf_insn.specs.Code.{word_count};
 ghost use Rattle.bpf_insn.specs.declared.code.TheConstants.{WORD_LIMIT};
-ghost use Rattle.cql2_code.specs.Layout.{IsBefore, Writes, call, comparison_code, move, store_name, subject_code, w1};
+ghost use Rattle.cql2_code.specs.Layout.{IsBefore, IsPut, IsTooLong, Puts, call, comparison_code, move, store_name, subject_code, w1};
 ghost use Rattle.cql2_code.specs.Question.{Decided, Holds};
+ghost use Rattle.cql2_code.specs.declared.fault.CompileFault.TheVariants.{Memory, TooLong};
 ghost use Rattle.cql2_code.specs.declared.question.Subject.TheVariants.{InRange, NameIs};
 
 use crate::fault::CompileFault;
@@ -25,7 +26,9 @@ pub(crate) struct CodeEnd<A: Allocator> {
 }
 
 impl<A: Allocator> Model for CodeEnd<A> {
-    ghost use Rattle.std.specs.Prelude.{◌≡◌, ◌≤◌, List, reverse};
+    ghost use Rattle.std.specs.Prelude.{◌≡◌, ◌≤◌, IsFalse, List, reverse};
+    ghost use Rattle.std.specs.List.{list_any};
+    ghost use Rattle.cql2_code.specs.Layout.{is_far_jump};
     ghost use Rattle.bpf_insn.specs.Code.{word_count};
     ghost use Rattle.bpf_insn.specs.declared.code.TheConstants.{WORD_LIMIT};
     ghost use Rattle.bpf_insn.specs.declared.instruction.Insn.{Insn};
@@ -34,11 +37,12 @@ impl<A: Allocator> Model for CodeEnd<A> {
 
     ghost view = { λ end. reverse end.reversed.items };
 
-    ghost invariant = { λ end. (end.words ≡ word_count (reverse end.reversed.items)) × (end.words ≤ WORD_LIMIT) };
+    ghost invariant = { λ end. (end.words ≡ word_count (reverse end.reversed.items)) × (end.words ≤ WORD_LIMIT)
+        × IsFalse (list_any is_far_jump (reverse end.reversed.items)) };
 }
 
 impl<A: Allocator + Copy> CodeEnd<A> {
-    /// Returns the end without an instruction.
+    /// Returns an end with no instructions.
     pub fn new(alloc: A) -> Self
         ensures { result ≡ [] }
     {
@@ -58,7 +62,7 @@ impl<A: Allocator + Copy> CodeEnd<A> {
 
     /// Adds an instruction before the others.
     pub fn prepend(&mut self, insn: Insn) -> Result<(), CompileFault>
-        ensures { OnOk result (self.new ≡ insn ∷ self.old) }
+        ensures { IsPut result (insn ∷ self.old) self.new }
     {
         let words = self.words + insn.words();
         if words > WORD_LIMIT {
@@ -72,7 +76,9 @@ impl<A: Allocator + Copy> CodeEnd<A> {
 
     /// Returns the code.
     pub fn into_code(self, alloc: A) -> Result<Code<A>, CompileFault>
-        ensures { IfOk result (λ code. code ≡ self) }
+        ensures ok { IfOk result (λ code. code ≡ self) }
+        ensures err { IfErr result (λ fault. fault ≡ Memory) }
+        ensures fits { ¬ IsTooLong self }
     {
         let mut builder = CodeBuilder::new(alloc);
         for insn in self.reversed.iter().rev() {
@@ -86,7 +92,7 @@ impl<A: Allocator + Copy> CodeEnd<A> {
         Ok(code)
     }
 
-    /// Returns the ways out of the first of two questions of which the second one was written since the code had so many words.
+    /// Returns the ways out of the first of two questions. The code had `words` words before the second one was written.
     pub fn exits_before(&self, words: usize, neutral: bool, exits: Exits) -> Exits
         requires written { words ≤ word_count self.now }
         requires inside { exits.beyond ≤ words }
@@ -105,9 +111,9 @@ impl<A: Allocator + Copy> CodeEnd<A> {
         }
     }
 
-    /// Writes the code of a question that is decided.
+    /// Writes the code of a question whose answer is known.
     pub fn put_decided(&mut self, found: bool, exits: Exits) -> Result<(), CompileFault>
-        ensures { OnOk result (Writes (Decided found) exits self.old self.new) }
+        ensures { Puts result (Decided found) exits self.old self.new }
     {
         if found == exits.falls {
             return Ok(());
@@ -118,7 +124,7 @@ impl<A: Allocator + Copy> CodeEnd<A> {
 
     /// Writes the code of a test.
     pub fn put_test(&mut self, test: Test, exits: Exits) -> Result<(), CompileFault>
-        ensures { OnOk result (Writes (Holds test) exits self.old self.new) }
+        ensures { Puts result (Holds test) exits self.old self.new }
     {
         let comparison = if exits.falls {
             opposite(test.comparison)
@@ -137,7 +143,7 @@ impl<A: Allocator + Copy> CodeEnd<A> {
         operand: i64,
         exits: Exits,
     ) -> Result<(), CompileFault>
-        ensures { OnOk result (self.new ≡ comparison_code comparison operand exits.beyond ++ self.old) }
+        ensures { IsPut result (comparison_code comparison operand exits.beyond ++ self.old) self.new }
     {
         let distance = distance_of(exits)?;
         match i32::try_from(operand) {
@@ -149,9 +155,9 @@ impl<A: Allocator + Copy> CodeEnd<A> {
         }
     }
 
-    /// Writes what takes a number into register 0.
+    /// Writes the code that puts a number into register 0.
     pub fn put_subject(&mut self, subject: Subject) -> Result<(), CompileFault>
-        ensures { OnOk result (self.new ≡ subject_code subject ++ self.old) }
+        ensures { IsPut result (subject_code subject ++ self.old) self.new }
     {
         match subject {
             Subject::Number(column) => self.put_call(1, field_id(column)),
@@ -167,7 +173,7 @@ impl<A: Allocator + Copy> CodeEnd<A> {
 
     /// Writes a call of a helper function with one argument.
     fn put_call(&mut self, helper: u8, argument: u8) -> Result<(), CompileFault>
-        ensures { OnOk result (self.new ≡ move w1 (pos argument) ∷ call helper ∷ self.old) }
+        ensures { IsPut result (move w1 (pos argument) ∷ call helper ∷ self.old) self.new }
     {
         self.prepend(call(helper))?;
         self.prepend(move_number(w1(), i32::from(argument)))
@@ -175,16 +181,16 @@ impl<A: Allocator + Copy> CodeEnd<A> {
 
     /// Writes the call that says on which sides of a range a house number lies.
     fn put_in_range(&mut self, range: u16, house: u64) -> Result<(), CompileFault>
-        ensures { OnOk result (self.new ≡ subject_code (InRange range house) ++ self.old) }
+        ensures { IsPut result (subject_code (InRange range house) ++ self.old) self.new }
     {
         self.prepend(call(5))?;
         self.prepend(set_number(w2(), house))?;
         self.prepend(move_number(w1(), i32::from(range)))
     }
 
-    /// Writes the call that compares a name with bytes, which are stored in the frame before.
+    /// Writes the call that compares a name with bytes, and before it the stores of those bytes in the frame.
     fn put_name_is(&mut self, name: u16, wanted: &[u8; 32]) -> Result<(), CompileFault>
-        ensures { OnOk result (self.new ≡ subject_code (NameIs name wanted.now) ++ self.old) }
+        ensures { IsPut result (subject_code (NameIs name wanted.now) ++ self.old) self.new }
     {
         self.prepend(call(7))?;
         self.put_name(wanted)?;
@@ -196,7 +202,7 @@ impl<A: Allocator + Copy> CodeEnd<A> {
 
     /// Writes the stores of a name.
     fn put_name(&mut self, wanted: &[u8; 32]) -> Result<(), CompileFault>
-        ensures { OnOk result (self.new ≡ store_name wanted.now ++ self.old) }
+        ensures { IsPut result (store_name wanted.now ++ self.old) self.new }
     {
         self.prepend(store_word(7, wanted))?;
         self.prepend(store_word(6, wanted))?;
@@ -209,9 +215,9 @@ impl<A: Allocator + Copy> CodeEnd<A> {
     }
 }
 
-/// Returns how far a question's code jumps past its end, as the field of a jump holds it.
+/// Returns how far a question's code jumps past its end, in the type of a jump's field.
 fn distance_of(exits: Exits) -> Result<i16, CompileFault>
-    ensures { IfOk result (λ distance. distance ≡ pos exits.beyond) }
+    ensures { MatchResult result (λ distance. distance ≡ pos exits.beyond) (λ fault. (fault ≡ TooLong) × (32767 < exits.beyond)) }
 {
     match i16::try_from(exits.beyond) {
         Ok(distance) => Ok(distance),

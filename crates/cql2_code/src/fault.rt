@@ -2,6 +2,7 @@
 ghost use Rattle.std.specs.Prelude.{◌≡◌};
 ghost use Rattle.cql2_code.specs.declared.fault.CompileFault.TheVariants.{Memory};
 
+use refusals::{Fault, Refusal};
 use std::alloc::AllocError;
 use thiserror::Error;
 
@@ -19,5 +20,19 @@ impl From<AllocError> for CompileFault {
 
     fn from(_error: AllocError) -> CompileFault {
         CompileFault::Memory
+    }
+}
+
+impl Fault for CompileFault {
+    ghost use Rattle.cql2_code.specs.CompileFault.{refusal};
+
+    ghost refusal_of = { refusal };
+
+    // The filter as a whole is at fault, so its first character is named.
+    fn refusal(&self) -> Refusal {
+        match self {
+            CompileFault::TooLong => Refusal::refused(96, "TooLong").at_character(1, 1),
+            CompileFault::Memory => Refusal::memory(),
+        }
     }
 }

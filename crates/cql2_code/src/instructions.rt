@@ -11,56 +11,56 @@ use bpf_insn::{
 };
 use cql2::Comparison;
 
-/// Returns the register of the answer, as one that is written.
+/// Returns the register of the answer, for writing.
 pub(crate) fn w0() -> WritableRegister
     ensures { result ≡ layout.w0 }
 {
     WritableRegister { number: 0 }
 }
 
-/// Returns the register of a call's first argument, as one that is written.
+/// Returns the register of a call's first argument, for writing.
 pub(crate) fn w1() -> WritableRegister
     ensures { result ≡ layout.w1 }
 {
     WritableRegister { number: 1 }
 }
 
-/// Returns the register of a call's second argument, as one that is written.
+/// Returns the register of a call's second argument, for writing.
 pub(crate) fn w2() -> WritableRegister
     ensures { result ≡ layout.w2 }
 {
     WritableRegister { number: 2 }
 }
 
-/// Returns the register of a call's third argument, as one that is written.
+/// Returns the register of a call's third argument, for writing.
 pub(crate) fn w3() -> WritableRegister
     ensures { result ≡ layout.w3 }
 {
     WritableRegister { number: 3 }
 }
 
-/// Returns the register that keeps the record's pointer, as one that is written.
+/// Returns the register that keeps the record's pointer, for writing.
 pub(crate) fn w6() -> WritableRegister
     ensures { result ≡ layout.w6 }
 {
     WritableRegister { number: 6 }
 }
 
-/// Returns the register of the answer, as one that is read.
+/// Returns the register of the answer, for reading.
 pub(crate) fn r0() -> Register
     ensures { result ≡ layout.r0 }
 {
     Register { number: 0 }
 }
 
-/// Returns the register of a call's first argument, as one that is read.
+/// Returns the register of a call's first argument, for reading.
 pub(crate) fn r1() -> Register
     ensures { result ≡ layout.r1 }
 {
     Register { number: 1 }
 }
 
-/// Returns the register that keeps the record's pointer, as one that is read.
+/// Returns the register that keeps the record's pointer, for reading.
 pub(crate) fn r6() -> Register
     ensures { result ≡ layout.r6 }
 {
@@ -110,7 +110,7 @@ pub(crate) fn move_to_name() -> Insn
     }
 }
 
-/// Loads a number of 64 bits, by its halves.
+/// Loads a 64-bit number, as two halves.
 pub(crate) fn wide_load(register: WritableRegister, number: u64) -> Insn
     ensures { result ≡ wide_load register number }
 {
@@ -142,14 +142,14 @@ pub(crate) fn call(helper: u8) -> Insn
     }
 }
 
-/// Jumps by so many words.
+/// Jumps past the next `distance` words.
 pub(crate) fn jump(distance: i16) -> Insn
     ensures { result ≡ jump distance }
 {
     Insn::Jump(JumpDistance::Short(distance))
 }
 
-/// Jumps by so many words if a comparison of register 0 with the operand holds.
+/// Jumps past the next `distance` words if a comparison of register 0 with the operand holds.
 pub(crate) fn jump_if(comparison: Comparison, operand: Source, distance: i16) -> Insn
     ensures { result ≡ jump_if comparison operand distance }
 {

@@ -1,10 +1,10 @@
 //! Questions about names and ranges.
-ghost use Rattle.std.specs.Prelude.{◌≡◌, ◌≤◌, suc, length, OnOk};
+ghost use Rattle.std.specs.Prelude.{◌≡◌, ◌≤◌, suc, length};
 ghost use Rattle.tl_segments.specs.declared.name.TheConstants.{NAME_LENGTH};
 ghost use Rattle.bpf_insn.specs.Code.{word_count};
-ghost use Rattle.cql2_code.specs.Layout.{Writes};
+ghost use Rattle.cql2_code.specs.Layout.{Puts};
 ghost use Rattle.cql2_code.specs.Lowering as lowering;
-ghost use Rattle.cql2_code.specs.Lowering.{WritesName, WritesRange, asks_has_name, asks_has_number, is_named_from, name_block};
+ghost use Rattle.cql2_code.specs.Lowering.{PutsName, PutsRange, asks_has_name, asks_has_number, is_named_from, name_block};
 
 use crate::ending::CodeEnd;
 use crate::fault::CompileFault;
@@ -13,7 +13,7 @@ use cql2::Comparison;
 use std::alloc::Allocator;
 use tl_segments::{NAME_LENGTH, RANGE_LIMIT};
 
-/// Writes the code of the question whether a house number lies on a side of some range, or whether it lies on none.
+/// Writes the code that asks whether a house number lies on a side of some range, or whether it lies on none.
 pub(crate) fn put_has_number<A: Allocator + Copy>(
     code: &mut CodeEnd<A>,
     house: u64,
@@ -21,7 +21,7 @@ pub(crate) fn put_has_number<A: Allocator + Copy>(
     exits: Exits,
 ) -> Result<(), CompileFault>
     requires { exits.beyond ≤ word_count code.old }
-    ensures { OnOk result (Writes (asks_has_number house asked) exits code.old code.new) }
+    ensures { Puts result (asks_has_number house asked) exits code.old code.new }
 {
     let exits = exits.asked(asked);
     let end = code.words();
@@ -32,7 +32,7 @@ pub(crate) fn put_has_number<A: Allocator + Copy>(
     Ok(())
 }
 
-/// Writes the code of the question whether a house number lies on a range, before that about the ranges after it.
+/// Writes the code that asks whether a house number lies on a range, in front of the code that asks about the ranges after it.
 fn put_range<A: Allocator + Copy>(
     code: &mut CodeEnd<A>,
     house: u64,
@@ -42,7 +42,7 @@ fn put_range<A: Allocator + Copy>(
 ) -> Result<(), CompileFault>
     requires end { end ≤ word_count code.old }
     requires inside { exits.beyond ≤ end }
-    ensures { OnOk result (WritesRange house range end exits code.old code.new) }
+    ensures { PutsRange result house range end exits code.old code.new }
 {
     let lies = Test {
         subject: Subject::InRange(range, house),
@@ -63,14 +63,14 @@ fn put_range<A: Allocator + Copy>(
     code.put_test(there, before)
 }
 
-/// Whether it is looked there whether there are more.
+/// Whether the code asks there whether there are more.
 fn is_milestone(at: u16) -> bool
     ensures { result ≡ lowering.is_milestone at }
 {
     matches!(at, 1 | 2 | 4 | 8 | 16 | 32 | 64 | 128 | 256 | 512)
 }
 
-/// Writes the code of the question whether a name is the wanted one, or whether none is and there are no more.
+/// Writes the code that asks whether a name is the wanted one, or whether none is and the segment has no more names.
 pub(crate) fn put_has_name<A: Allocator + Copy>(
     code: &mut CodeEnd<A>,
     text: &[u8],
@@ -80,7 +80,7 @@ pub(crate) fn put_has_name<A: Allocator + Copy>(
 ) -> Result<(), CompileFault>
     requires inside { exits.beyond ≤ word_count code.old }
     requires short { length text.now ≤ NAME_LENGTH }
-    ensures { OnOk result (Writes (asks_has_name text.now most asked) exits code.old code.new) }
+    ensures { Puts result (asks_has_name text.now most asked) exits code.old code.new }
 {
     let words = code.words();
     put_named(code, &name_block(text), most, exits.asked(asked))?;
@@ -96,7 +96,7 @@ pub(crate) fn put_has_name<A: Allocator + Copy>(
     code.put_test(few, exits)
 }
 
-/// Returns a name as it stands in the frame.
+/// Returns a name as it is in the frame: padded with blanks.
 fn name_block(text: &[u8]) -> [u8; 32]
     requires { length text.now ≤ NAME_LENGTH }
     ensures { result ≡ name_block text.now }
@@ -106,7 +106,7 @@ fn name_block(text: &[u8]) -> [u8; 32]
     block
 }
 
-/// Writes the code of the question whether a name up to the last one is the wanted one.
+/// Writes the code that asks whether a name up to the last one is the wanted one.
 fn put_named<A: Allocator + Copy>(
     code: &mut CodeEnd<A>,
     wanted: &[u8; 32],
@@ -114,7 +114,7 @@ fn put_named<A: Allocator + Copy>(
     exits: Exits,
 ) -> Result<(), CompileFault>
     requires { exits.beyond ≤ word_count code.old }
-    ensures { OnOk result (Writes (is_named_from wanted.now 0 (suc most)) exits code.old code.new) }
+    ensures { Puts result (is_named_from wanted.now 0 (suc most)) exits code.old code.new }
 {
     let end = code.words();
     code.put_decided(false, exits)?;
@@ -124,7 +124,7 @@ fn put_named<A: Allocator + Copy>(
     Ok(())
 }
 
-/// Writes the code of the question whether a name is the wanted one, before that about the names after it.
+/// Writes the code that asks whether a name is the wanted one, in front of the code that asks about the names after it.
 fn put_name<A: Allocator + Copy>(
     code: &mut CodeEnd<A>,
     wanted: &[u8; 32],
@@ -134,7 +134,7 @@ fn put_name<A: Allocator + Copy>(
 ) -> Result<(), CompileFault>
     requires end { end ≤ word_count code.old }
     requires inside { exits.beyond ≤ end }
-    ensures { OnOk result (WritesName wanted.now name end exits code.old code.new) }
+    ensures { PutsName result wanted.now name end exits code.old code.new }
 {
     let is_wanted = Test {
         subject: Subject::NameIs(name, *wanted),

@@ -1,7 +1,7 @@
 //! Questions about numeric columns.
-ghost use Rattle.std.specs.Prelude.{◌≡◌, ◌≤◌, OnOk};
+ghost use Rattle.std.specs.Prelude.{◌≡◌, ◌≤◌};
 ghost use Rattle.bpf_insn.specs.Code.{word_count};
-ghost use Rattle.cql2_code.specs.Layout.{Writes};
+ghost use Rattle.cql2_code.specs.Layout.{Puts};
 ghost use Rattle.cql2_code.specs.Lowering as lowering;
 ghost use Rattle.cql2_code.specs.Lowering.{compares_number, holds_of_zero};
 ghost use Rattle.cql2_code.specs.Question.{Holds};
@@ -36,7 +36,7 @@ pub(crate) fn has_value(column: NumericColumn) -> Test
     }
 }
 
-/// Writes the code of the question whether a column's number compares so with another.
+/// Writes the code that compares a column's number with another.
 pub(crate) fn put_number<A: Allocator + Copy>(
     code: &mut CodeEnd<A>,
     column: NumericColumn,
@@ -45,7 +45,7 @@ pub(crate) fn put_number<A: Allocator + Copy>(
     exits: Exits,
 ) -> Result<(), CompileFault>
     requires { exits.beyond ≤ word_count code.old }
-    ensures { OnOk result (Writes (compares_number column comparison literal) exits code.old code.new) }
+    ensures { Puts result (compares_number column comparison literal) exits code.old code.new }
 {
     let test = Test {
         subject: number_of(column),
@@ -61,7 +61,7 @@ pub(crate) fn put_number<A: Allocator + Copy>(
     code.put_test(has_value(column), exits)
 }
 
-/// Whether 0 compares so with a number.
+/// Whether a comparison holds of 0 and a number.
 fn holds_of_zero(comparison: Comparison, literal: i64) -> bool
     ensures { result ≡ holds_of_zero comparison literal }
 {

@@ -33,11 +33,11 @@ pub(crate) enum Subject {
     InRange(u16, u64),
     /// 1 if the name of this number is these bytes, which are blank after it, else 0.
     NameIs(u16, [u8; 32]),
-    /// The little-endian number of a chunk of the record, from an offset on.
+    /// The little-endian number of the chunk of the record at an offset.
     Load(Chunk, u8),
 }
 
-/// A comparison of a number with one that is known.
+/// A comparison of a number with a constant.
 #[derive(Clone, Copy)]
 pub(crate) struct Test {
     pub subject: Subject,
@@ -45,7 +45,7 @@ pub(crate) struct Test {
     pub operand: i64,
 }
 
-/// The two ways out of a question's code: it falls through its end if the answer is `falls`, and else jumps so many words past its end.
+/// The two ways out of a question's code: it falls through its end if the answer is `falls`, and otherwise jumps `beyond` words past it.
 #[derive(Clone, Copy)]
 pub(crate) struct Exits {
     pub falls: bool,
@@ -53,7 +53,7 @@ pub(crate) struct Exits {
 }
 
 impl Exits {
-    /// Returns the ways out of a question whose opposite has these, unless it is asked for as it is.
+    /// Returns the ways out of a question that has these if it is asked as it is, and whose opposite has them otherwise.
     pub fn asked(self, asked: bool) -> Exits
         ensures falls { result.falls ≡ (if asked then self.falls else not self.falls) }
         ensures beyond { result.beyond ≡ self.beyond }
@@ -102,7 +102,7 @@ pub(crate) fn coordinate_id(column: CoordinateColumn) -> u8
     }
 }
 
-/// Returns what holds if a comparison doesn't.
+/// Returns the comparison that holds exactly if this one doesn't.
 pub(crate) fn opposite(comparison: Comparison) -> Comparison
     ensures { result ≡ opposite comparison }
 {
@@ -116,7 +116,7 @@ pub(crate) fn opposite(comparison: Comparison) -> Comparison
     }
 }
 
-/// Returns the condition of a jump that makes the comparison, with signs.
+/// Returns the jump condition for a comparison of signed numbers.
 pub(crate) fn condition_of(comparison: Comparison) -> Condition
     ensures { result ≡ condition_of comparison }
 {

@@ -1,11 +1,11 @@
 //! Questions about text columns.
-ghost use Rattle.std.specs.Prelude.{◌≡◌, ◌≤◌, ◌<◌, ◌+◌, ◌-◌, length, map, IfOk, IfSome, IfNone, IsTrue, OnOk, None, Some};
+ghost use Rattle.std.specs.Prelude.{◌≡◌, ◌≤◌, ◌<◌, ◌+◌, ◌-◌, length, map, IfOk, IfSome, IfNone, IsTrue, None, Some};
 ghost use Rattle.bpf_insn.specs.Code.{word_count};
 ghost use Rattle.cql2.specs.Text.{is_text};
 ghost use Rattle.cql2.specs.declared.pattern.PatternByte.TheVariants.{Exactly};
-ghost use Rattle.cql2_code.specs.Layout.{Writes};
+ghost use Rattle.cql2_code.specs.Layout.{Puts};
 ghost use Rattle.cql2_code.specs.Lowering as lowering;
-ghost use Rattle.cql2_code.specs.Lowering.{WritesBefore, asks_like, byte_test, compares_text, ends_filled, ends_so, exact_bytes, has_bytes, has_each, has_few, is_blank, is_each_wanted, is_filled, is_greater, is_less, is_like, is_null_text, is_wanted, offset_of, width_of};
+ghost use Rattle.cql2_code.specs.Lowering.{PutsBefore, asks_like, byte_test, compares_text, ends_filled, ends_so, exact_bytes, has_bytes, has_each, has_few, is_blank, is_each_wanted, is_filled, is_greater, is_less, is_like, is_null_text, is_wanted, offset_of, width_of};
 ghost use Rattle.cql2_code.specs.Question.{Holds};
 ghost use Rattle.tl_segments.specs.declared.segment.TheConstants.{RECORD_LENGTH};
 
@@ -19,10 +19,10 @@ use std::alloc::Allocator;
 use tl_records::Places;
 use tl_segments::NAME_LENGTH;
 
-/// As many blanks as the widest text column has bytes.
+/// Blanks for the widest text column.
 const BLANKS: [u8; NAME_LENGTH] = [b' '; NAME_LENGTH];
 
-/// Writes the code of the question whether a text column compares so with a text.
+/// Writes the code that compares a text column with a text.
 pub(crate) fn put_text<A: Allocator + Copy>(
     code: &mut CodeEnd<A>,
     column: TextColumn,
@@ -32,7 +32,7 @@ pub(crate) fn put_text<A: Allocator + Copy>(
 ) -> Result<(), CompileFault>
     requires inside { exits.beyond ≤ word_count code.old }
     requires text { IsTrue (is_text text.now) }
-    ensures { OnOk result (Writes (compares_text column comparison text.now) exits code.old code.new) }
+    ensures { Puts result (compares_text column comparison text.now) exits code.old code.new }
 {
     let words = code.words();
     put_compared(code, column, comparison, text, exits)?;
@@ -63,7 +63,7 @@ fn put_compared<A: Allocator + Copy>(
 ) -> Result<(), CompileFault>
     requires inside { exits.beyond ≤ word_count code.old }
     requires text { IsTrue (is_text text.now) }
-    ensures { OnOk result (Writes (lowering.compares_bytes column comparison text.now) exits code.old code.new) }
+    ensures { Puts result (lowering.compares_bytes column comparison text.now) exits code.old code.new }
 {
     let (at, left) = (offset_of(column), width_of(column));
     match comparison {
@@ -76,7 +76,7 @@ fn put_compared<A: Allocator + Copy>(
     }
 }
 
-/// Writes the code of the question whether a text column is like a pattern, or whether it isn't.
+/// Writes the code that asks whether a text column is like a pattern, or whether it isn't.
 pub(crate) fn put_like<A: Allocator + Copy>(
     code: &mut CodeEnd<A>,
     column: TextColumn,
@@ -85,7 +85,7 @@ pub(crate) fn put_like<A: Allocator + Copy>(
     exits: Exits,
 ) -> Result<(), CompileFault>
     requires { exits.beyond ≤ word_count code.old }
-    ensures { OnOk result (Writes (asks_like column pattern.now.wanted.items pattern.now.is_open asked) exits code.old code.new) }
+    ensures { Puts result (asks_like column pattern.now.wanted.items pattern.now.is_open asked) exits code.old code.new }
 {
     let words = code.words();
     put_pattern(code, column, pattern, exits.asked(asked))?;
@@ -103,7 +103,7 @@ fn put_pattern<A: Allocator + Copy>(
     exits: Exits,
 ) -> Result<(), CompileFault>
     requires { exits.beyond ≤ word_count code.old }
-    ensures { OnOk result (Writes (is_like column pattern.now.wanted.items pattern.now.is_open) exits code.old code.new) }
+    ensures { Puts result (is_like column pattern.now.wanted.items pattern.now.is_open) exits code.old code.new }
 {
     let wanted = pattern.wanted.as_slice();
     if wanted.len() > usize::from(width_of(column)) {
@@ -149,7 +149,7 @@ fn ends_filled(wanted: &[PatternByte]) -> bool
     }
 }
 
-/// Writes the code of the question whether a column is like a pattern of exact bytes.
+/// Writes the code that asks whether a column is like a pattern of exact bytes.
 fn put_like_bytes<A: Allocator + Copy>(
     code: &mut CodeEnd<A>,
     column: TextColumn,
@@ -158,7 +158,7 @@ fn put_like_bytes<A: Allocator + Copy>(
     exits: Exits,
 ) -> Result<(), CompileFault>
     requires { exits.beyond ≤ word_count code.old }
-    ensures { OnOk result (Writes (is_like column (map Exactly bytes.now) is_open) exits code.old code.new) }
+    ensures { Puts result (is_like column (map Exactly bytes.now) is_open) exits code.old code.new }
 {
     if bytes.len() > usize::from(width_of(column)) {
         return code.put_decided(false, exits);
@@ -192,7 +192,7 @@ struct Ending {
     is_filled: bool,
 }
 
-/// Writes the code of what is asked after the wanted bytes, and returns the ways out of the question about those.
+/// Writes the code that checks what follows the wanted bytes, and returns the ways out of the code that checks those.
 fn put_ending<A: Allocator + Copy>(
     code: &mut CodeEnd<A>,
     column: TextColumn,
@@ -201,8 +201,7 @@ fn put_ending<A: Allocator + Copy>(
 ) -> Result<Exits, CompileFault>
     requires inside { exits.beyond ≤ word_count code.old }
     requires fits { ends.count ≤ width_of column }
-    ensures before { IfOk result
-        (λ first. WritesBefore (ends_so ends.is_open ends.is_filled column ends.count) exits first code.old code.new) }
+    ensures before { PutsBefore result (ends_so ends.is_open ends.is_filled column ends.count) exits code.old code.new }
     ensures inside { IfOk result (λ first. first.beyond ≤ word_count code.new) }
 {
     let words = code.words();
@@ -230,19 +229,19 @@ fn put_ending<A: Allocator + Copy>(
     }
 }
 
-/// Writes the code of the question whether a text column is NULL: its field is blank.
+/// Writes the code that asks whether a text column is NULL: its field is blank.
 pub(crate) fn put_is_null_text<A: Allocator + Copy>(
     code: &mut CodeEnd<A>,
     column: TextColumn,
     exits: Exits,
 ) -> Result<(), CompileFault>
     requires { exits.beyond ≤ word_count code.old }
-    ensures { OnOk result (Writes (is_null_text column) exits code.old code.new) }
+    ensures { Puts result (is_null_text column) exits code.old code.new }
 {
     put_blank(code, column, 0, exits)
 }
 
-/// Writes the code of the question whether a field is blank from a byte on, counted from 0.
+/// Writes the code that asks whether a field is blank from a byte to its end. Bytes count from 0.
 fn put_blank<A: Allocator + Copy>(
     code: &mut CodeEnd<A>,
     column: TextColumn,
@@ -251,13 +250,13 @@ fn put_blank<A: Allocator + Copy>(
 ) -> Result<(), CompileFault>
     requires inside { exits.beyond ≤ word_count code.old }
     requires fits { from ≤ width_of column }
-    ensures { OnOk result (Writes (is_blank (offset_of column + from) (width_of column - from)) exits code.old code.new) }
+    ensures { Puts result (is_blank (offset_of column + from) (width_of column - from)) exits code.old code.new }
 {
     let left = usize::from(width_of(column) - from);
     put_bytes(code, offset_of(column) + from, &BLANKS[..left], exits)
 }
 
-/// Writes the code of the question whether the record has these bytes from an offset on.
+/// Writes the code that asks whether the record has these bytes at an offset.
 fn put_bytes<A: Allocator + Copy>(
     code: &mut CodeEnd<A>,
     at: u8,
@@ -266,7 +265,7 @@ fn put_bytes<A: Allocator + Copy>(
 ) -> Result<(), CompileFault>
     requires inside { exits.beyond ≤ word_count code.old }
     requires fits { at + length bytes.now ≤ RECORD_LENGTH }
-    ensures { OnOk result (Writes (has_bytes at bytes.now) exits code.old code.new) }
+    ensures { Puts result (has_bytes at bytes.now) exits code.old code.new }
 {
     let Some((first, rest)) = bytes.split_at_checked(8) else {
         return put_few(code, at, bytes, exits);
@@ -294,7 +293,7 @@ fn put_few<A: Allocator + Copy>(
 ) -> Result<(), CompileFault>
     requires inside { exits.beyond ≤ word_count code.old }
     requires fits { at + length bytes.now ≤ RECORD_LENGTH }
-    ensures { OnOk result (Writes (has_few at bytes.now) exits code.old code.new) }
+    ensures { Puts result (has_few at bytes.now) exits code.old code.new }
 {
     let Some((first, rest)) = bytes.split_at_checked(4) else {
         return put_each(code, at, bytes, exits);
@@ -322,7 +321,7 @@ fn put_each<A: Allocator + Copy>(
 ) -> Result<(), CompileFault>
     requires inside { exits.beyond ≤ word_count code.old }
     requires fits { at + length bytes.now ≤ RECORD_LENGTH }
-    ensures { OnOk result (Writes (has_each at bytes.now) exits code.old code.new) }
+    ensures { Puts result (has_each at bytes.now) exits code.old code.new }
 {
     let Some((byte, rest)) = bytes.split_first() else {
         return code.put_decided(true, exits);
@@ -337,7 +336,7 @@ fn put_each<A: Allocator + Copy>(
     code.put_test(test, exits)
 }
 
-/// Writes the code of the question whether each byte from an offset on is what a pattern wants.
+/// Writes the code that asks whether the bytes at an offset are what a pattern wants.
 fn put_each_wanted<A: Allocator + Copy>(
     code: &mut CodeEnd<A>,
     at: u8,
@@ -346,7 +345,7 @@ fn put_each_wanted<A: Allocator + Copy>(
 ) -> Result<(), CompileFault>
     requires inside { exits.beyond ≤ word_count code.old }
     requires fits { at + length wanted.now ≤ RECORD_LENGTH }
-    ensures { OnOk result (Writes (is_each_wanted at wanted.now) exits code.old code.new) }
+    ensures { Puts result (is_each_wanted at wanted.now) exits code.old code.new }
 {
     let Some((first, rest)) = wanted.split_first() else {
         return code.put_decided(true, exits);
@@ -367,7 +366,7 @@ fn put_wanted<A: Allocator + Copy>(
     exits: Exits,
 ) -> Result<(), CompileFault>
     requires { exits.beyond ≤ word_count code.old }
-    ensures { OnOk result (Writes (is_wanted at wanted) exits code.old code.new) }
+    ensures { Puts result (is_wanted at wanted) exits code.old code.new }
 {
     match wanted {
         PatternByte::Exactly(byte) => code.put_test(byte_test(at, Comparison::Equal, byte), exits),
@@ -382,7 +381,7 @@ fn put_wanted<A: Allocator + Copy>(
     }
 }
 
-/// Writes the code of the question whether what is left of a field is less than a text.
+/// Writes the code that asks whether what is left of a field is less than a text.
 fn put_less<A: Allocator + Copy>(
     code: &mut CodeEnd<A>,
     at: u8,
@@ -392,7 +391,7 @@ fn put_less<A: Allocator + Copy>(
 ) -> Result<(), CompileFault>
     requires inside { exits.beyond ≤ word_count code.old }
     requires fits { at + left ≤ RECORD_LENGTH }
-    ensures { OnOk result (Writes (is_less at left text.now) exits code.old code.new) }
+    ensures { Puts result (is_less at left text.now) exits code.old code.new }
 {
     let Some((byte, rest)) = text.split_first() else {
         return code.put_decided(false, exits);
@@ -408,7 +407,7 @@ fn put_less<A: Allocator + Copy>(
     code.put_test(byte_test(at, Comparison::Less, *byte), less)
 }
 
-/// Writes the code of the question whether what is left of a field is greater than a text.
+/// Writes the code that asks whether what is left of a field is greater than a text.
 fn put_greater<A: Allocator + Copy>(
     code: &mut CodeEnd<A>,
     at: u8,
@@ -419,7 +418,7 @@ fn put_greater<A: Allocator + Copy>(
     requires inside { exits.beyond ≤ word_count code.old }
     requires fits { at + left ≤ RECORD_LENGTH }
     requires short { left ≤ NAME_LENGTH }
-    ensures { OnOk result (Writes (is_greater at left text.now) exits code.old code.new) }
+    ensures { Puts result (is_greater at left text.now) exits code.old code.new }
 {
     if left == 0 {
         return code.put_decided(false, exits);

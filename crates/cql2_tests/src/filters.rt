@@ -3,81 +3,132 @@ use bpf_flow::Flow;
 use bpf_insn::Code;
 use bpf_meaning::{Outcome, trace};
 use bpf_verify::verify;
-use cql2_code::compile;
+use cql2_code::{CompileFault, compile};
 use cql2_text::read;
 use fixtures::{bytes, cell, table};
-use std::alloc::Global;
+use std::alloc::{AllocError, Global};
 use std::test::Fail;
 use tl_segments::{RECORD_LENGTH, Segment};
 
-// A filter, the record of a segment, whether the segment is selected, worked by hand, and how many words the program has, read off the compiler.
-pub(crate) const FILTERS: &str = "\
-TRUE; {rt1}; 1; 5
-FALSE; {rt1}; 0; 6
-ZIPL = 36067; {rt1}; 1; 8
-ZIPL = 36067; {rt1 ZIPL=36068}; 0; 8
-ZIPL <> 36067; {rt1 ZIPL=_}; 0; 11
-ZIPL = 36067 OR ZIPR = 36068; {rt1}; 1; 11
-ZIPL = 36068 OR ZIPR = 36068; {rt1}; 0; 11
-ZIPL = 36067 AND ZIPR = 36068; {rt1}; 0; 11
-ZIPL = 36068 OR ZIPR = 36067 AND CFCC = 'A41'; {rt1}; 1; 17
-TLID > 4294967296; {rt1}; 0; 10
-TLID >= 0; {rt1}; 1; 11
-PLACEL IS NULL; {rt1}; 1; 8
-PLACEL IS NOT NULL; {rt1}; 0; 8
-PLACEL = 5; {rt1}; 0; 8
-NOT PLACEL = 5; {rt1}; 0; 11
-NOT PLACEL = 5 OR TRUE; {rt1}; 1; 11
-FRADDL BETWEEN 101 AND 199; {rt1}; 1; 14
-FRADDL NOT BETWEEN 101 AND 199; {rt1}; 0; 14
-FRADDL IN (99, 100, 101); {rt1}; 1; 14
-FRLONG < -86.4; {rt1}; 1; 8
-FRLONG < -86.5; {rt1}; 0; 8
-FRLAT = 32.4; {rt1}; 1; 8
-FRLAT = 32.4; {rt1 FRLAT=_}; 0; 8
-FRLAT <> 32.4; {rt1 FRLAT=_}; 0; 11
-STARTS_IN(BBOX(-87, 32, -86, 33)); {rt1}; 1; 23
-STARTS_IN(BBOX(-86, 32, -85, 33)); {rt1}; 0; 23
-CFCC LIKE 'A4%'; {rt1}; 1; 9
-CFCC LIKE 'A4%'; {rt1 CFCC=A51}; 0; 9
-CFCC LIKE 'A4'; {rt1}; 0; 11
-CFCC LIKE 'A4'; {rt1 CFCC=A4}; 1; 11
-CFCC LIKE 'A_1'; {rt1}; 1; 9
-CFCC LIKE 'A4_'; {rt1 CFCC=A4}; 0; 11
-CFCC LIKE '%'; {rt1 CFCC=_}; 0; 11
-CFCC NOT LIKE 'B%'; {rt1}; 1; 13
-CFCC NOT LIKE 'B%'; {rt1 CFCC=_}; 0; 13
-FENAME = 'Main'; {rt1}; 1; 23
-FENAME = 'Main'; {rt1 FENAME=Maine}; 0; 23
-FENAME <> 'Main'; {rt1 FENAME=Maine}; 1; 41
-FENAME <> 'Main'; {rt1 FENAME=_}; 0; 41
-FENAME < 'Maine'; {rt1}; 1; 44
-FENAME > 'Mai'; {rt1}; 1; 35
-FENAME > 'Main'; {rt1}; 0; 37
-FENAME <= 'Main'; {rt1}; 1; 55
-FENAME >= 'Maine'; {rt1}; 0; 25
-FETYPE IS NULL; {rt1}; 1; 7
-CASEI(FENAME) = CASEI('mAIN'); {rt1}; 1; 37
-HAS_NUMBER(150); {rt1}; 1; 4030
-HAS_NUMBER(99); {rt1}; 0; 4030
-NOT HAS_NUMBER(99); {rt1}; 1; 4029
-HAS_NUMBER(99999999999); {rt1}; 0; 5031
-HAS_NAME('main'); {rt1}; 1; 914
-HAS_NAME('mai'); {rt1}; 0; 914
-NOT HAS_NAME('mai', 0); {rt1}; 1; 21";
+// A filter, the record of a segment, and whether the segment is selected, worked by hand.
+const FILTERS: &str = "\
+TRUE; {rt1}; 1
+FALSE; {rt1}; 0
+ZIPL = 36067; {rt1}; 1
+ZIPL = 36067; {rt1 ZIPL=36068}; 0
+ZIPL <> 36067; {rt1 ZIPL=_}; 0
+ZIPL = 36067 OR ZIPR = 36068; {rt1}; 1
+ZIPL = 36068 OR ZIPR = 36068; {rt1}; 0
+ZIPL = 36067 AND ZIPR = 36068; {rt1}; 0
+ZIPL = 36068 OR ZIPR = 36067 AND CFCC = 'A41'; {rt1}; 1
+TLID > 4294967296; {rt1}; 0
+TLID >= 0; {rt1}; 1
+PLACEL IS NULL; {rt1}; 1
+PLACEL IS NOT NULL; {rt1}; 0
+PLACEL = 5; {rt1}; 0
+NOT PLACEL = 5; {rt1}; 0
+NOT PLACEL = 5 OR TRUE; {rt1}; 1
+FRADDL BETWEEN 101 AND 199; {rt1}; 1
+FRADDL NOT BETWEEN 101 AND 199; {rt1}; 0
+FRADDL IN (99, 100, 101); {rt1}; 1
+FRLONG < -86.4; {rt1}; 1
+FRLONG < -86.5; {rt1}; 0
+FRLAT = 32.4; {rt1}; 1
+FRLAT = 32.4; {rt1 FRLAT=_}; 0
+FRLAT <> 32.4; {rt1 FRLAT=_}; 0
+STARTS_IN(BBOX(-87, 32, -86, 33)); {rt1}; 1
+STARTS_IN(BBOX(-86, 32, -85, 33)); {rt1}; 0
+CFCC LIKE 'A4%'; {rt1}; 1
+CFCC LIKE 'A4%'; {rt1 CFCC=A51}; 0
+CFCC LIKE 'A4'; {rt1}; 0
+CFCC LIKE 'A4'; {rt1 CFCC=A4}; 1
+CFCC LIKE 'A_1'; {rt1}; 1
+CFCC LIKE 'A4_'; {rt1 CFCC=A4}; 0
+CFCC LIKE '%'; {rt1 CFCC=_}; 0
+CFCC NOT LIKE 'B%'; {rt1}; 1
+CFCC NOT LIKE 'B%'; {rt1 CFCC=_}; 0
+FENAME = 'Main'; {rt1}; 1
+FENAME = 'Main'; {rt1 FENAME=Maine}; 0
+FENAME <> 'Main'; {rt1 FENAME=Maine}; 1
+FENAME <> 'Main'; {rt1 FENAME=_}; 0
+FENAME < 'Maine'; {rt1}; 1
+FENAME > 'Mai'; {rt1}; 1
+FENAME > 'Main'; {rt1}; 0
+FENAME <= 'Main'; {rt1}; 1
+FENAME >= 'Maine'; {rt1}; 0
+FETYPE IS NULL; {rt1}; 1
+CASEI(FENAME) = CASEI('mAIN'); {rt1}; 1
+HAS_NUMBER(150); {rt1}; 1
+HAS_NUMBER(99); {rt1}; 0
+NOT HAS_NUMBER(99); {rt1}; 1
+HAS_NUMBER(99999999999); {rt1}; 0
+HAS_NAME('main'); {rt1}; 1
+HAS_NAME('mai'); {rt1}; 0
+NOT HAS_NAME('mai', 0); {rt1}; 1";
 
-/// Whether a row is right: the program of its filter is accepted, has so many words, and selects the segment or doesn't.
+// Filters, and how many words their programs have at most.
+const SHORT: &str = "\
+ZIPL = 36067; 8
+CFCC LIKE 'A4%'; 12
+FENAME = 'Main'; 25";
+
+// How often a filter stands before the last terms, all joined by OR, and how many words the program has: 5, and those of the terms.
+// - HAS_NUMBER(1) has 4 words for each of 1,001 ranges, and 2 for each of 10 powers of two: 4,024. It has one more as the last term, or
+//   before AND FALSE, and then none of its jumps goes past its end. The first jump of another one goes over all that follows its 4th word.
+// - HAS_NAME has 14 words a name, and 2 a power of two: with 39, 40 * 14 + 6 * 2 = 572. Before AND FALSE it has one more: with 14,
+//   15 * 14 + 4 * 2 + 1 = 219, and with the usual 63, 64 * 14 + 6 * 2 + 1 = 909.
+// - Each number of a ZIPL has 3 words, and TRUE has 1.
+const LONG: &str = "\
+7; HAS_NUMBER(1); HAS_NUMBER(1); 32198
+8; HAS_NUMBER(1); HAS_NUMBER(1); too long
+7; HAS_NUMBER(1); HAS_NAME('a', 39) OR ZIPL IN (1, 2) OR HAS_NUMBER(1); 32776
+7; HAS_NUMBER(1); HAS_NAME('a', 39) OR ZIPL IN (1, 2) OR TRUE OR HAS_NUMBER(1); too long
+16; HAS_NUMBER(1) AND FALSE; HAS_NAME('a') AND FALSE OR HAS_NAME('a', 14) AND FALSE OR ZIPL = 1; 65536
+16; HAS_NUMBER(1) AND FALSE; HAS_NAME('a') AND FALSE OR HAS_NAME('a', 14) AND FALSE OR TRUE OR ZIPL = 1; too long";
+
+/// Whether a row is right: the program of its filter is accepted, and selects the segment or doesn't.
 fn is_right(alloc: Global, row: &str) -> bool {
     let Some(code) = compiled(alloc, cell(row, 0)) else {
         return false;
     };
-    let words = code.words() as u64;
     let Ok(record) = bytes(alloc, cell(row, 1)) else {
         return false;
     };
-    words == number(cell(row, 3))
-        && answer(alloc, &code, record.as_slice()) == Some(number(cell(row, 2)))
+    answer(alloc, &code, record.as_slice()) == Some(number(cell(row, 2)))
         && is_accepted(alloc, code)
+}
+
+/// Whether the program of a row's filter has no more words than the row says.
+fn is_short(alloc: Global, row: &str) -> bool {
+    match compiled(alloc, cell(row, 0)) {
+        Some(code) => code.words() as u64 <= number(cell(row, 1)),
+        None => false,
+    }
+}
+
+/// Whether the program of a row's long filter has as many words as the row says, or is too long.
+fn is_length(alloc: Global, row: &str) -> bool {
+    let Ok(text) = joined(alloc, row) else {
+        return false;
+    };
+    let Ok(filter) = read(alloc, text.as_slice()) else {
+        return false;
+    };
+    match compile(alloc, &filter, None) {
+        Ok(code) => code.words() as u64 == number(cell(row, 3)),
+        Err(fault) => fault == CompileFault::TooLong && cell(row, 3) == "too long",
+    }
+}
+
+/// Returns a filter as often as the row says, and then the last terms, joined by OR.
+fn joined(alloc: Global, row: &str) -> Result<Vec<u8>, AllocError> {
+    let mut text = Vec::new(alloc);
+    for _ in 0..number(cell(row, 0)) {
+        text.extend_from_slice(cell(row, 1).as_bytes())?;
+        text.extend_from_slice(b" OR ")?;
+    }
+    text.extend_from_slice(cell(row, 2).as_bytes())?;
+    Ok(text)
 }
 
 fn number(text: &str) -> u64 {
@@ -109,6 +160,19 @@ fn is_accepted(alloc: Global, code: Code<Global>) -> bool {
 fn filters(rt: HostRuntime) -> Result<(), Fail> {
     for row in table(rt.alloc(), FILTERS)?.lines() {
         let holds = is_right(rt.alloc(), row);
+        assert!(rt; holds, "{row}");
+    }
+    Ok(())
+}
+
+#[test]
+fn lengths(rt: HostRuntime) -> Result<(), Fail> {
+    for row in SHORT.lines() {
+        let holds = is_short(rt.alloc(), row);
+        assert!(rt; holds, "{row}");
+    }
+    for row in LONG.lines() {
+        let holds = is_length(rt.alloc(), row);
         assert!(rt; holds, "{row}");
     }
     Ok(())

@@ -1,11 +1,11 @@
 use Rattle.std.proofs.Common.{sym, ap, ◌∙◌, List, rules, w64}
 use Rattle.std.proofs.lemmas.Int.{to_z-of_z}
-use Rattle.std.proofs.lemmas.Result.{on_ok_weaker}
 use Rattle.cql2.specs.declared.filter.Comparison.{Comparison}
 use Rattle.cql2.specs.declared.filter.Filter.{the_lemmas}
 use Rattle.std.specs.Prelude.{ℕ}
 use Rattle.cql2_code.specs.Lowering.{compares_number, compares_text}
 use Rattle.cql2_code.proofs.Compiled.{asks_as}
+use Rattle.cql2_code.proofs.Refused.{puts_as, puts_refused, refuses_as, second_refused}
 use Rattle.cql2_code.proofs.Written.{joined, written_as}
 use Rattle.cql2_code.proofs.compiler.+put.Goals as goal
 
@@ -35,10 +35,16 @@ loop-filter-preserved-in-Or g t c =
           (asks_as asked (sym c.deref-filter-in-Or.ensures) front)));
     }
 
+pub returns-in-Constant : goal.returns-in-Constant
+returns-in-Constant g t c =
+    puts_as c.put_decided.result _
+    (λ all written. c.loop-filter.invariant.written all (asks_as c.loop-filter.asked c.in-Constant.is written))
+    c.put_decided.ensures
+
 pub returns-in-IsNull : goal.returns-in-IsNull
 returns-in-IsNull g t c =
-    on_ok_weaker c.put_is_null.result
-    (λ written. c.loop-filter.invariant.written c.put_is_null.new.code (asks_as c.loop-filter.asked c.in-IsNull.is written))
+    puts_as c.put_is_null.result _
+    (λ all written. c.loop-filter.invariant.written all (asks_as c.loop-filter.asked c.in-IsNull.is written))
     c.put_is_null.ensures
 
 pub returns-in-CompareNumber : goal.returns-in-CompareNumber
@@ -48,8 +54,8 @@ returns-in-CompareNumber g t c =
     let same =
     ap (compares_number column c.asked_for-comparison.result) (to_z-of_z w64 number c.in-CompareNumber.literal.fits)
     ∙ ap (λ (comparison : Comparison). compares_number column comparison number) c.asked_for-comparison.ensures in
-    on_ok_weaker c.put_number.result
-    (λ written. c.loop-filter.invariant.written c.put_number.new.code
+    puts_as c.put_number.result _
+    (λ all written. c.loop-filter.invariant.written all
     (asks_as c.loop-filter.asked c.in-CompareNumber.is (written_as same written)))
     c.put_number.ensures
 
@@ -60,7 +66,21 @@ returns-in-CompareText g t c =
     ap (λ (text : List ℕ). compares_text column c.asked_for-comparison-in-CompareText.result text) c.as_slice.ensures.value
     ∙ ap (λ (comparison : Comparison). compares_text column comparison c.in-CompareText.text.bytes.items)
     c.asked_for-comparison-in-CompareText.ensures in
-    on_ok_weaker c.put_text.result
-    (λ written. c.loop-filter.invariant.written c.put_text.new.code
+    puts_as c.put_text.result _
+    (λ all written. c.loop-filter.invariant.written all
     (asks_as c.loop-filter.asked c.in-CompareText.is (written_as same written)))
     c.put_text.ensures
+
+pub returns-in_err-put-in-And : goal.returns-in_err-put-in-And
+returns-in_err-put-in-And g t c =
+    let asked = c.loop-filter.asked in
+    let last = refuses_as (λ all written. asks_as asked (sym c.deref.ensures) written) c.in_err-put-in-And.ensures in
+    puts_refused c.from_residual.result _ c.from_residual.ensures.1
+    (refuses_as (λ all written. c.loop-filter.invariant.written all (asks_as asked c.in-And.is written)) (second_refused last))
+
+pub returns-in_err-put-in-Or : goal.returns-in_err-put-in-Or
+returns-in_err-put-in-Or g t c =
+    let asked = c.loop-filter.asked in
+    let last = refuses_as (λ all written. asks_as asked (sym c.deref-in-Or.ensures) written) c.in_err-put-in-Or.ensures in
+    puts_refused c.from_residual-in_err-put-in-Or.result _ c.from_residual-in_err-put-in-Or.ensures.1
+    (refuses_as (λ all written. c.loop-filter.invariant.written all (asks_as asked c.in-Or.is written)) (second_refused last))

@@ -1,6 +1,7 @@
-use Rattle.std.proofs.Common.{◌≡◌, ℕ, suc, ◌+◌, ◌-◌, sym, ap, ◌∙◌, arith}
+use Rattle.std.proofs.Common.{◌≡◌, ℕ, suc, ◌+◌, ◌-◌, refl, sym, ap, ◌∙◌, arith}
 use Rattle.tl_segments.specs.declared.segment.TheConstants.{RANGE_LIMIT}
-use Rattle.cql2_code.proofs.PartsWritten.{lies_from-none}
+use Rattle.cql2_code.proofs.PartsWritten.{lies_from-none, lies_from-refused}
+use Rattle.cql2_code.proofs.Refused.{puts_refused, refuses_as}
 use Rattle.cql2_code.proofs.Written.{asked_written, written_as}
 use Rattle.cql2_code.specs.Lowering.{lies_from}
 use Rattle.cql2_code.proofs.names.put_has_number.Goals as goal
@@ -28,3 +29,20 @@ returns-in_ok-put_range g c =
     (written_as
     (ap (λ (at : ℕ). lies_from c.args.house at (suc (RANGE_LIMIT - c.loop-range.range))) here ∙ ap (lies_from c.args.house 0) all)
     (c.in_ok-put_range.ensures (RANGE_LIMIT - c.loop-range.range) c.args.code.now (sym c.words-end.ensures.value) c.loop-range.invariant.1))
+
+pub returns-in_err-put_decided : goal.returns-in_err-put_decided
+returns-in_err-put_decided g c =
+    let none = sym (lies_from-none c.args.house 1001) in
+    puts_refused c.from_residual.result _ c.from_residual.ensures.1
+    (refuses_as (λ all written. asked_written c.args.asked c.asked-exits.ensures.falls c.asked-exits.ensures.beyond written)
+    (lies_from-refused c.args.house 1001 0 (suc RANGE_LIMIT) refl
+    (refuses_as (λ all written. written_as none written) c.in_err-put_decided.ensures)))
+
+pub returns-in_err-put_range : goal.returns-in_err-put_range
+returns-in_err-put_range g c =
+    let more = RANGE_LIMIT - c.loop-range.range in
+    let all : suc RANGE_LIMIT ≡ c.loop-range.range + suc more = omega arith in
+    puts_refused c.from_residual-in_err-put_range.result _ c.from_residual-in_err-put_range.ensures.1
+    (refuses_as (λ all written. asked_written c.args.asked c.asked-exits.ensures.falls c.asked-exits.ensures.beyond written)
+    (lies_from-refused c.args.house c.loop-range.range (suc more) (suc RANGE_LIMIT) all
+    (c.in_err-put_range.ensures more c.args.code.now (sym c.words-end.ensures.value) c.loop-range.invariant.1)))

@@ -1,5 +1,6 @@
 use Rattle.std.proofs.Common.{◌≡◌, ℕ, suc, ◌+◌, ◌-◌, sym, ap, ◌∙◌, arith}
-use Rattle.cql2_code.proofs.PartsWritten.{is_named_from-none}
+use Rattle.cql2_code.proofs.PartsWritten.{is_named_from-none, is_named_from-refused}
+use Rattle.cql2_code.proofs.Refused.{puts_refused, refuses_as}
 use Rattle.cql2_code.proofs.Written.{written_as}
 use Rattle.cql2_code.specs.Lowering.{is_named_from}
 use Rattle.cql2_code.proofs.names.put_named.Goals as goal
@@ -33,3 +34,19 @@ returns-in_ok-put_name g c =
     (ap (λ (at : ℕ). is_named_from c.args.wanted.now at (suc (c.args.most - c.loop-name.name))) here
     ∙ ap (is_named_from c.args.wanted.now 0) all)
     (c.in_ok-put_name.ensures (c.args.most - c.loop-name.name) c.args.code.now (sym c.words-end.ensures.value) c.loop-name.invariant.1)
+
+pub returns-in_err-put_decided : goal.returns-in_err-put_decided
+returns-in_err-put_decided g c =
+    let none = sym (is_named_from-none c.args.wanted.now (suc c.args.most)) in
+    let all : suc c.args.most ≡ suc c.args.most + 0 = omega arith in
+    puts_refused c.from_residual.result _ c.from_residual.ensures.1
+    (is_named_from-refused c.args.wanted.now (suc c.args.most) 0 (suc c.args.most) all
+    (refuses_as (λ all written. written_as none written) c.in_err-put_decided.ensures))
+
+pub returns-in_err-put_name : goal.returns-in_err-put_name
+returns-in_err-put_name g c =
+    let more = c.args.most - c.loop-name.name in
+    let all : suc c.args.most ≡ c.loop-name.name + suc more = omega arith in
+    puts_refused c.from_residual-in_err-put_name.result _ c.from_residual-in_err-put_name.ensures.1
+    (is_named_from-refused c.args.wanted.now c.loop-name.name (suc more) (suc c.args.most) all
+    (c.in_err-put_name.ensures more c.args.code.now (sym c.words-end.ensures.value) c.loop-name.invariant.1))

@@ -1,8 +1,8 @@
 use Rattle.std.proofs.Common.{◌<◌, ◌^◌, ℤ, sym, ap, ◌∙◌, arith}
-use Rattle.std.proofs.lemmas.Result.{on_ok_weaker}
 use Rattle.cql2.specs.declared.filter.Comparison.TheVariants.{Greater}
 use Rattle.cql2_code.proofs.Casts.{kept_64}
-use Rattle.cql2_code.proofs.PartsWritten.{lies_from-milestone, lies_from-more}
+use Rattle.cql2_code.proofs.PartsWritten.{lies_from-here_refused, lies_from-milestone, lies_from-more}
+use Rattle.cql2_code.proofs.Refused.{puts_as, puts_refused, refuses_as}
 use Rattle.cql2_code.proofs.Written.{joined, written_as}
 use Rattle.cql2_code.specs.Lowering.{test}
 use Rattle.cql2_code.specs.declared.question.Subject.TheVariants.{Ranges}
@@ -18,9 +18,15 @@ returns g c =
     let is = sym c.is_milestone.ensures ∙ c.if-not-is_milestone.false in
     let small : c.args.range < 2 ^ 63 = let fits : c.args.range < 2 ^ 16 = c.ranges.range.fits in omega arith in
     let number = ap (λ (z : ℤ). test Ranges Greater z) (kept_64 c.from.result c.args.range c.from.ensures small) in
-    on_ok_weaker c.put_test-2.result
-    (λ there more rest counted after.
+    λ more rest counted after. puts_as c.put_test-2.result _
+    (λ all there.
     written_as (sym (lies_from-milestone c.args.house c.args.range more is))
     (joined (sym counted) (joined (sym counted) after c.exits_before-before.ensures.before c.in_ok-put_test.ensures)
     c.exits_before-before-2.ensures.before (written_as number there)))
     c.put_test-2.ensures
+
+pub returns-in_err-put_test : goal.returns-in_err-put_test
+returns-in_err-put_test g c = λ more rest counted after.
+    puts_refused c.from_residual.result _ c.from_residual.ensures.1
+    (lies_from-here_refused c.args.house c.args.range more
+    (refuses_as (λ all front. joined (sym counted) after c.exits_before-before.ensures.before front) c.in_err-put_test.ensures))

@@ -1,7 +1,7 @@
 use Rattle.std.proofs.Common.{◌≡◌, ℤ, true, sym, ap, ◌∙◌}
-use Rattle.std.proofs.lemmas.Result.{on_ok_weaker}
 use Rattle.std.proofs.Common.{w64}
 use Rattle.std.proofs.lemmas.Int.{to_z-of_z}
+use Rattle.cql2_code.proofs.Refused.{puts_as, puts_refused, refuses_as, second_refused_if}
 use Rattle.cql2_code.proofs.Written.{joined, written_as}
 use Rattle.cql2_code.specs.Lowering.{holds_of_zero, test}
 use Rattle.cql2_code.specs.declared.question.Subject.{Subject}
@@ -16,7 +16,16 @@ returns g c =
     ap (λ (z : ℤ). test c.number_of.result c.args.comparison z) (to_z-of_z w64 c.args.literal c.ranges.literal)
     ∙ ap (λ (subject : Subject). test subject c.args.comparison c.args.literal) c.number_of.ensures in
     rw zero
-    (on_ok_weaker c.put_test-2.result
-    (λ has. joined c.words-words.ensures.value (written_as number c.in_ok-put_test.ensures) c.exits_before-exits.ensures.before
+    (puts_as c.put_test-2.result _
+    (λ all has. joined c.words-words.ensures.value (written_as number c.in_ok-put_test.ensures) c.exits_before-exits.ensures.before
     (written_as c.has_value.ensures has))
     c.put_test-2.ensures)
+
+pub returns-in_err-put_test : goal.returns-in_err-put_test
+returns-in_err-put_test g c =
+    let number =
+    ap (λ (z : ℤ). test c.number_of.result c.args.comparison z) (to_z-of_z w64 c.args.literal c.ranges.literal)
+    ∙ ap (λ (subject : Subject). test subject c.args.comparison c.args.literal) c.number_of.ensures in
+    puts_refused c.from_residual.result _ c.from_residual.ensures.1
+    (second_refused_if _ _ (holds_of_zero c.args.comparison c.args.literal)
+    (refuses_as (λ all written. written_as number written) c.in_err-put_test.ensures))

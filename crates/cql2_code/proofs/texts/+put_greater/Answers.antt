@@ -1,7 +1,7 @@
 use Rattle.std.proofs.Common.{◌≤◌, ◌<◌, sym, ap, ◌∙◌, arith}
-use Rattle.std.proofs.lemmas.Result.{on_ok_weaker}
 use Rattle.cql2_code.specs.Lowering.{is_blank}
 use Rattle.cql2_code.proofs.ChunkLemmas.{blank_bytes, greater_blank, greater_more}
+use Rattle.cql2_code.proofs.Refused.{puts_as, puts_refused, refuses_as, second_refused}
 use Rattle.cql2_code.proofs.Written.{joined, opposite_written, written_as}
 use Rattle.cql2_code.proofs.texts.+put_greater.Goals as goal
 
@@ -11,8 +11,8 @@ returns-in_default g t c =
     let blank = greater_blank c.args.at c.args.left c.args.text.now some c.in_default.ensures.cases in
     let few : c.from.result ≤ 30 = omega arith in
     let blanks = blank_bytes c.args.at c.from.result few ∙ ap (is_blank c.args.at) c.from.ensures in
-    on_ok_weaker c.put_bytes.result
-    (λ written. written_as (sym blank) (opposite_written c.asked.ensures.falls c.asked.ensures.beyond (written_as blanks written)))
+    puts_as c.put_bytes.result _
+    (λ all written. written_as (sym blank) (opposite_written c.asked.ensures.falls c.asked.ensures.beyond (written_as blanks written)))
     c.put_bytes.ensures
 
 pub returns : goal.returns
@@ -22,6 +22,19 @@ returns g t c =
     let words = c.words-words.ensures.value in
     let equal = written_as c.byte_test.ensures c.in_ok-put_test.ensures in
     let same = joined words c.in_ok-put_greater.ensures c.exits_before-same.ensures.before equal in
-    on_ok_weaker c.put_test-2.result
-    (λ front. written_as (sym more) (joined words same c.exits_before-greater.ensures.before (written_as c.byte_test-2.ensures front)))
+    puts_as c.put_test-2.result _
+    (λ all front. written_as (sym more) (joined words same c.exits_before-greater.ensures.before (written_as c.byte_test-2.ensures front)))
     c.put_test-2.ensures
+
+pub returns-in_err-put_test : goal.returns-in_err-put_test
+returns-in_err-put_test g t c =
+    let some : 0 < c.args.left = omega arith in
+    let more = greater_more c.args.at c.args.left c.args.text.now c.in-Some.byte.now c.in-Some.rest.now some c.in-Some.ensures.cases.0 in
+    let is = c.from_residual-in_err-put_test.ensures.1 in
+    puts_refused c.from_residual-in_err-put_test.result _ is
+    (refuses_as (λ all written. written_as (sym more) written)
+    (second_refused
+    (refuses_as
+    (λ all front. joined c.words-words.ensures.value c.in_ok-put_greater.ensures c.exits_before-same.ensures.before
+    (written_as c.byte_test.ensures front))
+    c.in_err-put_test.ensures)))

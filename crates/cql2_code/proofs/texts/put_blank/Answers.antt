@@ -1,7 +1,7 @@
 use Rattle.std.proofs.Common.{◌≤◌, ℕ, ◌+◌, ◌-◌, ap, ◌∙◌, arith}
-use Rattle.std.proofs.lemmas.Result.{on_ok_weaker}
 use Rattle.cql2_code.specs.Lowering.{is_blank, offset_of}
 use Rattle.cql2_code.proofs.ChunkLemmas.{blank_bytes}
+use Rattle.cql2_code.proofs.Refused.{puts_as}
 use Rattle.cql2_code.proofs.Written.{written_as}
 use Rattle.cql2_code.proofs.texts.put_blank.Goals as goal
 
@@ -14,4 +14,4 @@ returns g c =
     blank_bytes (c.offset_of.result + from) c.from-left.result few
     ∙ ap (λ (n : ℕ). is_blank (n + from) c.from-left.result) c.offset_of.ensures.value
     ∙ ap (is_blank (offset_of c.args.column + from)) left in
-    on_ok_weaker c.put_bytes.result (λ written. written_as blank written) c.put_bytes.ensures
+    puts_as c.put_bytes.result _ (λ all written. written_as blank written) c.put_bytes.ensures

@@ -1,8 +1,8 @@
 use Rattle.std.proofs.Common.{◌≤◌, ℕ, Bool, length, map, sym, ap, ◌∙◌, arith}
-use Rattle.std.proofs.lemmas.Result.{on_ok_weaker}
 use Rattle.cql2.specs.declared.pattern.PatternByte.TheVariants.{Exactly}
 use Rattle.cql2_code.specs.Lowering.{both, ends_filled, ends_so, has_bytes, width_of}
 use Rattle.cql2_code.proofs.PatternLemmas.{is_like-exact}
+use Rattle.cql2_code.proofs.Refused.{puts_as}
 use Rattle.cql2_code.proofs.Written.{written_as}
 use Rattle.cql2_code.proofs.texts.put_like_bytes.Goals as goal
 
@@ -18,6 +18,6 @@ returns g c =
     ∙ ap (λ (at : ℕ). both (has_bytes at bytes) (ends_so is_open (ends_filled (map Exactly bytes)) column (length bytes)))
     c.offset_of.ensures.value
     ∙ sym (is_like-exact column bytes is_open short) in
-    on_ok_weaker c.put_bytes.result
-    (λ written. written_as like (c.in_ok-exits.ensures.before (has_bytes c.offset_of.result bytes) c.put_bytes.new.code written))
+    puts_as c.put_bytes.result _
+    (λ all written. written_as like (c.in_ok-exits.ensures.before (has_bytes c.offset_of.result bytes) all written))
     c.put_bytes.ensures

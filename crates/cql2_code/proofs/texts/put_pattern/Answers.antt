@@ -1,9 +1,9 @@
 use Rattle.std.proofs.Common.{◌≡◌, List, map, sym, ap, ◌∙◌}
-use Rattle.std.proofs.lemmas.Result.{on_ok_weaker}
 use Rattle.cql2.specs.declared.pattern.PatternByte.{PatternByte}
 use Rattle.cql2.specs.declared.pattern.PatternByte.TheVariants.{Exactly}
 use Rattle.cql2_code.specs.Lowering.{is_like}
 use Rattle.cql2_code.proofs.PatternLemmas.{spelled}
+use Rattle.cql2_code.proofs.Refused.{puts_as}
 use Rattle.cql2_code.proofs.Written.{written_as}
 use Rattle.cql2_code.proofs.texts.put_pattern.Goals as goal
 
@@ -13,4 +13,4 @@ returns-in-Some g c =
     ap (map Exactly) c.as_slice.ensures.value ∙ sym (spelled c.as_slice-wanted.result.now c.in-Some.bytes.items c.in-Some.ensures.some)
     ∙ c.as_slice-wanted.ensures.value in
     let like = ap (λ (pattern : List PatternByte). is_like c.args.column pattern c.args.pattern.now.is_open) same in
-    on_ok_weaker c.put_like_bytes.result (λ written. written_as like written) c.put_like_bytes.ensures
+    puts_as c.put_like_bytes.result _ (λ all written. written_as like written) c.put_like_bytes.ensures

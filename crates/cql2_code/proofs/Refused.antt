@@ -1,0 +1,70 @@
+-- Codes that are refused, since they are too long.
+use Rattle.std.proofs.Common.{◌≡◌, Some, Bool, true, false, ◌||◌, List, ◌++◌, refl, sym, ap, ◌∙◌, subst, append_assoc, arith, if◌then◌else◌}
+use Rattle.std.proofs.lemmas.List.Folds.{list_any-append}
+use Rattle.std.proofs.lemmas.Result.{MatchResult-weaker}
+use Rattle.std.proofs.Math.Bool.{or-true}
+use Rattle.std.specs.List.{list_any}
+use Rattle.std.specs.Prelude.{Err, IfErr, IsErrAnd, Ok, Result}
+use Rattle.bpf_insn.proofs.PlaceLemmas.{word_count-append}
+use Rattle.bpf_insn.specs.Code.{word_count}
+use Rattle.bpf_insn.specs.declared.instruction.Insn.{Insn}
+use Rattle.cql2_code.specs.Layout.{IsTooLong, MayBeRefused, Puts, Refuses, Writes, first_beyond, has_far_jump, has_many_words, is_far_jump, question_code}
+use Rattle.cql2_code.specs.Lowering.{PutsBefore}
+use Rattle.cql2_code.specs.Question.{Joined, Question}
+use Rattle.cql2_code.specs.declared.fault.CompileFault.{CompileFault}
+use Rattle.cql2_code.specs.declared.fault.CompileFault.TheVariants.{TooLong}
+use Rattle.cql2_code.specs.declared.question.Exits.{Exits}
+
+-- a code that ends with one that is too long is too long itself
+pub longer : (front : List Insn) {code : List Insn} → IsTooLong code → IsTooLong (front ++ code)
+longer front {code} (has_many_words many) = has_many_words (let sum = word_count-append front code in omega arith)
+longer front {code} (has_far_jump far) =
+    has_far_jump (list_any-append is_far_jump front code ∙ ap (λ (b : Bool). list_any is_far_jump front || b) far ∙ or-true _)
+
+-- a question's code is refused if that of another one is, which would be the same
+pub refuses_as : {question other : Question} {exits others : Exits} {old olds : List Insn} {fault : CompileFault}
+    → ((new : List Insn) → Writes question exits old new → Writes other others olds new) → Refuses question exits old fault
+    → Refuses other others olds fault
+refuses_as same refused = record { too_long = λ is. subst IsTooLong (same _ (record { code = refl })).code (refused.too_long is) }
+
+pub puts_as : {T : Type 0} {question other : Question} {exits others : Exits} {old olds : List Insn} (result : Result T CompileFault)
+    (new : List Insn) → ((new : List Insn) → Writes question exits old new → Writes other others olds new) → Puts result question exits old new
+    → Puts result other others olds new
+puts_as result new same puts = MatchResult-weaker result puts (λ _ written. same new written) (λ fault refused. refuses_as same refused)
+
+-- a call is refused as one that it made was
+pub puts_refused : {T : Type 0} {question : Question} {exits : Exits} {old : List Insn} {fault : CompileFault} (result : Result T CompileFault)
+    (new : List Insn) → IsErrAnd result (λ same. same ≡ fault) → Refuses question exits old fault → Puts result question exits old new
+puts_refused {T} {question} {exits} {old} (Err same) new is refused = subst (Refuses question exits old) (sym is) refused
+puts_refused (Ok none) new is refused = absurd is
+
+-- a call answers the fault of one that it made
+pub refused_by : {T : Type 0} {code : List Insn} {fault : CompileFault} (result : Result T CompileFault)
+    → IsErrAnd result (λ same. same ≡ fault) → MayBeRefused code fault → IfErr result (λ fault. fault ≡ TooLong → IsTooLong code)
+refused_by (Err same) is refused = λ too_long. refused.too_long (sym is ∙ too_long)
+refused_by (Ok none) is refused = absurd is
+
+-- the code of two questions is refused if that of the second one is
+pub second_refused : {neutral : Bool} {first second : Question} {exits : Exits} {old : List Insn} {fault : CompileFault}
+    → Refuses second exits old fault → Refuses (Joined neutral first second) exits old fault
+second_refused {neutral} {first} {second} {exits} {old} refused = record {
+  too_long = λ is. subst IsTooLong (sym (append_assoc front code old)) (longer front (refused.too_long is));
+}
+  where
+    code : List Insn
+    code = question_code second exits.falls exits.beyond
+
+    front : List Insn
+    front = question_code first neutral (first_beyond exits.falls neutral (word_count code) exits.beyond)
+
+pub second_refused_if : {second : Question} {exits : Exits} {old : List Insn} {fault : CompileFault} (neutral : Bool) (first : Question)
+    (both : Bool) → Refuses second exits old fault → Refuses (if both then Joined neutral first second else second) exits old fault
+second_refused_if neutral first true refused = second_refused refused
+second_refused_if neutral first false refused = refused
+
+-- what is asked after a pattern's bytes is refused
+pub puts_before_refused : {second : Question} {exits : Exits} {old : List Insn} {fault : CompileFault} (result : Result Exits CompileFault)
+    (new : List Insn) → IsErrAnd result (λ same. same ≡ fault) → Refuses second exits old fault → PutsBefore result (Some second) exits old new
+puts_before_refused {second} {exits} {old} (Err same) new is refused =
+    λ wanted. subst (Refuses (Joined true wanted second) exits old) (sym is) (second_refused refused)
+puts_before_refused (Ok none) new is refused = absurd is
