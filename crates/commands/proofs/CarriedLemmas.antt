@@ -7,7 +7,7 @@ use Rattle.tl_fields.specs.Counted.{CountsFault}
 use Rattle.tl_fields.specs.Device.{WriteCounts, Writer}
 use Rattle.tl_fields.specs.Writing.{WritesText}
 use Rattle.tl_fields.specs.declared.writing.WriteFault.{WriteFault}
-use Rattle.commands.specs.Command.{CarriesOut, IsFileOf, IsRefused, Writes}
+use Rattle.commands.specs.Command.{CarriesOut, IsFileOf, IsRefused, Writes, WritesBefore}
 use Rattle.commands.specs.Failure.{KeepsOnUsage, NamesFile, TellsCounts, WritesAs, of_file, of_program, refusal_status}
 use Rattle.commands.specs.Files.{CountsUse, Disk, IsTooLong, IsUnfailed, TellsProgram, TellsProgramUse}
 use Rattle.commands.specs.Inputs.{HoldTooLong, TellsInputs}
@@ -78,7 +78,7 @@ module _ {request : Request} {disk disk' : Disk} {out : Writer} where
 
   -- neither a program nor a county can be read
   pub inputs_carried : (name folder code : List ℕ) (failure : Failure) → TellsInputs name folder code disk disk' failure
-      → NamesFile (IsFileOf request) failure → TellsCounts {T = ℕ} (Err failure) disk disk'
+      → NamesFile (IsFileOf request) failure → TellsCounts {T = ℕ} (Err failure) disk disk' → WritesBefore request disk.known out out
       → ((refusal : RefusalParts) → HoldTooLong name folder code disk.known refusal → IsRefused request disk.known refusal out out)
       → CarriesOut request (Err failure) disk disk' out out
-  inputs_carried name folder code failure told names counts each = grind (arith, code_status)
+  inputs_carried name folder code failure told names counts before each = grind (arith, before, code_status)

@@ -18,10 +18,10 @@ use Rattle.commands.specs.declared.failure.Failure.{Failure}
 use Rattle.commands.specs.declared.failure.Failure.TheVariants.{Memory, File, CountyFile}
 use Rattle.commands.proofs.CarriedLemmas.{refusal_not_usage}
 
-abbrev texts : List (Bor (List ℕ)) → List (List ℕ)
+abbrev pub texts : List (Bor (List ℕ)) → List (List ℕ)
 texts codes = map (λ code. code.now) codes
 
-codes_at : (codes : List (Bor (List ℕ))) (i : ℕ) (d : Bor (List ℕ)) → i < length codes
+pub codes_at : (codes : List (Bor (List ℕ))) (i : ℕ) (d : Bor (List ℕ)) → i < length codes
     → texts codes ≡ texts (take i codes) ++ (get_or codes i d).now ∷ texts (drop (suc i) codes)
 codes_at codes i d inside =
     ap texts (sym (take-append-drop i codes)) ∙ map-append (λ code. code.now) (take i codes) (drop i codes)

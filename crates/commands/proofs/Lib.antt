@@ -7,4 +7,5 @@ mod PieceLemmas
 mod CountiesLemmas
 mod RunLemmas
 mod TraceLemmas
+mod SelectLemmas
 mod AnswerLemmas

@@ -8,19 +8,22 @@ use Rattle.tl_fields.specs.Device.{Writer}
 use Rattle.tl_fields.specs.Writing as write_fault
 use Rattle.tl_fields.specs.declared.writing.WriteFault.{WriteFault}
 use Rattle.commands.specs.Assemble as assemble
+use Rattle.commands.specs.Compile as compile
 use Rattle.commands.specs.Counties.{IsFileOfCounties}
 use Rattle.commands.specs.Disassemble as disassemble
-use Rattle.commands.specs.Failure.{NamesFile, SaysFile, SaysLine, SaysMemory, SaysOutput, SaysText, TellsCounts, refusal_status}
+use Rattle.commands.specs.Failure.{NamesFile, Says, SaysFile, SaysLine, SaysMemory, SaysOutput, SaysText, TellsCounts, refusal_status, status as status_of}
 use Rattle.commands.specs.Files.{Disk, IsFailed}
+use Rattle.commands.specs.Filter.{IsFilterRefusal}
 use Rattle.commands.specs.Geocode as geocode
 use Rattle.commands.specs.Inputs.{IsInput}
 use Rattle.commands.specs.Run as run
+use Rattle.commands.specs.Select as select
 use Rattle.commands.specs.Trace as trace
 use Rattle.commands.specs.Verify as verify
 use Rattle.commands.specs.declared.request.Request.{Request}
-use Rattle.commands.specs.declared.request.Request.TheVariants.{Run, Trace, Geocode, Verify, Assemble, Disassemble}
+use Rattle.commands.specs.declared.request.Request.TheVariants.{Run, Trace, Geocode, Verify, Assemble, Disassemble, Compile, Select}
 use Rattle.commands.specs.declared.failure.Failure.{Failure}
-use Rattle.commands.specs.declared.failure.Failure.TheVariants.{Refusal, Memory, Write, File, CountyFile, NotUtf8, NoLine, Output}
+use Rattle.commands.specs.declared.failure.Failure.TheVariants.{Refusal, Memory, Write, File, CountyFile, NotUtf8, NoLine, Filter, County, Output}
 
 -- what was asked for was written, whole or a beginning of it up to the fault of the output
 abbrev pub Writes : Request → (List ℕ → Option (List ℕ)) → Result (Unit {0}) WriteFault → Writer → Writer → Type 0
@@ -30,12 +33,14 @@ Writes (Geocode asked) known result out out' = geocode.Writes asked known result
 Writes (Verify asked) known result out out' = verify.Writes asked known result out out'
 Writes (Assemble asked) known result out out' = assemble.Writes asked known result out out'
 Writes (Disassemble asked) known result out out' = disassemble.Writes asked known result out out'
+Writes (Compile asked) known result out out' = compile.Writes asked known result out out'
+Writes (Select asked) known result out out' = select.Writes asked known result out out'
 
 -- what was asked for was written, whole
 abbrev pub IsWritten : Request → (List ℕ → Option (List ℕ)) → Writer → Writer → Type 0
 IsWritten request known out out' = Writes request known (Ok tt) out out'
 
--- what was asked for was refused so by a library
+-- What was asked for was refused so by a library. `compile` and `select` are refused for their filter, or for one of several counties.
 abbrev pub IsRefused : Request → (List ℕ → Option (List ℕ)) → RefusalParts → Writer → Writer → Type 0
 IsRefused (Run asked) known refusal out out' = run.IsRefused asked known refusal out out'
 IsRefused (Trace asked) known refusal out out' = trace.IsRefused asked known refusal out out'
@@ -43,6 +48,30 @@ IsRefused (Geocode asked) known refusal out out' = geocode.IsRefused asked known
 IsRefused (Verify asked) known refusal out out' = verify.IsRefused asked known refusal out out'
 IsRefused (Assemble asked) known refusal out out' = assemble.IsRefused asked known refusal out out'
 IsRefused (Disassemble asked) known refusal out out' = disassemble.IsRefused asked known refusal out out'
+IsRefused request known refusal out out' = ⊥
+
+-- the filter that was asked for is refused so
+abbrev pub IsFilterRefused : Request → (List ℕ → Option (List ℕ)) → RefusalParts → Type 0
+IsFilterRefused (Compile asked) known refusal = compile.IsRefused asked known refusal
+IsFilterRefused (Select asked) known refusal = IsFilterRefusal asked.filter.now asked.compiling.score refusal
+IsFilterRefused request known refusal = ⊥
+
+-- one of several counties, of this code, is refused so
+abbrev pub IsCountyRefused : Request → (List ℕ → Option (List ℕ)) → List ℕ → RefusalParts → Writer → Writer → Type 0
+IsCountyRefused (Select asked) known code refusal out out' = select.IsRefusedAt asked known code refusal out out'
+IsCountyRefused request known code refusal out out' = ⊥
+
+-- what was asked for was refused by a library, which is this failure
+abbrev pub IsRefusedWith : Request → (List ℕ → Option (List ℕ)) → Failure → Writer → Writer → Type 0
+IsRefusedWith request known (Refusal refusal) out out' = IsRefused request known refusal out out'
+IsRefusedWith request known (Filter refusal note) out out' = IsFilterRefused request known refusal × (out' ≡ out)
+IsRefusedWith request known (County code refusal) out out' = IsCountyRefused request known code.now refusal out out'
+IsRefusedWith request known failure out out' = ⊥
+
+-- what was written before a file couldn't be used: nothing, and for several counties the extracts of those before it
+abbrev pub WritesBefore : Request → (List ℕ → Option (List ℕ)) → Writer → Writer → Type 0
+WritesBefore (Select asked) known out out' = select.WritesBefore asked known out out'
+WritesBefore request known out out' = out' ≡ out
 
 -- this line, which was asked for, isn't in the file of type 1; no other command asks for a line
 abbrev pub LacksLine : Request → (List ℕ → Option (List ℕ)) → ℕ → Type 0
@@ -69,17 +98,23 @@ IsFileOf (Geocode asked) name = IsFileOfCounties asked.«data».now (geocode.cod
 IsFileOf (Verify asked) name = name ≡ asked.program.now
 IsFileOf (Assemble asked) name = name ≡ asked.source.now
 IsFileOf (Disassemble asked) name = name ≡ asked.program.now
+IsFileOf (Compile asked) name = name ≡ asked.filter.now
+IsFileOf (Select asked) name = IsFileOfCounties asked.«data».now (select.codes_of asked) name
 
 -- How a request is carried out. It is written, whole or up to a fault of the output. Or a library refuses it, and where the status is 3 a
--- read failed. Or nothing was written, since a file can't be used, or memory ran out, or what was asked for isn't there. The output isn't
+-- read failed. Or a file can't be used. Or nothing was written, since memory ran out, or what was asked for isn't there. The output isn't
 -- flushed.
 abbrev pub IsCarriedOut : Request → Result (Unit {0}) Failure → Disk → Disk → Writer → Writer → Type 0
 IsCarriedOut request (Ok done) disk disk' out out' = Writes request disk.known (Ok done) out out'
 IsCarriedOut request (Err (Write fault)) disk disk' out out' = Writes request disk.known (Err fault) out out'
 IsCarriedOut request (Err (Refusal refusal)) disk disk' out out' =
     IsRefused request disk.known refusal out out' × (refusal_status refusal ≡ 3 → disk'.failed_reads ≢ disk.failed_reads)
+IsCarriedOut request (Err (Filter refusal note)) disk disk' out out' = IsFilterRefused request disk.known refusal × (out' ≡ out)
+IsCarriedOut request (Err (County code refusal)) disk disk' out out' =
+    IsCountyRefused request disk.known code.now refusal out out' × (refusal_status refusal ≡ 3 → disk'.failed_reads ≢ disk.failed_reads)
 IsCarriedOut request (Err (File name error)) disk disk' out out' = (out' ≡ out) × IsFailed disk disk'
-IsCarriedOut request (Err (CountyFile folder code file error)) disk disk' out out' = (out' ≡ out) × (disk'.failed_opens ≢ disk.failed_opens)
+IsCarriedOut request (Err (CountyFile folder code file error)) disk disk' out out' =
+    WritesBefore request disk.known out out' × (disk'.failed_opens ≢ disk.failed_opens)
 IsCarriedOut request (Err (NotUtf8 name)) disk disk' out out' = (out' ≡ out) × IsNotUtf8 request disk.known name.now
 IsCarriedOut request (Err (NoLine number)) disk disk' out out' = (out' ≡ out) × LacksLine request disk.known number
 IsCarriedOut request (Err Memory) disk disk' out out' = out' ≡ out
@@ -112,14 +147,14 @@ pub record IsDone (request : Request) (known : List ℕ → Option (List ℕ)) (
   pub written : IsWritten request known out unflushed
   pub flushed : IsFlushed unflushed out'
 
--- What was asked for was refused by a library, with this exit status, and the refusal's line was said. The output keeps what it then held.
+-- What was asked for was refused by a library, with this exit status, which was said. The output keeps what it then held.
 pub record IsRefusalOf (status : ℕ) (request : Request) (known : List ℕ → Option (List ℕ)) (out out' errors errors' : Writer) : Type 0 where
-  pub refusal : RefusalParts
-  pub is_status : refusal_status refusal ≡ status
+  pub failure : Failure
+  pub is_status : status_of failure ≡ status
   pub unflushed : Writer
-  pub refused : IsRefused request known refusal out unflushed
+  pub refused : IsRefusedWith request known failure out unflushed
   pub kept : Keeps unflushed.held out'.held
-  pub said : SaysLine (line refusal) errors errors'
+  pub said : Says failure errors errors'
 
 -- what was asked for was refused, and no device failed nor did an allocation
 abbrev pub IsRefusal : Request → (List ℕ → Option (List ℕ)) → Writer → Writer → Writer → Writer → Type 0
@@ -137,11 +172,14 @@ pub data IsOutOfMemory (request : Request) (known : List ℕ → Option (List �
   of_other : Keeps out.held out'.held → SaysMemory errors errors' → IsOutOfMemory request known out out' errors errors'
 
 -- Why a request isn't answered, where the status is 3. An open failed, or a read, so that one of the request's files can't be used, and
--- nothing was written. A read of a county's file failed, and a library refused what was asked for. A source isn't UTF-8, and nothing was
--- written. A write failed or took no byte: a beginning was written, and a flush was tried. Or what was asked for was written whole, and the
--- flush failed. Each of these was said.
+-- nothing was written. The open of a county's file failed, and nothing was written but for the counties before it. A read of a county's file
+-- failed, and a library refused what was asked for. A source isn't UTF-8, and nothing was written. A write failed or took no byte: a
+-- beginning was written, and a flush was tried. Or what was asked for was written whole, and the flush failed. Each of these was said.
 pub data IsUnusable (request : Request) (disk disk' : Disk) (out out' errors errors' : Writer) : Type 0 where
   of_file : (name : List ℕ) → IsFileOf request name → IsFailed disk disk' → Keeps out.held out'.held → SaysFile name errors errors'
+      → IsUnusable request disk disk' out out' errors errors'
+  of_county_file : (name : List ℕ) → IsFileOf request name → disk'.failed_opens ≢ disk.failed_opens → (unflushed : Writer)
+      → WritesBefore request disk.known out unflushed → Keeps unflushed.held out'.held → SaysFile name errors errors'
       → IsUnusable request disk disk' out out' errors errors'
   of_county : disk'.failed_reads ≢ disk.failed_reads → IsRefusalOf 3 request disk.known out out' errors errors'
       → IsUnusable request disk disk' out out' errors errors'

@@ -2,6 +2,12 @@
 use Rattle.std.specs.Prelude.{◌≡◌, ◌≢◌, ℕ, List, [], ◌∷◌, ◌++◌, codes, decimal, ⊤, Result, Ok, Err}
 use Rattle.std.specs.Borrow.{Bor}
 use Rattle.bpf_insn.specs.CodeFault as code_fault
+use Rattle.cql2_code.specs.CompileFault as compile_fault
+use Rattle.cql2_code.specs.declared.fault.CompileFault.{CompileFault}
+use Rattle.cql2_code.specs.declared.fault.CompileFault.TheVariants as compile
+use Rattle.cql2_text.specs.FilterFault as filter_fault
+use Rattle.cql2_text.specs.declared.fault.FilterFault.{FilterFault}
+use Rattle.cql2_text.specs.declared.fault.FilterFault.TheVariants as filter
 use Rattle.extract.specs.ExtractFault as extract_fault
 use Rattle.bpf_text.specs.TextFault as text_fault
 use Rattle.bpf_text.specs.declared.fault.SourceFault.{SourceFault}
@@ -24,7 +30,7 @@ use Rattle.commands.specs.declared.files.FileFault.TheVariants as fault
 use Rattle.commands.specs.declared.files.ProgramInputFault.{ProgramInputFault}
 use Rattle.commands.specs.declared.files.ProgramInputFault.TheVariants as program_input
 use Rattle.commands.specs.declared.failure.Failure.{Failure}
-use Rattle.commands.specs.declared.failure.Failure.TheVariants.{Refusal, Memory, Write, File, CountyFile, NotUtf8, NoLine, Output}
+use Rattle.commands.specs.declared.failure.Failure.TheVariants.{Refusal, Memory, Write, File, CountyFile, NotUtf8, NoLine, Filter, County, Output}
 
 -- the exit status of the refusals of a class
 abbrev pub class_status : Class → ℕ
@@ -38,6 +44,8 @@ refusal_status refusal = class_status refusal.class
 -- a line that the file doesn't have is a fault of usage, 2; a file or an output that can't be used is 3
 abbrev pub status : Failure → ℕ
 status (Refusal refusal) = refusal_status refusal
+status (Filter refusal note) = refusal_status refusal
+status (County code refusal) = refusal_status refusal
 status Memory = 4
 status (NoLine number) = 2
 status failure = 3
@@ -67,6 +75,27 @@ abbrev pub of_extract : ExtractFault → Failure
 of_extract (extract.Write fault) = Write fault
 of_extract fault = Refusal (extract_fault.refusal fault)
 
+-- why a text is no filter, and why a filter has no program
+abbrev pub IsOfFilter : FilterFault → Failure → Type 0
+IsOfFilter fault (Filter refusal note) = (fault ≢ filter.Memory) × (refusal ≡ filter_fault.refusal fault)
+IsOfFilter fault Memory = fault ≡ filter.Memory
+IsOfFilter fault failure = ⊥
+
+abbrev pub IsOfCompile : CompileFault → Failure → Type 0
+IsOfCompile fault (Filter refusal note) = (fault ≡ compile.TooLong) × (refusal ≡ compile_fault.refusal fault)
+IsOfCompile fault Memory = fault ≡ compile.Memory
+IsOfCompile fault failure = ⊥
+
+-- why the extract of one of several counties isn't written whole
+abbrev pub of_county_extract : Bor (List ℕ) → ExtractFault → Failure
+of_county_extract code (extract.Write fault) = Write fault
+of_county_extract code fault = County code (extract_fault.refusal fault)
+
+-- why a file of one of several counties isn't open
+abbrev pub of_opening : Bor (List ℕ) → Bor (List ℕ) → county_file.CountyFile → FileFault → Failure
+of_opening folder code file (fault.Unusable error) = CountyFile folder code file error
+of_opening folder code file fault.Memory = County code memory
+
 -- the text was written, unless a write failed or took no byte
 abbrev pub SaysText : List ℕ → Writer → Writer → Type 0
 SaysText text errors errors' = (written : Result (Unit {0}) WriteFault) × WritesText text written errors errors'
@@ -87,9 +116,12 @@ SaysFile name errors errors' = (reason : List ℕ) × SaysText (codes "error: " 
 abbrev pub SaysOutput : Writer → Writer → Type 0
 SaysOutput errors errors' = (reason : List ℕ) × SaysText (codes "error: the output can't be written: " ++ reason ++ 10 ∷ []) errors errors'
 
--- what is said of a failure: a refusal's line, and else a line that begins with `error: `
+-- what is said of a failure: a refusal's line, for a filter with a note and for one of several counties with its code on a second line; and
+-- else a line that begins with `error: `
 abbrev pub Says : Failure → Writer → Writer → Type 0
 Says (Refusal refusal) errors errors' = SaysLine (line refusal) errors errors'
+Says (Filter refusal note) errors errors' = SaysText (line refusal ++ 10 ∷ note.bytes ++ 10 ∷ []) errors errors'
+Says (County code refusal) errors errors' = SaysText (line refusal ++ 10 ∷ codes "county " ++ code.now ++ 10 ∷ []) errors errors'
 Says Memory errors errors' = SaysMemory errors errors'
 Says (Write fault) errors errors' = SaysLine (line (write_fault.refusal fault)) errors errors'
 Says (File name error) errors errors' = SaysFile name.now errors errors'

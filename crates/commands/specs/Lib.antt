@@ -9,4 +9,7 @@ pub mod Geocode
 pub mod Verify
 pub mod Assemble
 pub mod Disassemble
+pub mod Filter
+pub mod Compile
+pub mod Select
 pub mod Command

@@ -2,13 +2,15 @@
 ghost use Rattle.std.specs.Prelude.{◌≡◌, ◌++◌, codes};
 ghost use Rattle.std.specs.List.{flat_map};
 ghost use Rattle.tl_fields.specs.Device.{writer};
-ghost use Rattle.commands.specs.Failure.{Says, SaysFile, SaysText, WritesAs, class_status, of_county_file, of_extract, of_file, of_program, of_source, status};
+ghost use Rattle.commands.specs.Failure.{IsOfCompile, IsOfFilter, Says, SaysFile, SaysText, WritesAs, class_status, of_county_extract, of_county_file, of_extract, of_file, of_opening, of_program, of_source, status};
 ghost use Rattle.commands.specs.declared.failure.Failure.TheVariants.{Memory};
 
 use crate::county::{CountyFileFault, name_end};
 use crate::files::{FileFault, ProgramInputFault};
 use arrayvec::ArrayString;
 use bpf_text::{SourceFault, TextFault};
+use cql2_code::CompileFault;
+use cql2_text::FilterFault;
 use extract::ExtractFault;
 use itoa::Buffer;
 use refusals::{Class, Fault, Refusal};
@@ -34,6 +36,16 @@ pub const OUT_OF_MEMORY: u8 = 4;
 pub enum Failure<'a> {
     /// A library refuses, or runs out of memory.
     Refusal(Refusal),
+    /// A filter is refused. The note says more of it for people.
+    Filter {
+        refusal: Refusal,
+        note: ArrayString<128>,
+    },
+    /// One of several counties, of this code, is refused.
+    County {
+        code: &'a str,
+        refusal: Refusal,
+    },
     /// Another allocation fails, before anything is written.
     Memory,
     /// The output isn't written whole.
@@ -120,12 +132,66 @@ impl<'a> Failure<'a> {
         }
     }
 
+    /// Why a text is no filter.
+    pub fn of_filter(text: &[u8], fault: FilterFault) -> Self
+        ensures { IsOfFilter fault result }
+    {
+        match fault {
+            FilterFault::Memory => Failure::Memory,
+            fault => Failure::Filter {
+                refusal: fault.refusal(),
+                note: filter_note(text, fault),
+            },
+        }
+    }
+
+    /// Why a filter has no program.
+    pub fn of_compile(fault: CompileFault) -> Self
+        ensures { IsOfCompile fault result }
+    {
+        match fault {
+            CompileFault::Memory => Failure::Memory,
+            fault => Failure::Filter {
+                refusal: fault.refusal(),
+                note: compile_note(fault),
+            },
+        }
+    }
+
+    /// Why the extract of one of several counties isn't written whole.
+    pub fn of_county_extract(code: &'a str, fault: ExtractFault) -> Self
+        ensures { result ≡ of_county_extract code.entry fault }
+    {
+        match fault {
+            ExtractFault::Write(fault) => Failure::Write(fault),
+            fault => Failure::County {
+                code,
+                refusal: fault.refusal(),
+            },
+        }
+    }
+
+    /// Why a file of one of several counties, in the folder of the data, isn't open.
+    pub fn of_opening(data: &'a str, code: &'a str, fault: CountyFileFault) -> Self
+        ensures { result ≡ of_opening «data».entry code.entry fault.file fault.fault }
+    {
+        match fault.fault {
+            FileFault::Unusable(_) => Failure::of_county_file(data, code, fault),
+            FileFault::Memory => Failure::County {
+                code,
+                refusal: Refusal::memory(),
+            },
+        }
+    }
+
     /// The exit status.
     pub fn status(&self) -> u8
         ensures { result ≡ status self.now }
     {
         match self {
             Failure::Refusal(refusal) => class_status(refusal.class()),
+            Failure::Filter { refusal, .. } => class_status(refusal.class()),
+            Failure::County { refusal, .. } => class_status(refusal.class()),
             Failure::Memory => OUT_OF_MEMORY,
             Failure::NoLine { .. } => USAGE,
             _ => UNUSABLE,
@@ -138,6 +204,15 @@ impl<'a> Failure<'a> {
     {
         match self {
             Failure::Refusal(refusal) => say(errors, &[refusal.line().as_str(), "\n"]),
+            Failure::Filter { refusal, note } => {
+                say(
+                    errors,
+                    &[refusal.line().as_str(), "\n", note.as_str(), "\n"],
+                );
+            }
+            Failure::County { code, refusal } => {
+                say(errors, &[refusal.line().as_str(), "\ncounty ", code, "\n"]);
+            }
             Failure::Memory => say(errors, &[Refusal::memory().line().as_str(), "\n"]),
             Failure::Write(fault) => say(errors, &[fault.line().as_str(), "\n"]),
             Failure::File { name, error } => {
@@ -249,6 +324,25 @@ fn say_of_county_file<'p, E: CountedWrite>(
         errors,
         &["error: ", data, "/TGR", code, end, ": ", reason, "\n"],
     );
+}
+
+/// What is said for people of a text that is no filter.
+fn filter_note(text: &[u8], fault: FilterFault) -> ArrayString<128> {
+    let mut note = ArrayString::new();
+    if let FilterFault::At { flaw, .. } = fault {
+        let _ = write!(note, "{flaw}");
+    }
+    if let Some(name) = fault.nearest_column(text) {
+        let _ = write!(note, ", and the nearest is {name}");
+    }
+    note
+}
+
+/// What is said for people of a filter that has no program.
+fn compile_note(fault: CompileFault) -> ArrayString<128> {
+    let mut note = ArrayString::new();
+    let _ = write!(note, "{fault}");
+    note
 }
 
 /// What an error of the system is called.

@@ -2,29 +2,35 @@
 #![tactic(auto)]
 
 mod assemble;
+mod compile;
 mod counties;
 mod county;
 mod disassemble;
 mod failure;
 mod files;
+mod filter;
 mod geocoder;
 mod inputs;
 mod line;
 mod request;
 mod run;
+mod select;
 mod trace;
 mod verify;
 
 pub use assemble::Assemble;
+pub use compile::Compile;
 pub use counties::load_counties;
 pub use disassemble::Disassemble;
 pub use failure::{Failure, OUT_OF_MEMORY, UNUSABLE, USAGE};
 pub use files::{
     FileFault, Files, INPUT_BUFFER, ProgramInputFault, SystemFiles, read_program, read_to_end,
 };
+pub use filter::Compiling;
 pub use geocoder::Geocode;
 pub use line::Line;
 pub use request::Request;
 pub use run::Run;
+pub use select::Select;
 pub use trace::Trace;
 pub use verify::Verify;

@@ -6,11 +6,13 @@ ghost use Rattle.commands.specs.Failure.{KeepsOnUsage};
 ghost use Rattle.commands.specs.Files.{disk};
 
 use crate::assemble::Assemble;
+use crate::compile::Compile;
 use crate::disassemble::Disassemble;
 use crate::failure::{DONE, Failure, USAGE};
 use crate::files::Files;
 use crate::geocoder::Geocode;
 use crate::run::Run;
+use crate::select::Select;
 use crate::trace::Trace;
 use crate::verify::Verify;
 use std::alloc::Allocator;
@@ -25,6 +27,8 @@ pub enum Request<'a> {
     Verify(Verify<'a>),
     Assemble(Assemble<'a>),
     Disassemble(Disassemble<'a>),
+    Compile(Compile<'a>),
+    Select(Select<'a>),
 }
 
 impl<'a> Request<'a> {
@@ -95,6 +99,8 @@ impl<'a> Request<'a> {
             Request::Verify(verify) => verify.carry_out(alloc, files, out),
             Request::Assemble(assemble) => assemble.carry_out(alloc, files, out),
             Request::Disassemble(disassemble) => disassemble.carry_out(alloc, files, out),
+            Request::Compile(compile) => compile.carry_out(alloc, files, out),
+            Request::Select(select) => select.carry_out(alloc, files, out),
         }
     }
 }

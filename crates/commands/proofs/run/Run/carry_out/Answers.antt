@@ -1,10 +1,11 @@
+use Rattle.std.proofs.Common.{refl}
 use Rattle.commands.proofs.CarriedLemmas.{inputs_carried}
 use Rattle.commands.proofs.RunLemmas.{run_stopped, run_too_long}
 use Rattle.commands.proofs.run.Run.carry_out.Goals as goal
 
 pub returns-in-Err-clause-carried : goal.returns-in-Err-clause-carried
 returns-in-Err-clause-carried g c =
-    inputs_carried _ _ _ c.in-Err.failure c.in-Err.ensures.err c.in-Err.ensures.names c.in-Err.ensures.counts
+    inputs_carried _ _ _ c.in-Err.failure c.in-Err.ensures.err c.in-Err.ensures.names c.in-Err.ensures.counts refl
     (run_too_long c.args.self _ _)
 
 pub returns-clause-carried : goal.returns-clause-carried

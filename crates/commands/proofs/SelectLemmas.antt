@@ -1,0 +1,207 @@
+-- How `select` is carried out: a county's extract, those of several counties, and the filter before them.
+use Rattle.std.proofs.Common.{◌≡◌, ◌≢◌, ◌<◌, ◌+◌, ℕ, suc, List, [], ◌∷◌, ◌++◌, length, get_or, take, drop, Option, Bor, Result, Ok, Err, IfErr}
+use Rattle.std.proofs.Common.{inl, inr, refl, ap, sym, subst, arith, ◌∙◌}
+use Rattle.std.proofs.Math.Path.{fun_ext}
+use Rattle.std.proofs.lemmas.List.{map_more}
+use Rattle.cql2.specs.declared.column.NumericColumn.{NumericColumn}
+use Rattle.extract.specs.ExtractFault as extract_fault
+use Rattle.extract.specs.Extracting.{IsOutcome}
+use Rattle.extract.specs.declared.fault.ExtractFault.{ExtractFault}
+use Rattle.extract.specs.declared.fault.ExtractFault.TheVariants as extract
+use Rattle.tl_fields.specs.Device.{WriteCounts, Writer}
+use Rattle.tl_segments.specs.County.{CountyReaders}
+use Rattle.tl_segments.specs.declared.fault.CountyFile as county_file
+use Rattle.refusals.specs.Refusal.{RefusalParts}
+use Rattle.commands.specs.Command.{CarriesOut, IsFilterRefused}
+use Rattle.commands.specs.Counties.{IsFileOfCounties}
+use Rattle.commands.specs.County.{ClosesCounty, HoldCounty, IsFileOfCounty}
+use Rattle.commands.specs.Failure.{NamesFile, TellsCounts, of_county_extract, of_opening, status}
+use Rattle.commands.specs.Files.{Closes, CountsFileFault, Disk, IsUnfailed}
+use Rattle.commands.specs.Filter.{IsFilterFailure, IsFilterRefusal, IsProgramOf}
+use Rattle.commands.specs.Select.{IsCountyOutcome, IsCountyRefusal, SelectsCounties, SelectsCounty, StopsAt, WritesCounties}
+use Rattle.commands.specs.Select.{WritesCounty, codes_of, more, none}
+use Rattle.commands.specs.declared.request.Request.{Request}
+use Rattle.commands.specs.declared.request.Request.TheVariants as request
+use Rattle.commands.specs.declared.select.Select.{Select}
+use Rattle.commands.specs.declared.files.FileFault.{FileFault}
+use Rattle.commands.specs.declared.files.FileFault.TheVariants as fault
+use Rattle.commands.specs.declared.failure.Failure.{Failure}
+use Rattle.commands.specs.declared.failure.Failure.TheVariants.{Memory, Write, CountyFile, Filter, County}
+use Rattle.commands.proofs.CarriedLemmas.{fault_unflushed, refusal_not_usage}
+use Rattle.commands.proofs.ClassLemmas.{program_status}
+use Rattle.commands.proofs.CountiesLemmas.{codes_at, texts}
+use Rattle.commands.proofs.ReadLemmas.{ReadsAs, closes_from, county_closed, load_refusal, loads_closed, sound, sound_closed, unread_closed}
+use Rattle.commands.proofs.RunLemmas.{flushes_as, load_unflushed}
+
+-- extracts that were written count no fault and no flush
+pub counties_counts : {known : List ℕ → Option (List ℕ)} {folder program : List ℕ} {out : Writer} {codes : List (List ℕ)} {out' : Writer}
+    → WritesCounties known folder program out codes out' → out'.counts ≡ out.counts
+counties_counts none = refl
+counties_counts (more code before wrote) = wrote.1.outcome.counts ∙ counties_counts before
+
+-- a county's file can't be opened
+module _ (folder code : Bor (List ℕ)) (file : county_file.CountyFile) where
+  pub opening_outcome : (disk disk' : Disk) (out : Writer) (program : List ℕ) (of : FileFault)
+      → CountsFileFault of disk.failed_opens disk'.failed_opens
+      → SelectsCounty folder.now program code.now (Err (of_opening folder code file of)) disk disk' out out
+  opening_outcome disk disk' out program (fault.Unusable error) opens = (refl, opens)
+  opening_outcome disk disk' out program fault.Memory opens = (refl, inr (refl, refl), λ three. omega (arith, three))
+
+  pub opening_counts : (disk disk' : Disk) (of : FileFault) → CountsFileFault of disk.failed_opens disk'.failed_opens
+      → disk'.failed_reads ≡ disk.failed_reads → status (of_opening folder code file of) ≢ 3 → IsUnfailed disk disk'
+  opening_counts disk disk' of opens reads other = grind (arith, opens)
+
+  pub opening_named : (of : FileFault) → NamesFile (IsFileOfCounty folder.now code.now) (of_opening folder code file of)
+  opening_named (fault.Unusable error) = (file, refl)
+  opening_named fault.Memory = tt
+
+-- how a county's extract stops, what it counts, and that it counts no flush
+pub record Stopped (folder program code : List ℕ) (failure : Failure) (disk disk' : Disk) (out out' : Writer) : Type 0 where
+  pub outcome : SelectsCounty folder program code (Err failure) disk disk' out out'
+  pub names : NamesFile (IsFileOfCounty folder code) failure
+  pub counts : TellsCounts {T = Unit {0}} (Err failure) disk disk'
+  pub unflushed : out'.counts.flushes ≡ out.counts.flushes
+
+module _ {folder : List ℕ} (code : Bor (List ℕ)) {disk between disk' : Disk} {out out' : Writer} {program bytes : List ℕ}
+    {old new : CountyReaders} (hold : HoldCounty disk.known folder code.now old) (before : IsUnfailed disk between)
+    (closes : Closes (ClosesCounty new) between disk') (same : bytes ≡ program) where
+  outcome_of : (result : Result ℕ ExtractFault) → IsOutcome bytes result old new out out'
+      → IsCountyOutcome disk.known folder program code.now result out out'
+  outcome_of result is = record {
+    old = old;
+    hold = hold;
+    new = new;
+    outcome = subst (λ (bytes : List ℕ). IsOutcome bytes result old new out out') same is;
+  }
+
+  pub county_written : (rows : ℕ) → IsOutcome bytes (Ok rows) old new out out' → WritesCounty disk.known folder program code.now out out'
+  county_written rows is = (rows, outcome_of (Ok rows) is)
+
+  pub written_counts : (rows : ℕ) → IsOutcome bytes (Ok rows) old new out out' → IsUnfailed disk disk'
+  written_counts rows is = record {
+    opens = closes.opens ∙ before.opens;
+    reads = loads_closed hold (closes_from before closes) is.county is.loads;
+  }
+
+  -- a refusal of the county
+  stopped_so : (fault : ExtractFault) → IsOutcome bytes (Err fault) old new out out'
+      → ReadsAs (status (County code (extract_fault.refusal fault))) disk.failed_reads disk'.failed_reads
+      → out'.counts.flushes ≡ out.counts.flushes
+      → Stopped folder program code.now (County code (extract_fault.refusal fault)) disk disk' out out'
+  stopped_so fault is reads unflushed = record {
+    outcome = (refl, inl (fault, refl, outcome_of (Err fault) is), reads.fails);
+    names = tt;
+    counts = λ other. record { opens = closes.opens ∙ before.opens; reads = reads.stays other };
+    unflushed = unflushed;
+  }
+
+  pub county_stopped : (fault : ExtractFault) → IsOutcome bytes (Err fault) old new out out'
+      → Stopped folder program code.now (of_county_extract code fault) disk disk' out out'
+  county_stopped (extract.Program fault) is =
+      stopped_so (extract.Program fault) is (sound (program_status fault) (unread_closed hold (closes_from before closes) is.unread))
+      (ap (λ (writer : Writer). writer.counts.flushes) is.unwritten)
+  county_stopped (extract.Load fault) is =
+      stopped_so (extract.Load fault) is
+      (county_closed hold (closes_from before closes) fault (load_refusal fault bytes old new out out' is))
+      (load_unflushed fault bytes old new out out' is)
+  county_stopped (extract.Write fault) is = record {
+    outcome = outcome_of (Err (extract.Write fault)) is;
+    names = tt;
+    counts = λ other. absurd (other refl);
+    unflushed = fault_unflushed fault is.between.counts out'.counts is.row.5 ∙ flushes_as is.before.counts;
+  }
+  county_stopped extract.Memory is =
+      stopped_so extract.Memory is
+      (sound (λ three. omega (arith, three)) (sound_closed hold (closes_from before closes) is.reads)) (flushes_as is.counts)
+
+-- after the counties of the codes before it
+module _ (disk later : Disk) (same : (name : List ℕ) → later.known name ≡ disk.known name) {folder program : List ℕ}
+    (codes : List (Bor (List ℕ))) (i : ℕ) (d : Bor (List ℕ)) (inside : i < length codes) {out between : Writer}
+    (so_far : WritesCounties disk.known folder program out (texts (take i codes)) between) where
+  earlier : (IsSo : (List ℕ → Option (List ℕ)) → Type 0) → IsSo later.known → IsSo disk.known
+  earlier IsSo = subst IsSo (fun_ext same)
+
+  -- the county of one more code
+  pub written_more : {out' : Writer} → WritesCounty later.known folder program (get_or codes i d).now between out'
+      → WritesCounties disk.known folder program out (texts (take (i + 1) codes)) out'
+  written_more {out'} wrote =
+      subst (λ (codes : List (List ℕ)). WritesCounties disk.known folder program out codes out')
+      (sym (map_more (λ (code : Bor (List ℕ)). code.now) codes i d inside))
+      (more (get_or codes i d).now so_far
+      (earlier (λ known. WritesCounty known folder program (get_or codes i d).now between out') wrote))
+
+  -- it stops at that code
+  stopped_behind : {StopsSo : List ℕ → Writer → Type 0} → StopsSo (get_or codes i d).now between
+      → StopsAt disk.known folder program (texts codes) out StopsSo
+  stopped_behind is = record {
+    before = texts (take i codes);
+    code = (get_or codes i d).now;
+    behind = texts (drop (suc i) codes);
+    are_codes = codes_at codes i d inside;
+    between = between;
+    written = so_far;
+    stops = is;
+  }
+
+  pub counties_stopped : (disk' : Disk) (out' : Writer) → IsUnfailed disk later → (failure : Failure)
+      → SelectsCounty folder program (get_or codes i d).now (Err failure) later disk' between out'
+      → SelectsCounties folder program (texts codes) (Err failure) disk disk' out out'
+  counties_stopped disk' out' unfailed (Write fault) is =
+      stopped_behind
+      (earlier (λ known. IsCountyOutcome known folder program (get_or codes i d).now (Err (extract.Write fault)) between out') is)
+  counties_stopped disk' out' unfailed (County code refusal) is = (
+    stopped_behind
+        (sym is.0, earlier (λ known. IsCountyRefusal known folder program (get_or codes i d).now refusal between out') is.1),
+    λ three as_before. is.2 three (as_before ∙ sym unfailed.reads),
+  )
+  counties_stopped disk' out' unfailed (CountyFile of_folder code file error) is =
+      (stopped_behind is.0, λ as_before. is.1 (as_before ∙ sym unfailed.opens))
+  counties_stopped disk' out' unfailed failure is = absurd is
+
+-- a filter is refused
+pub filter_carried : {request : Request} {disk disk' : Disk} {out : Writer} (text : List ℕ) (score : Option NumericColumn)
+    (failure : Failure) → IsFilterFailure text score failure
+    → ((refusal : RefusalParts) → IsFilterRefusal text score refusal → IsFilterRefused request disk.known refusal)
+    → IsUnfailed disk disk' → CarriesOut request (Err failure) disk disk' out out
+filter_carried text score (Filter refusal note) is each counts =
+    record { outcome = (each refusal is, refl); names = tt; counts = λ other. counts; unflushed = refl }
+filter_carried text score Memory is each counts =
+    record { outcome = refl; names = tt; counts = λ other. counts; unflushed = refl }
+filter_carried text score failure is each counts = absurd is
+
+pub filter_usage : (text : List ℕ) (score : Option NumericColumn) (failure : Failure) → IsFilterFailure text score failure
+    → status failure ≢ 2
+filter_usage text score failure is two = grind (arith, refusal_not_usage, is, two)
+
+-- its program's extracts
+module _ {disk disk' : Disk} {out out' : Writer} (asked : Select) {program : List ℕ}
+    (is_program : IsProgramOf asked.filter.now asked.compiling.score program) where
+  pub select_carried : (result : Result (Unit {0}) Failure)
+      → SelectsCounties asked.«data».now program (codes_of asked) result disk disk' out out'
+      → IfErr result (NamesFile (IsFileOfCounties asked.«data».now (codes_of asked))) → TellsCounts result disk disk'
+      → out'.counts.flushes ≡ out.counts.flushes → CarriesOut (request.Select asked) result disk disk' out out'
+  select_carried (Ok done) is names counts unflushed =
+      record { outcome = (program, is_program, is); names = names; counts = counts; unflushed = unflushed }
+  select_carried (Err (Write fault)) is names counts unflushed =
+      record { outcome = (program, is_program, is); names = names; counts = counts; unflushed = unflushed }
+  select_carried (Err (County code refusal)) is names counts unflushed =
+      record { outcome = ((program, is_program, is.0), is.1); names = names; counts = counts; unflushed = unflushed }
+  select_carried (Err (CountyFile folder code file error)) is names counts unflushed =
+      record { outcome = ((program, is_program, is.0), is.1); names = names; counts = counts; unflushed = unflushed }
+  select_carried (Err failure) is names counts unflushed = absurd is
+
+-- the same, as it is called: the text, the program and the codes are lent
+pub select_lent : {disk disk' : Disk} {out out' : Writer} (asked : Select) {text lent program : List ℕ} {codes : List (Bor (List ℕ))}
+    (result : Result (Unit {0}) Failure) → text ≡ asked.filter.now → lent ≡ program → codes ≡ asked.codes.items
+    → IsProgramOf text asked.compiling.score program → SelectsCounties asked.«data».now lent (texts codes) result disk disk' out out'
+    → IfErr result (NamesFile (IsFileOfCounties asked.«data».now (texts codes))) → TellsCounts result disk disk'
+    → out'.counts.flushes ≡ out.counts.flushes → CarriesOut (request.Select asked) result disk disk' out out'
+select_lent {disk} {disk'} {out} {out'} asked {program = program} {codes = codes} result same_text same same_codes is selects names =
+    select_carried asked (subst (λ (text : List ℕ). IsProgramOf text asked.compiling.score program) same_text is) result
+    (subst (λ (codes : List (Bor (List ℕ))). SelectsCounties asked.«data».now program (texts codes) result disk disk' out out') same_codes
+    (subst (λ (program : List ℕ). SelectsCounties asked.«data».now program (texts codes) result disk disk' out out') same selects))
+    (subst (λ (codes : List (Bor (List ℕ))). IfErr result (NamesFile (IsFileOfCounties asked.«data».now (texts codes)))) same_codes names)
+
+pub select_usage : (folder program : List ℕ) (codes : List (List ℕ)) (disk disk' : Disk) (out out' : Writer) (failure : Failure)
+    → SelectsCounties folder program codes (Err failure) disk disk' out out' → status failure ≢ 2
+select_usage folder program codes disk disk' out out' failure is two = grind (arith, refusal_not_usage, is, two)

@@ -1,0 +1,16 @@
+use Rattle.std.proofs.Common.{ℕ, List, refl, subst}
+use Rattle.commands.specs.Filter.{IsFilterRefusal}
+use Rattle.commands.proofs.SelectLemmas.{filter_carried, select_lent}
+use Rattle.commands.proofs.select.Select.carry_out.Goals as goal
+
+pub returns-in-Err-clause-carried : goal.returns-in-Err-clause-carried
+returns-in-Err-clause-carried g c =
+    filter_carried c.as_bytes.result.now c.args.self.compiling.score c.in-Err.failure c.in-Err.ensures.err
+    (λ refusal. subst (λ (text : List ℕ). IsFilterRefusal text c.args.self.compiling.score refusal) c.as_bytes.ensures.value)
+    (record { opens = refl; reads = refl })
+
+pub returns-clause-carried : goal.returns-clause-carried
+returns-clause-carried g c =
+    select_lent c.args.self c.select_counties.result c.as_bytes.ensures.value c.as_slice.ensures.value c.as_slice-2.ensures.value
+    c.in-Ok.ensures.ok c.select_counties.ensures.outcome c.select_counties.ensures.names c.select_counties.ensures.counts
+    c.select_counties.ensures.unflushed

@@ -1,0 +1,42 @@
+use Rattle.std.proofs.Common.{ap, refl, ◌∙◌}
+use Rattle.tl_fields.specs.Device.{WriteCounts, writer}
+use Rattle.commands.specs.Files.{disk}
+use Rattle.commands.specs.Select.{none}
+use Rattle.commands.proofs.CountiesLemmas.{named_behind}
+use Rattle.commands.proofs.FileLemmas.{unfailed_both}
+use Rattle.commands.proofs.SelectLemmas.{counties_counts, counties_stopped, written_more}
+use Rattle.commands.proofs.select.select_counties.Goals as goal
+
+pub loop-code-init : goal.loop-code-init
+loop-code-init g c = record { written = none; stay = λ name. refl; counts = record { opens = refl; reads = refl } }
+
+pub returns-in-Err-clause-outcome : goal.returns-in-Err-clause-outcome
+returns-in-Err-clause-outcome g c = let so_far = c.loop-code.invariant in
+    counties_stopped (disk g.F.Files.bytes g.F.Files.failed_opens g.F.Files.failed_reads c.args.files.now)
+    (disk g.F.Files.bytes g.F.Files.failed_opens g.F.Files.failed_reads c.loop-code.files) so_far.stay c.args.codes.now
+    c.loop-code.code-index _ c.loop-code-test.true so_far.written
+    (disk g.F.Files.bytes g.F.Files.failed_opens g.F.Files.failed_reads c.select_county.new.files)
+    (writer g.W.Write.contents g.W.CountedWrite.counts c.select_county.new.out) so_far.counts c.in-Err.failure c.in-Err.ensures.outcome
+
+pub returns-in-Err-clause-names : goal.returns-in-Err-clause-names
+returns-in-Err-clause-names g c =
+    named_behind c.args.folder.now c.args.codes.now c.loop-code.code-index _ c.loop-code-test.true c.in-Err.failure c.in-Err.ensures.names
+
+pub returns-in-Err-clause-counts : goal.returns-in-Err-clause-counts
+returns-in-Err-clause-counts g c = λ other. unfailed_both c.loop-code.invariant.counts (c.in-Err.ensures.counts other)
+
+pub returns-in-Err-clause-unflushed : goal.returns-in-Err-clause-unflushed
+returns-in-Err-clause-unflushed g c =
+    c.in-Err.ensures.unflushed ∙ ap (λ (counts : WriteCounts). counts.flushes) (counties_counts c.loop-code.invariant.written)
+
+pub loop-code-preserved : goal.loop-code-preserved
+loop-code-preserved g c = let so_far = c.loop-code.invariant in record {
+  written = written_more (disk g.F.Files.bytes g.F.Files.failed_opens g.F.Files.failed_reads c.args.files.now)
+      (disk g.F.Files.bytes g.F.Files.failed_opens g.F.Files.failed_reads c.loop-code.files) so_far.stay c.args.codes.now
+      c.loop-code.code-index _ c.loop-code-test.true so_far.written c.in-Ok.ensures.outcome;
+  stay = λ name. c.in-Ok.ensures.stay name ∙ so_far.stay name;
+  counts = unfailed_both so_far.counts c.in-Ok.ensures.counts;
+}
+
+pub returns-clause-unflushed : goal.returns-clause-unflushed
+returns-clause-unflushed g c = ap (λ (counts : WriteCounts). counts.flushes) (counties_counts c.loop-code.invariant.written)

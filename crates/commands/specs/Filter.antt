@@ -1,0 +1,48 @@
+-- The programs of filters' texts, and what a text that has none is refused for.
+use Rattle.std.specs.Prelude.{◌≡◌, ◌≤◌, ℕ, List, length, Option, IsUtf8, ⊤}
+use Rattle.std.specs.declared.alloc.Global.{Global}
+use Rattle.bpf_flow.specs.Flow.{IsForward}
+use Rattle.bpf_insn.specs.Code.{IsCodeOf}
+use Rattle.bpf_insn.specs.declared.instruction.Insn.{Insn}
+use Rattle.bpf_verify.specs.Annotation.{HasGoodAnnotation}
+use Rattle.cql2.specs.declared.column.NumericColumn.{NumericColumn}
+use Rattle.cql2.specs.declared.filter.Filter.{Filter}
+use Rattle.cql2_code.specs.Chosen.{Chooses}
+use Rattle.cql2_code.specs.CompileFault as compile_fault
+use Rattle.cql2_code.specs.Layout.{IsTooLong}
+use Rattle.cql2_code.specs.Lowering.{program_of}
+use Rattle.cql2_code.specs.declared.fault.CompileFault.TheVariants.{TooLong}
+use Rattle.cql2_text.specs.FilterFault as filter_fault
+use Rattle.cql2_text.specs.Spelled.{IsFilterText}
+use Rattle.cql2_text.specs.declared.fault.FilterFault.{FilterFault}
+use Rattle.cql2_text.specs.declared.reader.TheConstants.{TEXT_LIMIT}
+use Rattle.refusals.specs.Refusal.{RefusalParts}
+use Rattle.commands.specs.declared.failure.Failure.{Failure}
+use Rattle.commands.specs.declared.failure.Failure.TheVariants.{Filter as AFilter, Memory}
+
+-- The text spells a filter, and the program has a code that chooses the segments for which the filter is true, with their scores, and that
+-- the verifier accepts.
+pub record IsProgramOf (text : List ℕ) (score : Option NumericColumn) (program : List ℕ) : Type 0 where
+  pub filter : Filter Global
+  pub is_text : IsFilterText text filter
+  pub code : List Insn
+  pub is_code : IsCodeOf program code
+  pub chooses : Chooses code filter score
+  pub forward : IsForward code
+  pub accepted : HasGoodAnnotation code
+
+-- the text spells no filter, as far as a text may: in UTF-8, and in so many bytes at most
+abbrev pub IsNoFilter : List ℕ → Type 0
+IsNoFilter text = length text ≤ TEXT_LIMIT → IsUtf8 text → (filter : Filter Global) → ¬ IsFilterText text filter
+
+-- what a text is refused for: it spells no filter, or the filter's program is too long
+pub data IsFilterRefusal (text : List ℕ) (score : Option NumericColumn) (refusal : RefusalParts) : Type 0 where
+  of_text : (fault : FilterFault) → IsNoFilter text → refusal ≡ filter_fault.refusal fault → IsFilterRefusal text score refusal
+  of_program : (filter : Filter Global) → IsFilterText text filter → IsTooLong (program_of filter score)
+      → refusal ≡ compile_fault.refusal TooLong → IsFilterRefusal text score refusal
+
+-- a failure for a filter alone
+abbrev pub IsFilterFailure : List ℕ → Option NumericColumn → Failure → Type 0
+IsFilterFailure text score (AFilter refusal note) = IsFilterRefusal text score refusal
+IsFilterFailure text score Memory = ⊤
+IsFilterFailure text score failure = ⊥

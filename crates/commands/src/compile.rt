@@ -1,0 +1,45 @@
+//! `compile`: the program of a filter.
+ghost use Rattle.std.specs.Prelude.{◌≢◌, IfErr};
+ghost use Rattle.tl_fields.specs.Device.{writer};
+ghost use Rattle.commands.specs.Command.{CarriesOut};
+ghost use Rattle.commands.specs.Failure.{status};
+ghost use Rattle.commands.specs.Files.{disk};
+ghost use Rattle.commands.specs.declared.request.Request.{Request};
+
+use crate::failure::{Failure, write};
+use crate::files::{Files, read_file};
+use crate::filter::Compiling;
+use std::alloc::Allocator;
+use tl_fields::CountedWrite;
+
+/// What `compile` is asked for.
+#[derive(Clone, Copy)]
+pub struct Compile<'a> {
+    /// The file of the filter's text (CQL2).
+    pub filter: &'a str,
+    pub compiling: Compiling,
+}
+
+impl<'a> Compile<'a> {
+    /// Reads the filter to its end, and writes the words of its program.
+    pub fn carry_out<A: Allocator + Copy, F: Files, W: CountedWrite>(
+        self,
+        alloc: A,
+        files: &mut F,
+        out: &mut W,
+    ) -> Result<(), Failure<'a>>
+        ensures carried { CarriesOut (Request.Compile self.entry) result
+            (disk F.bytes F.failed_opens F.failed_reads files.old) (disk F.bytes F.failed_opens F.failed_reads files.new)
+            (writer W.contents W.counts out.old) (writer W.contents W.counts out.new) }
+        ensures usage { IfErr result (λ failure. status failure ≢ 2) }
+    {
+        let text = match read_file(alloc, files, self.filter) {
+            Ok(text) => text,
+            Err(fault) => return Err(Failure::of_file(self.filter, fault)),
+        };
+        match self.compiling.program(alloc, text.as_slice()) {
+            Ok(program) => write(out, program.as_slice()),
+            Err(failure) => Err(failure),
+        }
+    }
+}

@@ -1,0 +1,113 @@
+//! `select`: the rows of the segments for which a filter is true, over counties.
+ghost use Rattle.std.specs.Prelude.{◌≡◌, ◌≢◌, ℕ, List, map, IfErr};
+ghost use Rattle.tl_fields.specs.Device.{writer};
+ghost use Rattle.commands.specs.Command.{CarriesOut};
+ghost use Rattle.commands.specs.Counties.{IsFileOfCounties};
+ghost use Rattle.commands.specs.County.{IsFileOfCounty};
+ghost use Rattle.commands.specs.Failure.{NamesFile, TellsCounts, status};
+ghost use Rattle.commands.specs.Files.{disk};
+ghost use Rattle.commands.specs.Select.{SelectsCounties, SelectsCounty};
+ghost use Rattle.commands.specs.declared.request.Request.{Request};
+
+use crate::county::{close_county, open_county};
+use crate::failure::Failure;
+use crate::files::Files;
+use crate::filter::Compiling;
+use std::alloc::Allocator;
+use tl_fields::CountedWrite;
+
+/// What `select` is asked for.
+#[derive(Drop)]
+pub struct Select<'a> {
+    /// The filter's text (CQL2).
+    pub filter: &'a str,
+    pub compiling: Compiling,
+    /// The folder of the county files.
+    pub data: &'a str,
+    /// The counties: five digits each, of the state and of the county in it.
+    pub codes: Vec<&'a str>,
+}
+
+impl<'a> Select<'a> {
+    /// Compiles the filter, and then writes the extract of each county, up to the first fault.
+    pub fn carry_out<A: Allocator + Copy, F: Files, W: CountedWrite>(
+        self,
+        alloc: A,
+        files: &mut F,
+        out: &mut W,
+    ) -> Result<(), Failure<'a>>
+        ensures carried { CarriesOut (Request.Select self.entry) result
+            (disk F.bytes F.failed_opens F.failed_reads files.old) (disk F.bytes F.failed_opens F.failed_reads files.new)
+            (writer W.contents W.counts out.old) (writer W.contents W.counts out.new) }
+        ensures usage { IfErr result (λ failure. status failure ≢ 2) }
+    {
+        let program = match self.compiling.program(alloc, self.filter.as_bytes()) {
+            Ok(program) => program,
+            Err(failure) => return Err(failure),
+        };
+        select_counties(
+            alloc,
+            files,
+            program.as_slice(),
+            self.data,
+            self.codes.as_slice(),
+            out,
+        )
+    }
+}
+
+/// Writes the extracts of the counties of these codes, in their order, up to the first fault.
+fn select_counties<'a, A: Allocator + Copy, F: Files, W: CountedWrite>(
+    alloc: A,
+    files: &mut F,
+    program: &[u8],
+    folder: &'a str,
+    codes: &[&'a str],
+    out: &mut W,
+) -> Result<(), Failure<'a>>
+    ensures outcome { SelectsCounties folder.now program.now (map (λ code. code.now) codes.now) result
+        (disk F.bytes F.failed_opens F.failed_reads files.old) (disk F.bytes F.failed_opens F.failed_reads files.new)
+        (writer W.contents W.counts out.old) (writer W.contents W.counts out.new) }
+    ensures names { IfErr result (NamesFile (IsFileOfCounties folder.now (map (λ code. code.now) codes.now))) }
+    ensures counts { TellsCounts result (disk F.bytes F.failed_opens F.failed_reads files.old)
+        (disk F.bytes F.failed_opens F.failed_reads files.new) }
+    ensures unflushed { (W.counts out.new).flushes ≡ (W.counts out.old).flushes }
+{
+    for code in codes {
+        match select_county(alloc, files, program, folder, code, out) {
+            Ok(()) => {}
+            Err(failure) => return Err(failure),
+        }
+    }
+    Ok(())
+}
+
+/// Opens the files of a county in the folder of the data, and writes its extract.
+fn select_county<'a, A: Allocator + Copy, F: Files, W: CountedWrite>(
+    alloc: A,
+    files: &mut F,
+    program: &[u8],
+    folder: &'a str,
+    code: &'a str,
+    out: &mut W,
+) -> Result<(), Failure<'a>>
+    ensures outcome { SelectsCounty folder.now program.now code.now result
+        (disk F.bytes F.failed_opens F.failed_reads files.old) (disk F.bytes F.failed_opens F.failed_reads files.new)
+        (writer W.contents W.counts out.old) (writer W.contents W.counts out.new) }
+    ensures names { IfErr result (NamesFile (IsFileOfCounty folder.now code.now)) }
+    ensures stay { (other : List ℕ) → F.bytes files.new other ≡ F.bytes files.old other }
+    ensures counts { TellsCounts result (disk F.bytes F.failed_opens F.failed_reads files.old)
+        (disk F.bytes F.failed_opens F.failed_reads files.new) }
+    ensures unflushed { (W.counts out.new).flushes ≡ (W.counts out.old).flushes }
+{
+    let mut inputs = match open_county(alloc, files, folder, code) {
+        Ok(inputs) => inputs,
+        Err(fault) => return Err(Failure::of_opening(folder, code, fault)),
+    };
+    let extracted = inputs.extract(alloc, program, out);
+    close_county(files, inputs);
+    match extracted {
+        Ok(_) => Ok(()),
+        Err(fault) => Err(Failure::of_county_extract(code, fault)),
+    }
+}
