@@ -17,9 +17,11 @@ macro_rules! help_end {
 }
 
 mod assemble;
+mod compile;
 mod disassemble;
 mod geocoder;
 mod run;
+mod select;
 mod serve;
 mod trace;
 mod verify;
@@ -63,6 +65,8 @@ fn request<'a>(
         "geocode" => Ok(Request::Geocode(geocoder::request(alloc, matches)?)),
         "verify" => Ok(Request::Verify(verify::request(matches)?)),
         "asm" => Ok(Request::Assemble(assemble::request(matches)?)),
+        "compile" => Ok(Request::Compile(compile::request(alloc, matches)?)),
+        "select" => Ok(Request::Select(select::request(alloc, matches)?)),
         "dis" => Ok(Request::Disassemble(disassemble::request(matches)?)),
         _ => Err(ArgumentsFault::Missing("COMMAND")),
     }
@@ -73,11 +77,13 @@ fn program_command<'a>(alloc: Global) -> Result<Command<'a>, AllocError> {
     Command::new(alloc, "extractd")
         .bin_name("extractd")?
         .about(
-            "Extracts the TIGER/Line street segments that a BPF program chooses, finds house numbers, verifies and converts programs, and does so over HTTP",
+            "Extracts the TIGER/Line street segments that a filter or a BPF program chooses, finds house numbers, verifies and converts programs, and does so over HTTP",
         )
         .version("0.1.0")
         .after_help(help_end!(
             "Examples:
+  extractd select --where \"CFCC LIKE 'A4%' AND ZIPL = 36067\" --data tiger 01001 > rows.tsv
+  extractd compile --filter street.cql2 > street.bpf
   extractd run --program street.bpf --data tiger 01001 > rows.tsv
   extractd trace --program street.bpf --data tiger --line 12 --limit 4096 01001
   extractd geocode --data tiger --number 151 --name main --zip 36067 01001
@@ -89,6 +95,8 @@ fn program_command<'a>(alloc: Global) -> Result<Command<'a>, AllocError> {
         .no_binary_name(true)
         .disable_help_subcommand(true)
         .subcommand_required(true)
+        .subcommand(select::command(alloc)?)?
+        .subcommand(compile::command(alloc)?)?
         .subcommand(run::command(alloc)?)?
         .subcommand(trace::command(alloc)?)?
         .subcommand(geocoder::command(alloc)?)?

@@ -39,6 +39,8 @@ pub enum ArgumentsFault<'a> {
     },
     /// This name isn't 1 to 30 bytes.
     Name(&'a str),
+    /// No column of this name has numbers.
+    Score(&'a str),
     /// This port isn't 1 to 65535.
     Port(&'a str),
     /// `serve`, which is no command over files.
@@ -100,6 +102,12 @@ impl ArgumentsFault<'_> {
                 write!(
                     line,
                     "error: --name is 1 to {NAME_LENGTH} bytes, and \"{name}\" isn't\n"
+                )
+            }
+            ArgumentsFault::Score(name) => {
+                write!(
+                    line,
+                    "error: --score is a column with numbers, and \"{name}\" isn't\n"
                 )
             }
             ArgumentsFault::Port(text) => {

@@ -3,6 +3,9 @@ ghost use Rattle.std.specs.Prelude.{◌≤◌, IfOk, vec_len};
 
 use crate::fault::ArgumentsFault;
 use clap::{Arg, ArgAction, ArgMatches};
+use commands::Compiling;
+use cql2::{Column, NumericColumn};
+use cql2_text::column_named;
 use std::alloc::Global;
 
 /// The option `--name VALUE`, which has to be given.
@@ -76,6 +79,39 @@ fn five_digits<'a>(code: &'a str) -> Result<&'a str, ArgumentsFault<'a>> {
         return Err(ArgumentsFault::Code(code));
     }
     Ok(code)
+}
+
+/// The option `--score COLUMN`.
+pub fn score_option<'a>(alloc: Global) -> Arg<'a> {
+    option(
+        alloc,
+        "score",
+        "COLUMN",
+        "The column whose number is the score of a row, 0 without one",
+    )
+    .required(false)
+}
+
+/// What a filter is compiled with.
+pub fn compiling<'a>(
+    alloc: Global,
+    matches: &ArgMatches<'a>,
+) -> Result<Compiling, ArgumentsFault<'a>> {
+    Ok(Compiling {
+        score: match matches.get_str("score") {
+            Some(name) => Some(numeric_column(name)?),
+            None => None,
+        },
+        filters: alloc,
+    })
+}
+
+/// The column of this name that has numbers, or is a coordinate.
+fn numeric_column<'a>(name: &'a str) -> Result<NumericColumn, ArgumentsFault<'a>> {
+    match column_named(name.as_bytes()) {
+        Some(Column::Numeric(column)) => Ok(column),
+        _ => Err(ArgumentsFault::Score(name)),
+    }
 }
 
 /// The number of an option that has to be given: 1 to so many digits.

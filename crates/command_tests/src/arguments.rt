@@ -18,6 +18,13 @@ extractd run --program p.bpf --data d 010010; error: CODE is five digits, and "0
 extractd run --program p.bpf --data d 0100a; error: CODE is five digits, and "0100a" isn't
 extractd run --program p.bpf --data d 0100١; error: CODE is five digits, and "0100١" isn't
 extractd run --program p.bpf --data d ''; error: CODE is five digits, and "" isn't
+extractd select --where TRUE --data d; error:
+extractd select --data d 01001; error:
+extractd select --where TRUE --score CFCC --data d 01001; error: --score is a column with numbers, and "CFCC" isn't
+extractd select --where TRUE --score FRLATT --data d 01001;
+  error: --score is a column with numbers, and "FRLATT" isn't
+extractd compile; error:
+extractd compile f.cql; error:
 extractd verify; error:
 extractd verify --program; error:
 extractd verify p.bpf; error:
@@ -63,6 +70,8 @@ extractd --help; Extracts the TIGER/Line street segments
 extractd run --help; Writes the rows
 extractd trace --help; Says what
 extractd geocode --help; Writes where
+extractd select --help; Writes the rows of the street segments for which a filter is true
+extractd compile --help; Writes the BPF program of a filter
 extractd verify --help; Says whether
 extractd asm --help; Writes the BPF
 extractd dis --help; Writes a program
@@ -80,6 +89,8 @@ extractd geocode --data d --number 151 --name main --zip 3606x 01001; error: --z
 extractd geocode --data d --number 151 --name main 010010; error: CODE is five digits, and "010010" isn't
 extractd run;; Usage: extractd run --program <FILE> --data <DIR> <CODE>
 extractd trace;; Usage: extractd trace --program <FILE> --data <DIR> --line <N> --limit <L> <CODE>
+extractd select;; Usage: extractd select --where <TEXT> --data <DIR> <CODE>...
+extractd compile;; Usage: extractd compile --filter <FILE>
 extractd verify;; Usage: extractd verify --program <FILE>
 extractd geocode;; Usage: extractd geocode --data <DIR> --number <N> --name <TEXT> <CODE>...
 extractd asm;; Usage: extractd asm --source <FILE>
@@ -88,6 +99,8 @@ extractd frob;; Usage: extractd <COMMAND>
 extractd --help;; extractd run --program street.bpf --data tiger 01001 > rows.tsv
 extractd --help;; extractd trace --program street.bpf --data tiger --line 12 --limit 4096 01001
 extractd --help;; extractd geocode --data tiger --number 151 --name main --zip 36067 01001
+extractd --help;; extractd select --where "CFCC LIKE 'A4%' AND ZIPL = 36067" --data tiger 01001 > rows.tsv
+extractd --help;; extractd compile --filter street.cql2 > street.bpf
 extractd --help;; extractd verify --program street.bpf
 extractd --help;; extractd asm --source street.s > street.bpf
 extractd --help;; extractd dis --program street.bpf

@@ -18,9 +18,9 @@ pub struct Case<'a> {
     pub files: Vec<MemoryFile<'a>>,
 }
 
-// Makes words of a command line, with a separator of units between them: in a word `_` is a blank, and `''` is an empty
-// one.
-const SEPARATORS: [(&str, &str); 3] = [("''", ""), (" ", "\x1f"), ("_", " ")];
+// Makes words of a command line, with a separator of units between them: in a word `_` is a blank and `~` an underscore,
+// and `''` is an empty one.
+const SEPARATORS: [(&str, &str); 4] = [("''", ""), (" ", "\x1f"), ("_", " "), ("~", "_")];
 
 /// How the access to the file of a name, the output and standard error fail, if they do.
 #[derive(Clone, Copy)]

@@ -3,6 +3,7 @@ use super::cases::Case;
 use super::conversions::{DOCUMENTED, PROGRAMS, SOURCES};
 use super::counties::{COUNTIES, OPENINGS};
 use super::devices::{CASES, LONG};
+use super::filters::FILTERS;
 use super::geocodes::GEOCODES;
 use super::runs::FILES;
 use fixtures::table;
@@ -19,7 +20,7 @@ pub fn is_right(alloc: Global, row: &str) -> Result<bool, AllocError> {
 #[test]
 fn endings(rt: HostRuntime) -> Result<(), Fail> {
     for rows in [
-        SOURCES, DOCUMENTED, PROGRAMS, COUNTIES, OPENINGS, FILES, GEOCODES, CASES,
+        SOURCES, DOCUMENTED, PROGRAMS, COUNTIES, OPENINGS, FILES, GEOCODES, FILTERS, CASES,
     ] {
         for row in table(rt.alloc(), rows.trim())?.lines() {
             assert!(rt; is_right(rt.alloc(), row)?, "{row}");

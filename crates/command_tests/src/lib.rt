@@ -16,6 +16,8 @@ mod endings;
 #[cfg(test)]
 mod files;
 #[cfg(test)]
+mod filters;
+#[cfg(test)]
 mod geocodes;
 #[cfg(test)]
 mod reads;

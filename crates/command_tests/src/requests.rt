@@ -1,6 +1,8 @@
 //! Requests of commands on files, made without a command line.
 use super::files::MemoryFiles;
-use commands::{Assemble, Disassemble, Geocode, Request, Run, Trace, Verify};
+use commands::{
+    Assemble, Compile, Compiling, Disassemble, Geocode, Request, Run, Select, Trace, Verify,
+};
 use fixtures::{Refusing, Writer};
 use geocode::Query;
 use std::alloc::Global;
@@ -54,7 +56,27 @@ fn request_of<'a>(alloc: Global, words: &[&'a str]) -> Option<Request<'a>> {
         ["verify", "--program", program] => Some(Request::Verify(Verify { program })),
         ["asm", "--source", source] => Some(Request::Assemble(Assemble { source })),
         ["dis", "--program", program] => Some(Request::Disassemble(Disassemble { program })),
+        ["compile", "--filter", filter] => Some(Request::Compile(Compile {
+            filter,
+            compiling: compiling(alloc),
+        })),
+        ["select", "--where", filter, "--data", data, codes @ ..] => {
+            Some(Request::Select(Select {
+                filter,
+                compiling: compiling(alloc),
+                data,
+                codes: codes.to_vec(alloc).ok()?,
+            }))
+        }
         _ => None,
+    }
+}
+
+/// Without a score.
+fn compiling(alloc: Global) -> Compiling {
+    Compiling {
+        score: None,
+        filters: alloc,
     }
 }
 

@@ -1,0 +1,40 @@
+//! The arguments of `compile`.
+use crate::fault::ArgumentsFault;
+use crate::options::{compiling, option, score_option, value};
+use clap::{ArgMatches, Command};
+use commands::Compile;
+use std::alloc::{AllocError, Global};
+
+/// The file that a system calls its standard input.
+const STANDARD_INPUT: &str = "/dev/stdin";
+
+pub fn command<'a>(alloc: Global) -> Result<Command<'a>, AllocError> {
+    Command::new(alloc, "compile")
+        .about("Writes the BPF program of a filter")
+        .after_help(help_end!(
+            "Example:
+  echo \"CFCC LIKE 'A4%' AND ZIPL = 36067\" | extractd compile --filter - > street.bpf"
+        ))
+        .arg(option(
+            alloc,
+            "filter",
+            "FILE",
+            "The filter, as CQL2 text; - is the standard input",
+        ))?
+        .arg(score_option(alloc))
+}
+
+/// What the arguments that were matched ask for.
+pub fn request<'a>(
+    alloc: Global,
+    matches: &ArgMatches<'a>,
+) -> Result<Compile<'a>, ArgumentsFault<'a>> {
+    let filter = match value(matches, "filter")? {
+        "-" => STANDARD_INPUT,
+        name => name,
+    };
+    Ok(Compile {
+        filter,
+        compiling: compiling(alloc, matches)?,
+    })
+}

@@ -1,0 +1,39 @@
+//! The arguments of `select`.
+use crate::fault::ArgumentsFault;
+use crate::options::{codes, compiling, counties_option, option, score_option, value};
+use clap::{ArgMatches, Command};
+use commands::Select;
+use std::alloc::{AllocError, Global};
+
+pub fn command<'a>(alloc: Global) -> Result<Command<'a>, AllocError> {
+    Command::new(alloc, "select")
+        .about("Writes the rows of the street segments for which a filter is true")
+        .after_help(help_end!(
+            "Output, a row for each segment: as run writes it. The counties follow each other, up to the first fault.
+
+Example:
+  extractd select --where \"CFCC LIKE 'A4%' AND ZIPL = 36067\" --data tiger 01001 > rows.tsv"
+        ))
+        .arg(option(alloc, "where", "TEXT", "The filter, as CQL2 text"))?
+        .arg(score_option(alloc))?
+        .arg(option(
+            alloc,
+            "data",
+            "DIR",
+            "The folder of the TIGER/Line 2006 files",
+        ))?
+        .arg(counties_option(alloc))
+}
+
+/// What the arguments that were matched ask for.
+pub fn request<'a>(
+    alloc: Global,
+    matches: &ArgMatches<'a>,
+) -> Result<Select<'a>, ArgumentsFault<'a>> {
+    Ok(Select {
+        filter: value(matches, "where")?,
+        compiling: compiling(alloc, matches)?,
+        data: value(matches, "data")?,
+        codes: codes(alloc, matches)?,
+    })
+}

@@ -1,0 +1,39 @@
+//! Rows of the commands `compile` and `select`. The programs of filters are laid out by hand.
+
+pub const FILTERS: &str = r"
+extractd compile --filter f.cql > f.cql; {asm mov r6, r1 | ldxb r0, [r6+55] | jne r0, 65, +4 | ldxb r0, [r6+56] |
+  jne r0, 52, +2 | mov r0, 1 | exit | mov r0, 0 | exit}; 0;; f.cql: CFCC LIKE 'A4%'\n
+extractd compile --score TLID --filter f.cql; {asm mov r6, r1 | mov r1, 0 | call 1 | mov r1, r0 | call 8 | mov r0, 1 |
+  exit | mov r0, 0 | exit}; 0;; f.cql: TRUE
+extractd compile --filter f.cql;; 1; refused 91 line 2 column 1 UnknownColumn\nno column has this name, and the nearest
+  is FENAME; f.cql: TRUE AND\nFNAME = 'Main'
+extractd compile --filter f.cql;; 1; refused 90 line 1 column 7 Syntax\nexpected a number; f.cql: ZIPL =
+extractd compile --filter f.cql;; 1; refused 90 line 2 column 1 Syntax\nexpected UTF-8; f.cql: \n\xff
+extractd compile --filter f.cql;; 1; refused 96 line 1 column 1 TooLong\nthe program would have more than 65,536 words,
+  or a jump over more than 32,767; f.cql: {HAS_NUMBER(99999999999) OR *13}HAS_NUMBER(99999999999)
+extractd compile --filter f.cql;; 1; refused 96 line 1 column 1048577 TooLong\nthe text has more than 1,048,576 bytes;
+  f.cql: {        *131072}TRUE
+extractd compile --filter f.cql;; 3; error: f.cql: not found
+extractd compile --filter - > /dev/stdin;; 3; error: /dev/stdin: not found
+extractd select --where ZIPL_=_36067 --data d 01001; 0\t{rt1}\n0\t{rt1 TLID=7}\n; 0;;
+  d/TGR01001.RT1: {rt1}\n{rt1 ZIPL=36066}\n{rt1 ZIPL=}\n{rt1 TLID=7}
+extractd select --where FALSE --data d 01001;; 0;; d/TGR01001.RT1: {rt1}\n
+extractd select --where TRUE --score ZIPL --data d 01003 01001; 0\t{rt1 ZIPL=}\n36067\t{rt1}\n; 0;;
+  d/TGR01001.RT1: {rt1}\n; d/TGR01003.RT1: {rt1 ZIPL=}\n
+extractd select --where TRUE --score frlat --data d 01001; 32400000\t{rt1}\n; 0;; d/TGR01001.RT1: {rt1}\n
+extractd select --where HAS~NAME('oak') --data d 01001; 0\t{rt1}\n; 0;; d/TGR01001.RT1: {rt1}\n{rt1 TLID=7}\n;
+  d/TGR01001.RT4: {rt4}\n; d/TGR01001.RT5: {rt5}\n
+extractd select --where TRUE --data d 01001 01003 > d/TGR01001.RT1 d/TGR01001.RT4 d/TGR01001.RT5 d/TGR01001.RT6
+  d/TGR01003.RT1 d/TGR01003.RT4 d/TGR01003.RT5 d/TGR01003.RT6; 0\t{rt1}\n0\t{rt1 TLID=7}\n; 0;;
+  d/TGR01001.RT1: {rt1}\n; d/TGR01003.RT1: {rt1 TLID=7}\n
+extractd select --where TRUE --data d 01001 01003 01005; 0\t{rt1}\n0\t{rt1}\n; 1; refused 1 rt1 line 2 WrongLength\ncounty
+  01003; d/TGR01001.RT1: {rt1}\n; d/TGR01003.RT1: {rt1}\n{rt1 ..227}\n; d/TGR01005.RT1: {rt1}\n
+extractd select --where TRUE --data d 01001 01003; 0\t{rt1}\n; 3; error: d/TGR01003.RT1: not found;
+  d/TGR01001.RT1: {rt1}\n
+extractd select --where TRUE --data d 01001 01003; 0\t{rt1}\n; 3; refused 5 rt1 line 1 Read\ncounty 01003;
+  d/TGR01001.RT1: {rt1}\n; d/TGR01003.RT1: ! call 1 pipe
+extractd select --where TRUE --data d 01001 01003; 0\t{rt1}\n; 4; refused memory\ncounty 01003;
+  d/TGR01001.RT1: {rt1}\n; d/TGR01003.RT1: ! closed memory
+extractd select --where ZIPL_=_'36067' --data d 01001;; 1; refused 92 line 1 column 8 WrongType\nthe column isn't of this
+  type; d/TGR01001.RT1: {rt1}\n
+";
