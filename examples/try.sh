@@ -26,10 +26,12 @@
 # Then the program over files that are missing or faulty, and the outcomes of a trace: each text of an error has to stand in docs/refusals.md. And
 # examples/verdicts/generated.txt has to be what annotations.py writes.
 #
+# Then 300 filters, whose rows have to be those that SQLite selects, by filters.py.
+#
 # At last exhaustion.sh, which stands beside it: the program without memory, room or descriptors enough.
 #
 # Prints what failed, and ends with 0 where nothing did, else with 1. It needs bash and coreutils, and takes less than two minutes. The blocks ```http
-# need curl, annotations.py and rows.py need python3, and exhaustion.sh both.
+# need curl, annotations.py and rows.py need python3, filters.py needs Python 3.11, and exhaustion.sh needs curl and python3.
 
 set -u
 export LC_ALL=C
@@ -609,6 +611,13 @@ try_rows() {
     if said=$(python3 -B examples/rows.py "$program"); then tried=$((tried + ${said%% *})); else fail "examples/rows" "$said"; fi
 }
 
+# Filters and counties are drawn, and SQLite selects the same segments.
+try_filters() {
+    local said
+    python3 -c 'import sqlite3, sys; sys.exit(sys.version_info < (3, 11))' 2> /dev/null || { skip "examples/filters.py (there is no Python 3.11 here)"; return; }
+    if said=$(python3 -B examples/filters.py 300); then tried=$((tried + ${said%% *})); else fail "examples/filters.py" "$said"; fi
+}
+
 # A program of 4,003 words, nearly all of them conditional jumps: of it `verify` and the server say the same, too.
 try_long_program() {
     mkdir -p "$scratch/long" && cd "$scratch/long" || exit 1
@@ -629,6 +638,7 @@ for rows in examples/verdicts/*.txt; do
 done
 try_long_program
 try_rows
+try_filters
 try_cases
 echo "$tried passed, $failed failed"
 "$top/examples/exhaustion.sh" "$program" || failed=$((failed + 1))
