@@ -18,8 +18,8 @@ use Rattle.commands.specs.County.{ClosesCounty, HoldCounty, IsFileOfCounty}
 use Rattle.commands.specs.Failure.{NamesFile, TellsCounts, of_county_extract, of_opening, status}
 use Rattle.commands.specs.Files.{Closes, CountsFileFault, Disk, IsUnfailed}
 use Rattle.commands.specs.Filter.{IsFilterFailure, IsFilterRefusal, IsProgramOf}
-use Rattle.commands.specs.Select.{IsCountyOutcome, IsCountyRefusal, SelectsCounties, SelectsCounty, StopsAt, WritesCounties}
-use Rattle.commands.specs.Select.{WritesCounty, codes_of, more, none}
+use Rattle.commands.specs.Select.{FailsAs, IsCountyOutcome, IsCountyRefusal, Selecting, SelectsCounties, SelectsCounty, StopsAt}
+use Rattle.commands.specs.Select.{WritesCounties, WritesCounty, codes_of, more, none, selecting}
 use Rattle.commands.specs.declared.request.Request.{Request}
 use Rattle.commands.specs.declared.request.Request.TheVariants as request
 use Rattle.commands.specs.declared.select.Select.{Select}
@@ -34,18 +34,22 @@ use Rattle.commands.proofs.ReadLemmas.{ReadsAs, closes_from, county_closed, load
 use Rattle.commands.proofs.RunLemmas.{flushes_as, load_unflushed}
 
 -- extracts that were written count no fault and no flush
-pub counties_counts : {known : List ℕ → Option (List ℕ)} {folder program : List ℕ} {out : Writer} {codes : List (List ℕ)} {out' : Writer}
-    → WritesCounties known folder program out codes out' → out'.counts ≡ out.counts
+pub counties_counts : {over : Selecting} {out : Writer} {codes : List (List ℕ)} {out' : Writer} → WritesCounties over out codes out'
+    → out'.counts ≡ out.counts
 counties_counts none = refl
 counties_counts (more code before wrote) = wrote.1.outcome.counts ∙ counties_counts before
 
 -- a county's file can't be opened
 module _ (folder code : Bor (List ℕ)) (file : county_file.CountyFile) where
-  pub opening_outcome : (disk disk' : Disk) (out : Writer) (program : List ℕ) (of : FileFault)
-      → CountsFileFault of disk.failed_opens disk'.failed_opens
-      → SelectsCounty folder.now program code.now (Err (of_opening folder code file of)) disk disk' out out
-  opening_outcome disk disk' out program (fault.Unusable error) opens = (refl, opens)
-  opening_outcome disk disk' out program fault.Memory opens = (refl, inr (refl, refl), λ three. omega (arith, three))
+  pub opening_outcome : (over : Selecting) (out : Writer) (of : FileFault)
+      → SelectsCounty over code.now (Err (of_opening folder code file of)) out out
+  opening_outcome over out (fault.Unusable error) = refl
+  opening_outcome over out fault.Memory = (refl, inr (refl, refl))
+
+  pub opening_fails : (disk disk' : Disk) (of : FileFault) → CountsFileFault of disk.failed_opens disk'.failed_opens
+      → FailsAs (of_opening folder code file of) disk disk'
+  opening_fails disk disk' (fault.Unusable error) opens = opens
+  opening_fails disk disk' fault.Memory opens = λ three. omega (arith, three)
 
   pub opening_counts : (disk disk' : Disk) (of : FileFault) → CountsFileFault of disk.failed_opens disk'.failed_opens
       → disk'.failed_reads ≡ disk.failed_reads → status (of_opening folder code file of) ≢ 3 → IsUnfailed disk disk'
@@ -56,9 +60,10 @@ module _ (folder code : Bor (List ℕ)) (file : county_file.CountyFile) where
   opening_named fault.Memory = tt
 
 -- how a county's extract stops, what it counts, and that it counts no flush
-pub record Stopped (folder program code : List ℕ) (failure : Failure) (disk disk' : Disk) (out out' : Writer) : Type 0 where
-  pub outcome : SelectsCounty folder program code (Err failure) disk disk' out out'
-  pub names : NamesFile (IsFileOfCounty folder code) failure
+pub record Stopped (over : Selecting) (code : List ℕ) (failure : Failure) (disk disk' : Disk) (out out' : Writer) : Type 0 where
+  pub outcome : SelectsCounty over code (Err failure) out out'
+  pub fails : FailsAs failure disk disk'
+  pub names : NamesFile (IsFileOfCounty over.folder code) failure
   pub counts : TellsCounts {T = Unit {0}} (Err failure) disk disk'
   pub unflushed : out'.counts.flushes ≡ out.counts.flushes
 
@@ -66,7 +71,7 @@ module _ {folder : List ℕ} (code : Bor (List ℕ)) {disk between disk' : Disk}
     {old new : CountyReaders} (hold : HoldCounty disk.known folder code.now old) (before : IsUnfailed disk between)
     (closes : Closes (ClosesCounty new) between disk') (same : bytes ≡ program) where
   outcome_of : (result : Result ℕ ExtractFault) → IsOutcome bytes result old new out out'
-      → IsCountyOutcome disk.known folder program code.now result out out'
+      → IsCountyOutcome (selecting disk.known folder program) code.now result out out'
   outcome_of result is = record {
     old = old;
     hold = hold;
@@ -74,7 +79,8 @@ module _ {folder : List ℕ} (code : Bor (List ℕ)) {disk between disk' : Disk}
     outcome = subst (λ (bytes : List ℕ). IsOutcome bytes result old new out out') same is;
   }
 
-  pub county_written : (rows : ℕ) → IsOutcome bytes (Ok rows) old new out out' → WritesCounty disk.known folder program code.now out out'
+  pub county_written : (rows : ℕ) → IsOutcome bytes (Ok rows) old new out out'
+      → WritesCounty (selecting disk.known folder program) code.now out out'
   county_written rows is = (rows, outcome_of (Ok rows) is)
 
   pub written_counts : (rows : ℕ) → IsOutcome bytes (Ok rows) old new out out' → IsUnfailed disk disk'
@@ -87,16 +93,17 @@ module _ {folder : List ℕ} (code : Bor (List ℕ)) {disk between disk' : Disk}
   stopped_so : (fault : ExtractFault) → IsOutcome bytes (Err fault) old new out out'
       → ReadsAs (status (County code (extract_fault.refusal fault))) disk.failed_reads disk'.failed_reads
       → out'.counts.flushes ≡ out.counts.flushes
-      → Stopped folder program code.now (County code (extract_fault.refusal fault)) disk disk' out out'
+      → Stopped (selecting disk.known folder program) code.now (County code (extract_fault.refusal fault)) disk disk' out out'
   stopped_so fault is reads unflushed = record {
-    outcome = (refl, inl (fault, refl, outcome_of (Err fault) is), reads.fails);
+    outcome = (refl, inl (fault, refl, outcome_of (Err fault) is));
+    fails = reads.fails;
     names = tt;
     counts = λ other. record { opens = closes.opens ∙ before.opens; reads = reads.stays other };
     unflushed = unflushed;
   }
 
   pub county_stopped : (fault : ExtractFault) → IsOutcome bytes (Err fault) old new out out'
-      → Stopped folder program code.now (of_county_extract code fault) disk disk' out out'
+      → Stopped (selecting disk.known folder program) code.now (of_county_extract code fault) disk disk' out out'
   county_stopped (extract.Program fault) is =
       stopped_so (extract.Program fault) is (sound (program_status fault) (unread_closed hold (closes_from before closes) is.unread))
       (ap (λ (writer : Writer). writer.counts.flushes) is.unwritten)
@@ -106,6 +113,7 @@ module _ {folder : List ℕ} (code : Bor (List ℕ)) {disk between disk' : Disk}
       (load_unflushed fault bytes old new out out' is)
   county_stopped (extract.Write fault) is = record {
     outcome = outcome_of (Err (extract.Write fault)) is;
+    fails = tt;
     names = tt;
     counts = λ other. absurd (other refl);
     unflushed = fault_unflushed fault is.between.counts out'.counts is.row.5 ∙ flushes_as is.before.counts;
@@ -115,24 +123,23 @@ module _ {folder : List ℕ} (code : Bor (List ℕ)) {disk between disk' : Disk}
       (sound (λ three. omega (arith, three)) (sound_closed hold (closes_from before closes) is.reads)) (flushes_as is.counts)
 
 -- after the counties of the codes before it
-module _ (disk later : Disk) (same : (name : List ℕ) → later.known name ≡ disk.known name) {folder program : List ℕ}
+module _ (known later : List ℕ → Option (List ℕ)) (same : (name : List ℕ) → later name ≡ known name) {folder program : List ℕ}
     (codes : List (Bor (List ℕ))) (i : ℕ) (d : Bor (List ℕ)) (inside : i < length codes) {out between : Writer}
-    (so_far : WritesCounties disk.known folder program out (texts (take i codes)) between) where
-  earlier : (IsSo : (List ℕ → Option (List ℕ)) → Type 0) → IsSo later.known → IsSo disk.known
-  earlier IsSo = subst IsSo (fun_ext same)
+    (so_far : WritesCounties (selecting known folder program) out (texts (take i codes)) between) where
+  earlier : (IsSo : Selecting → Type 0) → IsSo (selecting later folder program) → IsSo (selecting known folder program)
+  earlier IsSo = subst (λ (known : List ℕ → Option (List ℕ)). IsSo (selecting known folder program)) (fun_ext same)
 
   -- the county of one more code
-  pub written_more : {out' : Writer} → WritesCounty later.known folder program (get_or codes i d).now between out'
-      → WritesCounties disk.known folder program out (texts (take (i + 1) codes)) out'
+  pub written_more : {out' : Writer} → WritesCounty (selecting later folder program) (get_or codes i d).now between out'
+      → WritesCounties (selecting known folder program) out (texts (take (i + 1) codes)) out'
   written_more {out'} wrote =
-      subst (λ (codes : List (List ℕ)). WritesCounties disk.known folder program out codes out')
+      subst (λ (codes : List (List ℕ)). WritesCounties (selecting known folder program) out codes out')
       (sym (map_more (λ (code : Bor (List ℕ)). code.now) codes i d inside))
-      (more (get_or codes i d).now so_far
-      (earlier (λ known. WritesCounty known folder program (get_or codes i d).now between out') wrote))
+      (more (get_or codes i d).now so_far (earlier (λ over. WritesCounty over (get_or codes i d).now between out') wrote))
 
   -- it stops at that code
   stopped_behind : {StopsSo : List ℕ → Writer → Type 0} → StopsSo (get_or codes i d).now between
-      → StopsAt disk.known folder program (texts codes) out StopsSo
+      → StopsAt (selecting known folder program) (texts codes) out StopsSo
   stopped_behind is = record {
     before = texts (take i codes);
     code = (get_or codes i d).now;
@@ -143,20 +150,22 @@ module _ (disk later : Disk) (same : (name : List ℕ) → later.known name ≡ 
     stops = is;
   }
 
-  pub counties_stopped : (disk' : Disk) (out' : Writer) → IsUnfailed disk later → (failure : Failure)
-      → SelectsCounty folder program (get_or codes i d).now (Err failure) later disk' between out'
-      → SelectsCounties folder program (texts codes) (Err failure) disk disk' out out'
-  counties_stopped disk' out' unfailed (Write fault) is =
-      stopped_behind
-      (earlier (λ known. IsCountyOutcome known folder program (get_or codes i d).now (Err (extract.Write fault)) between out') is)
-  counties_stopped disk' out' unfailed (County code refusal) is = (
-    stopped_behind
-        (sym is.0, earlier (λ known. IsCountyRefusal known folder program (get_or codes i d).now refusal between out') is.1),
-    λ three as_before. is.2 three (as_before ∙ sym unfailed.reads),
-  )
-  counties_stopped disk' out' unfailed (CountyFile of_folder code file error) is =
-      (stopped_behind is.0, λ as_before. is.1 (as_before ∙ sym unfailed.opens))
-  counties_stopped disk' out' unfailed failure is = absurd is
+  pub counties_stopped : (out' : Writer) (failure : Failure)
+      → SelectsCounty (selecting later folder program) (get_or codes i d).now (Err failure) between out'
+      → SelectsCounties (selecting known folder program) (texts codes) (Err failure) out out'
+  counties_stopped out' (Write fault) is =
+      stopped_behind (earlier (λ over. IsCountyOutcome over (get_or codes i d).now (Err (extract.Write fault)) between out') is)
+  counties_stopped out' (County code refusal) is =
+      stopped_behind (sym is.0, earlier (λ over. IsCountyRefusal over (get_or codes i d).now refusal between out') is.1)
+  counties_stopped out' (CountyFile of_folder code file error) is = stopped_behind is
+  counties_stopped out' failure is = absurd is
+
+-- the same failure from earlier on, where no open failed and no read
+pub fails_behind : (failure : Failure) (disk later disk' : Disk) → IsUnfailed disk later → FailsAs failure later disk'
+    → FailsAs failure disk disk'
+fails_behind (County code refusal) disk later disk' unfailed is = λ three as_before. is three (as_before ∙ sym unfailed.reads)
+fails_behind (CountyFile folder code file error) disk later disk' unfailed is = λ as_before. is (as_before ∙ sym unfailed.opens)
+fails_behind failure disk later disk' unfailed is = tt
 
 -- a filter is refused
 pub filter_carried : {request : Request} {disk disk' : Disk} {out : Writer} (text : List ℕ) (score : Option NumericColumn)
@@ -177,31 +186,36 @@ filter_usage text score failure is two = grind (arith, refusal_not_usage, is, tw
 module _ {disk disk' : Disk} {out out' : Writer} (asked : Select) {program : List ℕ}
     (is_program : IsProgramOf asked.filter.now asked.compiling.score program) where
   pub select_carried : (result : Result (Unit {0}) Failure)
-      → SelectsCounties asked.«data».now program (codes_of asked) result disk disk' out out'
+      → SelectsCounties (selecting disk.known asked.«data».now program) (codes_of asked) result out out'
+      → IfErr result (λ failure. FailsAs failure disk disk')
       → IfErr result (NamesFile (IsFileOfCounties asked.«data».now (codes_of asked))) → TellsCounts result disk disk'
       → out'.counts.flushes ≡ out.counts.flushes → CarriesOut (request.Select asked) result disk disk' out out'
-  select_carried (Ok done) is names counts unflushed =
+  select_carried (Ok done) is fails names counts unflushed =
       record { outcome = (program, is_program, is); names = names; counts = counts; unflushed = unflushed }
-  select_carried (Err (Write fault)) is names counts unflushed =
+  select_carried (Err (Write fault)) is fails names counts unflushed =
       record { outcome = (program, is_program, is); names = names; counts = counts; unflushed = unflushed }
-  select_carried (Err (County code refusal)) is names counts unflushed =
-      record { outcome = ((program, is_program, is.0), is.1); names = names; counts = counts; unflushed = unflushed }
-  select_carried (Err (CountyFile folder code file error)) is names counts unflushed =
-      record { outcome = ((program, is_program, is.0), is.1); names = names; counts = counts; unflushed = unflushed }
-  select_carried (Err failure) is names counts unflushed = absurd is
+  select_carried (Err (County code refusal)) is fails names counts unflushed =
+      record { outcome = ((program, is_program, is), fails); names = names; counts = counts; unflushed = unflushed }
+  select_carried (Err (CountyFile folder code file error)) is fails names counts unflushed =
+      record { outcome = ((program, is_program, is), fails); names = names; counts = counts; unflushed = unflushed }
+  select_carried (Err failure) is fails names counts unflushed = absurd is
 
 -- the same, as it is called: the text, the program and the codes are lent
 pub select_lent : {disk disk' : Disk} {out out' : Writer} (asked : Select) {text lent program : List ℕ} {codes : List (Bor (List ℕ))}
     (result : Result (Unit {0}) Failure) → text ≡ asked.filter.now → lent ≡ program → codes ≡ asked.codes.items
-    → IsProgramOf text asked.compiling.score program → SelectsCounties asked.«data».now lent (texts codes) result disk disk' out out'
+    → IsProgramOf text asked.compiling.score program
+    → SelectsCounties (selecting disk.known asked.«data».now lent) (texts codes) result out out'
+    → IfErr result (λ failure. FailsAs failure disk disk')
     → IfErr result (NamesFile (IsFileOfCounties asked.«data».now (texts codes))) → TellsCounts result disk disk'
     → out'.counts.flushes ≡ out.counts.flushes → CarriesOut (request.Select asked) result disk disk' out out'
-select_lent {disk} {disk'} {out} {out'} asked {program = program} {codes = codes} result same_text same same_codes is selects names =
+select_lent {disk} {disk'} {out} {out'} asked {program = program} {codes = codes} result same_text same same_codes is selects fails names =
     select_carried asked (subst (λ (text : List ℕ). IsProgramOf text asked.compiling.score program) same_text is) result
-    (subst (λ (codes : List (Bor (List ℕ))). SelectsCounties asked.«data».now program (texts codes) result disk disk' out out') same_codes
-    (subst (λ (program : List ℕ). SelectsCounties asked.«data».now program (texts codes) result disk disk' out out') same selects))
+    (subst (λ (codes : List (Bor (List ℕ))).
+      SelectsCounties (selecting disk.known asked.«data».now program) (texts codes) result out out') same_codes
+    (subst (λ (program : List ℕ). SelectsCounties (selecting disk.known asked.«data».now program) (texts codes) result out out') same selects))
+    fails
     (subst (λ (codes : List (Bor (List ℕ))). IfErr result (NamesFile (IsFileOfCounties asked.«data».now (texts codes)))) same_codes names)
 
-pub select_usage : (folder program : List ℕ) (codes : List (List ℕ)) (disk disk' : Disk) (out out' : Writer) (failure : Failure)
-    → SelectsCounties folder program codes (Err failure) disk disk' out out' → status failure ≢ 2
-select_usage folder program codes disk disk' out out' failure is two = grind (arith, refusal_not_usage, is, two)
+pub select_usage : (over : Selecting) (codes : List (List ℕ)) (out out' : Writer) (failure : Failure)
+    → SelectsCounties over codes (Err failure) out out' → status failure ≢ 2
+select_usage over codes out out' failure is two = grind (arith, refusal_not_usage, is, two)

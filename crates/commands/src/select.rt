@@ -6,7 +6,7 @@ ghost use Rattle.commands.specs.Counties.{IsFileOfCounties};
 ghost use Rattle.commands.specs.County.{IsFileOfCounty};
 ghost use Rattle.commands.specs.Failure.{NamesFile, TellsCounts, status};
 ghost use Rattle.commands.specs.Files.{disk};
-ghost use Rattle.commands.specs.Select.{SelectsCounties, SelectsCounty};
+ghost use Rattle.commands.specs.Select.{FailsAs, SelectsCounties, SelectsCounty, selecting};
 ghost use Rattle.commands.specs.declared.request.Request.{Request};
 
 use crate::county::{close_county, open_county};
@@ -65,9 +65,10 @@ fn select_counties<'a, A: Allocator + Copy, F: Files, W: CountedWrite>(
     codes: &[&'a str],
     out: &mut W,
 ) -> Result<(), Failure<'a>>
-    ensures outcome { SelectsCounties folder.now program.now (map (λ code. code.now) codes.now) result
-        (disk F.bytes F.failed_opens F.failed_reads files.old) (disk F.bytes F.failed_opens F.failed_reads files.new)
+    ensures outcome { SelectsCounties (selecting (F.bytes files.old) folder.now program.now) (map (λ code. code.now) codes.now) result
         (writer W.contents W.counts out.old) (writer W.contents W.counts out.new) }
+    ensures fails { IfErr result (λ failure. FailsAs failure
+        (disk F.bytes F.failed_opens F.failed_reads files.old) (disk F.bytes F.failed_opens F.failed_reads files.new)) }
     ensures names { IfErr result (NamesFile (IsFileOfCounties folder.now (map (λ code. code.now) codes.now))) }
     ensures counts { TellsCounts result (disk F.bytes F.failed_opens F.failed_reads files.old)
         (disk F.bytes F.failed_opens F.failed_reads files.new) }
@@ -91,9 +92,10 @@ fn select_county<'a, A: Allocator + Copy, F: Files, W: CountedWrite>(
     code: &'a str,
     out: &mut W,
 ) -> Result<(), Failure<'a>>
-    ensures outcome { SelectsCounty folder.now program.now code.now result
-        (disk F.bytes F.failed_opens F.failed_reads files.old) (disk F.bytes F.failed_opens F.failed_reads files.new)
+    ensures outcome { SelectsCounty (selecting (F.bytes files.old) folder.now program.now) code.now result
         (writer W.contents W.counts out.old) (writer W.contents W.counts out.new) }
+    ensures fails { IfErr result (λ failure. FailsAs failure
+        (disk F.bytes F.failed_opens F.failed_reads files.old) (disk F.bytes F.failed_opens F.failed_reads files.new)) }
     ensures names { IfErr result (NamesFile (IsFileOfCounty folder.now code.now)) }
     ensures stay { (other : List ℕ) → F.bytes files.new other ≡ F.bytes files.old other }
     ensures counts { TellsCounts result (disk F.bytes F.failed_opens F.failed_reads files.old)

@@ -4,7 +4,7 @@ use Rattle.commands.specs.Files.{disk}
 use Rattle.commands.specs.Select.{none}
 use Rattle.commands.proofs.CountiesLemmas.{named_behind}
 use Rattle.commands.proofs.FileLemmas.{unfailed_both}
-use Rattle.commands.proofs.SelectLemmas.{counties_counts, counties_stopped, written_more}
+use Rattle.commands.proofs.SelectLemmas.{counties_counts, counties_stopped, fails_behind, written_more}
 use Rattle.commands.proofs.select.select_counties.Goals as goal
 
 pub loop-code-init : goal.loop-code-init
@@ -12,11 +12,16 @@ loop-code-init g c = record { written = none; stay = λ name. refl; counts = rec
 
 pub returns-in-Err-clause-outcome : goal.returns-in-Err-clause-outcome
 returns-in-Err-clause-outcome g c = let so_far = c.loop-code.invariant in
-    counties_stopped (disk g.F.Files.bytes g.F.Files.failed_opens g.F.Files.failed_reads c.args.files.now)
-    (disk g.F.Files.bytes g.F.Files.failed_opens g.F.Files.failed_reads c.loop-code.files) so_far.stay c.args.codes.now
+    counties_stopped (g.F.Files.bytes c.args.files.now) (g.F.Files.bytes c.loop-code.files) so_far.stay c.args.codes.now
     c.loop-code.code-index _ c.loop-code-test.true so_far.written
-    (disk g.F.Files.bytes g.F.Files.failed_opens g.F.Files.failed_reads c.select_county.new.files)
-    (writer g.W.Write.contents g.W.CountedWrite.counts c.select_county.new.out) so_far.counts c.in-Err.failure c.in-Err.ensures.outcome
+    (writer g.W.Write.contents g.W.CountedWrite.counts c.select_county.new.out) c.in-Err.failure c.in-Err.ensures.outcome
+
+pub returns-in-Err-clause-fails : goal.returns-in-Err-clause-fails
+returns-in-Err-clause-fails g c =
+    fails_behind c.in-Err.failure (disk g.F.Files.bytes g.F.Files.failed_opens g.F.Files.failed_reads c.args.files.now)
+    (disk g.F.Files.bytes g.F.Files.failed_opens g.F.Files.failed_reads c.loop-code.files)
+    (disk g.F.Files.bytes g.F.Files.failed_opens g.F.Files.failed_reads c.select_county.new.files) c.loop-code.invariant.counts
+    c.in-Err.ensures.fails
 
 pub returns-in-Err-clause-names : goal.returns-in-Err-clause-names
 returns-in-Err-clause-names g c =
@@ -31,8 +36,7 @@ returns-in-Err-clause-unflushed g c =
 
 pub loop-code-preserved : goal.loop-code-preserved
 loop-code-preserved g c = let so_far = c.loop-code.invariant in record {
-  written = written_more (disk g.F.Files.bytes g.F.Files.failed_opens g.F.Files.failed_reads c.args.files.now)
-      (disk g.F.Files.bytes g.F.Files.failed_opens g.F.Files.failed_reads c.loop-code.files) so_far.stay c.args.codes.now
+  written = written_more (g.F.Files.bytes c.args.files.now) (g.F.Files.bytes c.loop-code.files) so_far.stay c.args.codes.now
       c.loop-code.code-index _ c.loop-code-test.true so_far.written c.in-Ok.ensures.outcome;
   stay = λ name. c.in-Ok.ensures.stay name ∙ so_far.stay name;
   counts = unfailed_both so_far.counts c.in-Ok.ensures.counts;
