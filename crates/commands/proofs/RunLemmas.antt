@@ -39,11 +39,11 @@ run_too_long run known out refusal is = (
   },
 )
 
-pub flushes_as : {counts counts' : WriteCounts} → counts' ≡ counts → counts'.flushes ≡ counts.flushes
+flushes_as : {counts counts' : WriteCounts} → counts' ≡ counts → counts'.flushes ≡ counts.flushes
 flushes_as = ap (λ (counts : WriteCounts). counts.flushes)
 
 -- an extract that is refused for a county's file counts no flush
-pub load_unflushed : (of : LoadFault) (program : List ℕ) (old new : CountyReaders) (out out' : Writer)
+load_unflushed : (of : LoadFault) (program : List ℕ) (old new : CountyReaders) (out out' : Writer)
     → IsLoadRefusal program of old new out out' → out'.counts.flushes ≡ out.counts.flushes
 load_unflushed of program old new out out' (extracting.before_rt1 safe has joined rt1 unwritten) =
     ap (λ (writer : Writer). writer.counts.flushes) unwritten

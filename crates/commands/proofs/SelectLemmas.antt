@@ -39,89 +39,6 @@ pub counties_counts : {over : Selecting} {out : Writer} {codes : List (List ℕ)
 counties_counts none = refl
 counties_counts (more code before wrote) = wrote.1.outcome.counts ∙ counties_counts before
 
--- a county's file can't be opened
-module _ (folder code : Bor (List ℕ)) (file : county_file.CountyFile) where
-  pub opening_outcome : (over : Selecting) (out : Writer) (of : FileFault)
-      → SelectsCounty over code.now (Err (of_opening folder code file of)) out out
-  opening_outcome over out (fault.Unusable error) = refl
-  opening_outcome over out fault.Memory = (refl, inr (refl, refl))
-
-  pub opening_fails : (disk disk' : Disk) (of : FileFault) → CountsFileFault of disk.failed_opens disk'.failed_opens
-      → FailsAs (of_opening folder code file of) disk disk'
-  opening_fails disk disk' (fault.Unusable error) opens = opens
-  opening_fails disk disk' fault.Memory opens = λ three. omega (arith, three)
-
-  pub opening_counts : (disk disk' : Disk) (of : FileFault) → CountsFileFault of disk.failed_opens disk'.failed_opens
-      → disk'.failed_reads ≡ disk.failed_reads → status (of_opening folder code file of) ≢ 3 → IsUnfailed disk disk'
-  opening_counts disk disk' of opens reads other = grind (arith, opens)
-
-  pub opening_named : (of : FileFault) → NamesFile (IsFileOfCounty folder.now code.now) (of_opening folder code file of)
-  opening_named (fault.Unusable error) = (file, refl)
-  opening_named fault.Memory = tt
-
--- how a county's extract stops, what it counts, and that it counts no flush
-pub record Stopped (over : Selecting) (code : List ℕ) (failure : Failure) (disk disk' : Disk) (out out' : Writer) : Type 0 where
-  pub outcome : SelectsCounty over code (Err failure) out out'
-  pub fails : FailsAs failure disk disk'
-  pub names : NamesFile (IsFileOfCounty over.folder code) failure
-  pub counts : TellsCounts {T = Unit {0}} (Err failure) disk disk'
-  pub unflushed : out'.counts.flushes ≡ out.counts.flushes
-
-module _ {folder : List ℕ} (code : Bor (List ℕ)) {disk between disk' : Disk} {out out' : Writer} {program bytes : List ℕ}
-    {old new : CountyReaders} (hold : HoldCounty disk.known folder code.now old) (before : IsUnfailed disk between)
-    (closes : Closes (ClosesCounty new) between disk') (same : bytes ≡ program) where
-  outcome_of : (result : Result ℕ ExtractFault) → IsOutcome bytes result old new out out'
-      → IsCountyOutcome (selecting disk.known folder program) code.now result out out'
-  outcome_of result is = record {
-    old = old;
-    hold = hold;
-    new = new;
-    outcome = subst (λ (bytes : List ℕ). IsOutcome bytes result old new out out') same is;
-  }
-
-  pub county_written : (rows : ℕ) → IsOutcome bytes (Ok rows) old new out out'
-      → WritesCounty (selecting disk.known folder program) code.now out out'
-  county_written rows is = (rows, outcome_of (Ok rows) is)
-
-  pub written_counts : (rows : ℕ) → IsOutcome bytes (Ok rows) old new out out' → IsUnfailed disk disk'
-  written_counts rows is = record {
-    opens = closes.opens ∙ before.opens;
-    reads = loads_closed hold (closes_from before closes) is.county is.loads;
-  }
-
-  -- a refusal of the county
-  stopped_so : (fault : ExtractFault) → IsOutcome bytes (Err fault) old new out out'
-      → ReadsAs (status (County code (extract_fault.refusal fault))) disk.failed_reads disk'.failed_reads
-      → out'.counts.flushes ≡ out.counts.flushes
-      → Stopped (selecting disk.known folder program) code.now (County code (extract_fault.refusal fault)) disk disk' out out'
-  stopped_so fault is reads unflushed = record {
-    outcome = (refl, inl (fault, refl, outcome_of (Err fault) is));
-    fails = reads.fails;
-    names = tt;
-    counts = λ other. record { opens = closes.opens ∙ before.opens; reads = reads.stays other };
-    unflushed = unflushed;
-  }
-
-  pub county_stopped : (fault : ExtractFault) → IsOutcome bytes (Err fault) old new out out'
-      → Stopped (selecting disk.known folder program) code.now (of_county_extract code fault) disk disk' out out'
-  county_stopped (extract.Program fault) is =
-      stopped_so (extract.Program fault) is (sound (program_status fault) (unread_closed hold (closes_from before closes) is.unread))
-      (ap (λ (writer : Writer). writer.counts.flushes) is.unwritten)
-  county_stopped (extract.Load fault) is =
-      stopped_so (extract.Load fault) is
-      (county_closed hold (closes_from before closes) fault (load_refusal fault bytes old new out out' is))
-      (load_unflushed fault bytes old new out out' is)
-  county_stopped (extract.Write fault) is = record {
-    outcome = outcome_of (Err (extract.Write fault)) is;
-    fails = tt;
-    names = tt;
-    counts = λ other. absurd (other refl);
-    unflushed = fault_unflushed fault is.between.counts out'.counts is.row.5 ∙ flushes_as is.before.counts;
-  }
-  county_stopped extract.Memory is =
-      stopped_so extract.Memory is
-      (sound (λ three. omega (arith, three)) (sound_closed hold (closes_from before closes) is.reads)) (flushes_as is.counts)
-
 -- after the counties of the codes before it
 module _ (known later : List ℕ → Option (List ℕ)) (same : (name : List ℕ) → later name ≡ known name) {folder program : List ℕ}
     (codes : List (Bor (List ℕ))) (i : ℕ) (d : Bor (List ℕ)) (inside : i < length codes) {out between : Writer}
@@ -178,10 +95,6 @@ filter_carried text score Memory is each counts =
     record { outcome = refl; names = tt; counts = λ other. counts; unflushed = refl }
 filter_carried text score failure is each counts = absurd is
 
-pub filter_usage : (text : List ℕ) (score : Option NumericColumn) (failure : Failure) → IsFilterFailure text score failure
-    → status failure ≢ 2
-filter_usage text score failure is two = grind (arith, refusal_not_usage, is, two)
-
 -- its program's extracts
 module _ {disk disk' : Disk} {out out' : Writer} (asked : Select) {program : List ℕ}
     (is_program : IsProgramOf asked.filter.now asked.compiling.score program) where
@@ -211,11 +124,7 @@ pub select_lent : {disk disk' : Disk} {out out' : Writer} (asked : Select) {text
 select_lent {disk} {disk'} {out} {out'} asked {program = program} {codes = codes} result same_text same same_codes is selects fails names =
     select_carried asked (subst (λ (text : List ℕ). IsProgramOf text asked.compiling.score program) same_text is) result
     (subst (λ (codes : List (Bor (List ℕ))).
-      SelectsCounties (selecting disk.known asked.«data».now program) (texts codes) result out out') same_codes
+    SelectsCounties (selecting disk.known asked.«data».now program) (texts codes) result out out') same_codes
     (subst (λ (program : List ℕ). SelectsCounties (selecting disk.known asked.«data».now program) (texts codes) result out out') same selects))
     fails
     (subst (λ (codes : List (Bor (List ℕ))). IfErr result (NamesFile (IsFileOfCounties asked.«data».now (texts codes)))) same_codes names)
-
-pub select_usage : (over : Selecting) (codes : List (List ℕ)) (out out' : Writer) (failure : Failure)
-    → SelectsCounties over codes (Err failure) out out' → status failure ≢ 2
-select_usage over codes out out' failure is two = grind (arith, refusal_not_usage, is, two)
