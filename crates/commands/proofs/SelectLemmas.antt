@@ -1,37 +1,25 @@
--- How `select` is carried out: a county's extract, those of several counties, and the filter before them.
-use Rattle.std.proofs.Common.{◌≡◌, ◌≢◌, ◌<◌, ◌+◌, ℕ, suc, List, [], ◌∷◌, ◌++◌, length, get_or, take, drop, Option, Bor, Result, Ok, Err, IfErr}
-use Rattle.std.proofs.Common.{inl, inr, refl, ap, sym, subst, arith, ◌∙◌}
+-- How `select` is carried out: the extracts of several counties, and the filter before them.
+use Rattle.std.proofs.Common.{◌≡◌, ◌<◌, ◌+◌, ℕ, suc, List, length, get_or, take, drop, Option, Bor, Result, Ok, Err, IfErr}
+use Rattle.std.proofs.Common.{refl, ap, sym, subst, ◌∙◌}
 use Rattle.std.proofs.Math.Path.{fun_ext}
 use Rattle.std.proofs.lemmas.List.{map_more}
 use Rattle.cql2.specs.declared.column.NumericColumn.{NumericColumn}
-use Rattle.extract.specs.ExtractFault as extract_fault
-use Rattle.extract.specs.Extracting.{IsOutcome}
-use Rattle.extract.specs.declared.fault.ExtractFault.{ExtractFault}
 use Rattle.extract.specs.declared.fault.ExtractFault.TheVariants as extract
-use Rattle.tl_fields.specs.Device.{WriteCounts, Writer}
-use Rattle.tl_segments.specs.County.{CountyReaders}
-use Rattle.tl_segments.specs.declared.fault.CountyFile as county_file
+use Rattle.tl_fields.specs.Device.{Writer}
 use Rattle.refusals.specs.Refusal.{RefusalParts}
 use Rattle.commands.specs.Command.{CarriesOut, IsFilterRefused}
 use Rattle.commands.specs.Counties.{IsFileOfCounties}
-use Rattle.commands.specs.County.{ClosesCounty, HoldCounty, IsFileOfCounty}
-use Rattle.commands.specs.Failure.{NamesFile, TellsCounts, of_county_extract, of_opening, status}
-use Rattle.commands.specs.Files.{Closes, CountsFileFault, Disk, IsUnfailed}
+use Rattle.commands.specs.Failure.{NamesFile, TellsCounts}
+use Rattle.commands.specs.Files.{Disk, IsUnfailed}
 use Rattle.commands.specs.Filter.{IsFilterFailure, IsFilterRefusal, IsProgramOf}
 use Rattle.commands.specs.Select.{FailsAs, IsCountyOutcome, IsCountyRefusal, Selecting, SelectsCounties, SelectsCounty, StopsAt}
 use Rattle.commands.specs.Select.{WritesCounties, WritesCounty, codes_of, more, none, selecting}
 use Rattle.commands.specs.declared.request.Request.{Request}
 use Rattle.commands.specs.declared.request.Request.TheVariants as request
 use Rattle.commands.specs.declared.select.Select.{Select}
-use Rattle.commands.specs.declared.files.FileFault.{FileFault}
-use Rattle.commands.specs.declared.files.FileFault.TheVariants as fault
 use Rattle.commands.specs.declared.failure.Failure.{Failure}
 use Rattle.commands.specs.declared.failure.Failure.TheVariants.{Memory, Write, CountyFile, Filter, County}
-use Rattle.commands.proofs.CarriedLemmas.{fault_unflushed, refusal_not_usage}
-use Rattle.commands.proofs.ClassLemmas.{program_status}
 use Rattle.commands.proofs.CountiesLemmas.{codes_at, texts}
-use Rattle.commands.proofs.ReadLemmas.{ReadsAs, closes_from, county_closed, load_refusal, loads_closed, sound, sound_closed, unread_closed}
-use Rattle.commands.proofs.RunLemmas.{flushes_as, load_unflushed}
 
 -- extracts that were written count no fault and no flush
 pub counties_counts : {over : Selecting} {out : Writer} {codes : List (List ℕ)} {out' : Writer} → WritesCounties over out codes out'

@@ -31,7 +31,7 @@ pub record IsProgramOf (text : List ℕ) (score : Option NumericColumn) (program
   pub forward : IsForward code
   pub accepted : HasGoodAnnotation code
 
--- the text spells no filter, as far as a text may: in UTF-8, and in so many bytes at most
+-- the text spells no filter, if it is UTF-8 and within the limit of bytes
 abbrev pub IsNoFilter : List ℕ → Type 0
 IsNoFilter text = length text ≤ TEXT_LIMIT → IsUtf8 text → (filter : Filter Global) → ¬ IsFilterText text filter
 

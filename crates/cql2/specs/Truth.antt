@@ -40,7 +40,8 @@ is_null (Text column) line = is_none (text_value column line)
 abbrev pub has_number : ℕ → RangeFields → Bool
 has_number number range = lies_on number range.fraddl range.toaddl || lies_on number range.fraddr range.toaddr
 
--- The segment has a name among its own and so many alternate ones. If it has more, and none of these is the name, it isn't known.
+-- The segment has a name among its own and its first alternate ones, as many as are looked at. If it has more, and none of these is the
+-- name, it isn't known.
 abbrev pub has_name : List ℕ → ℕ → Contents → Option Bool
 has_name text most segment =
     if list_any (λ name. name_equals name text) (take (1 + most) (names_of segment)) then Some true

@@ -42,6 +42,6 @@ pub decimal_in-few : (most : ℕ) (ds : List ℕ) → 1 ≤ length ds → length
     → decimal_in most ds ≡ (if list_all is_ascii_digit ds then Some (digits_value 10 ds) else None)
 decimal_in-few most ds some few = rw (le-leb 1 (length ds) some, le-leb (length ds) most few) refl
 
--- so many digits write a number below that power of ten
+-- digits write a number below the power of ten of their count
 pub decimal_in-lt : (most : ℕ) (ds : List ℕ) → IfSome (decimal_in most ds) (λ n. n < 10 ^ most)
 decimal_in-lt most ds = decimal_in-lt-by most ds _ refl

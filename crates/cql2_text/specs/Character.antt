@@ -24,7 +24,7 @@ pub record HasCharacters (spelling bytes : List ℕ) : Type 0 where
   pub spelled : spelling ≡ flat_map character_text bytes
   pub characters : list_all is_character bytes ≡ true
 
--- A literal's text, as it is compared with a column of so many bytes: blanks at its end don't count, it isn't empty, and it's no longer
+-- A literal's text, as it is compared with a column of this width: blanks at its end don't count, it isn't empty, and it's no longer
 -- than the column.
 pub record IsComparedText (width : ℕ) (spelling text : List ℕ) : Type 0 where
   pub bytes : List ℕ

@@ -43,7 +43,7 @@ signed_by is_negative (Err flaw) = Err flaw
 abbrev pub number_of : NumericColumn → Numeral → Result ℤ FilterFlaw
 number_of column numeral = signed_by numeral.is_negative (amount_of column numeral)
 
--- a numeral of so many digits at most, without a fraction, that isn't negative
+-- a numeral without a fraction that isn't negative, of a limited number of digits
 abbrev pub count_of : ℕ → Numeral → Result ℕ FilterFlaw
 count_of most numeral =
     elim (whole_amount most numeral.whole.now numeral.decimals.now) [

@@ -39,7 +39,7 @@ pub record IsSamePattern {A : Type 0} (pattern other : Pattern A) : Type 0 where
   pub wanted : pattern.wanted.items ≡ other.wanted.items
   pub open_alike : pattern.is_open ≡ other.is_open
 
--- the same, no longer than so many bytes
+-- the same, no longer than a column of this width
 pub record IsLikePattern {A : Type 0} (width : ℕ) (ignores_case : Bool) (spelling : List ℕ) (pattern : Pattern A) : Type 0 where
   pub read : IsPattern ignores_case spelling pattern.wanted.items pattern.is_open
   pub few : length pattern.wanted.items ≤ width

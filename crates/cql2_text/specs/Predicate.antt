@@ -55,7 +55,7 @@ pub record IsNumber (column : NumericColumn) (words rest : List Token) (literal 
   pub spelled : words ≡ Number numeral ∷ rest
   pub value : number_of column numeral ≡ Ok literal.number
 
--- characterLiteral, as it is compared with so many bytes
+-- characterLiteral, as it is compared with a column of this width
 pub record IsText {A : Type 0} (width : ℕ) (words rest : List Token) (text : AText A) : Type 0 where
   pub spelling : Bor (List ℕ)
   pub spelled : words ≡ Text spelling ∷ rest

@@ -14,8 +14,8 @@ pub data Production : Type 0 where
   Factor : Production
   Primary : Production
 
--- The tokens, up to the rest of them, are a production that means a filter, and so many parentheses at most stand in one another. Those of
--- functions and lists don't count.
+-- The tokens, up to the rest of them, are a production that means a filter, with parentheses nested at most to this depth. Those of functions
+-- and lists don't count.
 pub data Spells {A : Type 0} : ℕ → Production → List Token → List Token → Filter A → Type 0 where
   one_term : {depth : ℕ} {words rest : List Token} {made : Filter A} → Spells depth Term words rest made
       → Spells depth Expression words rest made

@@ -103,7 +103,7 @@ fn without_trailing_blanks(bytes: &[u8]) -> &[u8]
     rest
 }
 
-/// The text that is compared with a column of so many bytes.
+/// The text that is compared with a column of this width.
 pub(crate) fn compared_text<A: Allocator + Copy>(
     alloc: A,
     spelling: &[u8],

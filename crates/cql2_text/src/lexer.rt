@@ -50,7 +50,7 @@ impl<'a, A: Allocator + Copy> Tokens<'a, A> {
         })
     }
 
-    /// Where in the text the token begins that is the first of so many at the end, or where the text after the tokens does.
+    /// The offset of a token, given by how many tokens are left from it on, or of the text after the tokens.
     pub fn start(&self, text: &[u8], left: usize) -> usize {
         let end = text.len().saturating_sub(self.rest.len());
         let index = self.starts.len().saturating_sub(left);

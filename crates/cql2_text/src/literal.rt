@@ -10,15 +10,15 @@ use crate::fault::FilterFlaw;
 use crate::token::Numeral;
 use cql2::{HouseNumber, Literal, NameLimit, NumericColumn};
 
-/// A number of a column has so many digits at most.
+/// The most digits of a column's number.
 const MOST_DIGITS: usize = 18;
-/// A house number has so many.
+/// The most digits of a house number.
 const MOST_HOUSE_DIGITS: usize = 11;
-/// A coordinate has so many decimals.
+/// The most decimals of a coordinate.
 const MOST_DECIMALS: usize = 6;
 /// A coordinate has fewer degrees.
 const DEGREES: u64 = 1000;
-/// A segment has so many alternate names at most.
+/// The most alternate names that a segment has.
 const MOST_NAMES: u64 = 5000;
 
 /// The number that a numeral writes, as a column's fields have it.
@@ -40,7 +40,7 @@ pub(crate) fn literal_of(column: NumericColumn, numeral: Numeral) -> Result<Lite
     }
 }
 
-/// A whole number of so many digits at most.
+/// A whole number, of a limited number of digits.
 fn whole_amount(whole: &[u8], decimals: &[u8], most: usize) -> Result<u64, FilterFlaw>
     requires few { most ≤ 18 }
     ensures value { result ≡ whole_amount most whole.now decimals.now }
@@ -85,7 +85,7 @@ fn parts_of(decimals: &[u8]) -> Option<u64>
     Some(parts * unit(decimals.len()))
 }
 
-/// How many millionths the last of so many decimals stands for.
+/// The millionths that the last decimal stands for, by the number of decimals.
 fn unit(decimals: usize) -> u64
     ensures value { result ≡ 10 ^ (6 - decimals) }
     ensures small { result ≤ 1000000 }
@@ -167,7 +167,7 @@ pub(crate) fn name_limit(numeral: Numeral) -> Result<NameLimit, FilterFlaw>
     }
 }
 
-/// A whole number of so many digits at most, which isn't negative.
+/// A whole number that isn't negative, of a limited number of digits.
 fn count(numeral: Numeral, most: usize) -> Result<u64, FilterFlaw>
     requires { most ≤ 18 }
     ensures value { result ≡ count_of most numeral.entry }

@@ -17,7 +17,7 @@ use crate::token::{Keyword, Token};
 use cql2::Filter;
 use std::alloc::Allocator;
 
-/// Parentheses stand in at most so many others.
+/// The most parentheses that may be open at once.
 const MOST_PARENTHESES: u32 = 64;
 
 /// The filter that all of the tokens spell.

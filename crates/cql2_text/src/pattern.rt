@@ -70,7 +70,7 @@ fn is_percent(text: &[u8]) -> bool
     }
 }
 
-/// A pattern of so many bytes at most.
+/// A pattern no longer than a column.
 fn short<A: Allocator>(
     wanted: Vec<PatternByte, A>,
     is_open: bool,

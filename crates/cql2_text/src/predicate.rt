@@ -332,7 +332,7 @@ fn spelling<'a>(words: &'a [Token<'a>]) -> Result<(&'a [u8], &'a [Token<'a>]), S
     }
 }
 
-/// A text that a column of so many bytes is compared with.
+/// A text that is compared with a column of this width.
 pub(crate) fn text<'a, A: Allocator + Copy>(
     alloc: A,
     width: usize,

@@ -15,7 +15,7 @@ use crate::syntax_fault::SyntaxFault;
 use cql2::Filter;
 use std::alloc::Allocator;
 
-/// A filter's text has at most so many bytes.
+/// The most bytes that a filter's text may have.
 pub const TEXT_LIMIT: usize = 1_048_576;
 
 /// Reads a text as a filter.

@@ -10,7 +10,7 @@ use std::alloc::{AllocError, AllocFailed};
 /// What is wrong with the inside of a characterLiteral.
 #[derive(Clone, Copy, Drop)]
 pub(crate) enum TextFlaw {
-    /// Something else is expected so many bytes after the opening quote.
+    /// Something else is expected at this offset from the opening quote, in bytes.
     At { offset: usize, expected: Expected },
     Long,
     Memory,

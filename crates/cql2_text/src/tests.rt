@@ -278,7 +278,7 @@ fn reads(rt: HostRuntime) -> Result<(), std::test::Fail> {
     Ok(())
 }
 
-// A word so many times, then TRUE, then another word so many times.
+// A word a number of times, then TRUE, then another word as many times.
 fn repeated(alloc: Global, before: &str, after: &str, times: usize) -> Result<String, AllocError> {
     let mut text = String::new(alloc);
     for _ in 0..times {
