@@ -56,6 +56,13 @@ fn request_of<'a>(alloc: Global, words: &[&'a str]) -> Option<Request<'a>> {
         ["verify", "--program", program] => Some(Request::Verify(Verify { program })),
         ["asm", "--source", source] => Some(Request::Assemble(Assemble { source })),
         ["dis", "--program", program] => Some(Request::Disassemble(Disassemble { program })),
+        _ => filter_request_of(alloc, words),
+    }
+}
+
+/// The same of the commands that take a filter.
+fn filter_request_of<'a>(alloc: Global, words: &[&'a str]) -> Option<Request<'a>> {
+    match words {
         ["compile", "--filter", filter] => Some(Request::Compile(Compile {
             filter,
             compiling: compiling(alloc),

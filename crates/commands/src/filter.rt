@@ -1,10 +1,9 @@
 //! Filters' texts, and the programs that they mean.
-ghost use Rattle.std.specs.Prelude.{◌≢◌, List, IfErr, IfOk};
-ghost use Rattle.commands.specs.Failure.{IsOfCompile, IsOfFilter, status};
+ghost use Rattle.std.specs.Prelude.{IfErr, IfOk};
 ghost use Rattle.commands.specs.Filter.{IsFilterFailure, IsProgramOf};
 
 use crate::failure::Failure;
-use bpf_insn::{Code, encode};
+use bpf_insn::encode;
 use cql2::NumericColumn;
 use cql2_code::compile;
 use cql2_text::read;

@@ -69,7 +69,7 @@ fn read_utf8<A: Allocator + Copy>(alloc: A, text: &[u8]) -> Result<Filter<A>, Fi
     }
 }
 
-/// So many bytes of a text, if it has as many.
+/// The first bytes of a text: as many as are asked for, or all if it has fewer.
 fn front(text: &[u8], count: usize) -> &[u8]
     ensures { result.now ≡ take count text.now }
 {
