@@ -147,6 +147,9 @@ make_files() {
     # It chooses each segment, too, and asks how many names it has, so types 4, 5 and 6 are kept.
     printf 'call 3\nmov r0, 1\nexit\n' > asking.s
     extractd asm --source asking.s > asking.bpf
+    # A filter of 2,000 comparisons, and its program.
+    { yes 'ZIPL = 36067 AND FALSE OR' | head -n 1999; echo TRUE; } > long_filter.cql
+    extractd compile --filter long_filter.cql > long_filter.bpf
     # A program of 32,768 bytes, of which several jobs have room in a mebibyte.
     { yes 'mov r0, 1' | head -n 4095; echo exit; } > long.s
     extractd asm --source long.s > long.bpf
@@ -166,7 +169,7 @@ outcome() {
     observe "limited v $1 $4"
     case $status in
     0) [ "$text" = . ] && cmp -s out "$3" && result=right && return ;;
-    4) [ "$text" = $'refused memory\n.' ] && is_front "$2" "$3" && result=refused && return ;;
+    4) [ "${text/$'\n'county 01001/}" = $'refused memory\n.' ] && is_front "$2" "$3" && result=refused && return ;;
     # The program can't be executed; the loader finds no room for a library; the system ends it before it is loaded.
     126 | 127 | 137 | 139) [ ! -s out ] && result=unstarted && return ;;
     esac
@@ -238,6 +241,8 @@ try_spaces() {
     try_space verify 0 accepted 'extractd verify --program all.bpf'
     try_space asm 0 all.words 'extractd asm --source all.text'
     try_space dis 0 all.text 'extractd dis --program all.bpf'
+    try_space compile 0 long_filter.bpf 'extractd compile --filter long_filter.cql'
+    try_space select rows small.rows 'extractd select --where TRUE --data small 01001'
     try_space run rows small.rows 'extractd run --program all.bpf --data small 01001'
     try_space trace 0 traced 'extractd trace --program all.bpf --data small --line 400 --limit 2 01001'
     try_space geocode 0 small.hits 'extractd geocode --data small --number 1785 --name persimmon 01001'
@@ -267,7 +272,8 @@ try_outputs() {
     local run='extractd run --program all.bpf --data small 01001' dis='extractd dis --program longest.bpf'
     local few=('extractd run --program all.bpf --data one 01001' 'extractd verify --program all.bpf' 'extractd dis --program all.bpf'
         'extractd asm --source all.text' 'extractd trace --program all.bpf --data small --line 1 --limit 1 01001'
-        'extractd geocode --data small --number 751 --name main 01001')
+        'extractd geocode --data small --number 751 --name main 01001' 'extractd compile --filter long_filter.cql'
+        'extractd select --where TRUE --data one 01001')
     if [ -w /dev/full ]; then
         try_case 3 'refused 60 Write' 0 nothing "$run > /dev/full"
         for command in "${few[@]}"; do try_case 3 "$full" 0 nothing "$command > /dev/full"; done
