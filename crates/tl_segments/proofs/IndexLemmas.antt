@@ -1,9 +1,9 @@
 -- What an index has of a TLID is what its lines have.
-use Rattle.std.proofs.Common.{◌≡◌, ◌≤◌, ℕ, inl, inr, length, List, [], ◌∷◌, ◌++◌, map, Option, Some, None, is_some, IsSome, Ok, Err, refl}
-use Rattle.std.proofs.Common.{sym, ap, subst, ◌∙◌, arith}
-use Rattle.std.specs.List.{filter_map, flat_map, cons_option}
+use Rattle.std.proofs.Common.{◌≡◌, ◌≤◌, ℕ, inl, inr, length, List, [], ◌∷◌, ◌++◌, map, Option, Some, None, Ok, Err, refl}
+use Rattle.std.proofs.Common.{option_map, is_some, IsSome, sym, ap, subst, ◌∙◌, arith}
+use Rattle.std.specs.List.{filter_map, find, flat_map, cons_option}
 use Rattle.std.specs.Option.{option_and_then, option_map_or}
-use Rattle.std.proofs.lemmas.List.{map-append}
+use Rattle.std.proofs.lemmas.List.{map-append, length-map}
 use Rattle.std.proofs.lemmas.List.Elements.{filter_map-append, All-nil, All-cons}
 use Rattle.tl_fields.specs.Device.{Reader}
 use Rattle.tl_fields.specs.Number.{number_of}
@@ -11,16 +11,19 @@ use Rattle.tl_records.specs.Layout.{field_at}
 use Rattle.tl_records.specs.Lines.{LineParts}
 use Rattle.tl_records.specs.declared.layout.Places.{Places}
 use Rattle.tl_records.specs.declared.layout.TheConstants.Type4.{FEAT1, FEAT2, FEAT3, FEAT4, FEAT5}
+use Rattle.tl_records.specs.declared.layout.TheConstants.Type5.{FENAME}
 use Rattle.tl_segments.specs.County.{AreTlids, HasTlids, tlid_of}
 use Rattle.tl_segments.specs.Indexing.{IsIndexOf, IsRecordRead, IsSegmentRead, ReadsGoodLine, names_in}
-use Rattle.tl_segments.specs.Joining.{JoinedLines, number_in, lines_with, features_of, feature_name, alternate_names, further_ranges}
-use Rattle.tl_segments.specs.Joining.{segment_of}
+use Rattle.tl_segments.specs.FullName.{FullNameFields, affixes_of, contents}
+use Rattle.tl_segments.specs.Joining.{JoinedLines, number_in, lines_with, features_of, alternate_names}
+use Rattle.tl_segments.specs.Joining.{affixes_in, alternate_affixes, further_ranges, has_number, segment_of}
 use Rattle.tl_segments.specs.Segment.{Contents, HasJoined, line_of}
-use Rattle.tl_segments.specs.Tables.{feature_numbers, list_at, name_at, names_among}
-use Rattle.tl_segments.specs.declared.fault.CountyFile.TheVariants.{Rt1, Rt4}
+use Rattle.tl_segments.specs.Tables.{feature_full_name, feature_numbers, full_name_in, list_at, name_at, names_among}
+use Rattle.tl_segments.specs.declared.fault.CountyFile.TheVariants.{Rt1, Rt4, Rt5}
 use Rattle.tl_segments.specs.declared.fault.LoadFault.TheVariants.{Memory}
 use Rattle.tl_segments.specs.declared.feature_names.FeatureNames.{FeatureNames}
 use Rattle.tl_segments.specs.declared.index.Index.{Index}
+use Rattle.tl_segments.proofs.FullNameLemmas.{filter_map-mapped}
 
 module _ {P Y : Type 0} (name other : ℕ → Option Y) (same : (feat : ℕ) → name feat ≡ other feat) (number : P → Option ℕ) where
   named_by : (found : Option ℕ) (names : List Y) (feats : List ℕ) → names ≡ filter_map other feats
@@ -35,33 +38,60 @@ module _ {P Y : Type 0} (name other : ℕ → Option Y) (same : (feat : ℕ) →
       (named fields)
 
 names_of_lines : {A : Type 0} (table : FeatureNames A) (rt5 lines : List (List ℕ))
-    → ((feat : ℕ) → name_at table feat ≡ feature_name rt5 feat) → flat_map (names_among table) (map feature_numbers lines) ≡ filter_map
-    (feature_name rt5) (flat_map features_of lines)
+    → ((feat : ℕ) → name_at table feat ≡ feature_full_name rt5 feat)
+    → flat_map (names_among table) (map feature_numbers lines) ≡ filter_map (feature_full_name rt5) (flat_map features_of lines)
 names_of_lines table rt5 [] same = refl
 names_of_lines table rt5 (line ∷ lines) same =
     ap (λ names. names ++ flat_map (names_among table) (map feature_numbers lines))
-    (named (name_at table) (feature_name rt5) same (λ (feat : Places). number_of (field_at feat line))
+    (named (name_at table) (feature_full_name rt5) same (λ (feat : Places). number_of (field_at feat line))
     (FEAT1 ∷ FEAT2 ∷ FEAT3 ∷ FEAT4 ∷ FEAT5 ∷ []))
-    ∙ ap (λ names. filter_map (feature_name rt5) (features_of line) ++ names) (names_of_lines table rt5 lines same)
-    ∙ sym (filter_map-append (feature_name rt5) (features_of line) (flat_map features_of lines))
+    ∙ ap (λ names. filter_map (feature_full_name rt5) (features_of line) ++ names) (names_of_lines table rt5 lines same)
+    ∙ sym (filter_map-append (feature_full_name rt5) (features_of line) (flat_map features_of lines))
 
 names_of_tlid : {A : Type 0} (index : Index A) (lines : JoinedLines) (tlid : ℕ) → IsIndexOf index lines
-    → names_in index tlid ≡ alternate_names lines tlid
+    → names_in index tlid ≡ filter_map (feature_full_name lines.rt5) (flat_map features_of (lines_with Rt4 tlid lines.rt4))
 names_of_tlid index lines tlid of_lines =
     ap (λ list. flat_map (names_among index.names) list) (of_lines.features tlid)
     ∙ names_of_lines index.names lines.rt5 (lines_with Rt4 tlid lines.rt4) of_lines.names
 
+-- what the full names of the index's TLID have, by what the full name of each FEAT has
+fields_of_tlid : {A Z : Type 0} (index : Index A) (lines : JoinedLines) (tlid : ℕ) → IsIndexOf index lines → (g : FullNameFields → Z)
+    (field : List ℕ → Z) → ((line : List ℕ) → field line ≡ g (full_name_in line))
+    → map g (names_in index tlid) ≡ filter_map (λ feat. option_map field (find (has_number Rt5 feat) lines.rt5))
+    (flat_map features_of (lines_with Rt4 tlid lines.rt4))
+fields_of_tlid index lines tlid of_lines g field same =
+    ap (λ names. map g names) (names_of_tlid index lines tlid of_lines)
+    ∙ filter_map-mapped g (feature_full_name lines.rt5) (λ feat. option_map field (find (has_number Rt5 feat) lines.rt5))
+    (λ feat. by_line (find (has_number Rt5 feat) lines.rt5)) (flat_map features_of (lines_with Rt4 tlid lines.rt4))
+  where
+    by_line : (found : Option (List ℕ)) → option_map field found ≡ option_map g (option_map full_name_in found)
+    by_line None = refl
+    by_line (Some line) = ap Some (same line)
+
 -- a segment with what the index has of its TLID
 pub segment_from_index : {A : Type 0} (index : Index A) (lines : JoinedLines) (line : List ℕ) (tlid : ℕ) (segment : Contents)
-    → IsIndexOf index lines → number_in Rt1 line ≡ Some tlid → segment ≡ record
-    { bytes = line; names = names_in index tlid; ranges = list_at index.ranges tlid } → segment ≡ segment_of lines line
+    → IsIndexOf index lines → number_in Rt1 line ≡ Some tlid → segment ≡ contents line (names_in index tlid)
+    (list_at index.ranges tlid) → segment ≡ segment_of lines line
 segment_from_index index lines line tlid segment of_lines is made =
     made
-    ∙ ap (λ names. record { bytes = line; names = names; ranges = list_at index.ranges tlid }) (names_of_tlid index lines tlid of_lines)
-    ∙ ap (λ ranges. record { bytes = line; names = alternate_names lines tlid; ranges = ranges }) (of_lines.ranges tlid)
+    ∙ ap (λ names. record {
+      bytes = line;
+      names = names;
+      affixes = map affixes_of (names_in index tlid);
+      ranges = list_at index.ranges tlid;
+    }) (fields_of_tlid index lines tlid of_lines (λ (name : FullNameFields). name.fename) (field_at FENAME) (λ line. refl))
+    ∙ ap (λ affixes. record { bytes = line; names = alternate_names lines tlid; affixes = affixes; ranges = list_at index.ranges tlid })
+    (fields_of_tlid index lines tlid of_lines affixes_of affixes_in (λ line. refl))
+    ∙ ap (λ ranges. record {
+      bytes = line;
+      names = alternate_names lines tlid;
+      affixes = alternate_affixes lines tlid;
+      ranges = ranges;
+    }) (of_lines.ranges tlid)
     ∙ ap (λ found. record {
       bytes = line;
       names = option_map_or (alternate_names lines) found [];
+      affixes = option_map_or (alternate_affixes lines) found [];
       ranges =
           option_map_or (further_ranges lines) found [];
     }) (sym is)
@@ -70,13 +100,12 @@ segment_from_index index lines line tlid segment of_lines is made =
 
 module _ {A : Type 0} (index : Index A) (lines : JoinedLines) (line : List ℕ) (tlid : ℕ) (of_lines : IsIndexOf index lines)
     (is : number_in Rt1 line ≡ Some tlid) where
-  from_index : ◌≡◌ {A = Contents} record { bytes = line; names = names_in index tlid; ranges = list_at index.ranges tlid }
-      (segment_of lines line)
+  from_index : ◌≡◌ {A = Contents} (contents line (names_in index tlid) (list_at index.ranges tlid)) (segment_of lines line)
   from_index = segment_from_index index lines line tlid _ of_lines is refl
 
   pub names_joined : 1 ≤ length (names_in index tlid) → HasJoined (segment_of lines line)
   names_joined some = inl (λ none. let same = ap (λ (segment : Contents). length segment.names) from_index in let no = ap length none in
-      omega (arith, some, same, no))
+      omega (arith, some, same, no, length-map (names_in index tlid) (λ (name : FullNameFields). name.fename)))
 
   pub ranges_joined : 1 ≤ length (list_at index.ranges tlid) → HasJoined (segment_of lines line)
   ranges_joined some = inr (λ none. let same = ap (λ (segment : Contents). length segment.ranges) from_index in let no = ap length none in
@@ -98,7 +127,7 @@ has_line line number tlid read old new is same = record {
 module _ {A : Type 0} (index : Index A) {line : LineParts} {number tlid : ℕ} {old new : Reader} {segment : Contents}
     (has : HasLine line number tlid old new segment) where
   -- it has what the index has of its TLID
-  pub segment_read : segment ≡ record { bytes = segment.bytes; names = names_in index tlid; ranges = list_at index.ranges tlid }
+  pub segment_read : segment ≡ contents segment.bytes (names_in index tlid) (list_at index.ranges tlid)
       → IsSegmentRead index line number segment old new (Ok (Some tt))
   segment_read made =
       (has.good, λ lines of_lines. segment_from_index index lines segment.bytes tlid segment of_lines has.numbered made)

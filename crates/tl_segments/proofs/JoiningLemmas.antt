@@ -10,11 +10,10 @@ use Rattle.std.proofs.lemmas.Bool.Decides.{nat_tests}
 use Rattle.std.proofs.lemmas.List.{map-append, append-nil, length-map}
 use Rattle.std.proofs.lemmas.List.Elements.{filter-append}
 use Rattle.std.proofs.lemmas.List.Folds.{find-append}
-use Rattle.tl_records.specs.Layout.{field_at}
-use Rattle.tl_records.specs.declared.layout.TheConstants.Type5.{FENAME}
-use Rattle.tl_segments.specs.Joining.{JoinedLines, number_in, has_number, lines_with, feature_name, segment_of, segments_of, FewHaveEach}
+use Rattle.tl_segments.specs.Joining.{JoinedLines, number_in, has_number, lines_with, segment_of, segments_of, FewHaveEach}
 use Rattle.tl_segments.specs.Joining.{IsWithinLimits}
-use Rattle.tl_segments.specs.Tables.{AddsAt, AddsNameAt, CountsAt, KeepsCounts, KeepsNames, count_at, list_at, name_at}
+use Rattle.tl_segments.specs.Tables.{AddsAt, AddsNameAt, CountsAt, KeepsCounts, KeepsNames, count_at, feature_full_name, full_name_in}
+use Rattle.tl_segments.specs.Tables.{list_at, name_at}
 use Rattle.tl_segments.specs.Taking.{IsAdded}
 use Rattle.tl_segments.specs.declared.checked.Counts.{Counts}
 use Rattle.tl_segments.specs.declared.fault.CountyFile.{CountyFile}
@@ -77,7 +76,7 @@ not_few-push file lines line number is full few =
     let most = few number in
     omega arith
 
-name_by : (field : List ℕ → List ℕ) (before : Option (List ℕ)) (line : List ℕ) (has : Bool)
+name_by : {V : Type 0} (field : List ℕ → V) (before : Option (List ℕ)) (line : List ℕ) (has : Bool)
     → option_map field (option_or before (cond has (Some line) None)) ≡ (if has then Some
     (unwrap_or (option_map field before) (field line)) else option_map field before)
 name_by field None line true = refl
@@ -87,15 +86,16 @@ name_by field (Some before) line false = refl
 
 -- a table of names that keeps lines of type 5 keeps one line more
 pub names-push : {A : Type 0} (old new : FeatureNames A) (lines : List (List ℕ)) (line : List ℕ) (feat : ℕ) → number_in Rt5 line ≡ Some feat
-    → KeepsNames old lines → AddsNameAt old new feat (field_at FENAME line) → KeepsNames new (lines ++ line ∷ [])
+    → KeepsNames old lines → AddsNameAt old new feat (full_name_in line) → KeepsNames new (lines ++ line ∷ [])
 names-push old new lines line feat is keeps adds q =
-    let added : name_at new q ≡ (if nat_eq feat q then Some (unwrap_or (feature_name lines q) (field_at FENAME line)) else feature_name
-    lines q) = adds q ∙ ap (λ name. if nat_eq feat q then Some (unwrap_or name (field_at FENAME line)) else name) (keeps q) in
+    let added : name_at new q ≡ (if nat_eq feat q then Some (unwrap_or (feature_full_name lines q) (full_name_in line)) else
+    feature_full_name lines q) = adds q
+    ∙ ap (λ name. if nat_eq feat q then Some (unwrap_or name (full_name_in line)) else name) (keeps q) in
     let found : find (has_number Rt5 q) (lines ++ line ∷ []) ≡ option_or (find (has_number Rt5 q) lines)
     (cond (nat_eq feat q) (Some line) None) = find-append (has_number Rt5 q) lines (line ∷ [])
     ∙ ap (λ b. option_or (find (has_number Rt5 q) lines) (cond b (Some line) None)) (has_number_by Rt5 line feat q is) in
-    added ∙ sym (name_by (field_at FENAME) (find (has_number Rt5 q) lines) line (nat_eq feat q))
-    ∙ ap (λ line. option_map (field_at FENAME) line) (sym found)
+    added ∙ sym (name_by full_name_in (find (has_number Rt5 q) lines) line (nat_eq feat q))
+    ∙ ap (λ line. option_map full_name_in line) (sym found)
 
 -- the segment of one line more
 pub segments_push : (joined : JoinedLines) (lines : List (List ℕ)) (line : List ℕ)

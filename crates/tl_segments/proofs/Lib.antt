@@ -1,3 +1,4 @@
+pub mod FullNameLemmas
 pub mod IndexLemmas
 pub mod JoiningLemmas
 pub mod ReadingLemmas

@@ -4,6 +4,7 @@ use Rattle.std.proofs.Common.{slice_get, arith}
 use Rattle.std.proofs.lemmas.Grind.{common_steps}
 use Rattle.std.proofs.lemmas.List.{get_or-drop}
 use Rattle.tl_fields.specs.Field.{field_of}
+use Rattle.tl_segments.specs.FullName.{IsFullName, own_full_name}
 use Rattle.tl_segments.specs.Range.{AreBytes, IsRange, own_range}
 
 -- part 0 is the record's own
@@ -26,6 +27,15 @@ pub AreBytes-field_of : (bytes : List ℕ) (total first last : ℕ) → AreBytes
 AreBytes-field_of bytes total first last are from order until = record {
   length = grind (arith, common_steps);
   bytes = below-take (last + 1 - first) (drop (first - 1) bytes) (below-drop (first - 1) bytes are.bytes);
+}
+
+-- the fields of a record's own full name have their lengths
+pub own_full_name_fields : (bytes : List ℕ) → AreBytes 228 bytes → IsFullName (own_full_name bytes)
+own_full_name_fields bytes are = record {
+  fedirp = AreBytes-field_of bytes 228 18 19 are (omega arith) (omega arith) (omega arith);
+  fename = AreBytes-field_of bytes 228 20 49 are (omega arith) (omega arith) (omega arith);
+  fetype = AreBytes-field_of bytes 228 50 53 are (omega arith) (omega arith) (omega arith);
+  fedirs = AreBytes-field_of bytes 228 54 55 are (omega arith) (omega arith) (omega arith);
 }
 
 -- the fields of a record's own range have their lengths

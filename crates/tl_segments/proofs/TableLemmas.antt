@@ -1,6 +1,6 @@
 -- Tables by number: what they have after a change.
 use Rattle.std.proofs.Common.{◌≡◌, ℕ, zero, suc, ◌+◌, ◌-◌, ◌<◌, ◌≤◌, nat_eq, nat_le, cond, if◌then◌else◌, List, [], ◌∷◌, ◌++◌, length}
-use Rattle.std.proofs.Common.{get_or, take, Option, Some, None, slice_get, Vec, ap, sym, subst, refl, ◌∙◌, append_assoc, arith, Bool, true}
+use Rattle.std.proofs.Common.{get_or, take, Option, Some, None, slice_get, Vec, ap, sym, subst, refl, ◌∙◌, arith, Bool, true}
 use Rattle.std.proofs.Common.{false, unwrap_or}
 use Rattle.std.specs.HashMap.{get}
 use Rattle.std.specs.List.{filter_map, cons_option}
@@ -8,9 +8,11 @@ use Rattle.std.specs.Option.{option_map_or, option_or}
 use Rattle.std.proofs.lemmas.Grind.{common_steps, take_at_read}
 use Rattle.std.proofs.lemmas.List.Elements.{filter_map-append}
 use Rattle.std.proofs.lemmas.Bool.Decides.{nat_tests}
+use Rattle.tl_segments.specs.FullName.{FullNameFields, with_names}
 use Rattle.tl_segments.specs.Segment.{Contents}
 use Rattle.tl_segments.specs.Tables.{HasShortLists, list_at}
 use Rattle.tl_segments.specs.declared.grouped.Grouped.{Grouped}
+use Rattle.tl_segments.proofs.FullNameLemmas.{with_names-more}
 
 -- where no number has a value, all lists are short
 pub no_lists_short : {V A : Type 0} (table : Grouped V A) → ((number : ℕ) → list_at table number ≡ []) → HasShortLists table
@@ -42,12 +44,11 @@ filter_map-some {Y = Y} h (x ∷ xs) (suc i) d y inside is = with_first (h x) (f
     with_first (Some first) others some = omega arith
 
 -- names that were added after names
-pub names-more : {now next : Contents} (start : Contents) {all : List (List ℕ)} (names more : List (List ℕ))
-    → now ≡ record start { names = start.names ++ names } → next ≡ record now { names = now.names ++ more } → all ≡ names ++ more
-    → next ≡ record start { names = start.names ++ all }
+pub names-more : {now next : Contents} (start : Contents) {all : List FullNameFields} (names more : List FullNameFields)
+    → now ≡ with_names start names → next ≡ with_names now more → all ≡ names ++ more → next ≡ with_names start all
 names-more start names more so_far added is =
-    added ∙ ap (λ (segment : Contents). record segment { names = segment.names ++ more }) so_far
-    ∙ ap (λ names. record start { names = names }) (append_assoc start.names names more ∙ ap (λ names. start.names ++ names) (sym is))
+    added ∙ ap (λ (segment : Contents). with_names segment more) so_far ∙ with_names-more start names more
+    ∙ ap (λ names. with_names start names) (sym is)
 
 -- the element at an index, where one more is pushed
 slice_get-push : {Y : Type 0} (xs : List Y) (y : Y) (k : ℕ) → slice_get (xs ++ y ∷ [])

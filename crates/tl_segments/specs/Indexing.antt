@@ -6,6 +6,7 @@ use Rattle.tl_records.specs.Lines.{LineParts, IsLineRead}
 use Rattle.tl_records.specs.Records.{IsGoodLine, IsLineFault}
 use Rattle.tl_records.specs.declared.fault.LineFault.{LineFault}
 use Rattle.tl_segments.specs.CountyFile.{layout}
+use Rattle.tl_segments.specs.FullName.{FullNameFields}
 use Rattle.tl_segments.specs.Joining.{JoinedLines, number_in, segment_of}
 use Rattle.tl_segments.specs.Loading.{Readers, ReadsJoined}
 use Rattle.tl_segments.specs.Tables.{KeepsFeatures, KeepsNames, KeepsRanges, list_at, names_among}
@@ -28,7 +29,7 @@ pub record LoadsIndex {A : Type 0} (index : Index A) (old new : Readers) : Type 
   pub reads : ReadsJoined lines old new
 
 -- the alternate names that the index has of a TLID
-abbrev pub names_in : {A : Type 0} → Index A → ℕ → List (List ℕ)
+abbrev pub names_in : {A : Type 0} → Index A → ℕ → List FullNameFields
 names_in index tlid = flat_map (names_among index.names) (list_at index.features tlid)
 
 -- the next line of a type 1 file was read, and is good
@@ -50,7 +51,8 @@ IsRt1Read line line' old new (Err fault) = IsNextFault fault line line' old new
 -- whatever bytes the line had.
 abbrev pub IsRecordRead : LineParts → ℕ → Contents → Reader → Reader → Result (Option ℕ) LineFault → Type 0
 IsRecordRead line number segment old new (Ok (Some tlid)) =
-    IsRt1Read line (line_of number segment) old new (Ok (Some tlid)) × (segment ≡ record { bytes = segment.bytes; names = []; ranges = [] })
+    IsRt1Read line (line_of number segment) old new (Ok (Some tlid)) × (segment ≡ record
+    { bytes = segment.bytes; names = []; affixes = []; ranges = [] })
 IsRecordRead line number segment old new result =
     ((bytes : List ℕ) × IsRt1Read line (record { number = number; bytes = bytes }) old new result) × (segment ≡ blank_segment)
 

@@ -6,8 +6,9 @@ use Rattle.std.specs.Option.{option_eq, option_map_or}
 use Rattle.tl_fields.specs.Number.{number_of}
 use Rattle.tl_records.specs.Layout.{field_at}
 use Rattle.tl_records.specs.declared.layout.TheConstants.Type4.{FEAT1, FEAT2, FEAT3, FEAT4, FEAT5}
-use Rattle.tl_records.specs.declared.layout.TheConstants.Type5.{FENAME}
+use Rattle.tl_records.specs.declared.layout.TheConstants.Type5.{FEDIRP, FENAME, FETYPE, FEDIRS}
 use Rattle.tl_records.specs.declared.layout.TheConstants.Type6.{FRADDL, TOADDL, FRADDR, TOADDR, ZIPL, ZIPR}
+use Rattle.tl_segments.specs.Affixes.{Affixes}
 use Rattle.tl_segments.specs.CountyFile.{layout}
 use Rattle.tl_segments.specs.Segment.{Contents}
 use Rattle.tl_segments.specs.declared.fault.CountyFile.{CountyFile}
@@ -44,6 +45,14 @@ features_of line = filter_map (λ feat. number_of (field_at feat line)) (FEAT1 �
 abbrev pub feature_name : List (List ℕ) → ℕ → Option (List ℕ)
 feature_name rt5 feat = option_map (field_at FENAME) (find (has_number Rt5 feat) rt5)
 
+-- what stands before and after the name of a type 5 line
+abbrev pub affixes_in : List ℕ → Affixes
+affixes_in line = record { fedirp = field_at FEDIRP line; fetype = field_at FETYPE line; fedirs = field_at FEDIRS line }
+
+-- what stands before and after the name of a FEAT: on the same line, the first of type 5 that has its number
+abbrev pub feature_affixes : List (List ℕ) → ℕ → Option Affixes
+feature_affixes rt5 feat = option_map affixes_in (find (has_number Rt5 feat) rt5)
+
 -- the range of a type 6 line
 abbrev pub further_range : List ℕ → RangeFields
 further_range line = record {
@@ -59,6 +68,10 @@ further_range line = record {
 abbrev pub alternate_names : JoinedLines → ℕ → List (List ℕ)
 alternate_names lines tlid = filter_map (feature_name lines.rt5) (flat_map features_of (lines_with Rt4 tlid lines.rt4))
 
+-- what stands before and after each of these names
+abbrev pub alternate_affixes : JoinedLines → ℕ → List Affixes
+alternate_affixes lines tlid = filter_map (feature_affixes lines.rt5) (flat_map features_of (lines_with Rt4 tlid lines.rt4))
+
 -- the further ranges of a TLID: those of its type 6 lines
 abbrev pub further_ranges : JoinedLines → ℕ → List RangeFields
 further_ranges lines tlid = map further_range (lines_with Rt6 tlid lines.rt6)
@@ -68,6 +81,7 @@ abbrev pub segment_of : JoinedLines → List ℕ → Contents
 segment_of lines line = record {
   bytes = line;
   names = option_map_or (alternate_names lines) (number_in Rt1 line) [];
+  affixes = option_map_or (alternate_affixes lines) (number_in Rt1 line) [];
   ranges = option_map_or (further_ranges lines) (number_in Rt1 line) [];
 }
 

@@ -1,5 +1,7 @@
+pub mod Affixes
 pub mod County
 pub mod CountyFile
+pub mod FullName
 pub mod Indexing
 pub mod Joining
 pub mod LoadFault

@@ -1,30 +1,36 @@
 -- Street segments (TIGER/Line 2006, record types 1, 4, 5 and 6).
-use Rattle.std.specs.Prelude.{◌≢◌, ◌⊎◌, ℕ, ◌≤◌, List, [], ◌∷◌, length, replicate, All}
+use Rattle.std.specs.Prelude.{◌≡◌, ◌≢◌, ◌⊎◌, ℕ, ◌≤◌, List, [], ◌∷◌, length, replicate, All}
 use Rattle.tl_records.specs.Layout.{field_at}
 use Rattle.tl_records.specs.Lines.{LineParts}
 use Rattle.tl_records.specs.declared.layout.TheConstants.Type1.{FENAME}
+use Rattle.tl_segments.specs.Affixes.{Affixes, AreAffixes}
 use Rattle.tl_segments.specs.Range.{AreBytes, IsRange, own_range}
 use Rattle.tl_segments.specs.declared.name.TheConstants.{NAME_LENGTH}
 use Rattle.tl_segments.specs.declared.range.RangeFields.{RangeFields}
 use Rattle.tl_segments.specs.declared.segment.TheConstants.{NAME_LIMIT, RANGE_LIMIT, RECORD_LENGTH}
 
--- what a segment consists of: the bytes of its type 1 record, its alternate names, and its further ranges
+-- what a segment consists of: the bytes of its type 1 record, its alternate names, what stands before and after each of these, and its
+-- further ranges
 pub record Contents : Type 0 where
   pub bytes : List ℕ
   pub names : List (List ℕ)
+  pub affixes : List Affixes
   pub ranges : List RangeFields
 
--- the record, the names and the fields of the ranges have their lengths, and there are as many names and ranges as there may be
+-- the record, the names and the fields of the ranges have their lengths, there are as many names and ranges as there may be, and each
+-- alternate name has its affixes
 pub record IsSegment (segment : Contents) : Type 0 where
   pub bytes : AreBytes RECORD_LENGTH segment.bytes
   pub names : All (AreBytes NAME_LENGTH) segment.names
   pub few_names : length segment.names ≤ NAME_LIMIT
+  pub affixes : All AreAffixes segment.affixes
+  pub paired : length segment.affixes ≡ length segment.names
   pub ranges : All IsRange segment.ranges
   pub few_ranges : length segment.ranges ≤ RANGE_LIMIT
 
 -- blanks for a record, and nothing else
 abbrev pub blank_segment : Contents
-blank_segment = record { bytes = replicate RECORD_LENGTH 32; names = []; ranges = [] }
+blank_segment = record { bytes = replicate RECORD_LENGTH 32; names = []; affixes = []; ranges = [] }
 
 -- the line of this number, whose bytes are the segment's record
 abbrev pub line_of : ℕ → Contents → LineParts

@@ -1,15 +1,17 @@
 -- Tables of what a county's lines have, by number.
 use Rattle.std.specs.Prelude.{◌≡◌, ℕ, ◌+◌, ◌<◌, ◌≤◌, cond, if◌then◌else◌, ◌-◌, nat_eq, nat_le, List, [], ◌∷◌, ◌++◌, length, map, slice_get, Option, Some, None, unwrap_or, option_and_then}
 use Rattle.std.specs.HashMap.{get}
-use Rattle.std.specs.List.{filter_map}
-use Rattle.std.specs.Option.{option_map_or, option_or}
+use Rattle.std.specs.List.{filter_map, find}
+use Rattle.std.specs.Option.{option_map, option_map_or, option_or}
 use Rattle.tl_fields.specs.Number.{number_of}
 use Rattle.tl_records.specs.Layout.{field_at}
 use Rattle.tl_records.specs.declared.layout.TheConstants.Type4.{FEAT1, FEAT2, FEAT3, FEAT4, FEAT5}
-use Rattle.tl_segments.specs.Joining.{lines_with, feature_name, further_range}
+use Rattle.tl_records.specs.declared.layout.TheConstants.Type5.{FEDIRP, FENAME, FETYPE, FEDIRS}
+use Rattle.tl_segments.specs.FullName.{FullNameFields}
+use Rattle.tl_segments.specs.Joining.{has_number, lines_with, further_range}
 use Rattle.tl_segments.specs.declared.checked.Counts.{Counts}
 use Rattle.tl_segments.specs.declared.fault.CountyFile.{CountyFile}
-use Rattle.tl_segments.specs.declared.fault.CountyFile.TheVariants.{Rt4, Rt6}
+use Rattle.tl_segments.specs.declared.fault.CountyFile.TheVariants.{Rt4, Rt5, Rt6}
 use Rattle.tl_segments.specs.declared.feature_names.FeatureNames.{FeatureNames}
 use Rattle.tl_segments.specs.declared.grouped.Grouped.{Grouped}
 use Rattle.tl_segments.specs.declared.range.RangeFields.{RangeFields}
@@ -25,15 +27,15 @@ pub record AddsAt {V A : Type 0} (old new : Grouped V A) (number : ℕ) (value :
   pub lists : (q : ℕ) → list_at new q ≡ (if nat_eq number q then list_at old q ++ value ∷ [] else list_at old q)
 
 -- the name that a FEAT has in the list of those that follow the first one
-abbrev pub following_name : {A : Type 0} → FeatureNames A → ℕ → Option (List ℕ)
+abbrev pub following_name : {A : Type 0} → FeatureNames A → ℕ → Option FullNameFields
 following_name table feat = if nat_le table.first feat then slice_get table.following.items (feat - table.first) else None
 
 -- the name that a FEAT has, if it has one
-abbrev pub name_at : {A : Type 0} → FeatureNames A → ℕ → Option (List ℕ)
+abbrev pub name_at : {A : Type 0} → FeatureNames A → ℕ → Option FullNameFields
 name_at table feat = option_or (following_name table feat) (get nat_eq table.others feat)
 
 -- a FEAT has this name, if it had none yet
-abbrev pub AddsNameAt : {A : Type 0} → FeatureNames A → FeatureNames A → ℕ → List ℕ → Type 0
+abbrev pub AddsNameAt : {A : Type 0} → FeatureNames A → FeatureNames A → ℕ → FullNameFields → Type 0
 AddsNameAt old new feat name = (q : ℕ) → name_at new q ≡ (if nat_eq feat q then Some (unwrap_or (name_at old q) name) else name_at old q)
 
 -- the numbers of a type 4 line's FEATs, in order, each where it has one
@@ -41,7 +43,7 @@ abbrev pub feature_numbers : List ℕ → List (Option ℕ)
 feature_numbers line = map (λ feat. number_of (field_at feat line)) (FEAT1 ∷ FEAT2 ∷ FEAT3 ∷ FEAT4 ∷ FEAT5 ∷ [])
 
 -- the names of these FEATs: of each that has a number and a name
-abbrev pub names_among : {A : Type 0} → FeatureNames A → List (Option ℕ) → List (List ℕ)
+abbrev pub names_among : {A : Type 0} → FeatureNames A → List (Option ℕ) → List FullNameFields
 names_among table feats = filter_map (option_and_then (name_at table)) feats
 
 -- each TLID has what these lines of type 4, of type 6, have of it
@@ -51,9 +53,22 @@ KeepsFeatures table lines = (tlid : ℕ) → list_at table tlid ≡ map feature_
 abbrev pub KeepsRanges : {A : Type 0} → Grouped RangeFields A → List (List ℕ) → Type 0
 KeepsRanges table lines = (tlid : ℕ) → list_at table tlid ≡ map further_range (lines_with Rt6 tlid lines)
 
--- each FEAT has the name that these lines of type 5 give it
+-- the full name of a type 5 line
+abbrev pub full_name_in : List ℕ → FullNameFields
+full_name_in line = record {
+  fedirp = field_at FEDIRP line;
+  fename = field_at FENAME line;
+  fetype = field_at FETYPE line;
+  fedirs = field_at FEDIRS line;
+}
+
+-- the full name of a FEAT: that of the first type 5 line that has its number, if there is one
+abbrev pub feature_full_name : List (List ℕ) → ℕ → Option FullNameFields
+feature_full_name rt5 feat = option_map full_name_in (find (has_number Rt5 feat) rt5)
+
+-- each FEAT has the full name that these lines of type 5 give it
 abbrev pub KeepsNames : {A : Type 0} → FeatureNames A → List (List ℕ) → Type 0
-KeepsNames table lines = (feat : ℕ) → name_at table feat ≡ feature_name lines feat
+KeepsNames table lines = (feat : ℕ) → name_at table feat ≡ feature_full_name lines feat
 
 -- no list is longer than the limit
 abbrev pub HasShortLists : {V A : Type 0} → Grouped V A → Type 0

@@ -1,22 +1,22 @@
-//! Names of features by number.
-ghost use Rattle.std.specs.Prelude.{◌≡◌, ℕ, None, length, option_and_then, option_copied, OnOk};
+//! Full names of features by number.
+ghost use Rattle.std.specs.Prelude.{◌≡◌, ℕ, None, option_and_then, option_copied, OnOk};
+ghost use Rattle.tl_segments.specs.FullName.{HasNameLengths, full_name_of};
 ghost use Rattle.tl_segments.specs.Tables.{AddsNameAt, following_name, name_at};
 
-use crate::name::NAME_LENGTH;
+use crate::full_name::{FullName, FullNameFields};
 use crate::near_hash::NearHasher;
-use crate::range::copy_of;
 use std::alloc::{AllocError, Allocator};
 use std::collections::HashMap;
 use std::hash::BuildHasherDefault;
 
-/// The name that each FEAT has: the first one that was added.
+/// The full name that each FEAT has: the first one that was added.
 ///
 /// A county's FEATs mostly follow each other, so the names of those that follow the first one are a list, and the others are in a map.
 #[derive(Drop)]
 pub(crate) struct FeatureNames<A: Allocator> {
     first: u64,
-    following: Vec<[u8; NAME_LENGTH], A>,
-    others: HashMap<u64, [u8; NAME_LENGTH], BuildHasherDefault<NearHasher>, A>,
+    following: Vec<FullNameFields, A>,
+    others: HashMap<u64, FullNameFields, BuildHasherDefault<NearHasher>, A>,
 }
 
 impl<A: Allocator + Copy> FeatureNames<A> {
@@ -31,9 +31,9 @@ impl<A: Allocator + Copy> FeatureNames<A> {
     }
 
     /// Gives a FEAT this name, if it has none yet.
-    pub(crate) fn set(&mut self, feat: u64, name: &[u8]) -> Result<(), AllocError>
-        requires { length name.now ≡ NAME_LENGTH }
-        ensures ok { OnOk result (AddsNameAt self.old self.new feat name.now) }
+    pub(crate) fn set(&mut self, feat: u64, name: FullName<'_>) -> Result<(), AllocError>
+        requires { HasNameLengths (full_name_of name) }
+        ensures ok { OnOk result (AddsNameAt self.old self.new feat (full_name_of name.entry)) }
     {
         if self.name_of(feat).is_some() {
             return Ok(());
@@ -42,25 +42,25 @@ impl<A: Allocator + Copy> FeatureNames<A> {
             self.first = feat;
         }
         if feat.checked_sub(self.first) == Some(self.following.len() as u64) {
-            self.following.push(copy_of(name))?;
+            self.following.push(FullNameFields::of(name))?;
             return Ok(());
         }
-        self.others.insert(feat, copy_of(name))?;
+        self.others.insert(feat, FullNameFields::of(name))?;
         Ok(())
     }
 }
 
 impl<A: Allocator> FeatureNames<A> {
-    /// The name of a FEAT, if it has a number and this has a name.
+    /// The full name of a FEAT, if it has a number and this has a name.
     #[inline(always)]
-    pub(crate) fn name(&self, feat: Option<u32>) -> Option<&[u8; NAME_LENGTH]>
+    pub(crate) fn name(&self, feat: Option<u32>) -> Option<&FullNameFields>
         ensures { option_copied result ≡ option_and_then (name_at self.now) feat }
     {
         self.name_of(u64::from(feat?))
     }
 
     #[inline(always)]
-    fn name_of(&self, feat: u64) -> Option<&[u8; NAME_LENGTH]>
+    fn name_of(&self, feat: u64) -> Option<&FullNameFields>
         ensures { option_copied result ≡ name_at self.now feat }
     {
         match self.following_name(feat) {
@@ -70,7 +70,7 @@ impl<A: Allocator> FeatureNames<A> {
     }
 
     #[inline(always)]
-    fn following_name(&self, feat: u64) -> Option<&[u8; NAME_LENGTH]>
+    fn following_name(&self, feat: u64) -> Option<&FullNameFields>
         ensures { option_copied result ≡ following_name self.now feat }
     {
         let distance = feat.checked_sub(self.first)?;

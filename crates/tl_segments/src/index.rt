@@ -1,6 +1,7 @@
 //! What is joined to the type 1 lines of a county, by TLID.
 ghost use Rattle.std.specs.Prelude.{◌≡◌, ◌≤◌, ◌+◌, [], ◌++◌, length, IfErr, IfOk, OnErr, OnOk};
 ghost use Rattle.tl_fields.specs.Device.{reader};
+ghost use Rattle.tl_segments.specs.FullName.{with_names};
 ghost use Rattle.tl_segments.specs.Joining.{JoinedLines, no_lines, segment_of};
 ghost use Rattle.tl_segments.specs.Loading.{AreFaultless, IsJoinedFault, readers};
 ghost use Rattle.tl_segments.specs.Segment.{HasJoined, blank_segment, line_of};
@@ -140,7 +141,7 @@ impl<A: Allocator + Copy> Index<A> {
 
     fn push_names(&self, tlid: u64, segment: &mut Segment<A>) -> Result<(), AllocError>
         requires { segment.old.names ≡ [] }
-        ensures names { OnOk result (segment.new ≡ record segment.old { names = names_in self.now tlid }) }
+        ensures names { OnOk result (segment.new ≡ with_names segment.old (names_in self.now tlid)) }
         ensures some { OnErr result (1 ≤ length (names_in self.now tlid)) }
         ensures bytes { segment.new.bytes ≡ segment.old.bytes }
     {
@@ -157,14 +158,14 @@ impl<A: Allocator + Copy> Index<A> {
         segment: &mut Segment<A>,
     ) -> Result<(), AllocError>
         requires { length segment.old.names + 5 ≤ NAME_LIMIT }
-        ensures names { OnOk result (segment.new ≡ record segment.old { names = segment.old.names ++ names_among self.now.names features.now }) }
+        ensures names { OnOk result (segment.new ≡ with_names segment.old (names_among self.now.names features.now)) }
         ensures few { OnOk result (length segment.new.names ≤ length segment.old.names + 5) }
         ensures some { OnErr result (1 ≤ length (names_among self.now.names features.now)) }
         ensures bytes { segment.new.bytes ≡ segment.old.bytes }
     {
         for feat in features {
             if let Some(name) = self.names.name(*feat) {
-                segment.push_name(name)?;
+                segment.push_full_name(name.as_full_name())?;
             }
         }
         Ok(())

@@ -6,6 +6,7 @@ mod county;
 mod county_file;
 mod fault;
 mod feature_names;
+mod full_name;
 mod grouped;
 mod index;
 pub mod laws;
@@ -17,6 +18,7 @@ mod tables;
 
 pub use county::County;
 pub use fault::{CountyFile, LoadFault};
+pub use full_name::{DIRECTION_LENGTH, FullName, TYPE_LENGTH};
 pub use index::Index;
 pub use name::{NAME_LENGTH, name_equals};
 pub use range::{ADDRESS_LENGTH, Range, ZIP_LENGTH, lies_on};

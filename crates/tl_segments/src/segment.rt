@@ -1,13 +1,16 @@
 //! Street segments.
 ghost use Rattle.std.specs.Prelude.{◌≡◌, ◌≤◌, ◌<◌, ◌+◌, [], ◌∷◌, ◌++◌, length, replicate, option_copied, option_map, slice_get, IfSome, OnOk, OnErr};
 ghost use Rattle.tl_fields.specs.Device.{reader};
+ghost use Rattle.tl_segments.specs.Affixes.{no_affixes};
+ghost use Rattle.tl_segments.specs.FullName.{HasNameLengths, IsFullName, all_with_affixes, full_name_of, full_names_of, with_names};
 ghost use Rattle.tl_segments.specs.Indexing.{IsRecordRead, IsRt1Read};
 ghost use Rattle.tl_segments.specs.Range.{AreBytes, HasFieldLengths, IsRange, fields_of};
 ghost use Rattle.tl_segments.specs.Segment.{IsSegment, blank_segment, line_of, names_of, ranges_of};
 ghost use Rattle.tl_segments.specs.declared.range.RangeFields.{RangeFields};
 
+use crate::full_name::{DIRECTION_LENGTH, FullName, FullNameFields, TYPE_LENGTH, own_full_name};
 use crate::name::NAME_LENGTH;
-use crate::range::{Range, RangeFields, copy_of, own_range};
+use crate::range::{Range, RangeFields, own_range};
 use arrayvec::ArrayVec;
 use std::alloc::{AllocError, Allocator};
 use std::marker::Model;
@@ -27,24 +30,25 @@ pub const NAME_LIMIT: usize = 5000;
 pub const RANGE_LIMIT: usize = 1000;
 
 /// A street segment: its type 1 record, its alternate names and its further address ranges. Contracts see it as a record with the fields
-/// `bytes`, `names` and `ranges`. It keeps the allocator that it was made with; one without alternate names and further ranges asks for no
-/// memory.
+/// `bytes`, `names`, `affixes` (what stands before and after each of the names) and `ranges`. It keeps the allocator that it was made with; one
+/// without alternate names and further ranges asks for no memory.
 #[derive(Drop)]
 pub struct Segment<A: Allocator> {
     // A line is read into it, so it has room for the longest one.
     record: ArrayVec<u8, LONGEST_CONTENT>,
-    names: Vec<[u8; NAME_LENGTH], A>,
+    names: Vec<FullNameFields, A>,
     ranges: Vec<RangeFields, A>,
 }
 
 impl<A: Allocator> Model for Segment<A> {
+    ghost use Rattle.tl_segments.specs.FullName.{contents};
     ghost use Rattle.tl_segments.specs.Segment.{Contents, IsSegment};
 
     ghost Value = { Contents };
 
-    ghost view = { λ segment. record { bytes = segment.record.items; names = segment.names.items; ranges = segment.ranges.items } };
+    ghost view = { λ segment. contents segment.record.items segment.names.items segment.ranges.items };
 
-    ghost invariant = { λ segment. IsSegment (record { bytes = segment.record.items; names = segment.names.items; ranges = segment.ranges.items }) };
+    ghost invariant = { λ segment. IsSegment (contents segment.record.items segment.names.items segment.ranges.items) };
 }
 
 impl<A: Allocator + Copy> Segment<A> {
@@ -52,7 +56,7 @@ impl<A: Allocator + Copy> Segment<A> {
     /// be any: no field is looked at.
     pub fn of(alloc: A, bytes: &[u8]) -> Self
         requires { length bytes.now ≡ RECORD_LENGTH }
-        ensures { result ≡ record { bytes = bytes.now; names = []; ranges = [] } }
+        ensures { result ≡ record { bytes = bytes.now; names = []; affixes = []; ranges = [] } }
     {
         Segment {
             record: record_of(bytes),
@@ -101,14 +105,30 @@ impl<A: Allocator> Segment<A> {
         }
     }
 
-    /// Adds an alternate name after the others.
+    /// Adds an alternate name after the others, with blanks before and after it.
     pub fn push_name(&mut self, name: &[u8]) -> Result<(), AllocError>
         requires length { length name.now ≡ NAME_LENGTH }
         requires room { length self.old.names < NAME_LIMIT }
-        ensures ok { OnOk result (self.new ≡ record self.old { names = self.old.names ++ name.now ∷ [] }) }
+        ensures ok { OnOk result (self.new ≡ record self.old
+            { names = self.old.names ++ name.now ∷ []; affixes = self.old.affixes ++ no_affixes ∷ [] }) }
         ensures err { OnErr result (self.new ≡ self.old) }
     {
-        self.names.push(copy_of(name))?;
+        self.push_full_name(FullName {
+            fedirp: &[b' '; DIRECTION_LENGTH],
+            fename: name,
+            fetype: &[b' '; TYPE_LENGTH],
+            fedirs: &[b' '; DIRECTION_LENGTH],
+        })
+    }
+
+    /// Adds an alternate name with all its fields after the others.
+    pub fn push_full_name(&mut self, name: FullName<'_>) -> Result<(), AllocError>
+        requires lengths { HasNameLengths (full_name_of name) }
+        requires room { length self.old.names < NAME_LIMIT }
+        ensures ok { OnOk result (self.new ≡ with_names self.old (full_name_of name.entry ∷ [])) }
+        ensures err { OnErr result (self.new ≡ self.old) }
+    {
+        self.names.push(FullNameFields::of(name))?;
         Ok(())
     }
 
@@ -155,8 +175,38 @@ impl<A: Allocator> Segment<A> {
         ensures value { option_copied result ≡ slice_get self.now.names index }
         ensures bytes { IfSome result (λ name. AreBytes NAME_LENGTH name.now) }
     {
-        let name = self.names.get(index as usize)?;
-        Some(name)
+        let name = self.further_fields(index)?;
+        Some(name.fename())
+    }
+
+    /// The full name with a number, counted as for [`name`](Self::name): that of the record, or of the type 5 line that an alternate name is of.
+    /// None where it has no such name.
+    pub fn full_name(&self, n: u64) -> Option<FullName<'_>>
+        ensures value { option_map full_name_of result ≡ slice_get (full_names_of self.now) n }
+        ensures name { option_map (λ name. name.fename.now) result ≡ slice_get (names_of self.now) n }
+        ensures fields { IfSome result (λ name. IsFullName (full_name_of name)) }
+    {
+        match n.checked_sub(1) {
+            Some(further) => self.further_full_name(further),
+            None => Some(own_full_name(self.record.as_slice())),
+        }
+    }
+
+    fn further_full_name(&self, index: u64) -> Option<FullName<'_>>
+        ensures value { option_map full_name_of result ≡ slice_get (all_with_affixes self.now.affixes self.now.names) index }
+        ensures name { option_map (λ name. name.fename.now) result ≡ slice_get self.now.names index }
+        ensures fields { IfSome result (λ name. IsFullName (full_name_of name)) }
+    {
+        let name = self.further_fields(index)?;
+        Some(name.as_full_name())
+    }
+
+    #[inline]
+    fn further_fields(&self, index: u64) -> Option<&FullNameFields>
+        ensures value { option_copied result ≡ slice_get (all_with_affixes self.now.affixes self.now.names) index }
+        ensures whole { IsSegment self.now }
+    {
+        kept_at(self.names.as_slice(), index)
     }
 
     /// How many ranges it has: the record's own, and the further ones.
@@ -188,6 +238,13 @@ impl<A: Allocator> Segment<A> {
         let fields = self.ranges.get(index as usize)?;
         Some(fields.as_range())
     }
+}
+
+#[inline]
+fn kept_at<T>(kept: &[T], index: u64) -> Option<&T>
+    ensures { option_copied result ≡ slice_get kept.now index }
+{
+    kept.get(index as usize)
 }
 
 /// The bytes, in room for a line.

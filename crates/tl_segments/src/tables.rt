@@ -1,11 +1,13 @@
 //! What an index keeps of the lines of each file.
 ghost use Rattle.std.specs.Prelude.{◌≡◌, length};
 ghost use Rattle.tl_fields.specs.Number.{number_of};
+ghost use Rattle.tl_segments.specs.FullName.{HasNameLengths, full_name_of};
 ghost use Rattle.tl_segments.specs.Joining.{further_range};
-ghost use Rattle.tl_segments.specs.Tables.{KeepsFeatures, KeepsNames, KeepsRanges, feature_numbers};
+ghost use Rattle.tl_segments.specs.Tables.{KeepsFeatures, KeepsNames, KeepsRanges, feature_numbers, full_name_in};
 
 use crate::county_file::Table;
 use crate::feature_names::FeatureNames;
+use crate::full_name::FullName;
 use crate::grouped::Grouped;
 use crate::range::{Range, RangeFields};
 use std::alloc::{AllocError, Allocator};
@@ -51,8 +53,20 @@ impl<A: Allocator + Copy> Table for FeatureNames<A> {
     ghost keeps = { λ table lines. KeepsNames table lines };
 
     fn add(&mut self, rt5: &Rt5<'_>) -> Result<bool, AllocError> {
-        self.set(rt5.number(), rt5.field(Type5::FENAME))?;
+        self.set(rt5.number(), full_name(rt5))?;
         Ok(true)
+    }
+}
+
+fn full_name<'a>(rt5: &Rt5<'a>) -> FullName<'a>
+    ensures value { full_name_of result ≡ full_name_in rt5.now.bytes }
+    ensures lengths { HasNameLengths (full_name_of result) }
+{
+    FullName {
+        fedirp: rt5.field(Type5::FEDIRP),
+        fename: rt5.field(Type5::FENAME),
+        fetype: rt5.field(Type5::FETYPE),
+        fedirs: rt5.field(Type5::FEDIRS),
     }
 }
 

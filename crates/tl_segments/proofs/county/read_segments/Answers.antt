@@ -1,8 +1,17 @@
-use Rattle.std.proofs.Common.{[], ◌∷◌, ◌++◌, refl}
+use Rattle.std.proofs.Common.{[], ◌∷◌, ◌++◌, refl, rules}
 use Rattle.std.proofs.lemmas.Result.{err_from_is_err_and}
 use Rattle.tl_segments.specs.County.{KeepsSegments}
-use Rattle.tl_segments.proofs.ReadingLemmas.{one_line_more, not_taken, at_fault}
+use Rattle.tl_segments.specs.declared.fault.CountyFile.TheVariants.{Rt1}
+use Rattle.tl_segments.proofs.ReadingLemmas.{none_read, one_line_more, not_taken, at_fault}
 use Rattle.tl_segments.proofs.county.read_segments.Goals as goal
+
+pub loop-line-init : goal.loop-line-init
+loop-line-init g c = record {
+  lines = [];
+  kept = rw (c.new-segments.ensures.items, c.new-tlids.ensures.items)
+      (record { joined = λ joined of_joined. refl; counted = refl; numbered = refl });
+  read = none_read Rt1 c.new-line.result _ (search rules);
+}
 
 pub loop-line-preserved : goal.loop-line-preserved
 loop-line-preserved g c =

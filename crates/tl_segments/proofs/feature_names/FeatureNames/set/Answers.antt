@@ -3,6 +3,7 @@ use Rattle.std.proofs.Common.{arith}
 use Rattle.std.proofs.lemmas.Grind.{common_steps}
 use Rattle.std.specs.HashMap.{get}
 use Rattle.std.specs.Option.{option_or}
+use Rattle.tl_segments.specs.FullName.{full_name_of}
 use Rattle.tl_segments.specs.Tables.{name_at}
 use Rattle.tl_segments.proofs.TableLemmas.{AreNames, follows-push}
 use Rattle.tl_segments.proofs.feature_names.FeatureNames.set.Goals as goal
@@ -18,9 +19,9 @@ returns-then-eq g c =
     ] in
     let none : name_at old c.args.feat ≡ None = search rules in
     let next : c.args.feat ≡ now.first + length now.following.items = grind (arith, common_steps) in
-    let name = c.args.name.now in
+    let name = full_name_of c.args.name in
     let pushed : c.push.new.self.items ≡ now.following.items ++ name ∷ [] =
-    c.in_ok-push.ensures.items ∙ ap (λ name. now.following.items ++ name ∷ []) c.copy_of.ensures.value in
+    c.in_ok-push.ensures.items ∙ ap (λ name. now.following.items ++ name ∷ []) c.of.ensures.value in
     let names : AreNames now.following.items now.first (get nat_eq now.others) (name_at old) = record { are = before } in
     let follows = follows-push now.following.items name now.first names c.args.feat none next in
     record {

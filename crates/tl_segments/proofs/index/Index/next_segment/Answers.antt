@@ -1,5 +1,6 @@
 use Rattle.std.proofs.Common.{ap, sym, ◌∙◌}
 use Rattle.std.proofs.lemmas.Result.{err_from_is_err_and}
+use Rattle.tl_segments.specs.FullName.{contents, with_names}
 use Rattle.tl_segments.specs.Indexing.{names_in}
 use Rattle.tl_segments.specs.Segment.{Contents, line_of}
 use Rattle.tl_segments.specs.Tables.{list_at}
@@ -14,10 +15,11 @@ returns g c =
     let ranges = list_at index.ranges tlid in
     let is = rw c.in-Ok-Some.field-0-is at c.in-Ok-Some.ensures in
     let same = c.push_ranges.ensures.bytes ∙ c.push_names.ensures.bytes in
-    let made = c.in_ok-push_ranges.ensures.ranges ∙ ap (λ (segment : Contents). record segment { ranges = ranges })
-    c.in_ok-push_names.ensures.names in
+    let made = c.in_ok-push_ranges.ensures.ranges
+    ∙ ap (λ (segment : Contents). record segment { ranges = ranges }) c.in_ok-push_names.ensures.names
+    ∙ ap (λ (segment : Contents). record (with_names segment names) { ranges = ranges }) is.1 in
     segment_read index (has_line (line_of c.args.number.now c.args.segment.now) _ tlid c.read_record.new.self _ _ is same)
-    (made ∙ ap (λ bytes. record { bytes = bytes; names = names; ranges = ranges }) (sym same))
+    (made ∙ ap (λ bytes. contents bytes names ranges) (sym same))
 
 pub returns-in_err-push_names : goal.returns-in_err-push_names
 returns-in_err-push_names g c =

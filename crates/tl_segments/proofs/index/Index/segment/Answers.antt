@@ -1,5 +1,6 @@
 use Rattle.std.proofs.Common.{◌≡◌, [], ap, ◌∙◌}
 use Rattle.std.proofs.lemmas.Result.{err_from_is_err_and}
+use Rattle.tl_segments.specs.FullName.{with_names}
 use Rattle.tl_segments.specs.Indexing.{names_in}
 use Rattle.tl_segments.specs.Segment.{Contents}
 use Rattle.tl_segments.specs.Tables.{list_at}
@@ -13,10 +14,10 @@ returns-clause-ok g c = λ lines of_lines.
     let names = names_in index tlid in
     let ranges = list_at index.ranges tlid in
     let line = c.args.rt1.now.bytes in
-    let first : ◌≡◌ {A = Contents} c.of-segment.result record { bytes = line; names = []; ranges = [] } =
-    c.of-segment.ensures ∙ ap (λ bytes. let segment : Contents = record { bytes = bytes; names = []; ranges = [] } in segment)
+    let first : ◌≡◌ {A = Contents} c.of-segment.result record { bytes = line; names = []; affixes = []; ranges = [] } =
+    c.of-segment.ensures ∙ ap (λ bytes. let segment : Contents = record { bytes = bytes; names = []; affixes = []; ranges = [] } in segment)
     c.bytes.ensures.value in
-    let named = c.in_ok-push_names.ensures.names ∙ ap (λ (segment : Contents). record segment { names = names }) first in
+    let named = c.in_ok-push_names.ensures.names ∙ ap (λ (segment : Contents). with_names segment names) first in
     let ranged = c.in_ok-push_ranges.ensures.ranges ∙ ap (λ (segment : Contents). record segment { ranges = ranges }) named in
     segment_from_index index lines line tlid c.push_ranges.new.segment of_lines c.number-tlid.ensures.value ranged
 

@@ -1,0 +1,77 @@
+-- Full street names (TIGER/Line 2006, FEDIRP, FENAME, FETYPE and FEDIRS of record types 1 and 5).
+use Rattle.std.specs.Prelude.{◌≡◌, ℕ, List, [], ◌∷◌, ◌++◌, length, map}
+use Rattle.tl_records.specs.Layout.{field_at}
+use Rattle.tl_records.specs.declared.layout.TheConstants.Type1.{FEDIRP, FENAME, FETYPE, FEDIRS}
+use Rattle.tl_segments.specs.Affixes.{Affixes}
+use Rattle.tl_segments.specs.Range.{AreBytes}
+use Rattle.tl_segments.specs.Segment.{Contents}
+use Rattle.tl_segments.specs.declared.full_name.FullName.{FullName}
+use Rattle.tl_segments.specs.declared.full_name.TheConstants.{DIRECTION_LENGTH, TYPE_LENGTH}
+use Rattle.tl_segments.specs.declared.name.TheConstants.{NAME_LENGTH}
+use Rattle.tl_segments.specs.declared.range.RangeFields.{RangeFields}
+pub use Rattle.tl_segments.specs.declared.full_name.FullNameFields.{FullNameFields}
+
+-- the fields have the lengths that the layout gives them
+pub record HasNameLengths (name : FullNameFields) : Type 0 where
+  pub fedirp : length name.fedirp ≡ DIRECTION_LENGTH
+  pub fename : length name.fename ≡ NAME_LENGTH
+  pub fetype : length name.fetype ≡ TYPE_LENGTH
+  pub fedirs : length name.fedirs ≡ DIRECTION_LENGTH
+
+-- the fields are bytes, of the lengths that the layout gives them
+pub record IsFullName (name : FullNameFields) : Type 0 where
+  pub fedirp : AreBytes DIRECTION_LENGTH name.fedirp
+  pub fename : AreBytes NAME_LENGTH name.fename
+  pub fetype : AreBytes TYPE_LENGTH name.fetype
+  pub fedirs : AreBytes DIRECTION_LENGTH name.fedirs
+
+-- the fields of a lent full name
+abbrev pub full_name_of : FullName → FullNameFields
+full_name_of name = record {
+  fedirp = name.fedirp.now;
+  fename = name.fename.now;
+  fetype = name.fetype.now;
+  fedirs = name.fedirs.now;
+}
+
+-- the full name that a type 1 record itself has
+abbrev pub own_full_name : List ℕ → FullNameFields
+own_full_name bytes = record {
+  fedirp = field_at FEDIRP bytes;
+  fename = field_at FENAME bytes;
+  fetype = field_at FETYPE bytes;
+  fedirs = field_at FEDIRS bytes;
+}
+
+-- what stands before and after the name
+abbrev pub affixes_of : FullNameFields → Affixes
+affixes_of name = record { fedirp = name.fedirp; fetype = name.fetype; fedirs = name.fedirs }
+
+-- a name with what stands before and after it
+abbrev pub with_affixes : Affixes → List ℕ → FullNameFields
+with_affixes affixes name = record { fedirp = affixes.fedirp; fename = name; fetype = affixes.fetype; fedirs = affixes.fedirs }
+
+-- names with what stands before and after each
+abbrev pub all_with_affixes : List Affixes → List (List ℕ) → List FullNameFields
+all_with_affixes (affixes ∷ others) (name ∷ names) = with_affixes affixes name ∷ all_with_affixes others names
+all_with_affixes affixes names = []
+
+-- what a segment with this record, these alternate names and these further ranges consists of
+abbrev pub contents : List ℕ → List FullNameFields → List RangeFields → Contents
+contents bytes names ranges = record {
+  bytes = bytes;
+  names = map (λ name. name.fename) names;
+  affixes = map affixes_of names;
+  ranges = ranges;
+}
+
+-- a segment with these names after its alternate ones
+abbrev pub with_names : Contents → List FullNameFields → Contents
+with_names segment names = record segment {
+  names = segment.names ++ map (λ name. name.fename) names;
+  affixes = segment.affixes ++ map affixes_of names;
+}
+
+-- the full names of a segment in order, counted from 0: the record's own, and then the alternate ones
+abbrev pub full_names_of : Contents → List FullNameFields
+full_names_of segment = own_full_name segment.bytes ∷ all_with_affixes segment.affixes segment.names
