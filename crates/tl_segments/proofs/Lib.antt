@@ -3,4 +3,5 @@ pub mod IndexLemmas
 pub mod JoiningLemmas
 pub mod ReadingLemmas
 pub mod SegmentLemmas
+pub mod SharedLemmas
 pub mod TableLemmas

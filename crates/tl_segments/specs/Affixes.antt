@@ -1,21 +1,21 @@
--- What stands before and after a street name (TIGER/Line 2006, FEDIRP, FETYPE and FEDIRS of record types 1 and 5).
+-- Affixes of street names (TIGER/Line 2006, FEDIRP, FETYPE and FEDIRS of record types 1 and 5).
 use Rattle.std.specs.Prelude.{ℕ, List, replicate}
 use Rattle.tl_segments.specs.Range.{AreBytes}
 use Rattle.tl_segments.specs.declared.full_name.TheConstants.{DIRECTION_LENGTH, TYPE_LENGTH}
 
--- the direction before a name, the type of the feature, and the direction after the name
+-- the prefix direction of a name, its feature type, and its suffix direction
 pub record Affixes : Type 0 where
   pub fedirp : List ℕ
   pub fetype : List ℕ
   pub fedirs : List ℕ
 
--- they are bytes, of the lengths that the layout gives them
+-- the fields are bytes, of the lengths that the layout gives them
 pub record AreAffixes (affixes : Affixes) : Type 0 where
   pub fedirp : AreBytes DIRECTION_LENGTH affixes.fedirp
   pub fetype : AreBytes TYPE_LENGTH affixes.fetype
   pub fedirs : AreBytes DIRECTION_LENGTH affixes.fedirs
 
--- blanks alone
+-- the affixes of a name without any: blank
 abbrev pub no_affixes : Affixes
 no_affixes = record {
   fedirp = replicate DIRECTION_LENGTH 32;

@@ -34,7 +34,7 @@ full_name_of name = record {
   fedirs = name.fedirs.now;
 }
 
--- the full name that a type 1 record itself has
+-- the full name in a type 1 record
 abbrev pub own_full_name : List ℕ → FullNameFields
 own_full_name bytes = record {
   fedirp = field_at FEDIRP bytes;
@@ -43,20 +43,20 @@ own_full_name bytes = record {
   fedirs = field_at FEDIRS bytes;
 }
 
--- what stands before and after the name
+-- the affixes of a full name
 abbrev pub affixes_of : FullNameFields → Affixes
 affixes_of name = record { fedirp = name.fedirp; fetype = name.fetype; fedirs = name.fedirs }
 
--- a name with what stands before and after it
+-- a name with its affixes
 abbrev pub with_affixes : Affixes → List ℕ → FullNameFields
 with_affixes affixes name = record { fedirp = affixes.fedirp; fename = name; fetype = affixes.fetype; fedirs = affixes.fedirs }
 
--- names with what stands before and after each
+-- each name with its affixes
 abbrev pub all_with_affixes : List Affixes → List (List ℕ) → List FullNameFields
 all_with_affixes (affixes ∷ others) (name ∷ names) = with_affixes affixes name ∷ all_with_affixes others names
 all_with_affixes affixes names = []
 
--- what a segment with this record, these alternate names and these further ranges consists of
+-- the contents of a segment with this record, these alternate names and these further ranges
 abbrev pub contents : List ℕ → List FullNameFields → List RangeFields → Contents
 contents bytes names ranges = record {
   bytes = bytes;
@@ -65,13 +65,13 @@ contents bytes names ranges = record {
   ranges = ranges;
 }
 
--- a segment with these names after its alternate ones
+-- the segment with more alternate names
 abbrev pub with_names : Contents → List FullNameFields → Contents
 with_names segment names = record segment {
   names = segment.names ++ map (λ name. name.fename) names;
   affixes = segment.affixes ++ map affixes_of names;
 }
 
--- the full names of a segment in order, counted from 0: the record's own, and then the alternate ones
+-- the full names of a segment in order, counted from 0: that of the record, and then the alternate ones
 abbrev pub full_names_of : Contents → List FullNameFields
 full_names_of segment = own_full_name segment.bytes ∷ all_with_affixes segment.affixes segment.names

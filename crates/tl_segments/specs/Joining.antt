@@ -45,11 +45,11 @@ features_of line = filter_map (λ feat. number_of (field_at feat line)) (FEAT1 �
 abbrev pub feature_name : List (List ℕ) → ℕ → Option (List ℕ)
 feature_name rt5 feat = option_map (field_at FENAME) (find (has_number Rt5 feat) rt5)
 
--- what stands before and after the name of a type 5 line
+-- the affixes in a type 5 line
 abbrev pub affixes_in : List ℕ → Affixes
 affixes_in line = record { fedirp = field_at FEDIRP line; fetype = field_at FETYPE line; fedirs = field_at FEDIRS line }
 
--- what stands before and after the name of a FEAT: on the same line, the first of type 5 that has its number
+-- the affixes of a FEAT: those in the same line as its name, the first type 5 line that has its number
 abbrev pub feature_affixes : List (List ℕ) → ℕ → Option Affixes
 feature_affixes rt5 feat = option_map affixes_in (find (has_number Rt5 feat) rt5)
 
@@ -68,7 +68,7 @@ further_range line = record {
 abbrev pub alternate_names : JoinedLines → ℕ → List (List ℕ)
 alternate_names lines tlid = filter_map (feature_name lines.rt5) (flat_map features_of (lines_with Rt4 tlid lines.rt4))
 
--- what stands before and after each of these names
+-- the affixes of these names, in the same order
 abbrev pub alternate_affixes : JoinedLines → ℕ → List Affixes
 alternate_affixes lines tlid = filter_map (feature_affixes lines.rt5) (flat_map features_of (lines_with Rt4 tlid lines.rt4))
 

@@ -3,6 +3,7 @@ pub mod County
 pub mod CountyFile
 pub mod FullName
 pub mod Indexing
+pub mod Joined
 pub mod Joining
 pub mod LoadFault
 pub mod Loading
@@ -10,5 +11,6 @@ pub mod Name
 pub mod NearHash
 pub mod Range
 pub mod Segment
+pub mod SharedLists
 pub mod Tables
 pub mod Taking

@@ -9,8 +9,7 @@ use Rattle.tl_segments.specs.declared.name.TheConstants.{NAME_LENGTH}
 use Rattle.tl_segments.specs.declared.range.RangeFields.{RangeFields}
 use Rattle.tl_segments.specs.declared.segment.TheConstants.{NAME_LIMIT, RANGE_LIMIT, RECORD_LENGTH}
 
--- what a segment consists of: the bytes of its type 1 record, its alternate names, what stands before and after each of these, and its
--- further ranges
+-- what a segment consists of: the bytes of its type 1 record, its alternate names, the affixes of each of these, and its further ranges
 pub record Contents : Type 0 where
   pub bytes : List ℕ
   pub names : List (List ℕ)

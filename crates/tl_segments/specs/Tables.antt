@@ -26,15 +26,15 @@ pub record AddsAt {V A : Type 0} (old new : Grouped V A) (number : ℕ) (value :
   pub room : length (list_at old number) < LINE_LIMIT
   pub lists : (q : ℕ) → list_at new q ≡ (if nat_eq number q then list_at old q ++ value ∷ [] else list_at old q)
 
--- the name that a FEAT has in the list of those that follow the first one
+-- the full name that a FEAT has in the list of those that follow the first one
 abbrev pub following_name : {A : Type 0} → FeatureNames A → ℕ → Option FullNameFields
 following_name table feat = if nat_le table.first feat then slice_get table.following.items (feat - table.first) else None
 
--- the name that a FEAT has, if it has one
+-- the full name that a FEAT has, if it has one
 abbrev pub name_at : {A : Type 0} → FeatureNames A → ℕ → Option FullNameFields
 name_at table feat = option_or (following_name table feat) (get nat_eq table.others feat)
 
--- a FEAT has this name, if it had none yet
+-- a FEAT has this full name, if it had none yet
 abbrev pub AddsNameAt : {A : Type 0} → FeatureNames A → FeatureNames A → ℕ → FullNameFields → Type 0
 AddsNameAt old new feat name = (q : ℕ) → name_at new q ≡ (if nat_eq feat q then Some (unwrap_or (name_at old q) name) else name_at old q)
 
@@ -42,7 +42,7 @@ AddsNameAt old new feat name = (q : ℕ) → name_at new q ≡ (if nat_eq feat q
 abbrev pub feature_numbers : List ℕ → List (Option ℕ)
 feature_numbers line = map (λ feat. number_of (field_at feat line)) (FEAT1 ∷ FEAT2 ∷ FEAT3 ∷ FEAT4 ∷ FEAT5 ∷ [])
 
--- the names of these FEATs: of each that has a number and a name
+-- the full names of these FEATs: of each that has a number and a name
 abbrev pub names_among : {A : Type 0} → FeatureNames A → List (Option ℕ) → List FullNameFields
 names_among table feats = filter_map (option_and_then (name_at table)) feats
 
@@ -53,7 +53,7 @@ KeepsFeatures table lines = (tlid : ℕ) → list_at table tlid ≡ map feature_
 abbrev pub KeepsRanges : {A : Type 0} → Grouped RangeFields A → List (List ℕ) → Type 0
 KeepsRanges table lines = (tlid : ℕ) → list_at table tlid ≡ map further_range (lines_with Rt6 tlid lines)
 
--- the full name of a type 5 line
+-- the full name in a type 5 line
 abbrev pub full_name_in : List ℕ → FullNameFields
 full_name_in line = record {
   fedirp = field_at FEDIRP line;

@@ -1,10 +1,11 @@
 //! The segments of a county's files.
-ghost use Rattle.std.specs.Prelude.{◌≡◌, ℕ, ◌^◌, ◌<◌, List, length, IfErr, IfOk};
+ghost use Rattle.std.specs.Prelude.{◌≡◌, ℕ, ◌^◌, ◌<◌, List, length, IfErr, IfOk, OnOk};
 ghost use Rattle.tl_fields.specs.Device.{reader};
 ghost use Rattle.tl_segments.specs.County.{AreTlids, HasTlids, IsCountyFault, KeepsSegments, LoadsCounty};
 ghost use Rattle.tl_segments.specs.Indexing.{IsIndexOf};
 ghost use Rattle.tl_segments.specs.Joining.{JoinedLines, segments_of};
 ghost use Rattle.tl_segments.specs.Loading.{IsFileFault, readers};
+ghost use Rattle.tl_segments.specs.SharedLists.{KeepsShared};
 ghost use Rattle.tl_segments.specs.Taking.{IsTaken, KeepsFile};
 ghost use Rattle.tl_segments.specs.declared.fault.CountyFile.TheVariants.{Rt1};
 
@@ -12,6 +13,7 @@ use crate::county_file::record_in;
 use crate::fault::LoadFault;
 use crate::index::{Index, rt1_fault};
 use crate::segment::Segment;
+use crate::shared_lists::SharedLists;
 use std::alloc::Allocator;
 use std::marker::Model;
 use tl_fields::CountedRead;
@@ -76,7 +78,7 @@ impl<A: Allocator> County<A> {
     }
 }
 
-/// Reads a type 1 file to its end, up to the first fault, with what the index has of each line's TLID.
+/// Reads a type 1 file to its end, up to the first fault, with what the index has of each line's TLID. The segments of a TLID share its lists.
 fn read_segments<A: Allocator + Copy, R: CountedRead>(
     alloc: A,
     index: &Index<A>,
@@ -90,10 +92,11 @@ fn read_segments<A: Allocator + Copy, R: CountedRead>(
 {
     let mut segments = Vec::new(alloc);
     let mut tlids = Vec::new(alloc);
+    let mut shared = SharedLists::new(alloc);
     let mut line = Line::new();
     loop {
         match read_line(input, &mut line) {
-            Ok(Some(())) => push_segment(index, &line, &mut segments, &mut tlids)?,
+            Ok(Some(())) => push_segment(index, &line, &mut shared, &mut segments, &mut tlids)?,
             Ok(None) => return Ok(County { segments, tlids }),
             Err(fault) => return Err(rt1_fault(fault)),
         }
@@ -104,14 +107,17 @@ fn read_segments<A: Allocator + Copy, R: CountedRead>(
 fn push_segment<A: Allocator + Copy>(
     index: &Index<A>,
     line: &Line,
+    shared: &mut SharedLists<A>,
     segments: &mut Vec<Segment<A>, A>,
     tlids: &mut Vec<u64, A>,
 ) -> Result<(), LoadFault>
-    ensures { (lines : List (List ℕ)) → KeepsSegments index.now segments.old.items tlids.old.items lines
+    requires { KeepsShared index.now shared.old }
+    ensures keeps { OnOk result (KeepsShared index.now shared.new) }
+    ensures taken { (lines : List (List ℕ)) → KeepsSegments index.now segments.old.items tlids.old.items lines
         → IsTaken Rt1 lines line.now result (KeepsSegments index.now segments.new.items tlids.new.items) }
 {
     let record = record_in::<Type1>(line)?;
-    segments.push(index.segment(&record)?)?;
+    segments.push(shared.segment(index, &record)?)?;
     tlids.push(record.number())?;
     Ok(())
 }

@@ -7,14 +7,14 @@ use crate::range::copy_of;
 use crate::segment::RECORD_LENGTH;
 use tl_records::Type1;
 
-/// How many bytes FEDIRP has, and how many FEDIRS.
+/// How many bytes each of FEDIRP and FEDIRS has, including the blanks after it.
 pub const DIRECTION_LENGTH: usize = 2;
 
-/// How many bytes FETYPE has.
+/// How many bytes FETYPE has, including the blanks after it.
 pub const TYPE_LENGTH: usize = 4;
 
-/// A complete street name, lent: the fields of record type 1 or 5, named as there. FEDIRP is the direction before the name, FETYPE the type
-/// of the feature and FEDIRS the direction after the name; one that the name hasn't is blank.
+/// A complete street name, lent: the fields of record type 1 or 5, named as there. FEDIRP is the prefix direction (`N`, `SE`), FETYPE the feature
+/// type (`St`, `Ave`) and FEDIRS the suffix direction. A field that the name lacks is blank.
 #[derive(Clone, Copy)]
 pub struct FullName<'a> {
     pub fedirp: &'a [u8],
@@ -33,7 +33,7 @@ pub(crate) struct FullNameFields {
 }
 
 impl FullNameFields {
-    /// The fields, copied.
+    /// Copies the fields.
     #[inline(always)]
     pub(crate) fn of(name: FullName<'_>) -> Self
         requires { HasNameLengths (full_name_of name) }
@@ -48,7 +48,7 @@ impl FullNameFields {
         }
     }
 
-    /// The name alone.
+    /// Lends the name without its affixes.
     #[inline(always)]
     pub(crate) fn fename(&self) -> &[u8; NAME_LENGTH]
         ensures { result.now ≡ self.now.fename }
@@ -56,7 +56,7 @@ impl FullNameFields {
         &self.fename
     }
 
-    /// The fields, lent.
+    /// Lends the fields.
     #[inline(always)]
     pub(crate) fn as_full_name(&self) -> FullName<'_>
         ensures value { full_name_of result ≡ self.now }
@@ -71,7 +71,7 @@ impl FullNameFields {
     }
 }
 
-/// The full name that a type 1 record itself has.
+/// Returns the full name in a type 1 record.
 pub(crate) fn own_full_name(line: &[u8]) -> FullName<'_>
     requires { length line.now ≡ RECORD_LENGTH }
     ensures value { full_name_of result ≡ own_full_name line.now }

@@ -14,6 +14,7 @@ mod name;
 mod near_hash;
 mod range;
 mod segment;
+mod shared_lists;
 mod tables;
 
 pub use county::County;

@@ -1,19 +1,22 @@
 //! Street segments.
-ghost use Rattle.std.specs.Prelude.{◌≡◌, ◌≤◌, ◌<◌, ◌+◌, [], ◌∷◌, ◌++◌, length, replicate, option_copied, option_map, slice_get, IfSome, OnOk, OnErr};
+ghost use Rattle.std.specs.Prelude.{◌≡◌, ◌≤◌, ◌<◌, ◌+◌, [], ◌∷◌, ◌++◌, length, replicate, option_copied, option_map, slice_get, IfOk, IfSome, OnOk, OnErr};
 ghost use Rattle.tl_fields.specs.Device.{reader};
 ghost use Rattle.tl_segments.specs.Affixes.{no_affixes};
-ghost use Rattle.tl_segments.specs.FullName.{HasNameLengths, IsFullName, all_with_affixes, full_name_of, full_names_of, with_names};
+ghost use Rattle.tl_segments.specs.FullName.{HasNameLengths, IsFullName, all_with_affixes, contents, full_name_of, full_names_of, with_names};
 ghost use Rattle.tl_segments.specs.Indexing.{IsRecordRead, IsRt1Read};
 ghost use Rattle.tl_segments.specs.Range.{AreBytes, HasFieldLengths, IsRange, fields_of};
 ghost use Rattle.tl_segments.specs.Segment.{IsSegment, blank_segment, line_of, names_of, ranges_of};
+ghost use Rattle.tl_segments.specs.Joined.{MayJoin, shared_names, shared_ranges};
 ghost use Rattle.tl_segments.specs.declared.range.RangeFields.{RangeFields};
 
 use crate::full_name::{DIRECTION_LENGTH, FullName, FullNameFields, TYPE_LENGTH, own_full_name};
 use crate::name::NAME_LENGTH;
 use crate::range::{Range, RangeFields, own_range};
+use crate::shared_lists::Joined;
 use arrayvec::ArrayVec;
 use std::alloc::{AllocError, Allocator};
 use std::marker::Model;
+use std::rc::Rc;
 use tl_fields::{CountedRead, LONGEST_CONTENT};
 use tl_records::{LineFault, Rt1, Type1, read_line_into};
 
@@ -30,25 +33,27 @@ pub const NAME_LIMIT: usize = 5000;
 pub const RANGE_LIMIT: usize = 1000;
 
 /// A street segment: its type 1 record, its alternate names and its further address ranges. Contracts see it as a record with the fields
-/// `bytes`, `names`, `affixes` (what stands before and after each of the names) and `ranges`. It keeps the allocator that it was made with; one
-/// without alternate names and further ranges asks for no memory.
+/// `bytes`, `names`, `affixes` (one for each of the names) and `ranges`. It keeps the allocator that it was made with; one without alternate names and
+/// further ranges asks for no memory. The segments of a TLID in a county share one copy of both lists.
 #[derive(Drop)]
 pub struct Segment<A: Allocator> {
     // A line is read into it, so it has room for the longest one.
     record: ArrayVec<u8, LONGEST_CONTENT>,
+    // Shared with the other segments of its TLID. What is pushed to this segment alone goes to its own lists, which follow these.
+    shared: Option<Rc<Joined<A>, A>>,
     names: Vec<FullNameFields, A>,
     ranges: Vec<RangeFields, A>,
 }
 
 impl<A: Allocator> Model for Segment<A> {
-    ghost use Rattle.tl_segments.specs.FullName.{contents};
     ghost use Rattle.tl_segments.specs.Segment.{Contents, IsSegment};
+    ghost use Rattle.tl_segments.specs.Joined.{contents_with};
 
     ghost Value = { Contents };
 
-    ghost view = { λ segment. contents segment.record.items segment.names.items segment.ranges.items };
+    ghost view = { λ segment. contents_with segment.shared segment.record.items segment.names.items segment.ranges.items };
 
-    ghost invariant = { λ segment. IsSegment (contents segment.record.items segment.names.items segment.ranges.items) };
+    ghost invariant = { λ segment. IsSegment (contents_with segment.shared segment.record.items segment.names.items segment.ranges.items) };
 }
 
 impl<A: Allocator + Copy> Segment<A> {
@@ -60,9 +65,48 @@ impl<A: Allocator + Copy> Segment<A> {
     {
         Segment {
             record: record_of(bytes),
+            shared: None,
             names: Vec::new(alloc),
             ranges: Vec::new(alloc),
         }
+    }
+
+    /// Creates the segment of a type 1 record, with shared lists.
+    pub(crate) fn sharing(alloc: A, bytes: &[u8], joined: Rc<Joined<A>, A>) -> Self
+        requires length { length bytes.now ≡ RECORD_LENGTH }
+        requires lists { MayJoin joined.value }
+        ensures { result ≡ contents bytes.now joined.value.names.items joined.value.ranges.items }
+    {
+        Segment {
+            record: record_of(bytes),
+            shared: Some(joined),
+            names: Vec::new(alloc),
+            ranges: Vec::new(alloc),
+        }
+    }
+
+    /// Makes its own lists shared ones and returns them too. Returns `None` with it if it has none, or has shared ones already.
+    pub(crate) fn share(self, alloc: A) -> Result<(Self, Option<Rc<Joined<A>, A>>), AllocError>
+        ensures same { IfOk result (λ both. both.0 ≡ self) }
+        ensures shares { IfOk result (λ both. IfSome both.1 (λ joined.
+            MayJoin joined.value × (self ≡ contents self.bytes joined.value.names.items joined.value.ranges.items))) }
+    {
+        if self.shared.is_some() || self.names.is_empty() && self.ranges.is_empty() {
+            return Ok((self, None));
+        }
+        let mut names = self.names;
+        let mut ranges = self.ranges;
+        names.shrink_to_fit();
+        ranges.shrink_to_fit();
+        let joined = Rc::new(alloc, Joined { names, ranges })?;
+        let shared = joined.clone()?;
+        let segment = Segment {
+            record: self.record,
+            shared: Some(joined),
+            names: Vec::new(alloc),
+            ranges: Vec::new(alloc),
+        };
+        Ok((segment, Some(shared)))
     }
 
     /// The segment of a blank record, for a line to be read into.
@@ -71,6 +115,7 @@ impl<A: Allocator + Copy> Segment<A> {
     {
         Segment {
             record: blank_record(),
+            shared: None,
             names: Vec::new(alloc),
             ranges: Vec::new(alloc),
         }
@@ -90,6 +135,7 @@ impl<A: Allocator> Segment<A> {
         ensures { IsRecordRead (line_of number.old self.old) number.new self.new
             (reader R.remaining R.failed_reads input.old) (reader R.remaining R.failed_reads input.new) result }
     {
+        self.shared = None;
         self.names.clear();
         self.ranges.clear();
         match read_rt1(input, number, &mut self.record) {
@@ -105,7 +151,7 @@ impl<A: Allocator> Segment<A> {
         }
     }
 
-    /// Adds an alternate name after the others, with blanks before and after it.
+    /// Adds an alternate name after the others. Its other three fields are blank.
     pub fn push_name(&mut self, name: &[u8]) -> Result<(), AllocError>
         requires length { length name.now ≡ NAME_LENGTH }
         requires room { length self.old.names < NAME_LIMIT }
@@ -121,7 +167,7 @@ impl<A: Allocator> Segment<A> {
         })
     }
 
-    /// Adds an alternate name with all its fields after the others.
+    /// Adds an alternate name with all four fields after the others.
     pub fn push_full_name(&mut self, name: FullName<'_>) -> Result<(), AllocError>
         requires lengths { HasNameLengths (full_name_of name) }
         requires room { length self.old.names < NAME_LIMIT }
@@ -156,7 +202,7 @@ impl<A: Allocator> Segment<A> {
         ensures value { result ≡ length self.now.names }
         ensures few { result ≤ NAME_LIMIT }
     {
-        self.names.len() as u64
+        (shared_names(&self.shared).len() + self.names.len()) as u64
     }
 
     /// The name with a number, counted from 0: name 0 is the record's FENAME, and the alternate names follow it. None where it has no such
@@ -179,8 +225,8 @@ impl<A: Allocator> Segment<A> {
         Some(name.fename())
     }
 
-    /// The full name with a number, counted as for [`name`](Self::name): that of the record, or of the type 5 line that an alternate name is of.
-    /// None where it has no such name.
+    /// Returns the full name with a number, counted as for [`name`](Self::name): the four fields of the record, or of an alternate name's type 5
+    /// line. `None` if there is no such name.
     pub fn full_name(&self, n: u64) -> Option<FullName<'_>>
         ensures value { option_map full_name_of result ≡ slice_get (full_names_of self.now) n }
         ensures name { option_map (λ name. name.fename.now) result ≡ slice_get (names_of self.now) n }
@@ -206,7 +252,7 @@ impl<A: Allocator> Segment<A> {
         ensures value { option_copied result ≡ slice_get (all_with_affixes self.now.affixes self.now.names) index }
         ensures whole { IsSegment self.now }
     {
-        kept_at(self.names.as_slice(), index)
+        kept_at(shared_names(&self.shared), self.names.as_slice(), index)
     }
 
     /// How many ranges it has: the record's own, and the further ones.
@@ -215,7 +261,7 @@ impl<A: Allocator> Segment<A> {
         ensures some { 1 ≤ result }
         ensures few { result ≤ RANGE_LIMIT + 1 }
     {
-        self.ranges.len() as u64 + 1
+        (shared_ranges(&self.shared).len() + self.ranges.len()) as u64 + 1
     }
 
     /// The range with a number, counted from 0: range 0 is the record's own, and the further ranges follow it. None where it has no such
@@ -235,16 +281,40 @@ impl<A: Allocator> Segment<A> {
         ensures value { option_map fields_of result ≡ slice_get self.now.ranges index }
         ensures fields { IfSome result (λ range. IsRange (fields_of range)) }
     {
-        let fields = self.ranges.get(index as usize)?;
+        let fields = kept_at(shared_ranges(&self.shared), self.ranges.as_slice(), index)?;
         Some(fields.as_range())
     }
 }
 
 #[inline]
-fn kept_at<T>(kept: &[T], index: u64) -> Option<&T>
-    ensures { option_copied result ≡ slice_get kept.now index }
+fn shared_names<A: Allocator>(shared: &Option<Rc<Joined<A>, A>>) -> &[FullNameFields]
+    ensures { result.now ≡ shared_names shared.now }
 {
-    kept.get(index as usize)
+    match shared {
+        Some(joined) => joined.as_ref().names.as_slice(),
+        None => &[],
+    }
+}
+
+#[inline]
+fn shared_ranges<A: Allocator>(shared: &Option<Rc<Joined<A>, A>>) -> &[RangeFields]
+    ensures { result.now ≡ shared_ranges shared.now }
+{
+    match shared {
+        Some(joined) => joined.as_ref().ranges.as_slice(),
+        None => &[],
+    }
+}
+
+/// Returns the item with an index, counted through both lists.
+#[inline]
+fn kept_at<'a, T>(shared: &'a [T], own: &'a [T], index: u64) -> Option<&'a T>
+    ensures { option_copied result ≡ slice_get (shared.now ++ own.now) index }
+{
+    match index.checked_sub(shared.len() as u64) {
+        Some(after) => own.get(after as usize),
+        None => shared.get(index as usize),
+    }
 }
 
 /// The bytes, in room for a line.

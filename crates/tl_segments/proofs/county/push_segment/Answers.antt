@@ -6,8 +6,8 @@ use Rattle.tl_segments.proofs.IndexLemmas.{tlids_push}
 use Rattle.tl_segments.proofs.JoiningLemmas.{segments_push}
 use Rattle.tl_segments.proofs.county.push_segment.Goals as goal
 
-pub returns : goal.returns
-returns g c = λ lines kept.
+pub returns-clause-taken : goal.returns-clause-taken
+returns-clause-taken g c = λ lines kept.
     let bytes = c.args.line.now.bytes in
     let segments = c.args.segments.now.items in
     let tlids = c.args.tlids.now.items in

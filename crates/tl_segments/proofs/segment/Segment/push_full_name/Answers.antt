@@ -1,15 +1,16 @@
 use Rattle.std.proofs.Common.{◌<◌, [], ◌∷◌, length, subst, sym}
-use Rattle.tl_segments.specs.FullName.{contents}
 use Rattle.tl_segments.specs.Segment.{Contents}
+use Rattle.tl_segments.specs.Joined.{contents_with}
 use Rattle.tl_segments.specs.declared.segment.TheConstants.{NAME_LIMIT}
-use Rattle.tl_segments.proofs.FullNameLemmas.{contents-more, with_name-is}
+use Rattle.tl_segments.proofs.FullNameLemmas.{with_name-is}
+use Rattle.tl_segments.proofs.SharedLemmas.{names_pushed}
 use Rattle.tl_segments.proofs.segment.Segment.push_full_name.Goals as goal
 
 pub invariant_of-self-2 : goal.invariant_of-self-2
 invariant_of-self-2 g c =
     let inside = c.self.inside in
-    let before : Contents = contents inside.record.items inside.names.items inside.ranges.items in
+    let before : Contents = contents_with inside.shared inside.record.items inside.names.items inside.ranges.items in
     let room : length before.names < NAME_LIMIT =
     subst (λ (segment : Contents). length segment.names < NAME_LIMIT) (sym c.self.view_is) c.requires.room in
-    rw (c.in_ok-push.ensures.items, contents-more inside.record.items inside.names.items (c.of.result ∷ []) inside.ranges.items)
+    rw (c.in_ok-push.ensures.items, names_pushed inside.shared inside.record.items inside.names.items (c.of.result ∷ []) inside.ranges.items)
     (with_name-is before c.of.result c.self.invariant c.of.ensures.fields room)

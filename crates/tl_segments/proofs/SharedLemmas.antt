@@ -1,0 +1,85 @@
+-- The lists of segments that share them.
+use Rattle.std.proofs.Common.{◌≡◌, ◌<◌, ℕ, nat_eq, if◌then◌else◌, Bool, true, false, List, [], ◌∷◌, ◌++◌, length, Option, Some, IfSome}
+use Rattle.std.proofs.Common.{refl, sym, ap, subst, ◌∙◌, append_assoc, length-append, arith}
+use Rattle.std.specs.HashMap.{get}
+use Rattle.std.specs.Option.{option_map_or}
+use Rattle.std.specs.declared.rc.Rc.{Rc}
+use Rattle.std.proofs.lemmas.List.Elements.{All-nil, All-cons, All-append}
+use Rattle.std.proofs.lemmas.Bool.Decides.{nat_tests}
+use Rattle.tl_segments.specs.FullName.{FullNameFields, contents, with_names}
+use Rattle.tl_segments.specs.Joining.{JoinedLines, alternate_affixes, alternate_names, further_ranges, number_in, segment_of}
+use Rattle.tl_segments.specs.Range.{IsRange}
+use Rattle.tl_segments.specs.Segment.{Contents, IsSegment}
+use Rattle.tl_segments.specs.SharedLists.{IsJoinedTo, KeepsShared}
+use Rattle.tl_segments.specs.Joined.{MayJoin, contents_with, shared_names, shared_ranges}
+use Rattle.tl_segments.specs.declared.fault.CountyFile.TheVariants.{Rt1}
+use Rattle.tl_segments.specs.declared.index.Index.{Index}
+use Rattle.tl_segments.specs.declared.range.RangeFields.{RangeFields}
+use Rattle.tl_segments.specs.declared.segment.TheConstants.{RANGE_LIMIT}
+use Rattle.tl_segments.specs.declared.shared_lists.Joined.{Joined}
+use Rattle.tl_segments.specs.declared.shared_lists.SharedLists.{SharedLists}
+use Rattle.tl_segments.proofs.FullNameLemmas.{contents-more}
+
+-- what a segment with more names of its own consists of
+pub names_pushed : {A : Type 0} (shared : Option (Rc (Joined A) A)) (bytes : List ℕ) (names more : List FullNameFields) (ranges : List RangeFields)
+    → contents_with shared bytes (names ++ more) ranges ≡ with_names (contents_with shared bytes names ranges) more
+names_pushed shared bytes names more ranges =
+    ap (λ all. contents bytes all (shared_ranges shared ++ ranges)) (sym (append_assoc (shared_names shared) names more))
+    ∙ contents-more bytes (shared_names shared ++ names) more (shared_ranges shared ++ ranges)
+
+-- and one with more ranges
+pub ranges_pushed : {A : Type 0} (shared : Option (Rc (Joined A) A)) (bytes : List ℕ) (names : List FullNameFields)
+    (ranges more : List RangeFields) → contents_with shared bytes names (ranges ++ more)
+    ≡ (let before = contents_with shared bytes names ranges in record before { ranges = before.ranges ++ more })
+ranges_pushed shared bytes names ranges more =
+    ap (λ all. contents bytes (shared_names shared ++ names) all) (sym (append_assoc (shared_ranges shared) ranges more))
+
+-- a segment with one range more
+pub with_range-is : (segment : Contents) (range : RangeFields) → IsSegment segment → IsRange range → length segment.ranges < RANGE_LIMIT
+    → IsSegment (record segment { ranges = segment.ranges ++ range ∷ [] })
+with_range-is segment range is good room = record {
+  bytes = is.bytes;
+  names = is.names;
+  few_names = is.few_names;
+  affixes = is.affixes;
+  paired = is.paired;
+  ranges = All-append IsRange segment.ranges (range ∷ []) is.ranges (All-cons IsRange range [] good (All-nil IsRange));
+  few_ranges = omega (arith, room, length-append segment.ranges (range ∷ []));
+}
+
+-- lists that are a segment's may be any segment's
+pub may_join : {A : Type 0} (joined : Joined A) (bytes : List ℕ) → IsSegment (contents bytes joined.names.items joined.ranges.items)
+    → MayJoin joined
+may_join joined bytes is = λ others are. record {
+  bytes = are;
+  names = is.names;
+  few_names = is.few_names;
+  affixes = is.affixes;
+  paired = is.paired;
+  ranges = is.ranges;
+  few_ranges = is.few_ranges;
+}
+
+-- the lists of one segment of a TLID are those of each
+pub lists_made : (lines : JoinedLines) (names : List FullNameFields) (ranges : List RangeFields) {first bytes : List ℕ} {tlid : ℕ}
+    → number_in Rt1 first ≡ Some tlid → contents first names ranges ≡ segment_of lines first → number_in Rt1 bytes ≡ Some tlid
+    → contents bytes names ranges ≡ segment_of lines bytes
+lists_made lines names ranges {first} {bytes} has made is =
+    ap (λ (segment : Contents). record segment { bytes = bytes }) made
+    ∙ ap (λ found. record {
+      bytes = bytes;
+      names = option_map_or (alternate_names lines) found [];
+      affixes = option_map_or (alternate_affixes lines) found [];
+      ranges = option_map_or (further_ranges lines) found [];
+    }) (has ∙ sym is)
+
+-- lists that are kept with those of other TLIDs
+pub keeps_one_more : {A : Type 0} (index : Index A) (old new : SharedLists A) (tlid : ℕ) (joined : Rc (Joined A) A) → KeepsShared index old
+    → IsJoinedTo index tlid joined.value
+    → ((q : ℕ) → get nat_eq new.lists q ≡ (if nat_eq tlid q then Some joined else get nat_eq old.lists q)) → KeepsShared index new
+keeps_one_more index old new tlid joined keeps by lists q = rw (lists q) (at_number (nat_eq tlid q) refl)
+  where
+    at_number : (same : Bool) → nat_eq tlid q ≡ same
+        → IfSome (if same then Some joined else get nat_eq old.lists q) (λ joined. IsJoinedTo index q joined.value)
+    at_number true e = subst (λ n. IsJoinedTo index n joined.value) (grind (arith, nat_tests)) by
+    at_number false e = keeps q

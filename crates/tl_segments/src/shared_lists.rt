@@ -1,0 +1,74 @@
+//! Lists of names and ranges that the segments of a TLID share.
+ghost use Rattle.std.specs.Prelude.{◌≡◌, ℕ, nat_eq, if◌then◌else◌, None, Some, IfOk, OnOk};
+ghost use Rattle.std.specs.HashMap.{get};
+ghost use Rattle.tl_segments.specs.Indexing.{IsIndexOf};
+ghost use Rattle.tl_segments.specs.Joining.{JoinedLines, segment_of};
+ghost use Rattle.tl_segments.specs.SharedLists.{KeepsShared, IsJoinedTo};
+
+use crate::full_name::FullNameFields;
+use crate::index::Index;
+use crate::near_hash::NearHasher;
+use crate::range::RangeFields;
+use crate::segment::Segment;
+use std::alloc::{AllocError, Allocator};
+use std::collections::HashMap;
+use std::hash::BuildHasherDefault;
+use std::rc::Rc;
+use tl_records::Rt1;
+
+/// The alternate names and the further ranges of a TLID.
+#[derive(Drop)]
+pub(crate) struct Joined<A: Allocator> {
+    pub(crate) names: Vec<FullNameFields, A>,
+    pub(crate) ranges: Vec<RangeFields, A>,
+}
+
+/// The lists of each TLID whose first segment was made, if an alternate name or a further range is joined to it.
+#[derive(Drop)]
+pub(crate) struct SharedLists<A: Allocator> {
+    alloc: A,
+    lists: HashMap<u64, Rc<Joined<A>, A>, BuildHasherDefault<NearHasher>, A>,
+}
+
+impl<A: Allocator + Copy> SharedLists<A> {
+    pub(crate) fn new(alloc: A) -> Self
+        ensures { (tlid : ℕ) → get nat_eq result.lists tlid ≡ None }
+    {
+        SharedLists {
+            alloc,
+            lists: HashMap::with_hasher(alloc, BuildHasherDefault::new()),
+        }
+    }
+
+    /// Creates the segment of a type 1 line from the index. The first segment of a TLID makes its lists, and later ones share them.
+    pub(crate) fn segment(
+        &mut self,
+        index: &Index<A>,
+        rt1: &Rt1<'_>,
+    ) -> Result<Segment<A>, AllocError>
+        requires { KeepsShared index.now self.old }
+        ensures ok { IfOk result (λ segment. (lines : JoinedLines) → IsIndexOf index.now lines → segment ≡ segment_of lines rt1.now.bytes) }
+        ensures bytes { IfOk result (λ segment. segment.bytes ≡ rt1.now.bytes) }
+        ensures keeps { OnOk result (KeepsShared index.now self.new) }
+    {
+        let tlid = rt1.number();
+        if let Some(joined) = self.lists.get(&tlid) {
+            let joined = joined.clone()?;
+            return Ok(Segment::sharing(self.alloc, rt1.bytes(), joined));
+        }
+        let segment = index.segment(rt1)?;
+        let (segment, joined) = segment.share(self.alloc)?;
+        if let Some(joined) = joined {
+            self.keep(tlid, joined)?;
+        }
+        Ok(segment)
+    }
+
+    fn keep(&mut self, tlid: u64, joined: Rc<Joined<A>, A>) -> Result<(), AllocError>
+        ensures { OnOk result ((q : ℕ) →
+            get nat_eq self.new.lists q ≡ (if nat_eq tlid q then Some joined else get nat_eq self.old.lists q)) }
+    {
+        self.lists.insert(tlid, joined)?;
+        Ok(())
+    }
+}
