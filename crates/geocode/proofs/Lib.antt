@@ -1,3 +1,6 @@
 mod PositionLemmas
+mod GazetteerLemmas
 mod HitLemmas
+mod NameHashLemmas
+mod NameIndexLemmas
 mod QueryLemmas

@@ -1,4 +1,7 @@
+pub mod Gazetteer
 pub mod HitLine
+pub mod NameHash
+pub mod NameIndex
 pub mod Hits
 pub mod Position
 pub mod Sides

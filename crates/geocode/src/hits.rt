@@ -1,5 +1,6 @@
 //! Hits of a house number over counties.
-ghost use Rattle.std.specs.Prelude.{◌≡◌, ◌≤◌, ◌++◌, length, Some, IfOk, OnOk};
+ghost use Rattle.std.specs.Prelude.{◌≡◌, ◌<◌, ◌≤◌, ◌++◌, length, Some, IfOk, OnOk};
+ghost use Rattle.geocode.specs.Gazetteer.{hits_if_named, segment_at};
 ghost use Rattle.geocode.specs.Hits.{find, has_name, has_zip, hit_on, hits_in_county, hits_on_range, hits_on_segment, is_on};
 ghost use Rattle.geocode.specs.Sides.{parts_of};
 ghost use Rattle.tl_fields.specs.Number.{number_of};
@@ -18,8 +19,8 @@ use tl_segments::{County, NAME_LENGTH, RECORD_LENGTH, Range, Segment, lies_on, n
 /// A house that is looked for: its number, and the number of its ZIP code where only that one will do.
 #[derive(Clone, Copy)]
 pub(crate) struct House {
-    number: u64,
-    zip: Option<u64>,
+    pub number: u64,
+    pub zip: Option<u64>,
 }
 
 /// Where a house number is on a street: over the counties, segments and ranges in their order, and the left side before the right one, a hit
@@ -60,6 +61,26 @@ fn push_in_county<A: Allocator + Copy>(
         if has_name(name, segment) {
             push_on_segment(house, *tlid, segment, hits)?;
         }
+    }
+    Ok(())
+}
+
+/// Appends the hits on the segment with a number, if it has the name.
+pub(crate) fn push_if_named<A: Allocator + Copy>(
+    name: &[u8],
+    house: House,
+    county: &County<A>,
+    n: usize,
+    hits: &mut Vec<Hit, A>,
+) -> Result<(), AllocError>
+    requires some { 1 ≤ length name.now }
+    requires few { length name.now ≤ NAME_LENGTH }
+    requires inside { n < length county.now.segments }
+    ensures { OnOk result (hits.new.items ≡ hits.old.items ++ hits_if_named name.now house (segment_at county.now.segments n)) }
+{
+    let segment = &county.segments()[n];
+    if has_name(name, segment) {
+        push_on_segment(house, county.tlids()[n], segment, hits)?;
     }
     Ok(())
 }

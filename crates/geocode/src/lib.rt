@@ -1,13 +1,17 @@
 //! Places of house numbers: which segments of a county have a street's name and a house number on a side, and where along them it is.
 #![tactic(auto)]
 
+mod gazetteer;
 mod hit;
 mod hits;
+mod name_hash;
+mod name_index;
 mod position;
 mod query;
 mod sides;
 mod street_name;
 
+pub use gazetteer::Gazetteer;
 pub use hit::{Hit, LINE_LENGTH, Place, Side, hit_lines};
 pub use hits::find;
 pub use query::{MOST_DIGITS, Query, QueryFault};

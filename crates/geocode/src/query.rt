@@ -3,8 +3,10 @@ ghost use Rattle.std.specs.Prelude.{◌≡◌, IfOk, MatchResult, Ok, Err};
 ghost use Rattle.std.specs.Char.{is_ascii_digit};
 ghost use Rattle.std.specs.List.{list_all};
 ghost use Rattle.std.specs.Option.{option_copied};
+ghost use Rattle.geocode.specs.Gazetteer.{IsGazetteerOf};
 ghost use Rattle.geocode.specs.Query.{hits_of, house_number, parts_of, query_of, zip_number};
 
+use crate::gazetteer::Gazetteer;
 use crate::hit::Hit;
 use crate::hits::find;
 use crate::street_name::StreetName;
@@ -62,6 +64,19 @@ impl<'a> Query<'a> {
         ensures { IfOk result (λ hits. hits.items ≡ hits_of (parts_of self.entry) counties.now) }
     {
         find(alloc, counties, self.number, self.name.text, self.zip)
+    }
+
+    /// Returns what [`find`](Self::find) does, by the gazetteer of these counties. Allocates only for hits.
+    pub fn find_in<A: Allocator + Copy>(
+        self,
+        alloc: A,
+        gazetteer: &Gazetteer<A>,
+        counties: &[County<A>],
+    ) -> Result<Vec<Hit, A>, AllocError>
+        requires { IsGazetteerOf gazetteer.now counties.now }
+        ensures { IfOk result (λ hits. hits.items ≡ hits_of (parts_of self.entry) counties.now) }
+    {
+        gazetteer.find(alloc, counties, self.number, self.name.text, self.zip)
     }
 }
 

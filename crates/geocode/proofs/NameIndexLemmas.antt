@@ -1,0 +1,139 @@
+-- Chains of segments by the keys of their names.
+use Rattle.std.proofs.Common.{◌≡◌, ℕ, ◌+◌, ◌<◌, ◌≤◌, nat_eq, Bool, true, false, if◌then◌else◌, List, [], ◌∷◌, ◌++◌, length}
+use Rattle.std.proofs.Common.{get_or, slice_get, Some, refl, ap, sym, ◌∙◌, subst, arith}
+use Rattle.std.proofs.Common.{◌||◌, take, drop, drop-cons, add-one}
+use Rattle.std.specs.List.{list_any}
+use Rattle.std.specs.Option.{option_map_or}
+use Rattle.std.proofs.lemmas.List.Folds.{list_any_more}
+use Rattle.std.proofs.lemmas.Option.{get_or_from_slice_get, slice_get_within}
+use Rattle.tl_segments.specs.Segment.{Contents, names_of}
+use Rattle.std.proofs.lemmas.Bool.Decides.{nat_tests}
+use Rattle.std.proofs.lemmas.Grind.{common_steps}
+use Rattle.std.proofs.lemmas.Option.{gets}
+use Rattle.geocode.specs.NameHash.{hash_of, key_of}
+use Rattle.geocode.specs.NameIndex.{AddsNames, AddsTo, IsChain, first_of, IsIndexFrom, has_key, is_link_of, link_at, numbers_with}
+use Rattle.geocode.specs.NameIndex.{with_first}
+use Rattle.geocode.specs.declared.name_index.NameIndex.{NameIndex}
+use Rattle.geocode.specs.declared.name_index.Link.{Link}
+
+-- a link that is there has a number up to the length
+pub link_at-within : (links : List Link) (number : ℕ) (link : Link) → link_at links number ≡ Some link → number ≤ length links
+link_at-within links number link is = grind (arith, nat_tests, common_steps, gets)
+
+-- with one more link, the others stay
+link_at-push : (links : List Link) (more : Link) (number : ℕ) (link : Link) → link_at links number ≡ Some link
+    → link_at (links ++ more ∷ []) number ≡ Some link
+link_at-push links more number link is = grind (arith, nat_tests, common_steps, gets)
+
+-- and it has the number of the length
+link_at-last : (links : List Link) (more : Link) → link_at (links ++ more ∷ []) (length links + 1) ≡ Some more
+link_at-last links more = grind (arith, nat_tests, common_steps, gets)
+
+-- no chain begins past the last link
+pub IsChain-within : (links : List Link) (number : ℕ) (segments : List ℕ) → IsChain links number segments → number ≤ length links
+IsChain-within links number [] chain = omega (arith, chain)
+IsChain-within links number (segment ∷ segments) (next, link, rest) =
+    link_at-within links number (record { segment = segment; next = next }) link.link
+
+-- a chain stays with one more link
+pub IsChain-push : (links : List Link) (more : Link) (number : ℕ) (segments : List ℕ) → IsChain links number segments
+    → IsChain (links ++ more ∷ []) number segments
+IsChain-push links more number [] chain = chain
+IsChain-push links more number (segment ∷ segments) (next, link, rest) = (
+  next,
+  record { link = link_at-push links more number (record { segment = segment; next = next }) link.link; before = link.before },
+  IsChain-push links more next segments rest,
+)
+
+-- one more link before a chain
+pub IsChain-more : (links : List Link) (segment next : ℕ) (segments : List ℕ) → IsChain links next segments
+    → IsChain (links ++ record { segment = segment; next = next } ∷ []) (length links + 1) (segment ∷ segments)
+IsChain-more links segment next segments chain =
+    let more : Link = record { segment = segment; next = next } in (
+      next,
+      record { link = link_at-last links more; before = omega (arith, IsChain-within links next segments chain) },
+      IsChain-push links more next segments chain,
+    )
+
+-- one more link, that of a segment which isn't the first of a chain
+pub IsChain-first : (links : List Link) (segment next : ℕ) (segments : List ℕ) → IsChain links next segments
+    → is_link_of links next segment ≡ false
+    → IsChain (links ++ record { segment = segment; next = next } ∷ []) (length links + 1) (with_first segment segments)
+IsChain-first links segment next [] chain other = IsChain-more links segment next [] chain
+IsChain-first links segment next (first ∷ rest) (next', link, chain) other =
+    let apart : nat_eq first segment ≡ false = sym (ap (λ link. option_map_or (λ (link : Link). nat_eq link.segment segment) link false) link.link) ∙ other in
+    rw apart (IsChain-more links segment next (first ∷ rest) (next', link, chain))
+
+-- and one that is
+pub with_first-same : (links : List Link) (segment number : ℕ) (segments : List ℕ) → IsChain links number segments
+    → is_link_of links number segment ≡ true → with_first segment segments ≡ segments
+with_first-same links segment number [] chain is = absurd (grind (arith, nat_tests, common_steps, gets))
+with_first-same links segment number (first ∷ rest) (next', link, chain) is =
+    let same : nat_eq first segment ≡ true = sym (ap (λ link. option_map_or (λ (link : Link). nat_eq link.segment segment) link false) link.link) ∙ is in
+    rw same refl
+
+-- a chain of either list
+pub IsChain-cases : (test : Bool) (links : List Link) (number : ℕ) (some other : List ℕ) → (test ≡ true → IsChain links number some)
+    → (test ≡ false → IsChain links number other) → IsChain links number (if test then some else other)
+IsChain-cases true links number some other is_some is_other = is_some refl
+IsChain-cases false links number some other is_some is_other = is_other refl
+
+-- a segment before a chain that hasn't it yet, for one more name
+chain-next : (segment : ℕ) (chain : List ℕ) (before now : Bool) → with_first segment chain ≡ segment ∷ chain
+    → (if now then with_first segment (if before then segment ∷ chain else chain) else (if before then segment ∷ chain else chain))
+    ≡ (if before || now then segment ∷ chain else chain)
+chain-next segment chain true true new =
+    let same : nat_eq segment segment ≡ true = grind (arith, nat_tests) in rw same refl
+chain-next segment chain true false new = refl
+chain-next segment chain false true new = new
+chain-next segment chain false false new = refl
+
+-- a segment is put before the chains of one more of its names
+pub AddsNames-next : {A : Type 0} (old now new : NameIndex A) (segment : ℕ) (names : List (List ℕ)) (n : ℕ) {name : List ℕ}
+    → Some name ≡ slice_get names n → AddsNames old now segment (take n names) → AddsTo now new (key_of now.keys (hash_of name)) segment
+    → AddsNames old new segment (take (n + 1) names)
+AddsNames-next old now new segment names n {name} is so_far more = record {
+  keys = more.keys ∙ so_far.keys;
+  chains = λ chains chained fresh q.
+      let test : List ℕ → Bool = λ name. nat_eq (key_of old.keys (hash_of name)) q in
+      let before = list_any test (take n names) in
+      let key : key_of now.keys (hash_of name) ≡ key_of old.keys (hash_of name) = ap (λ keys. key_of keys (hash_of name)) so_far.keys in
+      let read : list_any test (take (n + 1) names) ≡ (before || test name) =
+      list_any_more test names n name (slice_get_within names n name (sym is))
+      ∙ ap (λ name. before || test name) (get_or_from_slice_get names n name name (sym is)) in
+      let prior = if before then segment ∷ chains q else chains q in
+      let chain = subst
+      (λ (key : ℕ). IsChain new.links.items (first_of new q) (if nat_eq key q then with_first segment prior else prior)) key
+      (more.chains (λ q. if list_any (λ name. nat_eq (key_of old.keys (hash_of name)) q) (take n names) then segment ∷ chains q else chains q)
+      (so_far.chains chains chained fresh) q) in
+      subst (λ (test : Bool). IsChain new.links.items (first_of new q) (if test then segment ∷ chains q else chains q)) (sym read)
+      (subst (IsChain new.links.items (first_of new q)) (chain-next segment (chains q) before (test name) (fresh q)) chain);
+}
+
+-- a number before others that don't begin with it, where one after it is put before them or isn't
+pick-new : (test : Bool) (n m : ℕ) (numbers : List ℕ) → n < m → with_first n numbers ≡ n ∷ numbers
+    → with_first n (if test then m ∷ numbers else numbers) ≡ n ∷ (if test then m ∷ numbers else numbers)
+pick-new true n m numbers below new = let apart : nat_eq m n ≡ false = grind (arith, nat_tests) in rw apart refl
+pick-new false n m numbers below new = new
+
+-- the numbers of segments after one begin with none up to it
+numbers-new : (test : Contents → Bool) (n m : ℕ) (segments : List Contents) → n < m
+    → with_first n (numbers_with test m segments) ≡ n ∷ numbers_with test m segments
+numbers-new test n m [] below = refl
+numbers-new test n m (segment ∷ segments) below =
+    pick-new (test segment) n m (numbers_with test (m + 1) segments) below (numbers-new test n (m + 1) segments (omega arith))
+
+-- one more segment
+pub IsIndexFrom-next : {A : Type 0} (old new : NameIndex A) (n : ℕ) (segments : List Contents) {segment : Contents}
+    → (n < length segments) × (segment ≡ get_or segments n segment) → IsIndexFrom old (n + 1) (drop (n + 1) segments)
+    → AddsNames old new n (names_of segment) → IsIndexFrom new n (drop n segments)
+IsIndexFrom-next old new n segments {segment} at so_far more key =
+    let after = drop (n + 1) segments in
+    let chains : ℕ → List ℕ = λ q. numbers_with (has_key old.keys q) (n + 1) after in
+    let chain : IsChain new.links.items (first_of new key) (numbers_with (has_key old.keys key) n (segment ∷ after)) =
+    more.chains chains so_far (λ q. numbers-new (has_key old.keys q) n (n + 1) after (omega arith)) key in
+    let inside = at.0 in
+    let split : segment ∷ after ≡ drop n segments =
+    ap (λ (segment : Contents). segment ∷ after) at.1 ∙ sym (rw add-one (drop-cons segments n segment inside)) in
+    subst (λ (keys : ℕ). IsChain new.links.items (first_of new key) (numbers_with (has_key keys key) n (drop n segments))) (sym more.keys)
+    (subst (λ segments. IsChain new.links.items (first_of new key) (numbers_with (has_key old.keys key) n segments)) split chain)

@@ -1,0 +1,74 @@
+-- An index of the names of a county's segments: for each key a chain of the segments that have a name with this key.
+use Rattle.std.specs.Prelude.{◌≡◌, ℕ, ◌+◌, ◌-◌, ◌<◌, nat_eq, nat_le, Bool, false, if◌then◌else◌, List, [], ◌∷◌, Option, Some, None, slice_get, unwrap_or}
+use Rattle.std.specs.HashMap.{get}
+use Rattle.std.specs.List.{list_any}
+use Rattle.std.specs.Option.{option_map_or}
+use Rattle.tl_segments.specs.Segment.{Contents, names_of}
+use Rattle.geocode.specs.NameHash.{hash_of, key_of}
+use Rattle.geocode.specs.declared.name_index.Link.{Link}
+use Rattle.geocode.specs.declared.name_index.NameIndex.{NameIndex}
+
+-- the segment has a name with this key: its hash, reduced to this many keys
+abbrev pub has_key : ℕ → ℕ → Contents → Bool
+has_key keys key segment = list_any (λ name. nat_eq (key_of keys (hash_of name)) key) (names_of segment)
+
+-- the numbers of the segments that pass a test, where the first of them has this number
+abbrev pub numbers_with : (Contents → Bool) → ℕ → List Contents → List ℕ
+numbers_with test n [] = []
+numbers_with test n (segment ∷ segments) =
+    if test segment then n ∷ numbers_with test (n + 1) segments else numbers_with test (n + 1) segments
+
+-- the link with a number, counted from 1
+abbrev pub link_at : List Link → ℕ → Option Link
+link_at links number = if nat_le 1 number then slice_get links (number - 1) else None
+
+-- the link with this number is that of this segment
+abbrev pub is_link_of : List Link → ℕ → ℕ → Bool
+is_link_of links number segment = option_map_or (λ link. nat_eq link.segment segment) (link_at links number) false
+
+-- the link with this number is that of this segment, and the one with the number `next` follows it
+pub record IsLink (links : List Link) (number segment next : ℕ) : Type 0 where
+  pub link : link_at links number ≡ Some (record { segment = segment; next = next })
+  pub before : next < number
+
+-- the links from the one with this number on are those of these segments; number 0 is after the last one
+abbrev pub IsChain : List Link → ℕ → List ℕ → Type 0
+IsChain links number [] = number ≡ 0
+IsChain links number (segment ∷ segments) = (next : ℕ) × IsLink links number segment next × IsChain links next segments
+
+-- the number of the first link of a key
+abbrev pub first_of : {A : Type 0} → NameIndex A → ℕ → ℕ
+first_of index key = unwrap_or (get nat_eq index.firsts key) 0
+
+-- the segments that each key has
+abbrev pub HasChains : {A : Type 0} → NameIndex A → (ℕ → List ℕ) → Type 0
+HasChains index chains = (key : ℕ) → IsChain index.links.items (first_of index key) (chains key)
+
+-- each key has the numbers of these segments that have a name with it, in their order; the first segment has this number
+abbrev pub IsIndexFrom : {A : Type 0} → NameIndex A → ℕ → List Contents → Type 0
+IsIndexFrom index n segments = HasChains index (λ key. numbers_with (has_key index.keys key) n segments)
+
+-- each key has the segments of a county that have a name with it
+abbrev pub IsIndexOf : {A : Type 0} → NameIndex A → List Contents → Type 0
+IsIndexOf index segments = IsIndexFrom index 0 segments
+
+-- a segment before others, unless it's the first of them
+abbrev pub with_first : ℕ → List ℕ → List ℕ
+with_first segment [] = segment ∷ []
+with_first segment (first ∷ rest) = if nat_eq first segment then first ∷ rest else segment ∷ first ∷ rest
+
+-- a segment was put before the others of a key
+pub record AddsTo {A : Type 0} (old new : NameIndex A) (key segment : ℕ) : Type 0 where
+  pub keys : new.keys ≡ old.keys
+  pub chains : (chains : ℕ → List ℕ) → HasChains old chains
+      → HasChains new (λ q. if nat_eq key q then with_first segment (chains q) else chains q)
+
+-- it's the first of no key
+abbrev pub IsNew : ℕ → (ℕ → List ℕ) → Type 0
+IsNew segment chains = (key : ℕ) → with_first segment (chains key) ≡ segment ∷ chains key
+
+-- a segment with this number was put before the others of the keys of these names
+pub record AddsNames {A : Type 0} (old new : NameIndex A) (segment : ℕ) (names : List (List ℕ)) : Type 0 where
+  pub keys : new.keys ≡ old.keys
+  pub chains : (chains : ℕ → List ℕ) → HasChains old chains → IsNew segment chains
+      → HasChains new (λ q. if list_any (λ name. nat_eq (key_of old.keys (hash_of name)) q) names then segment ∷ chains q else chains q)

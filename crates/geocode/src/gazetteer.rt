@@ -1,0 +1,89 @@
+//! Indexes of the street names of counties.
+ghost use Rattle.std.specs.Prelude.{◌≡◌, ◌≤◌, ◌<◌, ◌++◌, length, IfOk, OnOk};
+ghost use Rattle.std.specs.List.{flat_map};
+ghost use Rattle.geocode.specs.Gazetteer.{IsGazetteerOf};
+ghost use Rattle.geocode.specs.Hits.{find, has_name, hits_in_county, hits_on_segment};
+ghost use Rattle.geocode.specs.NameHash.{hash_of};
+ghost use Rattle.geocode.specs.NameIndex.{IsIndexOf};
+ghost use Rattle.tl_segments.specs.declared.name.TheConstants.{NAME_LENGTH};
+
+use crate::hit::Hit;
+use crate::hits::{House, push_if_named};
+use crate::name_hash::hash_of;
+use crate::name_index::NameIndex;
+use std::alloc::{AllocError, Allocator};
+use tl_segments::{County, NAME_LENGTH};
+
+/// An index of the street names of counties, made once and kept beside them: it doesn't borrow them.
+///
+/// A county's segments are in chains, by keys of their names: a key is a hash of the name, reduced to an eighth as many keys as there are names, so
+/// in each county [`find`](Self::find) looks at the segments that have the name and at eight others on average, at most. Segments without a name
+/// have a chain of their own.
+///
+/// Each name of a segment, alternate names included, takes 16 bytes in a chain. The keys take 7 bytes a name at most, if all names have different
+/// keys and the map of the keys has just grown, and 4 mostly. So a county takes at most 23 bytes for each name of its segments, and at most 600
+/// bytes beside that.
+#[derive(Drop)]
+pub struct Gazetteer<A: Allocator> {
+    indexes: Vec<NameIndex<A>, A>,
+}
+
+impl<A: Allocator + Copy> Gazetteer<A> {
+    /// Indexes the names of all segments of counties.
+    pub fn of(alloc: A, counties: &[County<A>]) -> Result<Self, AllocError>
+        ensures { IfOk result (λ gazetteer. IsGazetteerOf gazetteer counties.now) }
+    {
+        let mut indexes = Vec::with_capacity(alloc, counties.len())?;
+        for county in counties {
+            indexes.push(NameIndex::of(alloc, county.segments())?)?;
+        }
+        Ok(Gazetteer { indexes })
+    }
+
+    /// Returns what [`find`](crate::find) does over the counties that the gazetteer was made of, without a walk over all their segments. Allocates
+    /// only for hits.
+    pub fn find(
+        &self,
+        alloc: A,
+        counties: &[County<A>],
+        number: u64,
+        name: &[u8],
+        zip: Option<u64>,
+    ) -> Result<Vec<Hit, A>, AllocError>
+        requires of { IsGazetteerOf self.now counties.now }
+        requires some { 1 ≤ length name.now }
+        requires few { length name.now ≤ NAME_LENGTH }
+        ensures { IfOk result (λ hits. hits.items ≡ find name.now (record { number = number; zip = zip }) counties.now) }
+    {
+        let house = House { number, zip };
+        let hash = hash_of(name);
+        let mut hits = Vec::new(alloc);
+        for (county, index) in counties.iter().zip(self.indexes.as_slice()) {
+            push_in_county(name, hash, house, county, index, &mut hits)?;
+        }
+        Ok(hits)
+    }
+}
+
+/// Appends the hits in a county, by its index and the hash of the name.
+fn push_in_county<A: Allocator + Copy>(
+    name: &[u8],
+    hash: u64,
+    house: House,
+    county: &County<A>,
+    index: &NameIndex<A>,
+    hits: &mut Vec<Hit, A>,
+) -> Result<(), AllocError>
+    requires some { 1 ≤ length name.now }
+    requires few { length name.now ≤ NAME_LENGTH }
+    requires hash { hash ≡ hash_of name.now }
+    requires of { IsIndexOf index.now county.now.segments }
+    ensures { OnOk result (hits.new.items ≡ hits.old.items ++ hits_in_county name.now house county.now) }
+{
+    let mut number = index.first(hash);
+    while let Some(link) = index.link(number) {
+        push_if_named(name, house, county, link.segment as usize, hits)?;
+        number = link.next;
+    }
+    Ok(())
+}

@@ -1,0 +1,141 @@
+//! An index of the names of a county's segments.
+ghost use Rattle.std.specs.Prelude.{◌≡◌, ◌≤◌, ◌<◌, ◌^◌, [], length, IfOk, OnOk};
+ghost use Rattle.tl_segments.specs.Segment.{names_of};
+ghost use Rattle.geocode.specs.NameHash.{hash_of, key_of};
+
+use crate::name_hash::{FNV_OFFSET, hash_of};
+use std::alloc::{AllocError, Allocator};
+use std::collections::HashMap;
+use std::hash::{BuildHasherDefault, FoldHasher};
+use tl_segments::Segment;
+
+/// How many names of segments there are for each key, of which names with letters have at least one and fewer than a map holds.
+const NAMES_PER_KEY: usize = 8;
+
+const MOST_KEYS: usize = 1 << 31;
+
+/// A segment that has a name with some key.
+#[derive(Clone, Copy)]
+pub(crate) struct Link {
+    /// The segment's number in its county, counted from 0.
+    pub segment: u32,
+    /// The number of the link of the next segment that has a name with the key, counted from 1; 0 if there is none.
+    pub next: usize,
+}
+
+/// The segments of a county by the keys of their names. A name's key is its hash, reduced to the number of keys.
+#[derive(Drop)]
+pub(crate) struct NameIndex<A: Allocator> {
+    keys: u32,
+    links: Vec<Link, A>,
+    /// The number of each key's first link.
+    firsts: HashMap<u32, usize, BuildHasherDefault<FoldHasher>, A>,
+    ghost some: { 1 ≤ keys },
+}
+
+impl<A: Allocator + Copy> NameIndex<A> {
+    ghost use Rattle.geocode.specs.NameIndex.{AddsNames, AddsTo, HasChains, IsIndexOf};
+
+    /// Makes the index of segments, with room for a link of each name and no more.
+    pub(crate) fn of(alloc: A, segments: &[Segment<A>]) -> Result<Self, AllocError>
+        requires { length segments.now < 2 ^ 32 }
+        ensures { IfOk result (λ index. IsIndexOf index segments.now) }
+    {
+        let mut index = NameIndex::with_room(alloc, names_in(segments))?;
+        // A link is put before the others of its key, so the last segment comes first.
+        for n in (0..segments.len()).rev() {
+            index.add_names(n as u32, &segments[n])?;
+        }
+        Ok(index)
+    }
+
+    fn with_room(alloc: A, names: usize) -> Result<Self, AllocError>
+        ensures { IfOk result (λ index. HasChains index (λ key. [])) }
+    {
+        let keys = (names / NAMES_PER_KEY).clamp(1, MOST_KEYS) as u32;
+        Ok(NameIndex {
+            keys,
+            links: Vec::with_capacity(alloc, names)?,
+            firsts: HashMap::with_hasher(alloc, BuildHasherDefault::new()),
+        })
+    }
+
+    /// Puts a segment before the others of the keys of its names, once for each key.
+    fn add_names(&mut self, n: u32, segment: &Segment<A>) -> Result<(), AllocError>
+        ensures { OnOk result (AddsNames self.old self.new n (names_of segment.now)) }
+    {
+        for name in 0..=segment.names() {
+            if let Some(name) = segment.name(name) {
+                self.add(n, hash_of(name))?;
+            }
+        }
+        Ok(())
+    }
+
+    /// Puts a segment before the others of a hash's key, unless it's the first of them.
+    fn add(&mut self, segment: u32, hash: u64) -> Result<(), AllocError>
+        ensures { OnOk result (AddsTo self.old self.new (key_of self.old.keys hash) segment) }
+    {
+        let key = self.key(hash);
+        let next = self.first_of_key(key);
+        if self.is_link_of(next, segment) {
+            return Ok(());
+        }
+        self.links.push(Link { segment, next })?;
+        self.firsts.insert(key, self.links.len())?;
+        Ok(())
+    }
+}
+
+impl<A: Allocator> NameIndex<A> {
+    ghost use Rattle.geocode.specs.NameIndex.{first_of, is_link_of, link_at};
+
+    /// The number of the first link of the key of a name with this hash, 0 if it has none.
+    pub(crate) fn first(&self, hash: u64) -> usize
+        ensures { result ≡ first_of self.now (key_of self.now.keys hash) }
+    {
+        self.first_of_key(self.key(hash))
+    }
+
+    /// The link with a number, counted from 1.
+    pub(crate) fn link(&self, number: usize) -> Option<Link>
+        ensures { result ≡ link_at self.now.links.items number }
+    {
+        self.links.get(number.checked_sub(1)?).copied()
+    }
+
+    fn is_link_of(&self, number: usize, segment: u32) -> bool
+        ensures { result ≡ is_link_of self.now.links.items number segment }
+    {
+        match self.link(number) {
+            Some(link) => link.segment == segment,
+            None => false,
+        }
+    }
+
+    /// The key of a name with this hash. Many segments have no name, so blank names have a key of their own.
+    #[tactic(auto, unfolding(crate::specs::NameHash::key_of))]
+    fn key(&self, hash: u64) -> u32
+        ensures { result ≡ key_of self.now.keys hash }
+    {
+        if hash == FNV_OFFSET {
+            return self.keys;
+        }
+        (hash % u64::from(self.keys)) as u32
+    }
+
+    fn first_of_key(&self, key: u32) -> usize
+        ensures { result ≡ first_of self.now key }
+    {
+        self.firsts.get(&key).copied().unwrap_or(0)
+    }
+}
+
+/// How many names the segments have.
+fn names_in<A: Allocator>(segments: &[Segment<A>]) -> usize {
+    let mut names: usize = 0;
+    for segment in segments {
+        names = names.saturating_add(segment.names() as usize + 1);
+    }
+    names
+}
