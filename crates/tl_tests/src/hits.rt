@@ -1,8 +1,8 @@
 //! Hits of house numbers on streets, worked by hand.
 use crate::sweep::growths;
 use fixtures::{Files, bytes, cell, county};
-use geocode::{Query, QueryFault, hit_lines};
-use std::alloc::{Allocator, Global};
+use geocode::{Gazetteer, Hit, Query, QueryFault, hit_lines};
+use std::alloc::{AllocError, Allocator, Global};
 use tl_segments::{County, LoadFault};
 
 // The house number, the name, and the ZIP code or `-` where none is asked for; the lines of the hits, or which of these
@@ -72,6 +72,13 @@ const HITS: &str = r"
 151; elm; -; 123456789\tL\t-86494898\t32405102\n; {rt1}\n;;;; {rt1 FENAME=Elm}\n
 151; main; -; {7\tL\t-86494898\t32405102\n*800}{5\tL\t-86494898\t32405102\n*800}; {rt1 TLID=7\n*800};;;;
   {rt1 TLID=5\n*800}
+151; ma in; -;; {rt1}\n
+151; main; -; 7\tL\t-86494898\t32405102\n; {rt1 FENAME=Ma in}\n;;;; {rt1 FENAME=Ma in}\n{rt1 TLID=7}\n{rt1 FENAME=Elm}\n
+151; \x20; -; 7\tL\t-86494898\t32405102\n8\tL\t-86494898\t32405102\n;
+  {rt1}\n{rt1 TLID=7 FENAME=}\n{rt1 FENAME=Elm}\n;;;; {rt1 TLID=8 FENAME=}\n
+151; oak; -; 123456789\tL\t-86494898\t32405102\n7\tL\t-86494898\t32405102\n; {rt1}\n{rt1 TLID=7 FENAME=OAK}\n{rt1 TLID=8}\n;
+  {rt4}\n; {rt5}\n
+151; main; -; 123456789\tL\t-86494898\t32405102\n; {rt1}\n; {rt4}\n; {rt5 FENAME=MAIN}\n
 ; main; -; number; {rt1}\n
 +151; main; -; number; {rt1}\n
 \x20151; main; -; number; {rt1}\n
@@ -126,7 +133,7 @@ fn is_found_in<A: Allocator + Copy>(
     }
 }
 
-/// Tells whether the hits in counties have these lines.
+/// Tells whether the hits in counties, found by a walk and by a gazetteer, have these lines.
 fn has_hits<A: Allocator + Copy>(
     alloc: Global,
     heap: A,
@@ -134,9 +141,16 @@ fn has_hits<A: Allocator + Copy>(
     query: Query<'_>,
     lines: &str,
 ) -> Result<bool, LoadFault> {
-    let hits = query.find(heap, counties)?;
-    let text = hit_lines(heap, &hits)?;
-    Ok(text.as_slice() == bytes(alloc, lines)?.as_slice())
+    let lines = bytes(alloc, lines)?;
+    let walked = query.find(heap, counties)?;
+    let gazetteer = Gazetteer::of(heap, counties)?;
+    let looked_up = query.find_in(heap, &gazetteer, counties)?;
+    Ok(has_lines(heap, &walked, &lines)? && has_lines(heap, &looked_up, &lines)?)
+}
+
+fn has_lines<A: Allocator>(heap: A, hits: &[Hit], lines: &[u8]) -> Result<bool, AllocError> {
+    let text = hit_lines(heap, hits)?;
+    Ok(text.as_slice() == lines)
 }
 
 #[test]
