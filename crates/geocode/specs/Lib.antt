@@ -3,7 +3,9 @@ pub mod HitLine
 pub mod NameHash
 pub mod NameIndex
 pub mod Hits
+pub mod Matches
 pub mod Position
 pub mod Sides
+pub mod Street
 pub mod StreetName
 pub mod Query

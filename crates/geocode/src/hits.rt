@@ -139,7 +139,13 @@ fn push_on_range<A: Allocator + Copy>(
 }
 
 /// The hit on a side of a range, of a segment with this type 1 record and this number for TLID, if the house is on it.
-fn hit_on(house: House, tlid: u64, bytes: &[u8], range: Range<'_>, side: Side) -> Option<Hit>
+pub(crate) fn hit_on(
+    house: House,
+    tlid: u64,
+    bytes: &[u8],
+    range: Range<'_>,
+    side: Side,
+) -> Option<Hit>
     requires bytes { length bytes.now ≡ RECORD_LENGTH }
     requires tlid { number_of (field_at TLID bytes.now) ≡ Some tlid }
     ensures { result ≡ hit_on house bytes.now (fields_of range.entry) side }

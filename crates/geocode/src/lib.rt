@@ -4,15 +4,19 @@
 mod gazetteer;
 mod hit;
 mod hits;
+mod matching;
 mod name_hash;
 mod name_index;
 mod position;
 mod query;
 mod sides;
+mod street;
 mod street_name;
 
 pub use gazetteer::Gazetteer;
 pub use hit::{Hit, LINE_LENGTH, Place, Side, hit_lines};
 pub use hits::find;
+pub use matching::{Match, has_street, matches};
 pub use query::{MOST_DIGITS, Query, QueryFault};
+pub use street::Street;
 pub use street_name::StreetName;

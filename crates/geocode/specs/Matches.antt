@@ -1,0 +1,79 @@
+-- Hits, each with the street name that matched (TIGER/Line 2006, record types 1, 4, 5 and 6).
+use Rattle.std.specs.Prelude.{ℕ, suc, Bool, List, [], ◌∷◌, ◌++◌, Option, option_map}
+use Rattle.std.specs.List.{filter_map, flat_map, list_any}
+use Rattle.std.specs.Option.{option_map_or}
+use Rattle.tl_segments.specs.County.{CountyParts}
+use Rattle.tl_segments.specs.FullName.{full_name_of}
+use Rattle.tl_segments.specs.Segment.{Contents, ranges_of}
+use Rattle.tl_segments.specs.declared.full_name.FullNameFields.{FullNameFields}
+use Rattle.tl_segments.specs.declared.range.RangeFields.{RangeFields}
+use Rattle.geocode.specs.Hits.{hit_on}
+use Rattle.geocode.specs.Sides.{SideParts, side_of}
+use Rattle.geocode.specs.Street.{StreetParts, is_on_street, name_on}
+use Rattle.geocode.specs.declared.hit.Hit.{Hit}
+use Rattle.geocode.specs.declared.hit.Side.{Side}
+use Rattle.geocode.specs.declared.hit.Side.TheVariants.{Left, Right}
+use Rattle.geocode.specs.declared.hits.House.{House}
+use Rattle.geocode.specs.declared.matching.Match.{Match}
+use Rattle.geocode.specs.declared.matching.Named.{Named}
+
+-- a hit, with the place of its county in the list, the name that matched and its side's fields
+pub record MatchParts : Type 0 where
+  pub hit : Hit
+  pub county : ℕ
+  pub name : FullNameFields
+  pub side : SideParts
+
+abbrev pub match_of : Match → MatchParts
+match_of found = record {
+  hit = found.hit;
+  county = found.county;
+  name = full_name_of found.name;
+  side = record { from = found.from.now; to = found.to.now; zip = found.zip.now };
+}
+
+-- where a street name matched: the place of the county in the list, the segment, and the name
+pub record NamedSegment : Type 0 where
+  pub county : ℕ
+  pub segment : Contents
+  pub name : FullNameFields
+
+abbrev pub named_of : {A : Type 0} → Named A → NamedSegment
+named_of named = record { county = named.county; segment = named.segment.now; name = full_name_of named.name }
+
+-- the match on a side of a range, if the house is on it
+abbrev pub match_on : House → NamedSegment → RangeFields → Side → Option MatchParts
+match_on house named range side =
+    option_map (λ hit. record { hit = hit; county = named.county; name = named.name; side = side_of range side })
+    (hit_on house named.segment.bytes range side)
+
+-- the matches on the sides of a range: left before right
+abbrev pub matches_on_range : House → NamedSegment → RangeFields → List MatchParts
+matches_on_range house named range = filter_map (match_on house named range) (Left ∷ Right ∷ [])
+
+-- the matches under a name of a segment, range 0 first
+abbrev pub matches_under : House → NamedSegment → List MatchParts
+matches_under house named = flat_map (matches_on_range house named) (ranges_of named.segment)
+
+-- the matches on a segment, under the first of its names that is the street's
+abbrev pub matches_on_segment : StreetParts → House → ℕ → Contents → List MatchParts
+matches_on_segment street house county segment =
+    option_map_or (λ name. matches_under house (record { county = county; segment = segment; name = name })) (name_on street segment) []
+
+-- the matches of a county, which has this place in the list
+abbrev pub matches_in_county : StreetParts → House → ℕ → CountyParts → List MatchParts
+matches_in_county street house county parts = flat_map (matches_on_segment street house county) parts.segments
+
+-- the matches of counties, of which the first has this place in the list
+abbrev pub matches_from : StreetParts → House → ℕ → List CountyParts → List MatchParts
+matches_from street house county [] = []
+matches_from street house county (parts ∷ others) =
+    matches_in_county street house county parts ++ matches_from street house (suc county) others
+
+-- the matches of counties, in their order
+abbrev pub matches : StreetParts → House → List CountyParts → List MatchParts
+matches street house counties = matches_from street house 0 counties
+
+-- some segment of the counties is on the street
+abbrev pub has_street : StreetParts → List CountyParts → Bool
+has_street street counties = list_any (λ county. list_any (is_on_street street) county.segments) counties

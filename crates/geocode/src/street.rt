@@ -1,0 +1,68 @@
+//! Streets that are looked for.
+ghost use Rattle.std.specs.Prelude.{◌≡◌, option_map};
+ghost use Rattle.geocode.specs.Street.{agrees, fits, name_on, parts_of};
+ghost use Rattle.tl_segments.specs.FullName.{HasNameLengths, full_name_of};
+ghost use Rattle.tl_segments.specs.Name.{name_equals};
+
+use crate::street_name::StreetName;
+use std::alloc::Allocator;
+use tl_fields::blank;
+use tl_segments::{FullName, Segment, name_equals};
+
+/// A street that is looked for: its name, and whichever of its directions and its type have to be those of the name that matches. One that is
+/// empty or blank may be any.
+#[derive(Clone, Copy)]
+pub struct Street<'a> {
+    pub name: StreetName<'a>,
+    /// The direction before the name, as FEDIRP has it.
+    pub predir: &'a [u8],
+    /// The street's type, as FETYPE has it.
+    pub kind: &'a [u8],
+    /// The direction after the name, as FEDIRS has it.
+    pub sufdir: &'a [u8],
+}
+
+impl Street<'_> {
+    /// Returns the first full name of the segment that is the street's.
+    pub(crate) fn name_on<'s, A: Allocator>(self, segment: &'s Segment<A>) -> Option<FullName<'s>>
+        ensures { option_map full_name_of result ≡ name_on (parts_of self.entry) segment.now }
+    {
+        for n in 0..=segment.names() {
+            if let Some(name) = segment.full_name(n) {
+                if self.fits(name) {
+                    return Some(name);
+                }
+            }
+        }
+        None
+    }
+
+    /// Whether a full name is the street's.
+    fn fits(self, name: FullName<'_>) -> bool
+        requires { HasNameLengths (full_name_of name) }
+        ensures { result ≡ fits (parts_of self.entry) (full_name_of name.entry) }
+    {
+        name_equals(name.fename, self.name.text)
+            && agrees(self.predir, name.fedirp)
+            && agrees(self.kind, name.fetype)
+            && agrees(self.sufdir, name.fedirs)
+    }
+}
+
+/// Whether a field is the wanted text, or none is wanted.
+fn agrees(wanted: &[u8], field: &[u8]) -> bool
+    ensures { result ≡ agrees wanted.now field.now }
+{
+    blank(wanted) || equals(field, wanted)
+}
+
+/// Whether a field is the text and blanks after it, ASCII letters compared without case.
+fn equals(field: &[u8], text: &[u8]) -> bool
+    ensures { result ≡ name_equals field.now text.now }
+{
+    if text.len() > field.len() {
+        return false;
+    }
+    let (front, rest) = field.split_at(text.len());
+    front.eq_ignore_ascii_case(text) && blank(rest)
+}
