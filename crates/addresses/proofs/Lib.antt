@@ -1,0 +1,4 @@
+pub mod MarkLemmas
+pub mod NextLemmas
+pub mod ReadLemmas
+pub mod TextLemmas

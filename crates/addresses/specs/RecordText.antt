@@ -1,0 +1,35 @@
+-- The texts of a file's records (RFC 4180, section 2): a record ends with a line feed outside quotation marks.
+use Rattle.std.specs.Prelude.{ℕ, Bool, false, not, ◌&&◌, ◌==◌, if◌then◌else◌, List, [], ◌∷◌}
+use Rattle.std.specs.List.{count_by, fold}
+
+abbrev pub is_line_feed : ℕ → Bool
+is_line_feed byte = byte == 10
+
+abbrev pub line_feeds : List ℕ → ℕ
+line_feeds bytes = count_by is_line_feed bytes
+
+-- whether the bytes that follow are inside quotation marks: a mark begins and ends that
+abbrev pub inside_after : Bool → ℕ → Bool
+inside_after inside byte = if byte == 34 then not inside else inside
+
+-- whether the last of the quotation marks among these bytes isn't closed: their number is odd
+abbrev pub is_open : List ℕ → Bool
+is_open bytes = fold inside_after false bytes
+
+-- a byte and the texts after it, to the first of which it belongs
+abbrev pub joined : ℕ → List (List ℕ) → List (List ℕ)
+joined byte [] = (byte ∷ []) ∷ []
+joined byte (text ∷ texts) = (byte ∷ text) ∷ texts
+
+-- a line feed that isn't inside quotation marks ends a text
+abbrev pub with_byte : ℕ → Bool → List (List ℕ) → List (List ℕ)
+with_byte byte inside texts = if is_line_feed byte && not inside then (byte ∷ []) ∷ texts else joined byte texts
+
+unfoldable pub texts_from : Bool → List ℕ → List (List ℕ)
+texts_from inside [] = []
+texts_from inside (byte ∷ rest) = with_byte byte (inside_after inside byte) (texts_from (inside_after inside byte) rest)
+
+-- The texts of a file's records, each with its line end: a record ends with the first line feed that an even number of its quotation marks
+-- precede. The last one may lack its end.
+abbrev pub record_texts : List ℕ → List (List ℕ)
+record_texts file = texts_from false file

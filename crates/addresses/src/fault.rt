@@ -1,0 +1,75 @@
+//! Why a file's addresses can't be read.
+ghost use Rattle.std.specs.Prelude.{◌≡◌};
+ghost use Rattle.addresses.specs.AddressFlaw as address_flaw;
+ghost use Rattle.addresses.specs.declared.fault.AddressFault.TheVariants.{Memory};
+
+use refusals::{Fault, Refusal};
+use std::alloc::AllocError;
+use thiserror::Error;
+
+/// What is wrong with a record. The derived text is for people.
+#[derive(Clone, Copy, Debug, PartialEq, Eq, Error)]
+pub enum AddressFlaw {
+    #[error("the header has no column `number` or no column `name`")]
+    NoColumn,
+    #[error("a field isn't UTF-8")]
+    NotUtf8,
+    #[error("a quotation mark isn't closed before the end of the file")]
+    OpenQuote,
+    #[error("the record has more than 65,536 bytes")]
+    LineTooLong,
+    #[error("a carriage return or an unquoted line break ends the record early")]
+    NotOneRecord,
+}
+
+/// Why a file's addresses can't be read, or that an allocation failed.
+#[derive(Clone, Copy, Debug, PartialEq, Eq, Error)]
+pub enum AddressFault {
+    #[error("the file has no header")]
+    NoHeader,
+    #[error("line {line}: {flaw}")]
+    At {
+        /// The line in which the record begins, counted from 1.
+        line: u64,
+        flaw: AddressFlaw,
+    },
+    #[error("out of memory")]
+    Memory,
+}
+
+impl From<AllocError> for AddressFault {
+    ghost from_gives = { λ _ fault. fault ≡ Memory };
+
+    fn from(_error: AllocError) -> AddressFault {
+        AddressFault::Memory
+    }
+}
+
+impl AddressFlaw {
+    /// Returns the flaw as a refusal, without its line.
+    pub fn refusal(self) -> Refusal
+        ensures { result ≡ address_flaw.refusal self }
+    {
+        match self {
+            AddressFlaw::NoColumn => Refusal::refused(101, "NoColumn"),
+            AddressFlaw::NotUtf8 => Refusal::refused(102, "NotUtf8"),
+            AddressFlaw::OpenQuote => Refusal::refused(103, "OpenQuote"),
+            AddressFlaw::LineTooLong => Refusal::refused(104, "LineTooLong"),
+            AddressFlaw::NotOneRecord => Refusal::refused(105, "NotOneRecord"),
+        }
+    }
+}
+
+impl Fault for AddressFault {
+    ghost use Rattle.addresses.specs.AddressFault.{refusal};
+
+    ghost refusal_of = { refusal };
+
+    fn refusal(&self) -> Refusal {
+        match *self {
+            AddressFault::NoHeader => Refusal::refused(100, "NoHeader"),
+            AddressFault::At { line, flaw } => flaw.refusal().at_line(line as usize),
+            AddressFault::Memory => Refusal::memory(),
+        }
+    }
+}

@@ -1,0 +1,57 @@
+//! A record's text, read as its fields.
+ghost use Rattle.std.specs.Prelude.{◌≡◌};
+ghost use Rattle.addresses.specs.Record.{IsRecordRead, fault_of, fields_in};
+ghost use Rattle.csv.specs.Reading.{error_kind};
+ghost use Rattle.csv.specs.Records.{fields_of};
+
+use crate::fault::{AddressFault, AddressFlaw};
+use crate::text::BYTE_ORDER_MARK;
+use csv::{ByteRecord, Error, ErrorKind, ReaderBuilder, StringRecord};
+use std::alloc::Global;
+use std::io::Read;
+
+/// The most bytes that a record may have, its line end counted.
+pub const RECORD_LIMIT: usize = 65_536;
+
+/// Reads a record's text, which begins in this line. Returns false if it has no record, as a line end alone.
+pub(crate) fn read_fields(
+    alloc: Global,
+    line: u64,
+    text: &[u8],
+    row: &mut StringRecord,
+) -> Result<bool, AddressFault>
+    ensures { IsRecordRead line (fields_of row.new) (fields_in text.now) result }
+{
+    // The reader passes over a byte order mark, so one that belongs to a field needs one before it.
+    let marked = BYTE_ORDER_MARK.as_slice().chain(text);
+    let mut reader = ReaderBuilder::new()
+        .has_headers(false)
+        .flexible(true)
+        .from_reader(alloc, marked);
+    match reader.read_record(row) {
+        Ok(true) => {}
+        Ok(false) => return Ok(false),
+        Err(error) => return Err(fault_of(line, &error)),
+    }
+    match reader.read_byte_record(&mut ByteRecord::new(alloc)) {
+        Ok(false) => Ok(true),
+        Ok(true) => Err(AddressFault::At {
+            line,
+            flaw: AddressFlaw::NotOneRecord,
+        }),
+        Err(_) => Err(AddressFault::Memory),
+    }
+}
+
+/// Returns the fault that an error is. A reader of bytes fails for its text or for memory.
+fn fault_of(line: u64, error: &Error) -> AddressFault
+    ensures { result ≡ fault_of line (error_kind error.now) }
+{
+    match error.kind() {
+        ErrorKind::Utf8 { .. } => AddressFault::At {
+            line,
+            flaw: AddressFlaw::NotUtf8,
+        },
+        _ => AddressFault::Memory,
+    }
+}

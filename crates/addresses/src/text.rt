@@ -1,0 +1,59 @@
+//! The texts of a file's records.
+ghost use Rattle.std.specs.Prelude.{◌≡◌, ◌≢◌, ◌+◌, ◌<◌, ◌≤◌, [], ◌∷◌, length};
+ghost use Rattle.addresses.specs.RecordText.{is_open, line_feeds, record_texts};
+ghost use Rattle.csv.specs.Reading.{strip_bom};
+
+/// U+FEFF in UTF-8.
+pub(crate) const BYTE_ORDER_MARK: [u8; 3] = [0xef, 0xbb, 0xbf];
+
+/// The first record's text of a file, with its line end, and what follows it.
+#[derive(Clone, Copy)]
+pub(crate) struct FirstText<'a> {
+    pub text: &'a [u8],
+    pub rest: &'a [u8],
+    /// Whether the record's quotation marks don't close before the end of the file.
+    pub is_open: bool,
+}
+
+/// Passes over a byte order mark at the start of a file.
+pub(crate) fn without_mark<'a>(file: &'a [u8]) -> &'a [u8]
+    ensures { result.now ≡ strip_bom file.now }
+{
+    file.strip_prefix(&BYTE_ORDER_MARK).unwrap_or(file)
+}
+
+/// Splits a file after its first record.
+pub(crate) fn first_text<'a>(file: &'a [u8]) -> FirstText<'a>
+    ensures texts { file.now ≢ [] → record_texts file.now ≡ result.text.now ∷ record_texts result.rest.now }
+    ensures split { length file.now ≡ length result.text.now + length result.rest.now }
+    ensures progress { file.now ≢ [] → length result.rest.now < length file.now }
+    ensures open { result.is_open ≡ is_open result.text.now }
+{
+    let mut is_open = false;
+    for (at, byte) in file.iter().enumerate() {
+        if *byte == b'"' {
+            is_open = !is_open;
+        }
+        if *byte == b'\n' && !is_open {
+            let (text, rest) = file.split_at(at + 1);
+            return FirstText {
+                text,
+                rest,
+                is_open,
+            };
+        }
+    }
+    FirstText {
+        text: file,
+        rest: &[],
+        is_open,
+    }
+}
+
+/// Counts the line feeds of a text.
+pub(crate) fn line_feeds(text: &[u8]) -> usize
+    ensures value { result ≡ line_feeds text.now }
+    ensures few { result ≤ length text.now }
+{
+    text.iter().filter(|byte| **byte == b'\n').count()
+}
