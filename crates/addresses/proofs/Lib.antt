@@ -1,3 +1,4 @@
+pub mod CellLemmas
 pub mod MarkLemmas
 pub mod NextLemmas
 pub mod ReadLemmas

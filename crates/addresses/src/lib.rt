@@ -1,11 +1,14 @@
 //! Addresses read from a CSV file (RFC 4180) with a header.
 #![tactic(auto)]
 
+mod columns;
 mod fault;
 mod record;
 mod records;
+mod row;
 mod text;
 mod unread;
 
 pub use fault::{AddressFault, AddressFlaw};
 pub use record::RECORD_LIMIT;
+pub use row::{Address, Row};

@@ -1,0 +1,39 @@
+-- The columns of a file of addresses, as its header names them.
+use Rattle.std.specs.Prelude.{ℕ, ◌-◌, Bool, List, length, take, drop, Option, Some, None, codes}
+use Rattle.std.specs.Char.{is_ascii_whitespace}
+use Rattle.std.specs.List.{position_from, prefix_len, suffix_len}
+use Rattle.std.specs.Str.{str_eq_ignore_ascii_case}
+use Rattle.addresses.specs.Record.{Fields}
+use Rattle.addresses.specs.declared.columns.Columns.{Columns}
+
+abbrev pub without_space_after : List ℕ → List ℕ
+without_space_after cell = take (length cell - suffix_len is_ascii_whitespace cell) cell
+
+-- a cell without the ASCII white space at its ends
+abbrev pub trimmed : List ℕ → List ℕ
+trimmed cell = without_space_after (drop (prefix_len is_ascii_whitespace cell) cell)
+
+-- whether a cell of the header is this name: white space at its ends and the case of ASCII letters don't count
+abbrev pub is_named : List ℕ → List ℕ → Bool
+is_named name cell = str_eq_ignore_ascii_case (trimmed cell) name
+
+-- the first column of this name
+abbrev pub column_named : List ℕ → Fields → Option ℕ
+column_named name header = position_from (is_named name) 0 header
+
+abbrev pub columns_with : Option ℕ → Option ℕ → Fields → Option Columns
+columns_with (Some number) (Some name) header = Some (record {
+  id = column_named (codes "id") header;
+  number = number;
+  name = name;
+  zip = column_named (codes "zip") header;
+  predir = column_named (codes "predir") header;
+  kind = column_named (codes "type") header;
+  sufdir = column_named (codes "sufdir") header;
+})
+columns_with None name header = None
+columns_with (Some number) None header = None
+
+-- a header's columns, if it has a number and a name
+abbrev pub columns_of : Fields → Option Columns
+columns_of header = columns_with (column_named (codes "number") header) (column_named (codes "name") header) header

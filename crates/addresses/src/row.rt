@@ -1,0 +1,98 @@
+//! An address of a file, in a row that is kept for the next one.
+ghost use Rattle.std.specs.Prelude.{◌≡◌, option_map};
+ghost use Rattle.addresses.specs.Address.{address_in, cell_in, no_address, parts_of, value_in};
+ghost use Rattle.csv.specs.Records.{fields_of};
+
+use crate::columns::Columns;
+use csv::StringRecord;
+use std::alloc::Global;
+
+/// An address: a record's cells, each without ASCII white space at its ends but for the id, which stays as it is. A cell is empty if the file
+/// has no such column or the record is too short for it.
+#[derive(Clone, Copy, Debug, PartialEq, Eq)]
+pub struct Address<'a> {
+    /// The line in which the record begins, counted from 1.
+    pub line: u64,
+    /// The id, or `None` if the file has no column `id`.
+    pub id: Option<&'a str>,
+    pub number: &'a str,
+    pub name: &'a str,
+    pub zip: &'a str,
+    pub predir: &'a str,
+    /// The column `type`.
+    pub kind: &'a str,
+    pub sufdir: &'a str,
+}
+
+/// A record of a file. Its memory is used again for the next one.
+#[derive(Drop)]
+pub struct Row {
+    pub(crate) line: u64,
+    pub(crate) columns: Columns,
+    pub(crate) cells: StringRecord,
+}
+
+impl Row {
+    /// Makes a row for [`Addresses::read`](crate::Addresses::read). Nothing is allocated before that.
+    pub fn new(alloc: Global) -> Row
+        ensures { address_in result ≡ no_address }
+    {
+        Row {
+            line: 0,
+            columns: Columns {
+                id: None,
+                number: 0,
+                name: 0,
+                zip: None,
+                predir: None,
+                kind: None,
+                sufdir: None,
+            },
+            cells: StringRecord::new(alloc),
+        }
+    }
+
+    /// Returns the address that was read last.
+    pub fn address(&self) -> Address<'_>
+        ensures { parts_of result ≡ address_in self.now }
+    {
+        let columns = self.columns;
+        let cells = &self.cells;
+        Address {
+            line: self.line,
+            id: id_in(cells, columns.id),
+            number: value_in(cells, Some(columns.number)),
+            name: value_in(cells, Some(columns.name)),
+            zip: value_in(cells, columns.zip),
+            predir: value_in(cells, columns.predir),
+            kind: value_in(cells, columns.kind),
+            sufdir: value_in(cells, columns.sufdir),
+        }
+    }
+}
+
+/// The id as it stands, if there is such a column.
+fn id_in(cells: &StringRecord, column: Option<usize>) -> Option<&str>
+    ensures { option_map (λ id. id.now) result ≡ option_map (cell_in (fields_of cells.now)) column }
+{
+    match column {
+        Some(column) => Some(cell_in(cells, column)),
+        None => None,
+    }
+}
+
+/// The cell of a column without white space at its ends.
+fn value_in(cells: &StringRecord, column: Option<usize>) -> &str
+    ensures { result.now ≡ value_in (fields_of cells.now) column }
+{
+    match column {
+        Some(column) => cell_in(cells, column).trim_ascii(),
+        None => "",
+    }
+}
+
+fn cell_in(cells: &StringRecord, column: usize) -> &str
+    ensures { result.now ≡ cell_in (fields_of cells.now) column }
+{
+    cells.get(column).unwrap_or("")
+}
