@@ -1,6 +1,7 @@
 //! Addresses read from a CSV file (RFC 4180) with a header.
 #![tactic(auto)]
 
+mod addresses;
 mod columns;
 mod fault;
 mod record;
@@ -9,6 +10,7 @@ mod row;
 mod text;
 mod unread;
 
+pub use addresses::Addresses;
 pub use fault::{AddressFault, AddressFlaw};
 pub use record::RECORD_LIMIT;
 pub use row::{Address, Row};

@@ -1,0 +1,63 @@
+-- The addresses of a file, and the fault that ends them, if one does.
+use Rattle.std.specs.Prelude.{◌≡◌, ⊤, ℕ, Bool, true, false, List, [], ◌∷◌, ◌++◌, map, Option, Some, None, Result, Ok, Err}
+use Rattle.addresses.specs.Address.{AddressParts, address_of}
+use Rattle.addresses.specs.Columns.{columns_of}
+use Rattle.addresses.specs.Reading.{Reading, RecordParts, left_in, reading_of}
+use Rattle.addresses.specs.declared.addresses.Addresses.{Addresses}
+use Rattle.addresses.specs.declared.columns.Columns.{Columns}
+use Rattle.addresses.specs.declared.fault.AddressFault.{AddressFault}
+use Rattle.addresses.specs.declared.fault.AddressFault.TheVariants.{NoHeader, At, Memory}
+use Rattle.addresses.specs.declared.fault.AddressFlaw.TheVariants.{NoColumn}
+
+-- the addresses that can be read, and the fault of the record after them, if there is one
+pub record Listing : Type 0 where
+  pub addresses : List AddressParts
+  pub fault : Option AddressFault
+
+-- no address and no fault
+abbrev pub ended : Listing
+ended = record { addresses = []; fault = None }
+
+abbrev pub ended_by : AddressFault → Listing
+ended_by fault = record { addresses = []; fault = Some fault }
+
+-- addresses, and then those of a listing
+abbrev pub with_addresses : List AddressParts → Listing → Listing
+with_addresses first later = record { addresses = first ++ later.addresses; fault = later.fault }
+
+-- the records under a header of these columns
+abbrev pub listed : Columns → Reading → Listing
+listed columns reading = record { addresses = map (address_of columns) reading.records; fault = reading.fault }
+
+abbrev pub under_columns : ℕ → Option Columns → Reading → Result Listing AddressFault
+under_columns line None reading = Err (At line NoColumn)
+under_columns line (Some columns) reading = Ok (listed columns reading)
+
+-- the first record is the header
+abbrev pub under_header : List RecordParts → Option AddressFault → Result Listing AddressFault
+under_header [] None = Err NoHeader
+under_header [] (Some fault) = Err fault
+under_header (header ∷ rows) fault = under_columns header.line (columns_of header.fields) (record { records = rows; fault = fault })
+
+-- the addresses of a file under its header, or the fault of that
+abbrev pub addresses_in : List ℕ → Result Listing AddressFault
+addresses_in file = under_header (reading_of file).records (reading_of file).fault
+
+-- the addresses that are left
+abbrev pub addresses_left : Addresses → Listing
+addresses_left addresses = listed addresses.columns (left_in addresses.unread)
+
+-- The header was read, and its file's addresses are left. Only an allocation may fail otherwise.
+abbrev pub IsHeaderRead : Result Addresses AddressFault → Result Listing AddressFault → Type 0
+IsHeaderRead (Ok addresses) held = held ≡ Ok (addresses_left addresses)
+IsHeaderRead (Err (At line flaw)) held = held ≡ Err (At line flaw)
+IsHeaderRead (Err NoHeader) held = held ≡ Err NoHeader
+IsHeaderRead (Err Memory) held = ⊤
+
+-- The next address was read, and the later ones are left; after the last one there is none. Only an allocation may fail otherwise.
+abbrev pub IsAddressRead : Result Bool AddressFault → AddressParts → Listing → Listing → Type 0
+IsAddressRead (Ok true) address old new = old ≡ with_addresses (address ∷ []) new
+IsAddressRead (Ok false) address old new = (old ≡ ended) × (new ≡ ended)
+IsAddressRead (Err (At line flaw)) address old new = old ≡ ended_by (At line flaw)
+IsAddressRead (Err NoHeader) address old new = ⊥
+IsAddressRead (Err Memory) address old new = ⊤

@@ -1,0 +1,59 @@
+//! The addresses of a file, one after the other.
+ghost use Rattle.std.specs.Prelude.{◌≡◌, OnErr};
+ghost use Rattle.addresses.specs.Address.{address_in};
+ghost use Rattle.addresses.specs.Listing.{IsAddressRead, IsHeaderRead, addresses_in, addresses_left};
+
+use crate::columns::Columns;
+use crate::fault::{AddressFault, AddressFlaw};
+use crate::row::Row;
+use crate::unread::Unread;
+use csv::StringRecord;
+use std::alloc::Global;
+
+/// The addresses of a file that are left.
+///
+/// The file is a CSV file (RFC 4180). Its first record is the header, which names the columns: `number` and `name`, and where the file has
+/// them `id`, `zip`, `predir`, `type` and `sufdir`. White space around a name and the case of its letters don't count, and of several columns
+/// of one name the first counts. Other columns are passed over, and so are empty lines and a byte order mark at the start of the file.
+#[derive(Drop)]
+pub struct Addresses<'a> {
+    alloc: Global,
+    columns: Columns,
+    unread: Unread<'a>,
+}
+
+impl<'a> Addresses<'a> {
+    /// Reads the header of a file, which is given with all its bytes.
+    pub fn of(alloc: Global, file: &'a [u8]) -> Result<Addresses<'a>, AddressFault>
+        ensures { IsHeaderRead result (addresses_in file.now) }
+    {
+        let mut unread = Unread::of(file);
+        let mut header = StringRecord::new(alloc);
+        let Some(line) = unread.next(alloc, &mut header)? else {
+            return Err(AddressFault::NoHeader);
+        };
+        let Some(columns) = Columns::of(&header) else {
+            let flaw = AddressFlaw::NoColumn;
+            return Err(AddressFault::At { line, flaw });
+        };
+        Ok(Addresses {
+            alloc,
+            columns,
+            unread,
+        })
+    }
+
+    /// Reads the next address into a row, and returns false after the last one. Otherwise the row's contents don't matter. After a fault the
+    /// same record is read again.
+    pub fn read(&mut self, row: &mut Row) -> Result<bool, AddressFault>
+        ensures next { IsAddressRead result (address_in row.new) (addresses_left self.old) (addresses_left self.new) }
+        ensures stays { OnErr result (self.new ≡ self.old) }
+    {
+        let Some(line) = self.unread.next(self.alloc, &mut row.cells)? else {
+            return Ok(false);
+        };
+        row.line = line;
+        row.columns = self.columns;
+        Ok(true)
+    }
+}
