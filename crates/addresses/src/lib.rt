@@ -14,3 +14,6 @@ pub use addresses::Addresses;
 pub use fault::{AddressFault, AddressFlaw};
 pub use record::RECORD_LIMIT;
 pub use row::{Address, Row};
+
+#[cfg(test)]
+mod tests;

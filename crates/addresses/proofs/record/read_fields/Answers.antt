@@ -31,9 +31,11 @@ returns-in-Ok-true-read_byte_record c =
     let text = rw c.in-Ok-true.is at c.read_record.ensures.text in
     let first = rw c.in-Ok-true.is at c.read_record.ensures.ready in
     let again = rw (c.in-Ok-true-read_byte_record.is, c.in-Ok-true-read_byte_record.field-0-test) at c.read_byte_record.ensures.reads in
-    let one = reads plain ready in
-    (refl, read-more marked_left c.from_reader-reader.result c.read_record.new.self c.read_byte_record.new.self c.args.text.now
-    (fields_of c.read_record.new.row) (fields_of c.read_byte_record.new.row) fresh one (text plain) (again (one.3 ∙ plain) (inl (first plain))))
+    let one = reads plain ready in (
+      refl,
+      read-more marked_left c.from_reader-reader.result c.read_record.new.self c.read_byte_record.new.self c.args.text.now
+          (fields_of c.read_record.new.row) (fields_of c.read_byte_record.new.row) fresh one (text plain) (again (one.3 ∙ plain) (inl (first plain))),
+    )
 
 pub returns-in-Ok-false-read_byte_record : goal.returns-in-Ok-false-read_byte_record
 unfolding strip_bom

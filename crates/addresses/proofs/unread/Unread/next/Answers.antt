@@ -34,11 +34,12 @@ loop-alloc-preserved c =
     let step = c.loop-alloc.invariant.1 ∙ next-step c.loop-alloc.line text first.text.now first.rest.now (c.first_text-first.ensures.texts some) in
     let counted = c.loop-alloc.invariant.2 in
     let split = c.first_text-first.ensures.split in
-    let few = c.line_feeds.ensures.few in
-    (c.loop-alloc.invariant.0,
-    rw c.line_feeds.ensures.value (passed c.loop-alloc.line (fields_of c.read_record.new.row) first.text.now (left_in c.args.self.now) _
-    (rw c.if-found.false at c.in_ok-found.ensures) step),
-    omega (arith, counted, split, few))
+    let few = c.line_feeds.ensures.few in (
+      c.loop-alloc.invariant.0,
+      rw c.line_feeds.ensures.value (passed c.loop-alloc.line (fields_of c.read_record.new.row) first.text.now (left_in c.args.self.now) _
+          (rw c.if-found.false at c.in_ok-found.ensures) step),
+      omega (arith, counted, split, few),
+    )
 
 pub returns-clause-next : goal.returns-clause-next
 returns-clause-next c =
