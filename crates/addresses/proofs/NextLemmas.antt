@@ -1,5 +1,5 @@
 -- Reading on after a file's first text.
-use Rattle.std.proofs.Common.{◌≡◌, ◌∙◌, ℕ, ◌+◌, List, [], ◌∷◌, Option, Some, None, Ok, Err, Bool, true, false, length, refl, sym, ap}
+use Rattle.std.proofs.Common.{◌≡◌, ℕ, ◌+◌, List, [], ◌∷◌, Ok, Err, true, false, length, refl}
 use Rattle.addresses.specs.Reading.{IsNextRead, Reading, at_end, followed, preceded, reading_from}
 use Rattle.addresses.specs.Record.{Fields, IsRecordRead, record_in}
 use Rattle.addresses.specs.RecordText.{line_feeds, record_texts, texts_from}

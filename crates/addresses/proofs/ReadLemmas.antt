@@ -1,5 +1,5 @@
 -- What two reads of a fresh reader say of its text.
-use Rattle.std.proofs.Common.{Bor, ◌≡◌, ◌∙◌, ℕ, Bool, true, false, List, [], ◌∷◌, Option, Some, None, Ok, Err, refl, ap, sym, inl, inr}
+use Rattle.std.proofs.Common.{Bor, ◌≡◌, ◌∙◌, ℕ, Bool, true, false, List, [], ◌∷◌, Option, Some, None, Ok, Err, refl, sym, inl, inr}
 use Rattle.std.specs.Prelude.{is_some}
 use Rattle.std.specs.List.{list_all}
 use Rattle.std.specs.Io.Chain.{chain_remaining}

@@ -1,5 +1,5 @@
 -- The texts of a file's records (RFC 4180, section 2): a record ends with a line feed outside quotation marks.
-use Rattle.std.specs.Prelude.{ℕ, Bool, false, not, ◌&&◌, ◌==◌, if◌then◌else◌, List, [], ◌∷◌}
+use Rattle.std.specs.Prelude.{◌≡◌, ◌⊎◌, ℕ, suc, Bool, false, not, ◌&&◌, ◌==◌, if◌then◌else◌, List, [], ◌∷◌, ◌++◌, length, take, Some, slice_get}
 use Rattle.std.specs.List.{count_by, fold}
 
 abbrev pub is_line_feed : ℕ → Bool
@@ -8,9 +8,15 @@ is_line_feed byte = byte == 10
 abbrev pub line_feeds : List ℕ → ℕ
 line_feeds bytes = count_by is_line_feed bytes
 
+abbrev pub is_quotation_mark : ℕ → Bool
+is_quotation_mark byte = byte == 34
+
+abbrev pub quotation_marks : List ℕ → ℕ
+quotation_marks bytes = count_by is_quotation_mark bytes
+
 -- whether the bytes that follow are inside quotation marks: a mark begins and ends that
 abbrev pub inside_after : Bool → ℕ → Bool
-inside_after inside byte = if byte == 34 then not inside else inside
+inside_after inside byte = if is_quotation_mark byte then not inside else inside
 
 -- whether the last of the quotation marks among these bytes isn't closed: their number is odd
 abbrev pub is_open : List ℕ → Bool
@@ -33,3 +39,14 @@ texts_from inside (byte ∷ rest) = with_byte byte (inside_after inside byte) (t
 -- precede. The last one may lack its end.
 abbrev pub record_texts : List ℕ → List (List ℕ)
 record_texts file = texts_from false file
+
+-- a line feed that an even number of quotation marks precede
+abbrev pub EndsAt : List ℕ → ℕ → Type 0
+EndsAt text at = (slice_get text at ≡ Some 10) × (is_open (take at text) ≡ false)
+
+-- a file's first record and the rest: where there is such a line feed in the record's text it is the last byte, and only the file's last
+-- record may have none
+pub record IsFirstText (file text rest : List ℕ) : Type 0 where
+  pub split : file ≡ text ++ rest
+  pub first : (at : ℕ) → EndsAt text at → suc at ≡ length text
+  pub ended : ((at : ℕ) × EndsAt text at) ⊎ (rest ≡ [])

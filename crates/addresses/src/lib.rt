@@ -4,6 +4,7 @@
 mod addresses;
 mod columns;
 mod fault;
+pub mod laws;
 mod record;
 mod records;
 mod row;

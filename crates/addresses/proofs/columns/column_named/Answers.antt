@@ -1,6 +1,6 @@
-use Rattle.std.proofs.Common.{◌≡◌, ◌∙◌, ◌<◌, ◌+◌, None, length, false, sym, rules, arith, drop}
+use Rattle.std.proofs.Common.{◌≡◌, ◌∙◌, ◌<◌, ◌+◌, length, sym, arith, drop}
 use Rattle.std.specs.List.{position_from}
-use Rattle.csv.specs.Records.{field_at, fields_of}
+use Rattle.csv.specs.Records.{fields_of}
 use Rattle.addresses.specs.Columns.{is_named}
 use Rattle.addresses.proofs.CellLemmas.{has-cell, is-column, is-no-column}
 use Rattle.addresses.proofs.columns.column_named.Goals as goal

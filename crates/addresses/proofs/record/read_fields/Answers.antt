@@ -1,7 +1,7 @@
-use Rattle.std.proofs.Common.{◌≡◌, ◌∙◌, List, ℕ, Some, None, ◌∷◌, refl, sym, rules, inl, inr, true, false}
-use Rattle.csv.specs.Reading.{ReadRecord, Ready, source_of, strip_bom}
+use Rattle.std.proofs.Common.{◌∙◌, refl, inl, inr}
+use Rattle.csv.specs.Reading.{Ready, strip_bom}
 use Rattle.csv.specs.Records.{fields_of}
-use Rattle.addresses.proofs.ReadLemmas.{IsFresh, marked_left, read-more, read-none, read-not-utf8, read-one, as-read}
+use Rattle.addresses.proofs.ReadLemmas.{IsFresh, marked_left, read-more, read-none, read-one, as-read}
 use Rattle.addresses.proofs.record.read_fields.Goals as goal
 
 pub returns-in-Ok-false : goal.returns-in-Ok-false

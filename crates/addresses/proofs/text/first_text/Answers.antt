@@ -1,5 +1,5 @@
-use Rattle.std.proofs.Common.{◌≡◌, ◌≢◌, ◌+◌, ◌∙◌, ◌&&◌, not, false, sym, ap, get_or, refl, arith, rules}
-use Rattle.addresses.specs.RecordText.{inside_after, is_line_feed, is_open, record_texts}
+use Rattle.std.proofs.Common.{◌≡◌, ◌∙◌, ◌&&◌, not, false, sym, ap, get_or, refl, rules}
+use Rattle.addresses.specs.RecordText.{inside_after, is_line_feed, is_open}
 use Rattle.addresses.proofs.TextLemmas.{at-mark, at-other, feed-inside, is-feed, not-feed, open-next, open-whole, scanned-end, scanned-next, scanned-none, scanned-whole}
 use Rattle.addresses.proofs.text.first_text.Goals as goal
 use Rattle.addresses.proofs.text.first_text.Goals.{then-byte-eq34, else-byte-eq34, else-byte-eq10-via-then-byte-eq10+else-not-is_open, else-byte-eq10-via-else-byte-eq10}

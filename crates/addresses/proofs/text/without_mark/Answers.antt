@@ -1,4 +1,4 @@
-use Rattle.std.proofs.Common.{rules, ◌≡◌, ◌∙◌, Bor, Some, None, Option, List, ℕ, drop, true, false, sym, ap, refl}
+use Rattle.std.proofs.Common.{rules, ◌≡◌, ◌∙◌, Bor, Some, None, Option, List, ℕ, drop, true, false, sym, ap}
 use Rattle.std.specs.Prelude.{unwrap_or}
 use Rattle.std.specs.Option.{MatchOption}
 use Rattle.csv.specs.Reading.{strip_bom}

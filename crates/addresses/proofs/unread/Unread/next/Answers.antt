@@ -1,8 +1,6 @@
-use Rattle.std.proofs.Common.{rules, ◌≡◌, ◌≢◌, ◌∙◌, ◌+◌, ◌<◌, ◌^◌, Err, [], length, arith, true, false, sym, refl}
+use Rattle.std.proofs.Common.{rules, ◌≡◌, ◌≢◌, ◌∙◌, Err, [], length, arith}
 use Rattle.std.proofs.lemmas.Bool.Decides.{nat_tests}
-use Rattle.addresses.specs.Reading.{followed, left_in, reading_from}
-use Rattle.addresses.specs.Record.{record_in}
-use Rattle.addresses.specs.RecordText.{line_feeds, record_texts}
+use Rattle.addresses.specs.Reading.{left_in}
 use Rattle.csv.specs.Records.{fields_of}
 use Rattle.addresses.proofs.NextLemmas.{failed, found, next-step, no-bytes, nothing-left, passed}
 use Rattle.addresses.proofs.unread.Unread.next.Goals as goal
