@@ -5,9 +5,9 @@ use Rattle.std.specs.List.{flat_map}
 use Rattle.std.proofs.lemmas.Bool.Decides.{nat_tests}
 use Rattle.std.proofs.lemmas.Grind.{common_steps, take_at_read}
 use Rattle.std.proofs.lemmas.List.{append-nil}
-use Rattle.std.proofs.lemmas.Option.{gets, slice_get-get_or}
+use Rattle.std.proofs.lemmas.Option.{get_or_from_slice_get, gets, slice_get-get_or}
 use Rattle.tl_segments.specs.Segment.{Contents, blank_segment}
-use Rattle.tl_segments.specs.County.{CountyParts}
+use Rattle.tl_segments.specs.County.{AreTlids, CountyParts, tlid_of}
 use Rattle.geocode.specs.Gazetteer.{AreIndexesOf, hits_if_named, segment_at}
 use Rattle.geocode.specs.Hits.{has_name, hits_on_segment}
 use Rattle.geocode.specs.NameHash.{hash_of, key_of}
@@ -16,7 +16,7 @@ use Rattle.geocode.specs.declared.hit.Hit.{Hit}
 use Rattle.geocode.specs.declared.hits.House.{House}
 use Rattle.geocode.specs.declared.name_index.Link.{Link}
 use Rattle.geocode.specs.declared.name_index.NameIndex.{NameIndex}
-use Rattle.geocode.proofs.HitLemmas.{flat_map-at}
+use Rattle.geocode.proofs.HitLemmas.{flat_map-at, tlid_at, tlids-long}
 use Rattle.geocode.proofs.NameHashLemmas.{has_name-key}
 
 -- what the elements that pass a test give
@@ -57,6 +57,21 @@ segment_at-drop segments n segment rest is =
     let same : get_or segments n segment ≡ segment = cc in
     let after : drop (n + 1) segments ≡ rest = cc in
     (ap (λ found. unwrap_or found blank_segment) (slice_get-get_or segments n segment inside) ∙ same, after)
+
+-- the segment that is read at a number
+pub segment_at-read : (segments : List Contents) (n : ℕ) (segment : Contents) → n < length segments → segment ≡ get_or segments n segment
+    → segment_at segments n ≡ segment
+segment_at-read segments n segment inside is =
+    ap (λ found. unwrap_or found blank_segment) (slice_get-get_or segments n segment inside) ∙ sym is
+
+-- and the number of its TLID
+pub tlid_at-read : (tlids : List ℕ) (segments : List Contents) (n : ℕ) (segment : Contents) → AreTlids tlids segments
+    → n < length segments → segment ≡ get_or segments n segment → tlid_of segment ≡ Some (get_or tlids n 0)
+tlid_at-read tlids segments n segment same inside is =
+    let tlid = get_or tlids n 0 in
+    let within : n < length tlids = omega (arith, inside, tlids-long tlids segments same) in
+    tlid_at tlids segments n same inside within is
+    (sym (get_or_from_slice_get tlids n tlid tlid (slice_get-get_or tlids n 0 within)))
 
 pick-give : {Y : Type 0} (passes : Bool) (g : ℕ → List Y) (n : ℕ) (numbers : List ℕ) (here after : List Y) → g n ≡ here
     → (passes ≡ false → here ≡ []) → flat_map g numbers ≡ after

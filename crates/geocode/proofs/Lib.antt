@@ -1,6 +1,7 @@
 mod PositionLemmas
 mod GazetteerLemmas
 mod HitLemmas
+mod IndexedLemmas
 mod MatchLemmas
 mod NameHashLemmas
 mod NameIndexLemmas

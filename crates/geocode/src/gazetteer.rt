@@ -1,16 +1,21 @@
 //! Indexes of the street names of counties.
-ghost use Rattle.std.specs.Prelude.{◌≡◌, ◌≤◌, ◌<◌, ◌++◌, length, IfOk, OnOk};
+ghost use Rattle.std.specs.Prelude.{◌≡◌, ◌≤◌, ◌<◌, ◌++◌, length, map, IfOk, OnOk};
 ghost use Rattle.std.specs.List.{flat_map};
 ghost use Rattle.geocode.specs.Gazetteer.{IsGazetteerOf};
 ghost use Rattle.geocode.specs.Hits.{find, has_name, hits_in_county, hits_on_segment};
+ghost use Rattle.geocode.specs.Matches.{has_street, match_of, matches};
 ghost use Rattle.geocode.specs.NameHash.{hash_of};
 ghost use Rattle.geocode.specs.NameIndex.{IsIndexOf};
+ghost use Rattle.geocode.specs.Street as looked_for;
 ghost use Rattle.tl_segments.specs.declared.name.TheConstants.{NAME_LENGTH};
 
 use crate::hit::Hit;
 use crate::hits::{House, push_if_named};
+use crate::indexed::{has_street, push_matches};
+use crate::matching::Match;
 use crate::name_hash::hash_of;
 use crate::name_index::NameIndex;
+use crate::street::Street;
 use std::alloc::{AllocError, Allocator};
 use tl_segments::{County, NAME_LENGTH};
 
@@ -62,6 +67,53 @@ impl<A: Allocator + Copy> Gazetteer<A> {
             push_in_county(name, hash, house, county, index, &mut hits)?;
         }
         Ok(hits)
+    }
+
+    /// Returns what [`matches`](crate::matches) does over the counties that the gazetteer was made of, without a walk over all their segments.
+    /// Allocates only for matches.
+    pub fn matches<'a>(
+        &self,
+        alloc: A,
+        counties: &'a [County<A>],
+        number: u64,
+        street: Street<'_>,
+        zip: Option<u64>,
+    ) -> Result<Vec<Match<'a>, A>, AllocError>
+        requires of { IsGazetteerOf self.now counties.now }
+        ensures { IfOk result (λ found. map match_of found.items
+            ≡ matches (looked_for.parts_of street.entry) (record { number = number; zip = zip }) counties.now) }
+    {
+        let house = House { number, zip };
+        let hash = hash_of(street.name.text);
+        let mut matches = Vec::new(alloc);
+        for (place, county) in counties.iter().enumerate() {
+            push_matches(
+                street,
+                hash,
+                house,
+                place,
+                county,
+                &self.indexes[place],
+                &mut matches,
+            )?;
+        }
+        Ok(matches)
+    }
+}
+
+impl<A: Allocator> Gazetteer<A> {
+    /// Tells whether some segment of the counties that the gazetteer was made of is on the street. Allocates nothing.
+    pub fn has_street(&self, counties: &[County<A>], street: Street<'_>) -> bool
+        requires of { IsGazetteerOf self.now counties.now }
+        ensures { result ≡ has_street (looked_for.parts_of street.entry) counties.now }
+    {
+        let hash = hash_of(street.name.text);
+        for (place, county) in counties.iter().enumerate() {
+            if has_street(street, hash, county, &self.indexes[place]) {
+                return true;
+            }
+        }
+        false
     }
 }
 

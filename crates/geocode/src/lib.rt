@@ -4,6 +4,7 @@
 mod gazetteer;
 mod hit;
 mod hits;
+mod indexed;
 mod matching;
 mod name_hash;
 mod name_index;

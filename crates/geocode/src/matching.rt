@@ -32,11 +32,11 @@ pub struct Match<'a> {
 
 /// A segment of a county, with the number of its TLID and the name that matched.
 #[derive(Drop)]
-struct Named<'a, A: Allocator> {
-    county: usize,
-    tlid: u64,
-    segment: &'a Segment<A>,
-    name: FullName<'a>,
+pub(crate) struct Named<'a, A: Allocator> {
+    pub county: usize,
+    pub tlid: u64,
+    pub segment: &'a Segment<A>,
+    pub name: FullName<'a>,
 }
 
 /// Returns the hits of a house number on a street, over the counties, segments and ranges in their order, and the left side before the right one.
@@ -108,7 +108,11 @@ fn push_in_county<'a, A: Allocator + Copy>(
 }
 
 impl<'a, A: Allocator + Copy> Named<'a, A> {
-    fn push_matches(&self, house: House, matches: &mut Vec<Match<'a>, A>) -> Result<(), AllocError>
+    pub(crate) fn push_matches(
+        &self,
+        house: House,
+        matches: &mut Vec<Match<'a>, A>,
+    ) -> Result<(), AllocError>
         requires { tlid_of self.now.segment.now ≡ Some self.now.tlid }
         ensures { OnOk result (map match_of matches.new.items ≡ map match_of matches.old.items ++ matches_under house (named_of self.now)) }
     {
