@@ -2,6 +2,7 @@ mod PositionLemmas
 mod GazetteerLemmas
 mod HitLemmas
 mod IndexedLemmas
+mod MatchHitLemmas
 mod MatchLemmas
 mod NameHashLemmas
 mod NameIndexLemmas

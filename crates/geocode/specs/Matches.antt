@@ -1,5 +1,5 @@
 -- Hits, each with the street name that matched (TIGER/Line 2006, record types 1, 4, 5 and 6).
-use Rattle.std.specs.Prelude.{ℕ, suc, Bool, List, [], ◌∷◌, ◌++◌, Option, option_map}
+use Rattle.std.specs.Prelude.{ℕ, suc, Bool, List, [], ◌∷◌, ◌++◌, filter, Option, option_map}
 use Rattle.std.specs.List.{filter_map, flat_map, list_any}
 use Rattle.std.specs.Option.{option_map_or}
 use Rattle.tl_segments.specs.County.{CountyParts}
@@ -7,7 +7,7 @@ use Rattle.tl_segments.specs.FullName.{full_name_of}
 use Rattle.tl_segments.specs.Segment.{Contents, ranges_of}
 use Rattle.tl_segments.specs.declared.full_name.FullNameFields.{FullNameFields}
 use Rattle.tl_segments.specs.declared.range.RangeFields.{RangeFields}
-use Rattle.geocode.specs.Hits.{hit_on}
+use Rattle.geocode.specs.Hits.{hit_on, hits_on_segment}
 use Rattle.geocode.specs.Sides.{SideParts, side_of}
 use Rattle.geocode.specs.Street.{StreetParts, is_on_street, name_on}
 use Rattle.geocode.specs.declared.hit.Hit.{Hit}
@@ -73,6 +73,11 @@ matches_from street house county (parts ∷ others) =
 -- the matches of counties, in their order
 abbrev pub matches : StreetParts → House → List CountyParts → List MatchParts
 matches street house counties = matches_from street house 0 counties
+
+-- the hits on the segments of counties that are on the street, in their order
+abbrev pub hits_on_street : StreetParts → House → List CountyParts → List Hit
+hits_on_street street house counties =
+    flat_map (λ county. flat_map (hits_on_segment house) (filter (is_on_street street) county.segments)) counties
 
 -- some segment of the counties is on the street
 abbrev pub has_street : StreetParts → List CountyParts → Bool

@@ -1,5 +1,5 @@
 -- Streets that are looked for (TIGER/Line 2006, FEDIRP, FENAME, FETYPE and FEDIRS of record types 1 and 5).
-use Rattle.std.specs.Prelude.{ℕ, Bool, ◌&&◌, ◌||◌, List, find, Option, is_some}
+use Rattle.std.specs.Prelude.{◌≡◌, ℕ, Bool, true, ◌&&◌, ◌||◌, List, find, Option, is_some}
 use Rattle.tl_fields.specs.Number.{is_blank}
 use Rattle.tl_segments.specs.FullName.{full_names_of}
 use Rattle.tl_segments.specs.Name.{name_equals}
@@ -33,3 +33,9 @@ name_on street segment = find (fits street) (full_names_of segment)
 -- some full name of a segment is the street's
 abbrev pub is_on_street : StreetParts → Contents → Bool
 is_on_street street segment = is_some (name_on street segment)
+
+-- neither a direction nor a type is wanted
+pub record WantsNameAlone (street : StreetParts) : Type 0 where
+  pub predir : is_blank street.predir ≡ true
+  pub kind : is_blank street.kind ≡ true
+  pub sufdir : is_blank street.sufdir ≡ true

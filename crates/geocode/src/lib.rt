@@ -5,6 +5,7 @@ mod gazetteer;
 mod hit;
 mod hits;
 mod indexed;
+pub mod laws;
 mod matching;
 mod name_hash;
 mod name_index;
