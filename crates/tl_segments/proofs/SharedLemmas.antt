@@ -21,7 +21,8 @@ use Rattle.tl_segments.specs.declared.shared_lists.SharedLists.{SharedLists}
 use Rattle.tl_segments.proofs.FullNameLemmas.{contents-more}
 
 -- what a segment with more names of its own consists of
-pub names_pushed : {A : Type 0} (shared : Option (Rc (Joined A) A)) (bytes : List ℕ) (names more : List FullNameFields) (ranges : List RangeFields)
+pub names_pushed : {A : Type 0} (shared : Option (Rc (Joined A) A)) (bytes : List ℕ) (names more : List FullNameFields)
+    (ranges : List RangeFields)
     → contents_with shared bytes (names ++ more) ranges ≡ with_names (contents_with shared bytes names ranges) more
 names_pushed shared bytes names more ranges =
     ap (λ all. contents bytes all (shared_ranges shared ++ ranges)) (sym (append_assoc (shared_names shared) names more))

@@ -94,10 +94,8 @@ impl<A: Allocator + Copy> Segment<A> {
         if self.shared.is_some() || self.names.is_empty() && self.ranges.is_empty() {
             return Ok((self, None));
         }
-        let mut names = self.names;
-        let mut ranges = self.ranges;
-        names.shrink_to_fit();
-        ranges.shrink_to_fit();
+        let names = exact_copy(alloc, self.names.as_slice())?;
+        let ranges = exact_copy(alloc, self.ranges.as_slice())?;
         let joined = Rc::new(alloc, Joined { names, ranges })?;
         let shared = joined.clone()?;
         let segment = Segment {
@@ -304,6 +302,16 @@ fn shared_ranges<A: Allocator>(shared: &Option<Rc<Joined<A>, A>>) -> &[RangeFiel
         Some(joined) => joined.as_ref().ranges.as_slice(),
         None => &[],
     }
+}
+
+/// Copies the items into a list with no room for more.
+fn exact_copy<T: Copy, A: Allocator>(alloc: A, items: &[T]) -> Result<Vec<T, A>, AllocError>
+    ensures { IfOk result (λ copy. copy.items ≡ items.now) }
+{
+    let mut copy = Vec::new(alloc);
+    copy.reserve_exact(items.len())?;
+    copy.extend_from_slice(items)?;
+    Ok(copy)
 }
 
 /// Returns the item with an index, counted through both lists.

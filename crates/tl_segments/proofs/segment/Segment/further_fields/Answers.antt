@@ -7,7 +7,8 @@ use Rattle.tl_segments.proofs.segment.Segment.further_fields.Goals as goal
 
 pub returns-clause-value : goal.returns-clause-value
 returns-clause-value g c =
+    let names = shared_names c.self.inside.shared ++ c.self.inside.names.items in
     let found = rw (c.shared_names.ensures, c.as_slice.ensures.value) at c.kept_at.ensures in
     found
-    ∙ ap (λ names. slice_get names c.args.index) (sym (all_with_affixes-of (shared_names c.self.inside.shared ++ c.self.inside.names.items)))
+    ∙ ap (λ names. slice_get names c.args.index) (sym (all_with_affixes-of names))
     ∙ ap (λ (segment : Contents). slice_get (all_with_affixes segment.affixes segment.names) c.args.index) c.self.view_is

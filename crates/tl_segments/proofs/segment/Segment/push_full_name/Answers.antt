@@ -12,5 +12,6 @@ invariant_of-self-2 g c =
     let before : Contents = contents_with inside.shared inside.record.items inside.names.items inside.ranges.items in
     let room : length before.names < NAME_LIMIT =
     subst (λ (segment : Contents). length segment.names < NAME_LIMIT) (sym c.self.view_is) c.requires.room in
-    rw (c.in_ok-push.ensures.items, names_pushed inside.shared inside.record.items inside.names.items (c.of.result ∷ []) inside.ranges.items)
+    let pushed = names_pushed inside.shared inside.record.items inside.names.items (c.of.result ∷ []) inside.ranges.items in
+    rw (c.in_ok-push.ensures.items, pushed)
     (with_name-is before c.of.result c.self.invariant c.of.ensures.fields room)

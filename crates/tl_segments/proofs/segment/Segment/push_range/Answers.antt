@@ -11,5 +11,6 @@ invariant_of-self-2 g c =
     let before : Contents = contents_with inside.shared inside.record.items inside.names.items inside.ranges.items in
     let room : length before.ranges < RANGE_LIMIT =
     subst (λ (segment : Contents). length segment.ranges < RANGE_LIMIT) (sym c.self.view_is) c.requires.room in
-    rw (c.in_ok-push.ensures.items, ranges_pushed inside.shared inside.record.items inside.names.items inside.ranges.items (c.of.result ∷ []))
+    let pushed = ranges_pushed inside.shared inside.record.items inside.names.items inside.ranges.items (c.of.result ∷ []) in
+    rw (c.in_ok-push.ensures.items, pushed)
     (with_range-is before c.of.result c.self.invariant c.of.ensures.fields room)

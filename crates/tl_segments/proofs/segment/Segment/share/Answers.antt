@@ -11,8 +11,10 @@ invariant_of-segment g c =
       c.new-2.ensures.items,
       c.new-3.ensures.items,
       c.in_ok-joined.ensures.ok,
-      c.shrink_to_fit.ensures.items,
-      c.shrink_to_fit-2.ensures.items,
+      c.in_ok-names.ensures,
+      c.in_ok-ranges.ensures,
+      c.as_slice.ensures.value,
+      c.as_slice-2.ensures.value,
       append-nil inside.names.items,
       append-nil inside.ranges.items,
     ) whole

@@ -8,9 +8,11 @@ use Rattle.tl_segments.proofs.shared_lists.SharedLists.segment.Goals.{in-Some-jo
 pub returns-in-Some-clause-ok : goal.returns-in-Some-clause-ok
 returns-in-Some-clause-ok g c = λ lines of_lines.
     let joined = c.in_ok-joined.joined.value in
-    let kept = subst (λ found. IfSome found (λ joined. IsJoinedTo c.args.index.now c.number-tlid.result joined.value))
-    (sym c.in-Some.ensures.value) (c.requires c.number-tlid.result) in
-    let by : IsJoinedTo c.args.index.now c.number-tlid.result joined = subst (λ joined. IsJoinedTo c.args.index.now c.number-tlid.result joined)
+    let index = c.args.index.now in
+    let tlid = c.number-tlid.result in
+    let kept = subst (λ found. IfSome found (λ joined. IsJoinedTo index tlid joined.value))
+    (sym c.in-Some.ensures.value) (c.requires tlid) in
+    let by : IsJoinedTo index tlid joined = subst (λ joined. IsJoinedTo index tlid joined)
     (sym c.in_ok-joined.ensures.cases) kept in
     c.sharing.ensures
     ∙ ap (λ bytes. contents bytes joined.names.items joined.ranges.items) c.bytes.ensures.value
