@@ -21,17 +21,19 @@ is-named-trimmed name cell trim named is decides =
     (bytes_eq-Decides (map to_ascii_lowercase (trimmed cell)) (map to_ascii_lowercase name))
 
 -- the cell at an index, and those after it
-pub from-cell : (header : Fields) (column : ℕ) (cell : List ℕ) → field_at header column ≡ Some cell → drop column header ≡ cell ∷ drop (column + 1) header
+pub from-cell : (header : Fields) (column : ℕ) (cell : List ℕ) → field_at header column ≡ Some cell
+    → drop column header ≡ cell ∷ drop (column + 1) header
 unfolding field_at
 from-cell [] column cell is = cc is
 from-cell (first ∷ rest) zero cell is = cc is
 from-cell (first ∷ rest) (suc column) cell is = rw (add-one (suc column)) (rw (add-one column) at (from-cell rest column cell is))
 
-pub is-column : (test : List ℕ → Bool) (header : Fields) (column : ℕ) (cell : List ℕ) → field_at header column ≡ Some cell → test cell ≡ true
-    → position_from test column (drop column header) ≡ Some column
+pub is-column : (test : List ℕ → Bool) (header : Fields) (column : ℕ) (cell : List ℕ) → field_at header column ≡ Some cell
+    → test cell ≡ true → position_from test column (drop column header) ≡ Some column
 is-column test header column cell is passes = rw (from-cell header column cell is, passes) refl
 
-pub is-no-column : (test : List ℕ → Bool) (header : Fields) (column : ℕ) (cell : List ℕ) → field_at header column ≡ Some cell → test cell ≡ false
+pub is-no-column : (test : List ℕ → Bool) (header : Fields) (column : ℕ) (cell : List ℕ) → field_at header column ≡ Some cell
+    → test cell ≡ false
     → position_from test column (drop column header) ≡ position_from test (column + 1) (drop (column + 1) header)
 is-no-column test header column cell is fails = rw (from-cell header column cell is, fails) refl
 

@@ -13,10 +13,14 @@ one_more_lem rows address file old new before next =
     ∙ sym (ap (λ (all : List AddressParts). record { addresses = all; fault = new.fault }) (append_assoc rows (address ∷ []) new.addresses))
 
 -- all that there are
-pub all_read_lem : (rows : List AddressParts) (file : Listing) → file ≡ with_addresses rows ended → file ≡ record { addresses = rows; fault = None }
+pub all_read_lem : (rows : List AddressParts) (file : Listing) → file ≡ with_addresses rows ended
+    → file ≡ record { addresses = rows; fault = None }
 all_read_lem rows file before = before ∙ ap (λ (all : List AddressParts). record { addresses = all; fault = None }) (append-nil rows)
 
 -- all that come before a fault
 pub read_until_lem : (rows : List AddressParts) (fault : AddressFault) (file : Listing) → file ≡ with_addresses rows (ended_by fault)
     → file ≡ record { addresses = rows; fault = Some fault }
-read_until_lem rows fault file before = before ∙ ap (λ (all : List AddressParts). record { addresses = all; fault = Some fault }) (append-nil rows)
+read_until_lem rows fault file before =
+    before ∙ ap (λ (all : List AddressParts). record { addresses = all; fault = Some fault }) (append-nil rows)
+
+pub ruleset reads = (one_more_lem, all_read_lem, read_until_lem)

@@ -27,7 +27,7 @@ unmarked (a ∷ b ∷ c ∷ rest) plain = rw (bom-tests a b c ∙ plain) refl
 -- a file with one
 pub marked : (file : List ℕ) → is_marked file ≡ true → strip_bom file ≡ drop 3 file
 unfolding strip_bom
-marked [] mark = cc mark
+marked [] mark = grind (arith, nat_tests)
 marked (a ∷ []) mark = grind (arith, nat_tests)
 marked (a ∷ b ∷ []) mark = grind (arith, nat_tests)
 marked (a ∷ b ∷ c ∷ rest) mark = rw (bom-tests a b c ∙ mark) refl

@@ -19,11 +19,17 @@ pub nothing-left : (line : ℕ) (file : List ℕ) → file ≡ [] → reading_fr
 unfolding reading_from texts_from
 nothing-left line file empty = rw empty refl
 
-pub failed : (line : ℕ) (fields others : Fields) (text : List ℕ) (old new later : Reading) (fault : AddressFault)
-    → IsRecordRead line fields (record_in text) (Err fault) → old ≡ followed line (record_in text) later → IsNextRead (Err fault) others old new
-failed line fields others text old new later (At at flaw) is from = rw is.0 (rw is.1 at from)
-failed line fields others text old new later NoHeader is from = absurd is
-failed line fields others text old new later Memory is from = tt
+-- a record's text couldn't be read, and other records follow it
+pub record IsFailed (line : ℕ) (fields : Fields) (text : List ℕ) (old : Reading) (fault : AddressFault) : Type 0 where
+  pub later : Reading
+  pub is : IsRecordRead line fields (record_in text) (Err fault)
+  pub from : old ≡ followed line (record_in text) later
+
+pub failed : (line : ℕ) (fields : Fields) (text : List ℕ) (old new : Reading) (fault : AddressFault) → IsFailed line fields text old fault
+    → IsNextRead (Err fault) fields old new
+failed line fields text old new (At at flaw) failure = rw failure.is.0 (rw failure.is.1 at failure.from)
+failed line fields text old new NoHeader failure = absurd failure.is
+failed line fields text old new Memory failure = tt
 
 -- the text has a record, or none
 pub found : (line : ℕ) (fields : Fields) (text : List ℕ) (old later : Reading) → IsRecordRead line fields (record_in text) (Ok true)

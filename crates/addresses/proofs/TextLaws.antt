@@ -78,7 +78,11 @@ ends-here inside byte rest ends =
     record { split = refl; first = λ at end. one-byte byte at end.0; ended = inl (0, (ap Some is.0, is.1)) }
 
 is-last : (inside : Bool) (byte : ℕ) (rest : List ℕ) → rest ≡ [] → IsFirstFrom inside (byte ∷ rest) (byte ∷ []) []
-is-last inside byte rest none = record { split = ap (λ bytes. byte ∷ bytes) none; first = λ at end. one-byte byte at end.0; ended = inr refl }
+is-last inside byte rest none = record {
+  split = ap (λ bytes. byte ∷ bytes) none;
+  first = λ at end. one-byte byte at end.0;
+  ended = inr refl;
+}
 
 -- a record's text that goes on after a byte
 goes-on : (inside : Bool) (byte : ℕ) (file text rest : List ℕ) → (is_line_feed byte && not (inside_after inside byte)) ≡ false
@@ -96,7 +100,8 @@ goes-on inside byte file text rest more later = record {
 abbrev Cut : Bool → List ℕ → List ℕ → List (List ℕ) → Type 0
 Cut inside file text texts = (rest : List ℕ) × IsFirstFrom inside file text rest × (texts ≡ texts_from false rest)
 
-first-from : (inside : Bool) (file text : List ℕ) (texts : List (List ℕ)) → texts_from inside file ≡ text ∷ texts → Cut inside file text texts
+first-from : (inside : Bool) (file text : List ℕ) (texts : List (List ℕ)) → texts_from inside file ≡ text ∷ texts
+    → Cut inside file text texts
 unfolding texts_from
 first-from inside [] text texts is = cc is
 first-from inside (byte ∷ file) text texts is = elim (cases_Bool (is_line_feed byte && not now)) [
@@ -112,9 +117,10 @@ first-from inside (byte ∷ file) text texts is = elim (cases_Bool (is_line_feed
     now : Bool
     now = inside_after inside byte
 
-    on : (is_line_feed byte && not (inside_after inside byte)) ≡ false → (later : List (List ℕ)) → texts_from (inside_after inside byte) file ≡ later
-        → joined byte later ≡ text ∷ texts
-        → ((t : List ℕ) (ts : List (List ℕ)) → texts_from (inside_after inside byte) file ≡ t ∷ ts → Cut (inside_after inside byte) file t ts)
+    on : (is_line_feed byte && not (inside_after inside byte)) ≡ false → (later : List (List ℕ))
+        → texts_from (inside_after inside byte) file ≡ later → joined byte later ≡ text ∷ texts
+        → ((t : List ℕ) (ts : List (List ℕ)) → texts_from (inside_after inside byte) file ≡ t ∷ ts
+        → Cut (inside_after inside byte) file t ts)
         → Cut inside (byte ∷ file) text texts
     on more [] none cut rec =
         let one : text ≡ byte ∷ [] = cc cut in
@@ -160,7 +166,8 @@ parity : (inside : Bool) (bytes : List ℕ) → fold inside_after inside bytes �
 parity inside [] = refl
 parity inside (byte ∷ bytes) =
     let q = quotation_marks bytes in
-    let count : quotation_marks (byte ∷ bytes) ≡ (if is_quotation_mark byte then 1 else 0) + q = sum_by-cons (λ x. if is_quotation_mark x then 1 else 0) byte bytes in
+    let count : quotation_marks (byte ∷ bytes) ≡ (if is_quotation_mark byte then 1 else 0) + q =
+    sum_by-cons (λ x. if is_quotation_mark x then 1 else 0) byte bytes in
     let none : 0 + q ≡ q = omega arith in
     elim (cases_Bool (is_quotation_mark byte)) [
       | inl mark ↦ rw (count, mark) (parity (not inside) bytes ∙ turned q inside)

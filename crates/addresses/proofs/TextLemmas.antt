@@ -48,26 +48,34 @@ open-next file at byte inside next within =
 abbrev Goes : List ℕ → ℕ → ℕ → Bool → Type 0
 Goes file at byte now = record_texts file ≡ all_joined (take at file) (with_byte byte now (texts_from now (drop (at + 1) file)))
 
-texts-next : (file : List ℕ) (at byte : ℕ) (inside : Bool) → IsNextByte file at byte → IsScanned file at inside → Goes file at byte (inside_after inside byte)
+texts-next : (file : List ℕ) (at byte : ℕ) (inside : Bool) → IsNextByte file at byte → IsScanned file at inside
+    → Goes file at byte (inside_after inside byte)
 unfolding texts_from
 texts-next file at byte inside next scanned = rw (rest-next file at byte next) at scanned.texts
+
+goes-on : (file : List ℕ) (at byte : ℕ) (now : Bool) → Goes file at byte now → (is_line_feed byte && not now) ≡ false
+    → record_texts file ≡ all_joined (take at file) (joined byte (texts_from now (drop (at + 1) file)))
+goes-on file at byte now goes more = rw more at goes
 
 pub scanned-none : (file : List ℕ) → IsScanned file 0 false
 scanned-none file = record { within = refl; texts = refl }
 
 -- one more byte that doesn't end the record
-pub scanned-next : (file : List ℕ) (at byte : ℕ) (inside now : Bool) → IsNextByte file at byte → inside_after inside byte ≡ now
-    → IsScanned file at inside → (is_line_feed byte && not now) ≡ false → IsScanned file (at + 1) now
-scanned-next file at byte inside now next is scanned goes_on = record {
-  within = sym is ∙ open-next file at byte inside next scanned.within;
-  texts =
-      let step = rw goes_on at (subst (Goes file at byte) is (texts-next file at byte inside next scanned)) in
-      rw (front-next file at byte next, all_joined-append (take at file) (byte ∷ []) (texts_from now (drop (at + 1) file))) step;
-}
+pub scanned-next : (file : List ℕ) (at byte : ℕ) (inside : Bool) → IsNextByte file at byte → IsScanned file at inside
+    → (is_line_feed byte && not (inside_after inside byte)) ≡ false → IsScanned file (at + 1) (inside_after inside byte)
+scanned-next file at byte inside next scanned goes_on =
+    let now = inside_after inside byte in
+    record {
+      within = open-next file at byte inside next scanned.within;
+      texts =
+          rw (front-next file at byte next, all_joined-append (take at file) (byte ∷ []) (texts_from now (drop (at + 1) file)))
+          (goes-on file at byte now (texts-next file at byte inside next scanned) goes_on);
+    }
 
 -- the byte that ends the record
 pub scanned-end : (file : List ℕ) (at byte : ℕ) (inside : Bool) → IsNextByte file at byte → IsScanned file at inside
-    → is_line_feed byte ≡ true → inside_after inside byte ≡ false → record_texts file ≡ take (at + 1) file ∷ record_texts (drop (at + 1) file)
+    → is_line_feed byte ≡ true → inside_after inside byte ≡ false
+    → record_texts file ≡ take (at + 1) file ∷ record_texts (drop (at + 1) file)
 scanned-end file at byte inside next scanned feed outside =
     let step = rw feed at (subst (Goes file at byte) outside (texts-next file at byte inside next scanned)) in
     rw (front-next file at byte next) (step ∙ all_joined-cons (take at file) (byte ∷ []) (record_texts (drop (at + 1) file)))
@@ -85,13 +93,6 @@ scanned-whole file at inside past scanned some =
 
 pub open-whole : (file : List ℕ) (at : ℕ) (inside : Bool) → length file ≤ at → IsScanned file at inside → inside ≡ is_open file
 open-whole file at inside past scanned = rw (take_all at file past) at scanned.within
-
--- what a quotation mark, and what another byte does
-pub at-mark : (byte : ℕ) (before after : Bool) → byte ≡ 34 → after ≡ not before → inside_after before byte ≡ after
-at-mark byte before after mark is = rw (mark, is) refl
-
-pub at-other : (byte : ℕ) (before after : Bool) → byte ≢ 34 → after ≡ before → inside_after before byte ≡ after
-at-other byte before after other is = rw is (grind (arith, nat_tests))
 
 pub is-feed : (byte : ℕ) → byte ≡ 10 → is_line_feed byte ≡ true
 is-feed byte feed = rw feed refl

@@ -6,3 +6,4 @@ pub mod Listing
 pub mod Reading
 pub mod Record
 pub mod RecordText
+pub mod TextReader

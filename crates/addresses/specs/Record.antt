@@ -1,4 +1,4 @@
--- What a record's text holds: no record, as a line end alone, its fields, or a flaw. The fields are those that the crate csv's machine reads.
+-- What a record's text holds: no record, as a line end alone, its fields, or a flaw. The fields are those that the machine of csv reads.
 use Rattle.std.specs.Prelude.{◌≡◌, ⊤, ℕ, Bool, true, false, not, nat_lt, if◌then◌else◌, List, [], length, Option, Some, None, is_some, Result, Ok, Err}
 use Rattle.std.specs.List.{list_all}
 use Rattle.std.specs.Str.{is_utf8}

@@ -18,7 +18,7 @@ pub fn open_if_odd()
     ensures { (bytes : List ℕ) → is_open bytes ≡ (quotation_marks bytes % 2 == 1) }
 {}
 
-/// A record's text ends with the first line feed that an even number of its quotation marks precede, or with the file, and the other texts are
+/// A record's text ends with the first line feed that an even number of its quotation marks precede, or with the file. The other texts are
 /// those of the rest.
 #[tactic(auto, using(crate::proofs::TextLaws::first_text_lem))]
 pub fn record_text_ends_first()
@@ -27,7 +27,7 @@ pub fn record_text_ends_first()
 {}
 
 /// Each read adds its address to those before it. The last one shows that these are all addresses, or all before a fault.
-#[tactic(auto, using(crate::proofs::ListingLaws::one_more_lem, crate::proofs::ListingLaws::all_read_lem, crate::proofs::ListingLaws::read_until_lem))]
+#[tactic(auto, using(crate::proofs::ListingLaws::reads))]
 pub fn reads_in_turn()
     ensures further { (rows : List AddressParts) (address : AddressParts) (file old new : Listing) → file ≡ with_addresses rows old
         → old ≡ with_addresses (address ∷ []) new → file ≡ with_addresses (rows ++ address ∷ []) new }

@@ -1,14 +1,15 @@
 //! A record's text, read as its fields.
 ghost use Rattle.std.specs.Prelude.{◌≡◌};
 ghost use Rattle.addresses.specs.Record.{IsRecordRead, fault_of, fields_in};
+ghost use Rattle.addresses.specs.TextReader.{IsTextReader};
 ghost use Rattle.csv.specs.Reading.{error_kind};
 ghost use Rattle.csv.specs.Records.{fields_of};
 
 use crate::fault::{AddressFault, AddressFlaw};
 use crate::text::BYTE_ORDER_MARK;
-use csv::{ByteRecord, Error, ErrorKind, ReaderBuilder, StringRecord};
+use csv::{ByteRecord, Error, ErrorKind, Reader, ReaderBuilder, StringRecord};
 use std::alloc::Global;
-use std::io::Read;
+use std::io::{Chain, Read};
 
 /// The most bytes that a record may have, its line end counted.
 pub const RECORD_LIMIT: usize = 65_536;
@@ -22,12 +23,7 @@ pub(crate) fn read_fields(
 ) -> Result<bool, AddressFault>
     ensures { IsRecordRead line (fields_of row.new) (fields_in text.now) result }
 {
-    // The reader passes over a byte order mark, so one that belongs to a field needs one before it.
-    let marked = BYTE_ORDER_MARK.as_slice().chain(text);
-    let mut reader = ReaderBuilder::new()
-        .has_headers(false)
-        .flexible(true)
-        .from_reader(alloc, marked);
+    let mut reader = text_reader(alloc, text);
     match reader.read_record(row) {
         Ok(true) => {}
         Ok(false) => return Ok(false),
@@ -41,6 +37,18 @@ pub(crate) fn read_fields(
         }),
         Err(_) => Err(AddressFault::Memory),
     }
+}
+
+/// Makes a reader of a record's text.
+fn text_reader<'a>(alloc: Global, text: &'a [u8]) -> Reader<Chain<&'a [u8], &'a [u8]>>
+    ensures { IsTextReader text.now result }
+{
+    // A reader passes over one byte order mark, so the text's own first field keeps its mark.
+    let marked = BYTE_ORDER_MARK.as_slice().chain(text);
+    ReaderBuilder::new()
+        .has_headers(false)
+        .flexible(true)
+        .from_reader(alloc, marked)
 }
 
 /// Returns the fault that an error is. A reader of bytes fails for its text or for memory.

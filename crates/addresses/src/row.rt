@@ -7,8 +7,8 @@ use crate::columns::Columns;
 use csv::StringRecord;
 use std::alloc::Global;
 
-/// An address: a record's cells, each without ASCII white space at its ends but for the id, which stays as it is. A cell is empty if the file
-/// has no such column or the record is too short for it.
+/// An address: a record's cells, without ASCII white space at their ends. Only the id keeps it. A cell is empty if the file has no such
+/// column or the record is too short for it.
 #[derive(Clone, Copy, Debug, PartialEq, Eq)]
 pub struct Address<'a> {
     /// The line in which the record begins, counted from 1.

@@ -3,8 +3,8 @@ use crate::{Address, AddressFault, AddressFlaw, Addresses, RECORD_LIMIT, Row};
 use refusals::Fault;
 use std::alloc::{AllocError, Global};
 
-// A file, and what is read of it: each address as its line, its id in brackets if there is a column, and the other cells in their order, and
-// then the end or the refusal. `|` is a line feed, `^` a carriage return, `~` a byte order mark, `$` a tab and `%` a byte that is no UTF-8.
+// A file, and what is read of it: each address as its line, its id in brackets if there is such a column, and the other cells in order, then
+// the end or the refusal. `|` is a line feed, `^` a carriage return, `~` a byte order mark, `$` a tab and `%` a byte that is no UTF-8.
 const FILES: &str = r#"
 number,name|1,A ;; 2 1/A////. end
 number,name|1,A|2,B| ;; 2 1/A////. 3 2/B////. end

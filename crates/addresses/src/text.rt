@@ -1,6 +1,6 @@
 //! The texts of a file's records.
 ghost use Rattle.std.specs.Prelude.{◌≡◌, ◌≢◌, ◌+◌, ◌<◌, ◌≤◌, [], ◌∷◌, length};
-ghost use Rattle.addresses.specs.RecordText.{is_open, line_feeds, record_texts};
+ghost use Rattle.addresses.specs.RecordText.{inside_after, is_open, line_feeds, record_texts};
 ghost use Rattle.csv.specs.Reading.{strip_bom};
 
 /// U+FEFF in UTF-8.
@@ -31,9 +31,7 @@ pub(crate) fn first_text<'a>(file: &'a [u8]) -> FirstText<'a>
 {
     let mut is_open = false;
     for (at, byte) in file.iter().enumerate() {
-        if *byte == b'"' {
-            is_open = !is_open;
-        }
+        is_open = inside_after(is_open, *byte);
         if *byte == b'\n' && !is_open {
             let (text, rest) = file.split_at(at + 1);
             return FirstText {
@@ -48,6 +46,13 @@ pub(crate) fn first_text<'a>(file: &'a [u8]) -> FirstText<'a>
         rest: &[],
         is_open,
     }
+}
+
+/// Whether the bytes after this one are inside quotation marks.
+fn inside_after(inside: bool, byte: u8) -> bool
+    ensures { result ≡ inside_after inside byte }
+{
+    if byte == b'"' { !inside } else { inside }
 }
 
 /// Counts the line feeds of a text.

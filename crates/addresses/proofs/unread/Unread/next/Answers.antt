@@ -10,17 +10,19 @@ returns-in_err-found-clause-next c =
     let text = c.loop-alloc.text.now in
     let first = c.first_text-first.result in
     let some : text ≢ [] = search rules in
-    let step = c.loop-alloc.invariant.1 ∙ next-step c.loop-alloc.line text first.text.now first.rest.now (c.first_text-first.ensures.texts some) in
+    let texts = c.first_text-first.ensures.texts some in
+    let step = c.loop-alloc.invariant.1 ∙ next-step c.loop-alloc.line text first.text.now first.rest.now texts in
     let is : c.from_residual.result ≡ Err c.in_err-found.field-0.0 = search rules in
-    rw is (failed c.loop-alloc.line (fields_of c.read_record.new.row) (fields_of c.read_record.new.row) first.text.now (left_in c.args.self.now) (left_in c.loop-alloc.self) _
-    c.in_err-found.field-0.0 c.in_err-found.ensures step)
+    rw is (failed c.loop-alloc.line (fields_of c.read_record.new.row) first.text.now (left_in c.args.self.now) (left_in c.loop-alloc.self)
+    c.in_err-found.field-0.0 (record { later = _; is = c.in_err-found.ensures; from = step }))
 
 pub returns-then-found-clause-next : goal.returns-then-found-clause-next
 returns-then-found-clause-next c =
     let text = c.loop-alloc.text.now in
     let first = c.first_text-first.result in
     let some : text ≢ [] = search rules in
-    let step = c.loop-alloc.invariant.1 ∙ next-step c.loop-alloc.line text first.text.now first.rest.now (c.first_text-first.ensures.texts some) in
+    let texts = c.first_text-first.ensures.texts some in
+    let step = c.loop-alloc.invariant.1 ∙ next-step c.loop-alloc.line text first.text.now first.rest.now texts in
     rw c.line_feeds.ensures.value (found c.loop-alloc.line (fields_of c.read_record.new.row) first.text.now (left_in c.args.self.now) _
     (rw c.if-found.true at c.in_ok-found.ensures) step)
 
@@ -29,7 +31,8 @@ loop-alloc-preserved c =
     let text = c.loop-alloc.text.now in
     let first = c.first_text-first.result in
     let some : text ≢ [] = search rules in
-    let step = c.loop-alloc.invariant.1 ∙ next-step c.loop-alloc.line text first.text.now first.rest.now (c.first_text-first.ensures.texts some) in
+    let texts = c.first_text-first.ensures.texts some in
+    let step = c.loop-alloc.invariant.1 ∙ next-step c.loop-alloc.line text first.text.now first.rest.now texts in
     let counted = c.loop-alloc.invariant.2 in
     let split = c.first_text-first.ensures.split in
     let few = c.line_feeds.ensures.few in (
