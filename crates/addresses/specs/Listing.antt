@@ -39,7 +39,7 @@ under_header [] None = Err NoHeader
 under_header [] (Some fault) = Err fault
 under_header (header ∷ rows) fault = under_columns header.line (columns_of header.fields) (record { records = rows; fault = fault })
 
--- the addresses of a file under its header, or the fault of that
+-- the addresses of a file under its header, or the fault of its header
 abbrev pub addresses_in : List ℕ → Result Listing AddressFault
 addresses_in file = under_header (reading_of file).records (reading_of file).fault
 
@@ -47,14 +47,15 @@ addresses_in file = under_header (reading_of file).records (reading_of file).fau
 abbrev pub addresses_left : Addresses → Listing
 addresses_left addresses = listed addresses.columns (left_in addresses.unread)
 
--- The header was read, and its file's addresses are left. Only an allocation may fail otherwise.
+-- What reading the header returns: the file's addresses, all of them left, or the header's fault. Otherwise an allocation failed.
 abbrev pub IsHeaderRead : Result Addresses AddressFault → Result Listing AddressFault → Type 0
 IsHeaderRead (Ok addresses) held = held ≡ Ok (addresses_left addresses)
 IsHeaderRead (Err (At line flaw)) held = held ≡ Err (At line flaw)
 IsHeaderRead (Err NoHeader) held = held ≡ Err NoHeader
 IsHeaderRead (Err Memory) held = ⊤
 
--- The next address was read, and the later ones are left; after the last one there is none. Only an allocation may fail otherwise.
+-- What reading the next address returns: true with the address, the later ones left, false at the end, or the fault that comes next.
+-- Otherwise an allocation failed.
 abbrev pub IsAddressRead : Result Bool AddressFault → AddressParts → Listing → Listing → Type 0
 IsAddressRead (Ok true) address old new = old ≡ with_addresses (address ∷ []) new
 IsAddressRead (Ok false) address old new = (old ≡ ended) × (new ≡ ended)

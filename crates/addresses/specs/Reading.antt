@@ -46,7 +46,8 @@ reading_of file = reading_from 1 (record_texts (strip_bom file))
 abbrev pub left_in : Unread → Reading
 left_in unread = reading_from unread.line (record_texts unread.text.now)
 
--- The next record was read, which has these fields, and the later ones are left. Only an allocation may fail otherwise.
+-- What reading the next record returns: its line, with these fields and the later records left, nothing at the end, or the fault that comes
+-- next. Otherwise an allocation failed.
 abbrev pub IsNextRead : Result (Option ℕ) AddressFault → Fields → Reading → Reading → Type 0
 IsNextRead (Ok (Some line)) fields old new = old ≡ preceded (record { line = line; fields = fields }) new
 IsNextRead (Ok None) fields old new = (old ≡ at_end) × (new ≡ at_end)

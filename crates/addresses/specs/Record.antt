@@ -1,4 +1,4 @@
--- What a record's text holds: no record, as a line end alone, its fields, or a flaw. The fields are those that the machine of csv reads.
+-- What a record's text holds: its fields, as the machine of csv reads them, a flaw, or no record, as in an empty line.
 use Rattle.std.specs.Prelude.{◌≡◌, ⊤, ℕ, Bool, true, false, not, nat_lt, if◌then◌else◌, List, [], length, Option, Some, None, is_some, Result, Ok, Err}
 use Rattle.std.specs.List.{list_all}
 use Rattle.std.specs.Str.{is_utf8}
@@ -17,11 +17,11 @@ use Rattle.addresses.specs.declared.record.TheConstants.{RECORD_LIMIT}
 abbrev pub Fields : Type 0
 Fields = List (List ℕ)
 
--- another record is read after this one
+-- whether the text has another record after this one
 abbrev pub has_more : Read → Bool
 has_more read = is_some (next_record default_config read.1 [] [] read.2)
 
--- the fields of the first record that was read of a text
+-- the fields of a text's first record, if it is the only one
 abbrev pub only_fields : Option Read → Result (Option Fields) AddressFlaw
 only_fields None = Ok None
 only_fields (Some read) =
@@ -34,7 +34,7 @@ abbrev pub record_in : List ℕ → Result (Option Fields) AddressFlaw
 record_in text =
     if is_open text then Err OpenQuote else (if nat_lt RECORD_LIMIT (length text) then Err LineTooLong else fields_in text)
 
--- A record that begins in this line was read as what its text holds. Only an allocation may fail.
+-- What reading a record that begins in this line returns is what its text holds, unless an allocation fails.
 abbrev pub IsRecordRead : ℕ → Fields → Result (Option Fields) AddressFlaw → Result Bool AddressFault → Type 0
 IsRecordRead line fields held (Ok true) = held ≡ Ok (Some fields)
 IsRecordRead line fields held (Ok false) = held ≡ Ok None

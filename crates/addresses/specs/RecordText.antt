@@ -14,11 +14,11 @@ is_quotation_mark byte = byte == 34
 abbrev pub quotation_marks : List ℕ → ℕ
 quotation_marks bytes = count_by is_quotation_mark bytes
 
--- whether the bytes that follow are inside quotation marks: a mark begins and ends that
+-- whether the byte after this one is inside quotation marks: a mark opens or closes
 abbrev pub inside_after : Bool → ℕ → Bool
 inside_after inside byte = if is_quotation_mark byte then not inside else inside
 
--- whether the last of the quotation marks among these bytes isn't closed: their number is odd
+-- whether a quotation mark is open after these bytes: the number of marks is odd
 abbrev pub is_open : List ℕ → Bool
 is_open bytes = fold inside_after false bytes
 
@@ -35,8 +35,8 @@ unfoldable pub texts_from : Bool → List ℕ → List (List ℕ)
 texts_from inside [] = []
 texts_from inside (byte ∷ rest) = with_byte byte (inside_after inside byte) (texts_from (inside_after inside byte) rest)
 
--- The texts of a file's records, each with its line end: a record ends with the first line feed that an even number of its quotation marks
--- precede. The last one may lack its end.
+-- The texts of a file's records, each with its line end. A record ends with the first line feed that an even number of its quotation marks
+-- precede. The last record may lack its line end.
 abbrev pub record_texts : List ℕ → List (List ℕ)
 record_texts file = texts_from false file
 
@@ -44,8 +44,7 @@ record_texts file = texts_from false file
 abbrev pub EndsAt : List ℕ → ℕ → Type 0
 EndsAt text at = (slice_get text at ≡ Some 10) × (is_open (take at text) ≡ false)
 
--- a file's first record and the rest: where there is such a line feed in the record's text it is the last byte, and only the file's last
--- record may have none
+-- A file's first record and the rest. If the record's text has such a line feed, it is the last byte. Only the file's last record may have none.
 pub record IsFirstText (file text rest : List ℕ) : Type 0 where
   pub split : file ≡ text ++ rest
   pub first : (at : ℕ) → EndsAt text at → suc at ≡ length text

@@ -1,4 +1,4 @@
--- A reader of the crate csv that begins before a record's text, with a byte order mark put before it.
+-- A reader of the crate csv that is before a record's text, with a byte order mark in front of it.
 use Rattle.std.specs.Prelude.{◌≡◌, ℕ, List, Option, Some}
 use Rattle.std.specs.Io.Chain.{chain_remaining}
 use Rattle.std.specs.declared.io.traits.Chain.{Chain}

@@ -51,7 +51,7 @@ fn column_named(header: &StringRecord, name: &str) -> Option<usize>
     None
 }
 
-/// Whether a cell of the header is this name.
+/// Returns whether a cell of the header is this name.
 fn is_named(cell: &str, name: &str) -> bool
     ensures { result ≡ is_named name.now cell.now }
 {

@@ -1,10 +1,8 @@
 //! Why a file's addresses can't be read.
 ghost use Rattle.std.specs.Prelude.{◌≡◌};
 ghost use Rattle.addresses.specs.AddressFlaw as address_flaw;
-ghost use Rattle.addresses.specs.declared.fault.AddressFault.TheVariants.{Memory};
 
 use refusals::{Fault, Refusal};
-use std::alloc::AllocError;
 use thiserror::Error;
 
 /// What is wrong with a record. The derived text is for people.
@@ -35,14 +33,6 @@ pub enum AddressFault {
     },
     #[error("out of memory")]
     Memory,
-}
-
-impl From<AllocError> for AddressFault {
-    ghost from_gives = { λ _ fault. fault ≡ Memory };
-
-    fn from(_error: AllocError) -> AddressFault {
-        AddressFault::Memory
-    }
 }
 
 impl AddressFlaw {

@@ -14,7 +14,7 @@ use std::io::{Chain, Read};
 /// The most bytes that a record may have, its line end counted.
 pub const RECORD_LIMIT: usize = 65_536;
 
-/// Reads a record's text, which begins in this line. Returns false if it has no record, as a line end alone.
+/// Reads the text of a record that begins in this line. Returns false if it has no record, as in an empty line.
 pub(crate) fn read_fields(
     alloc: Global,
     line: u64,
@@ -43,7 +43,7 @@ pub(crate) fn read_fields(
 fn text_reader<'a>(alloc: Global, text: &'a [u8]) -> Reader<Chain<&'a [u8], &'a [u8]>>
     ensures { IsTextReader text.now result }
 {
-    // A reader passes over one byte order mark, so the text's own first field keeps its mark.
+    // The reader skips one byte order mark: this one, so a mark of the text's own stays in its first field.
     let marked = BYTE_ORDER_MARK.as_slice().chain(text);
     ReaderBuilder::new()
         .has_headers(false)

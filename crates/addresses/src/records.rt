@@ -13,7 +13,7 @@ use csv::StringRecord;
 use std::alloc::Global;
 
 impl<'a> Unread<'a> {
-    /// Begins before the first record of a file, after its byte order mark if it has one.
+    /// Starts at the first record of a file, after its byte order mark if it has one.
     pub(crate) fn of(file: &'a [u8]) -> Self
         ensures { left_in result ≡ reading_of file.now }
     {
@@ -23,8 +23,7 @@ impl<'a> Unread<'a> {
         }
     }
 
-    /// Reads the next record, and returns the line in which it begins. It returns `None` after the last one. A text without a record, as
-    /// an empty line, is passed over.
+    /// Reads the next record and returns the line in which it begins, or `None` after the last record. Skips empty lines.
     pub(crate) fn next(
         &mut self,
         alloc: Global,
@@ -51,7 +50,7 @@ impl<'a> Unread<'a> {
     }
 }
 
-/// Reads a record's text, which begins in this line. Returns false if it has no record, as a line end alone.
+/// Reads the text of a record that begins in this line. Returns false if it has no record, as in an empty line.
 fn read_record(
     alloc: Global,
     line: u64,

@@ -1,4 +1,4 @@
-//! An address of a file, in a row that is kept for the next one.
+//! The row that holds an address.
 ghost use Rattle.std.specs.Prelude.{◌≡◌, option_map};
 ghost use Rattle.addresses.specs.Address.{address_in, cell_in, no_address, parts_of, value_in};
 ghost use Rattle.csv.specs.Records.{fields_of};
@@ -24,7 +24,7 @@ pub struct Address<'a> {
     pub sufdir: &'a str,
 }
 
-/// A record of a file. Its memory is used again for the next one.
+/// A row of a file. Its memory is reused for the next row.
 #[derive(Drop)]
 pub struct Row {
     pub(crate) line: u64,
@@ -33,7 +33,7 @@ pub struct Row {
 }
 
 impl Row {
-    /// Makes a row for [`Addresses::read`](crate::Addresses::read). Nothing is allocated before that.
+    /// Makes an empty row for [`Addresses::read`](crate::Addresses::read). Allocates nothing.
     pub fn new(alloc: Global) -> Row
         ensures { address_in result ≡ no_address }
     {

@@ -15,7 +15,7 @@ pub(crate) struct FirstText<'a> {
     pub is_open: bool,
 }
 
-/// Passes over a byte order mark at the start of a file.
+/// Skips a byte order mark at the start of a file.
 pub(crate) fn without_mark<'a>(file: &'a [u8]) -> &'a [u8]
     ensures { result.now ≡ strip_bom file.now }
 {
@@ -48,7 +48,7 @@ pub(crate) fn first_text<'a>(file: &'a [u8]) -> FirstText<'a>
     }
 }
 
-/// Whether the bytes after this one are inside quotation marks.
+/// Returns whether the byte after this one is inside quotation marks.
 fn inside_after(inside: bool, byte: u8) -> bool
     ensures { result ≡ inside_after inside byte }
 {
