@@ -62,8 +62,8 @@ pub fn hit_lines<A: Allocator>(alloc: A, hits: &[Hit]) -> Result<Vec<u8, A>, All
 }
 
 impl Side {
-    /// The letter that a line of text has for the side.
-    fn letter(self) -> &'static str
+    /// Returns the letter that a line of text has for the side: `L` or `R`.
+    pub fn letter(self) -> &'static str
         ensures value { result.now ≡ letter self }
         ensures one { length result.now ≡ 1 }
     {

@@ -1,0 +1,5 @@
+pub mod Answer
+pub mod Batch
+pub mod Degrees
+pub mod Lines
+pub mod Question

@@ -1,0 +1,122 @@
+//! What is answered to an address.
+ghost use Rattle.std.specs.Prelude.{◌≡◌, ◌≢◌, [], map, IfOk};
+ghost use Rattle.batch.specs.Answer.{answer_in, are_all_at, is_at, parts_of, status_of, why_none};
+ghost use Rattle.batch.specs.Question as question;
+ghost use Rattle.geocode.specs.Gazetteer.{IsGazetteerOf};
+ghost use Rattle.geocode.specs.Matches.{match_of};
+
+use crate::question::Question;
+use geocode::{Gazetteer, Match, Place};
+use std::alloc::{AllocError, Allocator};
+use tl_segments::County;
+
+/// What came of an address.
+#[derive(Clone, Copy, PartialEq, Eq)]
+pub enum Status {
+    /// It is in one place.
+    Match,
+    /// It is in several places, or its places aren't known.
+    Tie,
+    /// It is nowhere.
+    NoMatch,
+}
+
+/// Why an address is nowhere.
+#[derive(Clone, Copy, PartialEq, Eq)]
+pub enum Reason {
+    /// No segment has the street among its names.
+    NoSuchStreet,
+    /// The number is on no range of the street.
+    NoSuchNumber,
+    /// The number is on the street, but not in the ZIP code.
+    OtherZip,
+    /// The house number or the ZIP code isn't 1 to 11 digits.
+    NotANumber,
+    /// The name has more than 30 bytes.
+    NameTooLong,
+    /// There is no house number or no name.
+    Missing,
+}
+
+/// The matches of an address, one at least, or why there is none.
+#[derive(Drop)]
+pub(crate) enum Answer<'a, A: Allocator> {
+    Found(Vec<Match<'a>, A>),
+    Nowhere(Reason),
+}
+
+impl Question<'_> {
+    /// Looks for what is asked for in counties, by their gazetteer.
+    pub(crate) fn answer<'c, A: Allocator + Copy>(
+        self,
+        alloc: A,
+        gazetteer: &Gazetteer<A>,
+        counties: &'c [County<A>],
+    ) -> Result<Answer<'c, A>, AllocError>
+        requires { IsGazetteerOf gazetteer.now counties.now }
+        ensures { IfOk result (λ answer. parts_of answer ≡ answer_in counties.now (question.parts_of self.entry)) }
+    {
+        let found = gazetteer.matches(alloc, counties, self.number, self.street, self.zip)?;
+        if !found.is_empty() {
+            return Ok(Answer::Found(found));
+        }
+        Ok(Answer::Nowhere(self.why_none(alloc, gazetteer, counties)?))
+    }
+
+    /// Returns why nothing is found of what is asked for.
+    fn why_none<A: Allocator + Copy>(
+        self,
+        alloc: A,
+        gazetteer: &Gazetteer<A>,
+        counties: &[County<A>],
+    ) -> Result<Reason, AllocError>
+        requires { IsGazetteerOf gazetteer.now counties.now }
+        ensures { IfOk result (λ reason. reason ≡ why_none counties.now (question.parts_of self.entry)) }
+    {
+        if !gazetteer.has_street(counties, self.street) {
+            return Ok(Reason::NoSuchStreet);
+        }
+        let anywhere = gazetteer.matches(alloc, counties, self.number, self.street, None)?;
+        if anywhere.is_empty() {
+            return Ok(Reason::NoSuchNumber);
+        }
+        Ok(Reason::OtherZip)
+    }
+}
+
+/// Returns what came of an address with these matches.
+pub(crate) fn status_of(found: &[Match<'_>]) -> Status
+    ensures { result ≡ status_of (map match_of found.now) }
+{
+    let Some((first, others)) = found.split_first() else {
+        return Status::NoMatch;
+    };
+    if are_all_at(first.hit.place, others) {
+        return Status::Match;
+    }
+    Status::Tie
+}
+
+/// Whether all matches are in this place.
+fn are_all_at(place: Option<Place>, found: &[Match<'_>]) -> bool
+    ensures { result ≡ are_all_at place (map match_of found.now) }
+{
+    for other in found {
+        if !is_at(place, other.hit.place) {
+            return false;
+        }
+    }
+    true
+}
+
+/// Whether both places are known and one.
+fn is_at(place: Option<Place>, other: Option<Place>) -> bool
+    ensures { result ≡ is_at place other }
+{
+    match (place, other) {
+        (Some(place), Some(other)) => {
+            place.longitude == other.longitude && place.latitude == other.latitude
+        }
+        _ => false,
+    }
+}

@@ -1,0 +1,81 @@
+//! Addresses answered over counties.
+ghost use Rattle.std.specs.Prelude.{◌≡◌, map, IfOk};
+
+use crate::answer::Answer;
+use crate::cells::push_lines;
+use crate::question::Question;
+use addresses::Address;
+use geocode::Gazetteer;
+use itoa::Buffer;
+use std::alloc::{AllocError, Allocator, Global};
+use std::marker::Model;
+use tl_segments::County;
+
+/// Counties in which addresses are looked for, with their codes and an index of their street names. Contracts see it as a record with the fields
+/// `counties` and `codes`.
+#[derive(Drop)]
+pub struct Batch<'a, A: Allocator> {
+    counties: &'a [County<A>],
+    codes: &'a [&'a str],
+    gazetteer: Gazetteer<A>,
+}
+
+impl<'a, A: Allocator> Model for Batch<'a, A> {
+    ghost use Rattle.std.specs.Prelude.{map};
+    ghost use Rattle.batch.specs.Batch.{BatchParts};
+    ghost use Rattle.geocode.specs.Gazetteer.{IsGazetteerOf};
+
+    ghost Value = { BatchParts };
+
+    ghost view = { λ batch. record { counties = batch.counties.now; codes = map (λ code. code.now) batch.codes.now } };
+
+    ghost invariant = { λ batch. IsGazetteerOf batch.gazetteer batch.counties.now };
+}
+
+impl<'a, A: Allocator + Copy> Batch<'a, A> {
+    ghost use Rattle.addresses.specs.Address.{parts_of};
+    ghost use Rattle.batch.specs.Answer.{answer_of};
+    ghost use Rattle.batch.specs.Answer as answered;
+    ghost use Rattle.batch.specs.Lines.{lines_of};
+
+    /// Indexes the street names of counties, to look for addresses there. The codes are those of the counties, in their order.
+    pub fn of(alloc: A, counties: &'a [County<A>], codes: &'a [&'a str]) -> Result<Self, AllocError>
+        ensures { IfOk result (λ batch. batch ≡ record { counties = counties.now; codes = map (λ code. code.now) codes.now }) }
+    {
+        Ok(Batch {
+            counties,
+            codes,
+            gazetteer: Gazetteer::of(alloc, counties)?,
+        })
+    }
+
+    /// Returns the lines of an address, one at least. Records of CSV are made in `tables` memory.
+    pub fn lines(
+        &self,
+        alloc: A,
+        tables: Global,
+        address: &Address<'_>,
+    ) -> Result<Vec<u8>, AllocError>
+        ensures { IfOk result (λ lines. lines.items ≡ lines_of self.now.codes self.now.counties (parts_of address.now)) }
+    {
+        let answer = self.answer(alloc, address)?;
+        let mut line = Buffer::new();
+        let id = match address.id {
+            Some(id) => id,
+            None => line.format(address.line),
+        };
+        let mut lines = Vec::new(tables);
+        push_lines(tables, id.as_bytes(), self.codes, &answer, &mut lines)?;
+        Ok(lines)
+    }
+
+    /// Looks for an address.
+    fn answer(&self, alloc: A, address: &Address<'_>) -> Result<Answer<'a, A>, AllocError>
+        ensures { IfOk result (λ answer. answered.parts_of answer ≡ answer_of self.now.counties (parts_of address.now)) }
+    {
+        match Question::of(address) {
+            Ok(question) => question.answer(alloc, &self.gazetteer, self.counties),
+            Err(reason) => Ok(Answer::Nowhere(reason)),
+        }
+    }
+}

@@ -1,0 +1,171 @@
+//! The lines of output: one for each match, or one that says why there is none.
+ghost use Rattle.std.specs.Prelude.{◌≡◌, ◌++◌, map, OnOk};
+ghost use Rattle.std.specs.List.{flat_map};
+ghost use Rattle.addresses.specs.Columns.{trimmed};
+ghost use Rattle.batch.specs.Answer as answered;
+ghost use Rattle.batch.specs.Lines.{header, latitude_cell, code_at, line, lines_with, longitude_cell, match_cells, none_cells, reason_text, status_text};
+ghost use Rattle.geocode.specs.Matches.{match_of};
+
+use crate::answer::{Answer, Reason, Status, status_of};
+use crate::degrees::{DEGREES_LENGTH, degrees};
+use crate::row::Cells;
+use arrayvec::ArrayVec;
+use geocode::{Match, Place};
+use itoa::Buffer;
+use std::alloc::{AllocError, Allocator, Global};
+
+/// How many cells follow the reason, which an address that is nowhere leaves empty.
+const EMPTY_CELLS: usize = 12;
+
+/// Returns the first line of output: the names of its columns.
+pub fn header() -> &'static str
+    ensures { result.now ≡ header }
+{
+    "id,status,reason,longitude,latitude,tlid,side,fedirp,fename,fetype,fedirs,zip,county,from,to\n"
+}
+
+/// Appends the lines of an address with this id and this answer.
+pub(crate) fn push_lines<A: Allocator>(
+    alloc: Global,
+    id: &[u8],
+    codes: &[&str],
+    answer: &Answer<'_, A>,
+    lines: &mut Vec<u8>,
+) -> Result<(), AllocError>
+    ensures { OnOk result (lines.new.items ≡ lines.old.items ++ lines_with id.now (map (λ code. code.now) codes.now) (answered.parts_of answer.now)) }
+{
+    match answer {
+        Answer::Found(found) => push_matches(alloc, id, codes, found.as_slice(), lines),
+        Answer::Nowhere(reason) => push_none(alloc, id, *reason, lines),
+    }
+}
+
+/// Appends a line for each match.
+fn push_matches(
+    alloc: Global,
+    id: &[u8],
+    codes: &[&str],
+    found: &[Match<'_>],
+    lines: &mut Vec<u8>,
+) -> Result<(), AllocError>
+    ensures { OnOk result (lines.new.items ≡ lines.old.items
+        ++ flat_map (λ found_one. line (match_cells id.now (answered.status_of (map match_of found.now)) (map (λ code. code.now) codes.now) found_one))
+        (map match_of found.now)) }
+{
+    let status = status_of(found);
+    for one in found {
+        push_match(alloc, id, status, codes, one, lines)?;
+    }
+    Ok(())
+}
+
+/// Appends the line of a match.
+fn push_match(
+    alloc: Global,
+    id: &[u8],
+    status: Status,
+    codes: &[&str],
+    found: &Match<'_>,
+    lines: &mut Vec<u8>,
+) -> Result<(), AllocError>
+    ensures { OnOk result (lines.new.items ≡ lines.old.items
+        ++ line (match_cells id.now status (map (λ code. code.now) codes.now) (match_of found.now))) }
+{
+    Cells::new(alloc)
+        .with(id)?
+        .with(status.text().as_bytes())?
+        .with(b"")?
+        .with(longitude_cell(found.hit.place).as_slice())?
+        .with(latitude_cell(found.hit.place).as_slice())?
+        .with(Buffer::new().format(found.hit.tlid).as_bytes())?
+        .with(found.hit.side.letter().as_bytes())?
+        .with(trimmed(found.name.fedirp))?
+        .with(trimmed(found.name.fename))?
+        .with(trimmed(found.name.fetype))?
+        .with(trimmed(found.name.fedirs))?
+        .with(trimmed(found.zip))?
+        .with(code_at(codes, found.county).as_bytes())?
+        .with(trimmed(found.from))?
+        .with(trimmed(found.to))?
+        .write(lines)
+}
+
+/// Appends the line of an address that is nowhere.
+fn push_none(
+    alloc: Global,
+    id: &[u8],
+    reason: Reason,
+    lines: &mut Vec<u8>,
+) -> Result<(), AllocError>
+    ensures { OnOk result (lines.new.items ≡ lines.old.items ++ line (none_cells id.now reason)) }
+{
+    let mut cells = Cells::new(alloc)
+        .with(id)?
+        .with(Status::NoMatch.text().as_bytes())?
+        .with(reason.text().as_bytes())?;
+    for _empty in 0..EMPTY_CELLS {
+        cells = cells.with(b"")?;
+    }
+    cells.write(lines)
+}
+
+/// Returns a field without the blanks around it.
+fn trimmed(field: &[u8]) -> &[u8]
+    ensures { result.now ≡ trimmed field.now }
+{
+    field.trim_ascii()
+}
+
+/// The code of the county with this place in the list.
+fn code_at<'c>(codes: &[&'c str], county: usize) -> &'c str
+    ensures { result.now ≡ code_at (map (λ code. code.now) codes.now) county }
+{
+    codes.get(county).copied().unwrap_or("")
+}
+
+fn longitude_cell(place: Option<Place>) -> ArrayVec<u8, DEGREES_LENGTH>
+    ensures { result.items ≡ longitude_cell place }
+{
+    match place {
+        Some(place) => degrees(place.longitude),
+        None => ArrayVec::new(),
+    }
+}
+
+fn latitude_cell(place: Option<Place>) -> ArrayVec<u8, DEGREES_LENGTH>
+    ensures { result.items ≡ latitude_cell place }
+{
+    match place {
+        Some(place) => degrees(place.latitude),
+        None => ArrayVec::new(),
+    }
+}
+
+impl Status {
+    /// Returns the word for it in the output.
+    fn text(self) -> &'static str
+        ensures { result.now ≡ status_text self }
+    {
+        match self {
+            Status::Match => "match",
+            Status::Tie => "tie",
+            Status::NoMatch => "no_match",
+        }
+    }
+}
+
+impl Reason {
+    /// Returns the word for it in the output.
+    fn text(self) -> &'static str
+        ensures { result.now ≡ reason_text self }
+    {
+        match self {
+            Reason::NoSuchStreet => "no_such_street",
+            Reason::NoSuchNumber => "no_such_number",
+            Reason::OtherZip => "other_zip",
+            Reason::NotANumber => "not_a_number",
+            Reason::NameTooLong => "name_too_long",
+            Reason::Missing => "missing",
+        }
+    }
+}

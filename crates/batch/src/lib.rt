@@ -1,0 +1,13 @@
+//! Batches of addresses: where each is over counties, or why it is nowhere, as lines of CSV.
+#![tactic(auto)]
+
+mod answer;
+mod batch;
+mod cells;
+mod degrees;
+mod question;
+mod row;
+
+pub use answer::{Reason, Status};
+pub use batch::Batch;
+pub use cells::header;

@@ -1,0 +1,345 @@
+#!/usr/bin/env python3
+"""Compares batches of addresses with a second reading of the same files: draws counties and addresses, and asks `extractd geocode-batch` where they are.
+
+    python3 addresses.py COUNT [SEED]
+
+`extractd` is the one on the search path. Small counties are drawn, with alternate names, further ranges, hyphenated numbers and unknown coordinates, and
+addresses on and beside their streets, as a CSV file with its columns in any order, quoted cells, line breaks within them, empty lines and either line
+end. This script reads the four files by docs/records.md and answers the addresses by docs/geocoding.md; `geocode-batch` has to write the same bytes.
+
+It prints each address that is answered otherwise, then how many agree and how many differ, and ends with 1 if any differs. SEED is 1 if it isn't given;
+the same seed draws the same addresses again.
+"""
+# Needs Python 3.11 or later, and nothing else.
+
+import csv
+import io
+import subprocess
+import sys
+import tempfile
+from collections.abc import Iterator
+from pathlib import Path
+from random import Random
+from typing import NamedTuple
+
+CODES = ("00001", "00002")
+ADDRESSES_OF_COUNTIES = 200
+SEGMENTS = 60
+HEADER = ["id", "status", "reason", "longitude", "latitude", "tlid", "side", "fedirp", "fename", "fetype", "fedirs", "zip", "county", "from", "to"]
+COLUMNS = ["number", "name", "id", "zip", "predir", "type", "sufdir"]
+NAMES = ["Main", "Maine", "Oak", "Oak Hill", "County Road 70", "St. John's", "Old \"Mill\"", "A, B", "", "Abcdefghijklmnopqrstuvwxyzabcd"]
+DIRECTIONS = ["", "", "", "N", "S", "NE"]
+TYPES = ["St", "Rd", "Ave", "Blvd", ""]
+ZIPS = ["36066", "36067", "07001", "", "36067"]
+
+
+class FullName(NamedTuple):
+    fedirp: str
+    fename: str
+    fetype: str
+    fedirs: str
+
+    def field(self) -> str:
+        return f"{self.fedirp:2}{self.fename:30}{self.fetype:4}{self.fedirs:2}"
+
+
+class Side(NamedTuple):
+    letter: str
+    start: str
+    end: str
+    zip: str
+
+
+class Segment(NamedTuple):
+    tlid: int
+    names: list[FullName]
+    sides: list[Side]
+    coordinates: list[int | None]
+
+
+class Hit(NamedTuple):
+    place: tuple[int, int] | None
+    cells: list[str]
+
+
+def number_of(field: str) -> int | None:
+    """The number of a field, or of a cell: 1 to 11 digits."""
+    digits = field.strip(" ")
+    return int(digits) if digits.isascii() and digits.isdigit() and len(digits) <= 11 else None
+
+
+def coordinate_of(field: str) -> int | None:
+    digits = field.strip(" ")
+    bare = digits[1:] if digits[:1] in ("+", "-") else digits
+    return int(digits) if bare.isascii() and bare.isdigit() and len(bare) <= 9 else None
+
+
+def lines(path: Path) -> list[str]:
+    return path.read_text("latin-1").splitlines() if path.exists() else []
+
+
+def sides_of(addresses: str, zips: str) -> list[Side]:
+    cut = [addresses[at : at + 11] for at in range(0, 44, 11)]
+    return [Side("L", cut[0], cut[1], zips[:5]), Side("R", cut[2], cut[3], zips[5:])]
+
+
+def read_county(folder: Path, code: str) -> list[Segment]:
+    stem = folder / f"TGR{code}"
+    features: dict[int, FullName] = {}
+    for line in lines(stem.with_suffix(".RT5")):
+        features.setdefault(int(line[10:18]), FullName(line[18:20], line[20:50], line[50:54], line[54:56]))
+    names: dict[int, list[FullName]] = {}
+    for line in lines(stem.with_suffix(".RT4")):
+        for at in range(18, 58, 8):
+            feature = number_of(line[at : at + 8])
+            if feature in features:
+                names.setdefault(int(line[5:15]), []).append(features[feature])
+    ranges: dict[int, list[Side]] = {}
+    for line in lines(stem.with_suffix(".RT6")):
+        ranges.setdefault(int(line[5:15]), []).extend(sides_of(line[18:62], line[66:76]))
+    segments = []
+    for line in lines(stem.with_suffix(".RT1")):
+        tlid = int(line[5:15])
+        own = FullName(line[17:19], line[19:49], line[49:53], line[53:55])
+        coordinates = [coordinate_of(line[190:200]), coordinate_of(line[200:209]), coordinate_of(line[209:219]), coordinate_of(line[219:228])]
+        segments.append(Segment(tlid, [own, *names.get(tlid, [])], sides_of(line[58:102], line[106:116]) + ranges.get(tlid, []), coordinates))
+    return segments
+
+
+def is_on(number: int, side: Side) -> bool:
+    start, end = number_of(side.start), number_of(side.end)
+    if start is None or end is None:
+        return False
+    return min(start, end) <= number <= max(start, end) and (start % 2 != end % 2 or number % 2 == start % 2)
+
+
+def along(start: int, end: int, number: int, side: Side) -> int:
+    first, last = int(side.start), int(side.end)
+    if first == last:
+        return start
+    product, whole = (end - start) * (number - first), last - first
+    quotient = abs(product) // abs(whole)
+    return start + (quotient if (product < 0) == (whole < 0) else -quotient)
+
+
+def place_of(segment: Segment, number: int, side: Side) -> tuple[int, int] | None:
+    from_longitude, from_latitude, to_longitude, to_latitude = segment.coordinates
+    if from_longitude is None or from_latitude is None or to_longitude is None or to_latitude is None:
+        return None
+    return along(from_longitude, to_longitude, number, side), along(from_latitude, to_latitude, number, side)
+
+
+def degrees(coordinate: int) -> str:
+    return f"{'-' if coordinate < 0 else ''}{abs(coordinate) // 1_000_000}.{abs(coordinate) % 1_000_000:06}"
+
+
+def agrees(wanted: str, field: str) -> bool:
+    return wanted == "" or wanted.lower() == field.strip(" ").lower()
+
+
+def first_match(segment: Segment, cells: dict[str, str]) -> FullName | None:
+    for name in segment.names:
+        if (
+            name.fename.rstrip(" ").lower() == cells["name"].lower()
+            and agrees(cells["predir"], name.fedirp)
+            and agrees(cells["type"], name.fetype)
+            and agrees(cells["sufdir"], name.fedirs)
+        ):
+            return name
+    return None
+
+
+def hits_on(segment: Segment, name: FullName, code: str, number: int, wanted_zip: int | None) -> Iterator[Hit]:
+    for side in segment.sides:
+        if not is_on(number, side) or (wanted_zip is not None and number_of(side.zip) != wanted_zip):
+            continue
+        place = place_of(segment, number, side)
+        coordinates = ["", ""] if place is None else [degrees(place[0]), degrees(place[1])]
+        fields = [*name, side.zip, code, side.start, side.end]
+        yield Hit(place, [*coordinates, str(segment.tlid), side.letter, *(field.strip(" ") for field in fields)])
+
+
+def answer(counties: list[tuple[str, list[Segment]]], cells: dict[str, str]) -> list[list[str]]:
+    """The cells behind the id, a list for each line of output."""
+    if not cells["number"] or not cells["name"]:
+        return none("missing")
+    number, wanted_zip = number_of(cells["number"]), number_of(cells["zip"])
+    if number is None:
+        return none("not_a_number")
+    if len(cells["name"].encode()) > 30:
+        return none("name_too_long")
+    if cells["zip"] and wanted_zip is None:
+        return none("not_a_number")
+    matches = [(code, segment, name) for code, segments in counties for segment in segments if (name := first_match(segment, cells))]
+    hits = [hit for code, segment, name in matches for hit in hits_on(segment, name, code, number, wanted_zip)]
+    if hits:
+        one_place = all(hit.place is not None and hit.place == hits[0].place for hit in hits[1:])
+        return [["match" if one_place else "tie", "", *hit.cells] for hit in hits]
+    if not matches:
+        return none("no_such_street")
+    anywhere = any(True for code, segment, name in matches for hit in hits_on(segment, name, code, number, None))
+    return none("other_zip" if anywhere else "no_such_number")
+
+
+def none(reason: str) -> list[list[str]]:
+    return [["no_match", reason] + [""] * 12]
+
+
+# ---- Drawing
+
+
+def draw_full_name(random: Random) -> FullName:
+    return FullName(random.choice(DIRECTIONS), random.choice(NAMES), random.choice(TYPES), random.choice(DIRECTIONS))
+
+
+def draw_addresses(random: Random) -> str:
+    text = ""
+    for parity in (1, 0):
+        start = random.randrange(0, 400, 2) + parity
+        end = start + random.choice((0, 20, 98, 99, -30))
+        kind = random.random()
+        if kind < 0.15:
+            text += " " * 22
+        elif kind < 0.2:
+            text += f"{'164-20':>11}{'164-98':>11}"
+        else:
+            text += f"{start:11}{max(end, 0):11}"
+    return text
+
+
+def draw_coordinates(random: Random) -> str:
+    def one(width: int) -> str:
+        if random.random() < 0.03:
+            return " " * width
+        # Near zero too, where a coordinate has no whole degree.
+        value = random.choice((random.randint(-99_999_999, 99_999_999), random.randint(-999_999, 999_999)))
+        return f"{value:+0{width}d}"
+
+    return one(10) + one(9) + one(10) + one(9)
+
+
+def write_county(random: Random, folder: Path, code: str) -> None:
+    stem = folder / f"TGR{code}"
+    features = range(1, 15)
+    tlids: list[int] = []
+    rt1 = []
+    for _ in range(SEGMENTS):
+        tlid = tlids[-1] if tlids and random.random() < 0.1 else random.randint(1, 10**6)
+        tlids.append(tlid)
+        line = f"10006{tlid:10}  {draw_full_name(random).field()}A41{draw_addresses(random)}0000{random.choice(ZIPS):5}{random.choice(ZIPS):5}"
+        rt1.append(f"{line:190}{draw_coordinates(random)}")
+    rt4 = []
+    for tlid in random.sample(tlids, 25):
+        rt4.append(f"40006{tlid:10}  1" + "".join(f"{random.choice((*features, 99, '')):>8}" for _ in range(5)))
+    rt5 = [f"50006{code}{feature:8}{draw_full_name(random).field()}" for feature in (*features, 1, 2)]
+    rt6 = [
+        f"60006{tlid:10}  1{draw_addresses(random)}0000{random.choice(ZIPS):5}{random.choice(ZIPS):5}" for tlid in random.choices(tlids, k=20)
+    ]
+    for end, file in ((".RT1", rt1), (".RT4", rt4), (".RT5", rt5), (".RT6", rt6)):
+        stem.with_suffix(end).write_text("".join(line + "\n" for line in file), "latin-1", newline="")
+
+
+def draw_cells(random: Random, segments: list[Segment], at: int) -> dict[str, str]:
+    segment = random.choice(segments)
+    name = random.choice(segment.names)
+    side = random.choice(segment.sides)
+    start = number_of(side.start)
+    number = str(start + random.choice((0, 1, 2, 10, 20, -1))) if start is not None else str(random.randint(0, 500))
+    cells = {"number": number, "name": name.fename.strip(), "id": f"a{at}", "zip": "", "predir": "", "type": "", "sufdir": ""}
+    for column, field in (("zip", side.zip), ("predir", name.fedirp), ("type", name.fetype), ("sufdir", name.fedirs)):
+        if random.random() < 0.5:
+            cells[column] = field.strip()
+    if random.random() < 0.3:
+        cells["name"] = cells["name"].swapcase()
+    kind = random.random()
+    if kind < 0.06:
+        cells[random.choice(("number", "name"))] = random.choice(("", "12-34", "123456789012", "x" * 31, "No Street", "1" * 11, "é" * 15, "é" * 16))
+    elif kind < 0.12:
+        cells["zip"] = random.choice(("99999", "7001", "abc", "36067-1234"))
+    elif kind < 0.2:
+        cells[random.choice(("predir", "type", "sufdir"))] = random.choice(("st", "RD", "n", "Court"))
+    elif kind < 0.25:
+        cells["id"] = random.choice(('say "hi"', "a,b", "two\nlines", " blanks ", ""))
+    return cells
+
+
+def write_file(random: Random, rows: list[dict[str, str]]) -> tuple[str, list[str]]:
+    """A CSV file of addresses, and the id that each has in the output."""
+    columns = COLUMNS + ["note"]
+    if random.random() < 0.5:
+        columns.remove("id")
+    random.shuffle(columns)
+    end = random.choice(("\n", "\r\n"))
+    text = io.StringIO()
+    writer = csv.writer(text, lineterminator=end, quoting=random.choice((csv.QUOTE_MINIMAL, csv.QUOTE_ALL)))
+    writer.writerow([column.title() if random.random() < 0.3 else column for column in columns])
+    ids = []
+    for row in rows:
+        if random.random() < 0.05:
+            text.write(end)
+        ids.append(row["id"] if "id" in columns else str(text.getvalue().count("\n") + 1))
+        cells = [row.get(column, random.choice(("", "a note", "two\nlines", 'a "quote"'))) for column in columns]
+        if random.random() < 0.3:
+            cells = [f" {cell} " if column in ("number", "type", "zip") and cell else cell for column, cell in zip(columns, cells)]
+        writer.writerow(cells)
+    file = text.getvalue()
+    if random.random() < 0.3:
+        file = file.removesuffix(end)
+    return ("\ufeff" if random.random() < 0.3 else "") + file, ids
+
+
+def compare(random: Random, folder: Path, count: int) -> int:
+    """Answers how many of the addresses are answered otherwise."""
+    for code in CODES:
+        write_county(random, folder, code)
+    counties = [(code, read_county(folder, code)) for code in CODES]
+    segments = [segment for _, county in counties for segment in county]
+    rows = [draw_cells(random, segments, at) for at in range(count)]
+    file, ids = write_file(random, rows)
+    (folder / "addresses.csv").write_text(file, "utf-8", newline="")
+    arguments = ["extractd", "geocode-batch", "--addresses", str(folder / "addresses.csv"), "--data", str(folder), *CODES]
+    done = subprocess.run(arguments, capture_output=True)
+    if done.returncode != 0 or done.stderr:
+        print(f"status {done.returncode}: {done.stderr.decode()}")
+        return count
+    return compare_output(list(zip(rows, ids)), counties, done.stdout.decode("latin-1"))
+
+
+def compare_output(rows: list[tuple[dict[str, str], str]], counties: list[tuple[str, list[Segment]]], output: str) -> int:
+    differing = 0
+    expected = csv_text([HEADER])
+    left = output.removeprefix(expected)
+    if left == output:
+        print(f"the header is {output.splitlines()[0]!r}")
+        return len(rows)
+    for row, name in rows:
+        text = csv_text([[name, *cells] for cells in answer(counties, row)]).encode().decode("latin-1")
+        if not left.startswith(text):
+            print(f"{row}\n  is to be {text!r}\n  and is   {left[: len(text)]!r}")
+            return differing + 1
+        left = left[len(text) :]
+    if left:
+        print(f"too much: {left!r}")
+    return differing + bool(left)
+
+
+def csv_text(rows: list[list[str]]) -> str:
+    text = io.StringIO()
+    csv.writer(text, lineterminator="\n").writerows(rows)
+    return text.getvalue()
+
+
+def main() -> None:
+    if len(sys.argv) not in (2, 3):
+        sys.exit(__doc__)
+    count, seed = int(sys.argv[1]), int(sys.argv[2]) if len(sys.argv) == 3 else 1
+    differing = 0
+    for batch, start in enumerate(range(0, count, ADDRESSES_OF_COUNTIES)):
+        with tempfile.TemporaryDirectory() as folder:
+            differing += compare(Random(f"{seed} {batch}"), Path(folder), min(ADDRESSES_OF_COUNTIES, count - start))
+    print(f"{count - differing} addresses agree, {differing} differ")
+    sys.exit(differing != 0)
+
+
+if __name__ == "__main__":
+    main()
