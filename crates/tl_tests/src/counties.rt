@@ -18,6 +18,8 @@ const SEGMENTS: &str = r"
   {rt5 FEAT=2 FENAME=B}\n{rt5 FEAT=1 FENAME=A}\n;; 123456789+A+B+A+B+B
 {rt1}\n; {rt4 FEAT1=1 FEAT2=2 FEAT3=3 FEAT4=4 FEAT5=5}\n;
   {rt5 FEAT=1 FENAME=A}\n{rt5 FEAT=3 FENAME=C}\n{rt5 FEAT=2 FENAME=B}\n{rt5 FEAT=5 FENAME=E}\n;; 123456789+A+B+C+E
+{rt1 FEDIRP=E FETYPE=Ave FEDIRS=NW}\n; {rt4 FEAT2=8}\n;
+  {rt5 FEDIRP=N FETYPE=St FEDIRS=SW}\n{rt5 FETYPE=Rd}\n{rt5 FEAT=8 FENAME=Elm FEDIRS=E}\n;; 123456789+NOakStSW+ElmE
 {rt1}\n; {rt4 FEAT1=6 FEAT2=7 FEAT3=8 FEAT4=9 FEAT5=10}\n; {rt5 FEAT=5}\n;; 123456789
 {rt1}\n; {rt4 FEAT1=0 FEAT2=7}\n; {rt5 FEAT=0 FENAME=Nought}\n{rt5 FEAT=00000000 FENAME=Naught}\n{rt5 FENAME=}\n;;
   123456789+Nought+
@@ -33,7 +35,7 @@ const SEGMENTS: &str = r"
 {rt1}\n;; {rt5}\n; {rt6}\n; 123456789/201
 {rt1}\n; {rt4}\n;; {rt6}\n; 123456789/201
 {rt1}\n; {rt4}\n; {rt5 FENAME=Caf\xc3\xa9}\n;; 123456789+Café
-{rt1 FENAME=\xff\r\x80}\n; {rt4 RTSQ=\xff\r\x80}\n; {rt5 FETYPE=\xff\r\x80}\n; {rt6 RTSQ=\xff\r\x80}\n;
+{rt1 FENAME=\xff\r\x80}\n; {rt4 RTSQ=\xff\r\x80}\n; {rt5 VERSION=\xff\r\x80}\n; {rt6 RTSQ=\xff\r\x80}\n;
   123456789+Oak/201
 {rt1}\n; {rt4\n#1..9}{rt4\n*9};
   {rt5 FEAT=1}\n{rt5 FEAT=2}\n{rt5 FEAT=3}\n{rt5 FEAT=4}\n{rt5 FEAT=5}\n{rt5}\n; {rt6\n#1..9}{rt6\n*9};

@@ -2,8 +2,8 @@
 use crate::seen::Seen;
 use fixtures::Files;
 use std::alloc::{AllocError, Allocator};
-use tl_fields::{field, number};
-use tl_segments::{NAME_LIMIT, RANGE_LIMIT, RECORD_LENGTH, Range, Segment};
+use tl_fields::{blank, field, number};
+use tl_segments::{FullName, NAME_LIMIT, RANGE_LIMIT, RECORD_LENGTH, Range, Segment};
 
 /// Shows the segments of files of good lines, each of which ends with LF, in the order of the type 1 lines.
 pub fn show_segments<A: Allocator + Copy>(
@@ -68,7 +68,16 @@ fn push_name<A: Allocator>(
     for line in rt5.chunks(57) {
         let is_found = number_in(line, 10, 18) == Some(feat);
         if is_found && line.len() > 55 && segment.names() < NAME_LIMIT as u64 {
-            return segment.push_name(field(line, 21, 50));
+            let name = FullName {
+                fedirp: field(line, 19, 20),
+                fename: field(line, 21, 50),
+                fetype: field(line, 51, 54),
+                fedirs: field(line, 55, 56),
+            };
+            if blank(name.fedirp) && blank(name.fetype) && blank(name.fedirs) {
+                return segment.push_name(name.fename);
+            }
+            return segment.push_full_name(name);
         }
     }
     Ok(())

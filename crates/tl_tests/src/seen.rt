@@ -3,9 +3,9 @@ use std::alloc::Allocator;
 use tl_fields::field;
 use tl_segments::Segment;
 
-/// What is seen of segments, and what a row says of them: of each one the TLID, a `+` before each of its alternate
-/// names, and a `/` before the address at which each of its further ranges starts on the left; or `counts`, how many
-/// segments there are, and how many alternate names and ranges they have together.
+/// What is seen of segments, and what a row says of them: of each one the TLID, a `+` before the four fields of each of
+/// its alternate names, and a `/` before the address at which each of its further ranges starts on the left; or `counts`,
+/// how many segments there are, and how many alternate names and ranges they have together.
 #[derive(Clone, Copy)]
 pub struct Seen<'a> {
     said: &'a str,
@@ -62,7 +62,11 @@ fn say_names<'a, A: Allocator>(segment: &Segment<A>, said: Option<&'a [u8]>) -> 
         field(segment.bytes(), 6, 15),
     );
     for n in 1..=segment.names() {
-        said = say(said, b"+", segment.name(n)?);
+        let name = segment.full_name(n)?;
+        said = say(said, b"+", name.fedirp);
+        said = say(said, b"", segment.name(n)?);
+        said = say(said, b"", name.fetype);
+        said = say(said, b"", name.fedirs);
     }
     said
 }
