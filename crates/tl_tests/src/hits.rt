@@ -102,7 +102,7 @@ pub fn is_found<A: Allocator + Copy>(alloc: Global, heap: A, row: &str) -> Resul
 }
 
 /// Loads the two counties of a row.
-fn counties_of<A: Allocator + Copy>(
+pub fn counties_of<A: Allocator + Copy>(
     alloc: Global,
     heap: A,
     row: &str,

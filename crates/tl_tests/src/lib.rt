@@ -14,6 +14,8 @@ mod hits;
 #[cfg(test)]
 mod lines;
 #[cfg(test)]
+mod matching;
+#[cfg(test)]
 mod plain;
 #[cfg(test)]
 mod readers;

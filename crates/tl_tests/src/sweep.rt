@@ -1,6 +1,7 @@
 //! Each growth of a call refused in turn.
 use crate::counties::load_row;
 use crate::hits::is_found;
+use crate::matching::is_matched;
 use fixtures::{Refusing, cell, is_refusal, table};
 use refusals::Fault;
 use std::alloc::Global;
@@ -11,6 +12,7 @@ use tl_segments::LoadFault;
 fn is_answered(alloc: Global, heap: &Refusing<Global>, call: &str, row: &str) -> bool {
     let answer = match call {
         "hits" => is_found(alloc, heap, row),
+        "matches" => is_matched(alloc, heap, row),
         way => load_row(alloc, heap, way, row),
     };
     match answer {
