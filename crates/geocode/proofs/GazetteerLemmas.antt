@@ -1,6 +1,7 @@
 -- Walks along the chain of a name.
-use Rattle.std.proofs.Common.{◌≡◌, ℕ, ◌+◌, ◌<◌, ◌≤◌, Bool, true, false, if◌then◌else◌, List, [], ◌∷◌, ◌++◌, length, filter, take, drop, zero, suc}
-use Rattle.std.proofs.Common.{unwrap_or, get_or, Some, None, refl, ap, sym, ◌∙◌, subst, arith, drop-cons, length-drop, add-one, append_assoc}
+use Rattle.std.proofs.Common.{◌≡◌, ℕ, ◌+◌, ◌<◌, ◌≤◌, Bool, true, false, if◌then◌else◌, List, [], ◌∷◌, ◌++◌, length, filter}
+use Rattle.std.proofs.Common.{take, drop, zero, suc, unwrap_or, get_or, Some, None, refl, ap, sym, ◌∙◌, subst, arith, drop-cons, length-drop}
+use Rattle.std.proofs.Common.{add-one, append_assoc}
 use Rattle.std.specs.List.{flat_map}
 use Rattle.std.proofs.lemmas.Bool.Decides.{nat_tests}
 use Rattle.std.proofs.lemmas.Grind.{common_steps, take_at_read}
@@ -73,11 +74,11 @@ tlid_at-read tlids segments n segment same inside is =
     tlid_at tlids segments n same inside within is
     (sym (get_or_from_slice_get tlids n tlid tlid (slice_get-get_or tlids n 0 within)))
 
-pick-give : {Y : Type 0} (passes : Bool) (g : ℕ → List Y) (n : ℕ) (numbers : List ℕ) (here after : List Y) → g n ≡ here
+pick-give : {Y : Type 0} (passes : Bool) (g : ℕ → List Y) (n : ℕ) (numbers : List ℕ) {here after : List Y} → g n ≡ here
     → (passes ≡ false → here ≡ []) → flat_map g numbers ≡ after
     → flat_map g (if passes then n ∷ numbers else numbers) ≡ here ++ after
-pick-give true g n numbers here after is nothing rest = cc
-pick-give false g n numbers here after is nothing rest = let none : here ≡ [] = nothing refl in rw none rest
+pick-give true g n numbers is nothing rest = cc
+pick-give false g n numbers {here} is nothing rest = let none : here ≡ [] = nothing refl in rw none rest
 
 -- what the segments with a number give, where the others give nothing
 numbers-give : {Y : Type 0} (f : Contents → List Y) (test : Contents → Bool) (segments : List Contents) (n : ℕ) (rest : List Contents)
@@ -86,7 +87,7 @@ numbers-give : {Y : Type 0} (f : Contents → List Y) (test : Contents → Bool)
 numbers-give f test segments n [] is nothing = refl
 numbers-give f test segments n (segment ∷ rest) is nothing =
     let at = segment_at-drop segments n segment rest is in
-    pick-give (test segment) (λ n. f (segment_at segments n)) n (numbers_with test (n + 1) rest) (f segment) (flat_map f rest)
+    pick-give (test segment) (λ n. f (segment_at segments n)) n (numbers_with test (n + 1) rest)
     (ap f at.0) (nothing segment) (numbers-give f test segments (n + 1) rest at.1 nothing)
 
 -- the walk came to this link: what it has so far, and what the segments from there on give, are the whole
@@ -99,8 +100,8 @@ pub record IsWalked {Y : Type 0} (f : ℕ → List Y) (links : List Link) (count
 -- it begins with the first link of the name's key
 pub walked-start : {A Y : Type 0} (index : NameIndex A) (f : Contents → List Y) (segments : List Contents) (name : List ℕ) (start : List Y)
     → IsIndexOf index segments → ((segment : Contents) → has_name name segment ≡ false → f segment ≡ [])
-    → IsWalked (λ n. f (segment_at segments n)) index.links.items (length segments) (first_of index (key_of index.keys (hash_of name))) start
-    (start ++ flat_map f segments)
+    → IsWalked (λ n. f (segment_at segments n)) index.links.items (length segments)
+    (first_of index (key_of index.keys (hash_of name))) start (start ++ flat_map f segments)
 walked-start index f segments name start indexed nothing =
     let key = key_of index.keys (hash_of name) in
     record {
@@ -196,16 +197,16 @@ AreIndexesOf-long (index ∷ indexes) (county ∷ counties) are = ap (λ (n : �
 
 -- the index at a place
 pub IsIndexOf-at : {A : Type 0} (indexes : List (NameIndex A)) (counties : List CountyParts) (n : ℕ) (index : NameIndex A)
-    (county : CountyParts) → AreIndexesOf indexes counties → n < length counties → index ≡ get_or indexes n index
-    → county ≡ get_or counties n county → IsIndexOf index county.segments
-IsIndexOf-at [] [] n index county are inside is is' = absurd (omega (arith, inside))
-IsIndexOf-at [] (other ∷ counties) n index county are inside is is' = absurd are
-IsIndexOf-at (other ∷ indexes) [] n index county are inside is is' = absurd are
-IsIndexOf-at (first ∷ indexes) (other ∷ counties) zero index county are inside is is' =
+    (county : CountyParts) → AreIndexesOf indexes counties → (n < length counties) × (county ≡ get_or counties n county)
+    → index ≡ get_or indexes n index → IsIndexOf index county.segments
+IsIndexOf-at [] [] n index county are at is = absurd (omega (arith, at.0))
+IsIndexOf-at [] (other ∷ counties) n index county are at is = absurd are
+IsIndexOf-at (other ∷ indexes) [] n index county are at is = absurd are
+IsIndexOf-at (first ∷ indexes) (other ∷ counties) zero index county are at is =
     subst (λ index. IsIndexOf index county.segments) (sym is)
-    (subst (λ (county : CountyParts). IsIndexOf first county.segments) (sym is') are.0)
-IsIndexOf-at (first ∷ indexes) (other ∷ counties) (suc n) index county are inside is is' =
-    IsIndexOf-at indexes counties n index county are.1 (omega (arith, inside)) is is'
+    (subst (λ (county : CountyParts). IsIndexOf first county.segments) (sym at.1) are.0)
+IsIndexOf-at (first ∷ indexes) (other ∷ counties) (suc n) index county are at is =
+    IsIndexOf-at indexes counties n index county are.1 (omega (arith, at.0), at.1) is
 
 -- what the elements up to one more give
 pub flat_map-turn : {X Y : Type 0} (f : X → List Y) (now : List Y) (xs : List X) (n : ℕ) (x : X) → (n < length xs) × (x ≡ get_or xs n x)

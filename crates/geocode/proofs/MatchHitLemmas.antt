@@ -1,6 +1,6 @@
 -- The hits of matches.
-use Rattle.std.proofs.Common.{◌≡◌, ℕ, suc, Bool, true, false, ◌&&◌, ◌||◌, if◌then◌else◌, List, [], ◌∷◌, ◌++◌, map, filter, All, Option, Some, None, option_map, is_some}
-use Rattle.std.proofs.Common.{refl, ap, sym, ◌∙◌}
+use Rattle.std.proofs.Common.{◌≡◌, ℕ, suc, Bool, true, false, ◌&&◌, ◌||◌, if◌then◌else◌, List, [], ◌∷◌, ◌++◌, map, filter}
+use Rattle.std.proofs.Common.{All, Option, Some, None, option_map, is_some, refl, ap, sym, ◌∙◌}
 use Rattle.std.specs.List.{cons_option, filter_map, find, flat_map, list_any}
 use Rattle.std.specs.Option.{option_map_or}
 use Rattle.std.proofs.lemmas.List.{map-append}
@@ -106,7 +106,8 @@ fits-name : (street : StreetParts) (name : FullNameFields) → WantsNameAlone st
     → fits street name ≡ name_equals name.fename street.name
 fits-name street name alone =
     and-trues (name_equals name.fename street.name) (agrees street.predir name.fedirp) (agrees street.kind name.fetype)
-    (agrees street.sufdir name.fedirs) (agrees-blank street.predir name.fedirp alone.predir) (agrees-blank street.kind name.fetype alone.kind)
+    (agrees street.sufdir name.fedirs) (agrees-blank street.predir name.fedirp alone.predir)
+    (agrees-blank street.kind name.fetype alone.kind)
     (agrees-blank street.sufdir name.fedirs alone.sufdir)
 
 -- some full name fits where the FENAME of some does

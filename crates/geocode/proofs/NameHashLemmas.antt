@@ -63,5 +63,6 @@ list_any-stricter loose strict (x ∷ xs) stricter none =
 pub has_name-key : (keys : ℕ) (name : List ℕ) (segment : Contents) → has_key keys (key_of keys (hash_of name)) segment ≡ false
     → has_name name segment ≡ false
 has_name-key keys name segment none =
-    list_any-stricter (λ named. nat_eq (key_of keys (hash_of named)) (key_of keys (hash_of name))) (λ named. name_equals named name) (names_of segment)
+    list_any-stricter (λ named. nat_eq (key_of keys (hash_of named)) (key_of keys (hash_of name)))
+    (λ named. name_equals named name) (names_of segment)
     (λ named equal. let same = hash-same named name equal in grind (arith, nat_tests)) none

@@ -61,7 +61,8 @@ pub IsChain-first : (links : List Link) (segment next : ℕ) (segments : List �
     → IsChain (links ++ record { segment = segment; next = next } ∷ []) (length links + 1) (with_first segment segments)
 IsChain-first links segment next [] chain other = IsChain-more links segment next [] chain
 IsChain-first links segment next (first ∷ rest) (next', link, chain) other =
-    let apart : nat_eq first segment ≡ false = sym (ap (λ link. option_map_or (λ (link : Link). nat_eq link.segment segment) link false) link.link) ∙ other in
+    let apart : nat_eq first segment ≡ false =
+    sym (ap (λ link. option_map_or (λ (link : Link). nat_eq link.segment segment) link false) link.link) ∙ other in
     rw apart (IsChain-more links segment next (first ∷ rest) (next', link, chain))
 
 -- and one that is
@@ -69,7 +70,8 @@ pub with_first-same : (links : List Link) (segment number : ℕ) (segments : Lis
     → is_link_of links number segment ≡ true → with_first segment segments ≡ segments
 with_first-same links segment number [] chain is = absurd (grind (arith, nat_tests, common_steps, gets))
 with_first-same links segment number (first ∷ rest) (next', link, chain) is =
-    let same : nat_eq first segment ≡ true = sym (ap (λ link. option_map_or (λ (link : Link). nat_eq link.segment segment) link false) link.link) ∙ is in
+    let same : nat_eq first segment ≡ true =
+    sym (ap (λ link. option_map_or (λ (link : Link). nat_eq link.segment segment) link false) link.link) ∙ is in
     rw same refl
 
 -- a chain of either list
@@ -90,9 +92,9 @@ chain-next segment chain false false new = refl
 
 -- a segment is put before the chains of one more of its names
 pub AddsNames-next : {A : Type 0} (old now new : NameIndex A) (segment : ℕ) (names : List (List ℕ)) (n : ℕ) {name : List ℕ}
-    → Some name ≡ slice_get names n → AddsNames old now segment (take n names) → AddsTo now new (key_of now.keys (hash_of name)) segment
+    → Some name ≡ slice_get names n → AddsNames old now segment (take n names) × AddsTo now new (key_of now.keys (hash_of name)) segment
     → AddsNames old new segment (take (n + 1) names)
-AddsNames-next old now new segment names n {name} is so_far more = record {
+AddsNames-next old now new segment names n {name} is (so_far, more) = record {
   keys = more.keys ∙ so_far.keys;
   chains = λ chains chained fresh q.
       let test : List ℕ → Bool = λ name. nat_eq (key_of old.keys (hash_of name)) q in
@@ -104,7 +106,8 @@ AddsNames-next old now new segment names n {name} is so_far more = record {
       let prior = if before then segment ∷ chains q else chains q in
       let chain = subst
       (λ (key : ℕ). IsChain new.links.items (first_of new q) (if nat_eq key q then with_first segment prior else prior)) key
-      (more.chains (λ q. if list_any (λ name. nat_eq (key_of old.keys (hash_of name)) q) (take n names) then segment ∷ chains q else chains q)
+      (more.chains
+      (λ q. if list_any (λ name. nat_eq (key_of old.keys (hash_of name)) q) (take n names) then segment ∷ chains q else chains q)
       (so_far.chains chains chained fresh) q) in
       subst (λ (test : Bool). IsChain new.links.items (first_of new q) (if test then segment ∷ chains q else chains q)) (sym read)
       (subst (IsChain new.links.items (first_of new q)) (chain-next segment (chains q) before (test name) (fresh q)) chain);

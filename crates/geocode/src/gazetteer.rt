@@ -21,13 +21,13 @@ use tl_segments::{County, NAME_LENGTH};
 
 /// An index of the street names of counties, made once and kept beside them: it doesn't borrow them.
 ///
-/// A county's segments are in chains, by keys of their names: a key is a hash of the name, reduced to an eighth as many keys as there are names, so
-/// in each county [`find`](Self::find) looks at the segments that have the name and at eight others on average, at most. Segments without a name
-/// have a chain of their own.
+/// In each county the segments are in chains by a key of their names: the name's hash, reduced to one key for eight names. [`find`](Self::find)
+/// looks the key up in each county and walks along its chain, which has the segments with the name and, on average, at most eight others.
+/// Segments without a name have a chain of their own.
 ///
-/// Each name of a segment, alternate names included, takes 16 bytes in a chain. The keys take 7 bytes a name at most, if all names have different
-/// keys and the map of the keys has just grown, and 4 mostly. So a county takes at most 23 bytes for each name of its segments, and at most 600
-/// bytes beside that.
+/// Each name of a segment takes 16 bytes, alternate names included, and the keys take at most 7 bytes for each name, if each key is used and the
+/// map of the keys has just grown, and about 4 typically. So a county takes at most 23 bytes for each name of its segments, about 20 typically, and
+/// less than 600 bytes beside that.
 #[derive(Drop)]
 pub struct Gazetteer<A: Allocator> {
     indexes: Vec<NameIndex<A>, A>,

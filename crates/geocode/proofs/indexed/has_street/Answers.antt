@@ -29,7 +29,8 @@ pub returns-then-is_on_street : goal.returns-then-is_on_street
 returns-then-is_on_street g c =
     let street = parts_of c.args.street in
     let segments = c.args.county.now.segments in
-    let on : is_on_street street (segment_at segments c.in-Some.link.segment) ≡ true = sym c.is_on_street.ensures ∙ c.if-is_on_street.true in
+    let on : is_on_street street (segment_at segments c.in-Some.link.segment) ≡ true =
+    sym c.is_on_street.ensures ∙ c.if-is_on_street.true in
     let walked = (walked-next _ _ _ _ _ _ c.loop-link.invariant c.in-Some.ensures).walked (true ∷ [])
     (ap (λ (on : Bool). if on then true ∷ [] else []) (sym on)) in
     ap has_any walked.so_far ∙ sym (list_any-signs street segments)

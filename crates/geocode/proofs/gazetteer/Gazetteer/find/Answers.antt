@@ -12,8 +12,8 @@ push_in_county-requires-clause-of g c =
     let counties = c.args.counties.now in
     let turn = zip_turn counties indexes c.loop-county.yielded c.into_iter-county-iterator.result _ c.next.new.self _ (cc)
     (cc) c.loop-county.yielded_by (c.in-Some.county, c.in-Some.index) c.in-Some.is c.next.ensures.steps in
-    IsIndexOf-at indexes counties (length c.loop-county.yielded) c.in-Some.index.now c.in-Some.county.now c.requires.of turn.0
-    (turn.3 _) (turn.2 _)
+    IsIndexOf-at indexes counties (length c.loop-county.yielded) c.in-Some.index.now c.in-Some.county.now c.requires.of
+    (turn.0, turn.2 _) (turn.3 _)
 
 pub loop-county-preserved : goal.loop-county-preserved
 loop-county-preserved g c =

@@ -8,13 +8,14 @@ use Rattle.geocode.proofs.HitLemmas.{list_any-at, list_any-next}
 use Rattle.geocode.proofs.gazetteer.Gazetteer.has_street.Goals as goal
 
 pub index-requires : goal.index-requires
-index-requires g c = omega (arith, c.loop-place-test.true, AreIndexesOf-long c.args.self.now.indexes.items c.args.counties.now c.requires.of)
+index-requires g c =
+    omega (arith, c.loop-place-test.true, AreIndexesOf-long c.args.self.now.indexes.items c.args.counties.now c.requires.of)
 
 pub has_street-requires-clause-of : goal.has_street-requires-clause-of
 has_street-requires-clause-of g c =
     let inside : c.loop-place.place < length c.args.counties.now = omega (arith, c.loop-place-test.true) in
     IsIndexOf-at c.args.self.now.indexes.items c.args.counties.now c.loop-place.place c.index.result.now c.index-counties-place.result
-    c.requires.of inside c.index.ensures c.index-counties-place.is
+    c.requires.of (inside, c.index-counties-place.is) c.index.ensures
 
 pub returns-then-has_street : goal.returns-then-has_street
 returns-then-has_street g c =

@@ -7,13 +7,14 @@ use Rattle.geocode.proofs.MatchLemmas.{matches_from-next}
 use Rattle.geocode.proofs.gazetteer.Gazetteer.matches.Goals as goal
 
 pub index-requires : goal.index-requires
-index-requires g c = omega (arith, c.loop-place-test.true, AreIndexesOf-long c.args.self.now.indexes.items c.args.counties.now c.requires.of)
+index-requires g c =
+    omega (arith, c.loop-place-test.true, AreIndexesOf-long c.args.self.now.indexes.items c.args.counties.now c.requires.of)
 
 pub push_matches-requires-clause-of : goal.push_matches-requires-clause-of
 push_matches-requires-clause-of g c =
     let inside : c.loop-place.place < length c.args.counties.now = omega (arith, c.loop-place-test.true) in
     IsIndexOf-at c.args.self.now.indexes.items c.args.counties.now c.loop-place.place c.index.result.now c.index-counties-place.result
-    c.requires.of inside c.index.ensures c.index-counties-place.is
+    c.requires.of (inside, c.index-counties-place.is) c.index.ensures
 
 pub loop-place-preserved : goal.loop-place-preserved
 loop-place-preserved g c =

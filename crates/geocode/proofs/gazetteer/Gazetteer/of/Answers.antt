@@ -12,4 +12,5 @@ loop-county-preserved g c =
     let is : IsIndexOf c.in_ok-of.field-0 c.county-item.result.segments =
     subst (IsIndexOf c.in_ok-of.field-0) c.segments.ensures.value c.in_ok-of.ensures in
     subst (λ indexes. AreIndexesOf indexes (take (n + 1) counties)) (sym c.in_ok-push.ensures.items)
-    (AreIndexesOf-next c.loop-county.indexes.items counties n c.in_ok-of.field-0 c.county-item.result (inside, c.county-item.is) c.loop-county.invariant is)
+    (AreIndexesOf-next c.loop-county.indexes.items counties n c.in_ok-of.field-0 c.county-item.result
+    (inside, c.county-item.is) c.loop-county.invariant is)

@@ -33,7 +33,8 @@ returns g c = record {
       let first : ℕ = unwrap_or (get nat_eq c.insert.new.self q) 0 in
       let more : Link = record { segment = segment; next = next } in
       let pushed : c.push.new.self.items ≡ links ++ more ∷ [] = c.in_ok-push.ensures.items in
-      IsChain-cases (nat_eq (key_of c.args.self.now.keys c.args.hash) q) c.push.new.self.items first (with_first segment (chains q)) (chains q)
+      IsChain-cases (nat_eq (key_of c.args.self.now.keys c.args.hash) q) c.push.new.self.items first
+      (with_first segment (chains q)) (chains q)
       (λ same.
       let was : first_of c.args.self.now q ≡ next = grind (arith, nat_tests, common_steps) in
       let at : first ≡ length links + 1 = grind (arith, nat_tests, common_steps) in
