@@ -68,13 +68,15 @@ observe() {
     status=$?
 }
 
-# is_front SIZE FILE: whether `out` is the first SIZE bytes of the file, where `all` is the whole of it, and `rows` any number of rows.
+# is_front SIZE FILE: whether `out` is the first SIZE bytes of the file, where `all` is the whole of it, `rows` any number of rows and `lines` any number of
+# lines.
 is_front() {
     local size
     size=$(stat -c %s out)
     case $1 in
     all) cmp -s out "$2" ;;
     rows) [ $((size % 231)) = 0 ] && cmp -s -n "$size" out "$2" ;;
+    lines) [ -z "$(tail -c 1 out)" ] && cmp -s -n "$size" out "$2" ;;
     *) [ "$size" = "$1" ] && cmp -s -n "$size" out "$2" ;;
     esac
 }
@@ -142,6 +144,8 @@ make_files() {
     printf 'exit 1 score 0\n' > traced
     printf '107000151\tL\t-86475706\t32577369\n' > small.hits
     extractd geocode --data large --number 1785 --name persimmon 01001 > large.hits
+    { echo number,name; yes 1785,persimmon | head -n 2000; } > batch.csv
+    extractd geocode-batch --addresses batch.csv --data small 01001 > batch.places
     printf '\xb7\0\0\0\1\0\0\0\x95\0\0\0\0\0\0\0' > all.words
     printf 'mov r0, 1\nexit\n' > all.text
     # It chooses each segment, too, and asks how many names it has, so types 4, 5 and 6 are kept.
@@ -246,6 +250,7 @@ try_spaces() {
     try_space run rows small.rows 'extractd run --program all.bpf --data small 01001'
     try_space trace 0 traced 'extractd trace --program all.bpf --data small --line 400 --limit 2 01001'
     try_space geocode 0 small.hits 'extractd geocode --data small --number 1785 --name persimmon 01001'
+    try_space batch lines batch.places 'extractd geocode-batch --addresses batch.csv --data small 01001'
     try_space large_run rows large.rows 'extractd run --program asking.bpf --data large 01001'
     try_space large_trace 0 traced 'extractd trace --program all.bpf --data large --line 20000 --limit 2 01001'
     try_space large_geocode 0 large.hits 'extractd geocode --data large --number 1785 --name persimmon 01001'
@@ -273,9 +278,11 @@ try_outputs() {
     local few=('extractd run --program all.bpf --data one 01001' 'extractd verify --program all.bpf' 'extractd dis --program all.bpf'
         'extractd asm --source all.text' 'extractd trace --program all.bpf --data small --line 1 --limit 1 01001'
         'extractd geocode --data small --number 751 --name main 01001' 'extractd compile --filter long_filter.cql'
+        "extractd geocode-batch --addresses $top/examples/addresses.csv --data small 01001"
         'extractd select --where TRUE --data one 01001')
     if [ -w /dev/full ]; then
         try_case 3 'refused 60 Write' 0 nothing "$run > /dev/full"
+        try_case 3 'refused 60 Write' 0 nothing 'extractd geocode-batch --addresses batch.csv --data small 01001 > /dev/full'
         for command in "${few[@]}"; do try_case 3 "$full" 0 nothing "$command > /dev/full"; done
         try_case 1 'refused 10 Empty' 0 nothing 'extractd dis --program nothing > /dev/full'
         try_case 1 '' 0 nothing 'extractd dis --program nothing 2> /dev/full'

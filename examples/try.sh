@@ -26,12 +26,12 @@
 # Then the program over files that are missing or faulty, and the outcomes of a trace: each text of an error has to stand in docs/refusals.md. And
 # examples/verdicts/generated.txt has to be what annotations.py writes.
 #
-# Then 300 filters, whose rows have to be those that SQLite selects, by filters.py.
+# Then 300 filters, whose rows have to be those that SQLite selects, by filters.py, and 1,000 addresses, which have to be where addresses.py finds them.
 #
 # At last exhaustion.sh, which stands beside it: the program without memory, room or descriptors enough.
 #
 # Prints what failed, and ends with 0 where nothing did, else with 1. It needs bash and coreutils, and takes less than two minutes. The blocks ```http
-# need curl, annotations.py and rows.py need python3, filters.py needs Python 3.11, and exhaustion.sh needs curl and python3.
+# need curl, annotations.py and rows.py need python3, filters.py and addresses.py need Python 3.11, and exhaustion.sh needs curl and python3.
 
 set -u
 export LC_ALL=C
@@ -482,6 +482,71 @@ END
     try_shown 'error: --name is 1 to 30 bytes, and "" isn'\''t'
 }
 
+# Batches of addresses: files that aren't such, and what `geocode-batch` can't be asked for.
+try_batches() {
+    local arguments status size text
+    mkdir batch
+    printf 'id,number\n1,751\n' > batch/no_name.csv
+    printf 'number,name\n751,Pe\361a\n' > batch/latin.csv
+    printf 'number,name\n751,Main\n751,"Main\n751,Oak\n' > batch/open.csv
+    { printf 'number,name,note\n751,Main,'; head -c 1048576 /dev/zero | tr '\0' x; printf '\n'; } > batch/long.csv
+    printf 'number,name\r751,Main\r' > batch/returns.csv
+    printf 'number,name\n751,Ma\0in\n123456789012,Main\n751,%s\n' abcdefghijklmnopqrstuvwxyzabcde > batch/odd.csv
+    printf '\357\273\277Name ,NUMBER\r\nmain,751\r\n\r\n' > batch/marked.csv
+    printf 'number,name\n751,"Main\nStreet"\n751,Main\n' > batch/lines.csv
+    while IFS='|' read -r arguments status size text; do
+        try_case $status "$size" "$text" "extractd geocode-batch $arguments"
+    done <<END
+--addresses $top/examples/addresses.csv --data $county 01001|0|641|
+--addresses $top/examples/addresses.csv --data empty 01001|0|426|
+--addresses - --data $county 01001|1|0|refused 100 NoHeader
+--addresses batch/no_name.csv --data $county 01001|1|0|refused 101 line 1 NoColumn
+--addresses batch/latin.csv --data $county 01001|1|0|refused 102 line 2 NotUtf8
+--addresses batch/open.csv --data $county 01001|1|0|refused 103 line 3 OpenQuote
+--addresses batch/long.csv --data $county 01001|1|0|refused 104 line 2 LineTooLong
+--addresses batch/returns.csv --data $county 01001|1|0|refused 105 line 1 NotOneRecord
+--addresses batch/missing.csv --data $county 01001|3|0|error: batch/missing.csv: not found
+--addresses folder --data $county 01001|3|0|error: folder: is a directory
+--addresses batch/open.csv --data faulty 01003|1|0|refused 1 rt1 line 1 WrongLength
+--addresses batch/open.csv --data faulty 01005|3|0|error: faulty/TGR01005.RT1: not found
+--addresses batch/open.csv --data $county|2|0|error: the following required arguments were not provided:*<CODE>...*Usage: extractd geocode-batch *
+END
+    try_lines 'extractd geocode-batch --addresses batch/odd.csv --data $county 01001' <<'END'
+2,no_match,no_such_street,,,,,,,,,,,,
+3,no_match,not_a_number,,,,,,,,,,,,
+4,no_match,name_too_long,,,,,,,,,,,,
+END
+    try_lines 'extractd geocode-batch --addresses batch/marked.csv --data $county 01001' <<'END'
+2,tie,,-86.852619,32.484638,107001116,L,,Main,Blvd,S,36003,01001,701,799
+2,tie,,-86.685761,32.610428,107001350,L,,Main,St,,36067,01001,701,799
+END
+    try_lines 'extractd geocode-batch --addresses batch/lines.csv --data $county 01001' <<'END'
+2,no_match,no_such_street,,,,,,,,,,,,
+4,tie,,-86.852619,32.484638,107001116,L,,Main,Blvd,S,36003,01001,701,799
+4,tie,,-86.685761,32.610428,107001350,L,,Main,St,,36067,01001,701,799
+END
+    try_progress
+}
+
+# try_lines COMMAND: it gives the header of a batch and then the lines of standard input.
+try_lines() {
+    local lines
+    lines=$(cat)
+    try_case 0 '*' '' "$1"
+    if [ "$(tail -n +2 out)" = "$lines" ]; then pass; else fail "$1" "gives $(cat out)"; fi
+}
+
+# A terminal is told how far a batch is, and nothing else is.
+try_progress() {
+    command -v script > /dev/null || { skip "the progress of a batch (there is no script here)"; return; }
+    { printf 'number,name\n'; yes 751,Main | head -n 100000; } > batch/many.csv
+    script -qec "extractd geocode-batch --addresses batch/many.csv --data $county 01001 > out" said < /dev/null > /dev/null
+    if [ "$(wc -l < out)" = 200001 ] && grep -q "$(printf '\r[0-9]* lines')" said; then pass; else
+        fail "geocode-batch tells a terminal how far it is" "$(head -c 400 said)"
+    fi
+    try_case 0 '*' '' "extractd geocode-batch --addresses batch/many.csv --data $county 01001"
+}
+
 # The outcomes of `trace`, and what it can't be asked for.
 try_traces() {
     local arguments status text
@@ -574,7 +639,7 @@ dis --program $'\377'|error: an argument isn't UTF-8|
 --version|extractd 0.1.0|
 END
     try_case 2 0 "*Usage: extractd <COMMAND>*Examples:*Exit status:*extractd 0.1.0" 'extractd --help'
-    for command in select compile run trace geocode verify asm dis serve; do
+    for command in select compile run trace geocode geocode-batch verify asm dis serve; do
         try_case 2 0 "*Usage: extractd $command *Example:*extractd $command *Exit status:*extractd 0.1.0" "extractd $command --help"
     done
 
@@ -606,6 +671,7 @@ END
     try_counties
     try_traces
     try_geocodes
+    try_batches
     try_filter_commands
     cd "$top" || exit 1
 }
@@ -641,6 +707,13 @@ try_filters() {
     if said=$(python3 -B examples/filters.py 300); then tried=$((tried + ${said%% *})); else fail "examples/filters.py" "$said"; fi
 }
 
+# Counties and addresses are drawn, and a second reading of the files answers the same.
+try_addresses() {
+    local said
+    python3 -c 'import sys; sys.exit(sys.version_info < (3, 11))' 2> /dev/null || { skip "examples/addresses.py (there is no Python 3.11 here)"; return; }
+    if said=$(python3 -B examples/addresses.py 1000); then tried=$((tried + ${said%% *})); else fail "examples/addresses.py" "$said"; fi
+}
+
 # A program of 4,003 words, nearly all of them conditional jumps: of it `verify` and the server say the same, too.
 try_long_program() {
     mkdir -p "$scratch/long" && cd "$scratch/long" || exit 1
@@ -662,6 +735,7 @@ done
 try_long_program
 try_rows
 try_filters
+try_addresses
 try_cases
 echo "$tried passed, $failed failed"
 "$top/examples/exhaustion.sh" "$program" || failed=$((failed + 1))
