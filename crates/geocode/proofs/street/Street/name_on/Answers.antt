@@ -41,5 +41,5 @@ returns g c =
                 w'.if-fits.ensures c.loop-n.invariant
             | in_default w' ↦ absurd (read-within names n [] inside w'.in_default.ensures.name)
           ] in
-          sym none ∙ ap (find test) (take_all (n + 1) full_names (omega (arith, w.if-n-n-end.false, c.names-n-end.ensures.value, full_names-short c.args.segment.now))))
+          sym none ∙ ap (find test) (take_all (n + 1) full_names (omega (arith, c.names-n-end.ensures.value, full_names-short c.args.segment.now))))
     ]
