@@ -1,10 +1,14 @@
 -- What was answered is what is replied.
-use Rattle.std.proofs.Common.{◌≡◌, ℕ, Option, None, refl, subst}
+use Rattle.std.proofs.Common.{◌≡◌, ℕ, Option, Some, None, ap, refl, subst}
 use Rattle.std.specs.Prelude.{Result}
 use Rattle.http_reply.specs.Reply.{ReplyParts, reply_text}
 use Rattle.http_reply.specs.declared.status.Status.TheVariants.{NotFound}
-use Rattle.jobs.specs.Table.{Table}
+use Rattle.jobs.specs.Table.{Step, Table}
 use Rattle.jobs.specs.declared.event.Event.{Event}
+use Rattle.jobs.specs.declared.event.Event.TheVariants.{Submit, Turn, Fetch, Drop}
+use Rattle.jobs.specs.declared.event.Reply.{Reply as JobReply}
+use Rattle.jobs.specs.declared.event.Reply.TheVariants.{Submitted, Turned, Rows, Dropped, Refused}
+use Rattle.jobs.specs.declared.fault.JobFault.TheVariants.{Full, NoJob, Program, Memory}
 use Rattle.tl_fields.specs.Device.{Writer}
 use Rattle.tl_fields.specs.Writing.{WritesText}
 use Rattle.tl_fields.specs.declared.writing.WriteFault.{WriteFault}
@@ -18,3 +22,26 @@ writes_such is_reply reply written old new is writes = record { reply = reply; i
 -- an id that isn't one is of no job
 pub of_no_job : (asked : ℕ → Event) (id : Option ℕ) (table : Table) → None ≡ id → AsksJob asked id table (status_reply NotFound) table
 of_no_job asked id table none = subst (λ id. AsksJob asked id table (status_reply NotFound) table) none (refl, refl)
+
+-- an event of the table leaves its counties alone
+pub step_counties : (old : Table) (event : Event) (reply : JobReply) (new : Table) → Step old event reply new → new.counties ≡ old.counties
+step_counties old (Submit program) (Submitted id) new (room, next, code, safe, is) = ap (λ (table : Table). table.counties) is
+step_counties old (Submit program) (Refused Full) new step = ap (λ (table : Table). table.counties) step.1
+step_counties old (Submit program) (Refused (Program fault)) new step = ap (λ (table : Table). table.counties) step.3
+step_counties old (Submit program) (Refused Memory) new step = ap (λ (table : Table). table.counties) step.1
+step_counties old (Turn id) (Turned done total) new (job, there, job', turned, is, done_is, total_is) =
+    ap (λ (table : Table). table.counties) is
+step_counties old (Turn id) (Refused NoJob) new step = ap (λ (table : Table). table.counties) step.1
+step_counties old (Turn id) (Refused Memory) new step = ap (λ (table : Table). table.counties) step.3
+step_counties old (Fetch id) (Rows done total rows) new step = ap (λ (table : Table). table.counties) step.5
+step_counties old (Fetch id) (Refused NoJob) new step = ap (λ (table : Table). table.counties) step.1
+step_counties old (Drop id) Dropped new (there, is) = ap (λ (table : Table). table.counties) is
+step_counties old (Drop id) (Refused NoJob) new step = ap (λ (table : Table). table.counties) step.1
+-- no other replies are given
+step_counties old event reply new none = absurd none
+
+-- nor does what is asked of a job
+pub asked_counties : (asked : ℕ → Event) (id : Option ℕ) (old : Table) (reply : ReplyParts) (new : Table) → AsksJob asked id old reply new
+    → new.counties ≡ old.counties
+asked_counties asked None old reply new same = ap (λ (table : Table). table.counties) same.1
+asked_counties asked (Some id) old reply new told = step_counties old told.event told.said new told.step

@@ -1,13 +1,14 @@
 //! What is answered to the query of a place.
 ghost use Rattle.std.specs.Prelude.{◌≡◌, ◌⊎◌, IfOk, option_map};
 ghost use Rattle.std.specs.Cow.{cow_str_bytes};
+ghost use Rattle.geocode.specs.Gazetteer.{IsGazetteerOf};
 ghost use Rattle.wire.specs.Answer.{GeocodesTo, place_reply};
 ghost use Rattle.wire.specs.Query.{asked_place, first_value};
 ghost use Rattle.wire.specs.Reply.{reply_of};
 
 use crate::answer::Answer;
 use form_urlencoded::{decode, raw_pairs};
-use geocode::{Query, hit_lines};
+use geocode::{Gazetteer, Query, hit_lines};
 use http_reply::{MediaType, Status};
 use refusals::Refusal;
 use std::alloc::{AllocError, Allocator};
@@ -17,12 +18,14 @@ use tl_segments::County;
 /// The lines of the hits of the place that a query asks for.
 pub(crate) fn geocode<A: Allocator + Copy>(
     alloc: A,
+    gazetteer: &Gazetteer<A>,
     counties: &[County<A>],
     query: &str,
 ) -> Answer<'static, A>
+    requires { IsGazetteerOf gazetteer.now counties.now }
     ensures { GeocodesTo counties.now query.now (reply_of result) }
 {
-    match answer_place(alloc, counties, query.as_bytes()) {
+    match answer_place(alloc, gazetteer, counties, query.as_bytes()) {
         Ok(answer) => answer,
         Err(_wanting) => Answer::Refused(Refusal::memory()),
     }
@@ -30,9 +33,11 @@ pub(crate) fn geocode<A: Allocator + Copy>(
 
 fn answer_place<A: Allocator + Copy>(
     alloc: A,
+    gazetteer: &Gazetteer<A>,
     counties: &[County<A>],
     query: &[u8],
 ) -> Result<Answer<'static, A>, AllocError>
+    requires { IsGazetteerOf gazetteer.now counties.now }
     ensures { IfOk result (λ answer. reply_of answer ≡ place_reply counties.now (asked_place query.now)) }
 {
     let number = first_value(alloc, "number", query)?;
@@ -45,7 +50,7 @@ fn answer_place<A: Allocator + Copy>(
     let Ok(place) = Query::of(number.as_bytes(), name.as_bytes(), zip) else {
         return Ok(Answer::Status(Status::BadRequest));
     };
-    let hits = place.find(alloc, counties)?;
+    let hits = place.find_in(alloc, gazetteer, counties)?;
     Ok(Answer::Made {
         media: MediaType::Plain,
         body: hit_lines(alloc, hits.as_slice())?,

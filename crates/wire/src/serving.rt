@@ -122,7 +122,10 @@ impl<A: Allocator + Copy> State<A> {
             Action::Assemble => assemble(self.alloc, body).write(out),
             Action::Disassemble => disassemble(self.alloc, body).write(out),
             Action::Extract => extract(self.alloc, self.jobs.counties(), body).write(out),
-            Action::Geocode => geocode(self.alloc, self.jobs.counties(), asked.query).write(out),
+            Action::Geocode => {
+                let counties = self.jobs.counties();
+                geocode(self.alloc, &self.gazetteer, counties, asked.query).write(out)
+            }
             Action::Submit => tell(&mut self.jobs, Event::Submit(body), out),
             Action::Fetch => fetch(&mut self.jobs, asked.path, out),
             Action::Drop => remove(&mut self.jobs, asked.path, out),

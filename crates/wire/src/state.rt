@@ -5,30 +5,37 @@ ghost use Rattle.wire.specs.State.{new_state};
 ghost use Rattle.wire.specs.Turn.{IsTurn};
 
 use crate::job::next_turn;
+use geocode::Gazetteer;
 use http_routes::Routes;
 use jobs::{Jobs, Reply as JobReply};
 use std::alloc::{AllocError, Allocator, Global};
 use std::marker::Model;
 use tl_segments::County;
 
-/// What a server keeps from one connection to the next: its counties, and the jobs that are open. Contracts see it as a record with the table.
+/// What a server keeps from one connection to the next: its counties, an index of their street names, and the jobs that are open. Contracts see it as a
+/// record with the table.
 #[derive(Drop)]
 pub struct State<A: Allocator> {
     pub(crate) alloc: A,
     pub(crate) routes: Routes,
+    pub(crate) gazetteer: Gazetteer<A>,
     pub(crate) jobs: Jobs<A>,
 }
 
 impl<A: Allocator> Model for State<A> {
+    ghost use Rattle.geocode.specs.Gazetteer.{IsGazetteerOf};
     ghost use Rattle.wire.specs.State.{StateParts};
 
     ghost Value = { StateParts };
 
     ghost view = { λ state. record { table = state.jobs } };
+
+    ghost invariant = { λ state. IsGazetteerOf state.gazetteer state.jobs.counties };
 }
 
 impl<A: Allocator + Copy> State<A> {
-    /// A state with no job, over counties, which it keeps. The routes are kept in `global` memory.
+    /// Returns a state with no job, over counties, which it keeps. Takes memory for an index of their street names from `alloc`, and for the routes from
+    /// `global`.
     pub fn new(
         global: Global,
         alloc: A,
@@ -38,9 +45,11 @@ impl<A: Allocator + Copy> State<A> {
         ensures { IfOk result (λ state. state ≡ new_state counties.items) }
     {
         let routes = Routes::new(global)?;
+        let gazetteer = Gazetteer::of(alloc, counties.as_slice())?;
         Ok(State {
             alloc,
             routes,
+            gazetteer,
             jobs: Jobs::new(alloc, counties),
         })
     }

@@ -29,17 +29,24 @@ const OUT_OF_MEMORY: &[u8] =
     b"HTTP/1.1 503 Service Unavailable\r\nContent-Type: text/plain\r\nContent-Length: 15\r\nConnection: close\r\n\r\nrefused memory\n";
 
 impl<'a> Server<'a> {
-    /// Makes a server over counties, unless its state asks the heap for a growth.
+    /// Makes a server over counties. Before that, each growth that its state asks for is refused once.
     pub fn new(alloc: Global, heap: &'a Refusing<Global>, counties: &str) -> Option<Self> {
-        let counties = counties_of(heap, alloc, counties)?;
-        if counties.len() > COUNTY_LIMIT {
-            return None;
+        for nth in 1..=u64::MAX {
+            let counties = counties_of(heap, alloc, counties)?;
+            if counties.len() > COUNTY_LIMIT {
+                return None;
+            }
+            heap.refuse(nth);
+            let state = State::new(alloc, heap, counties);
+            let growths = heap.count();
+            heap.refuse(0);
+            match state {
+                Ok(state) => return (growths < nth).then_some(Server { alloc, heap, state }),
+                Err(_) if growths != nth => return None,
+                Err(_) => {}
+            }
         }
-        heap.refuse(1);
-        let state = State::new(alloc, heap, counties).ok()?;
-        let growths = heap.count();
-        heap.refuse(0);
-        (growths == 0).then_some(Server { alloc, heap, state })
+        None
     }
 
     /// Makes a turn, and returns `none`, how far the job is, or a refusal.
