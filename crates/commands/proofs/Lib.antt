@@ -9,3 +9,4 @@ mod RunLemmas
 mod TraceLemmas
 mod SelectLemmas
 mod AnswerLemmas
+mod BatchLemmas

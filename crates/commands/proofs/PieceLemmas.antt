@@ -21,6 +21,25 @@ beginning_longer a b text more is = record {
       ∙ sym (take-append-le (min is.count (length text)) text more (min-le_right is.count (length text)))) is.appends;
 }
 
+-- a longer text isn't written whole either
+pub stopped_early : (text more : List ℕ) (fault : WriteFault) (a b : Writer) → WritesText text (Err fault) a b
+    → WritesText (text ++ more) (Err fault) a b
+stopped_early text more fault a b stopped = (beginning_longer a.held b.held text more stopped.0, stopped.1)
+
+-- a text is written after another
+pub written_further : (first second : List ℕ) (a b c : Writer) → WritesText first (Ok tt) a b → WritesText second (Ok tt) b c
+    → WritesText (first ++ second) (Ok tt) a c
+written_further first second a b c before written =
+    (Appends-append a.held b.held c.held first second before.0 written.0, written.1 ∙ before.1)
+
+-- it isn't written whole
+pub stopped_further : (first second more : List ℕ) (fault : WriteFault) (a b c : Writer) → WritesText first (Ok tt) a b
+    → WritesText second (Err fault) b c → WritesText (first ++ (second ++ more)) (Err fault) a c
+stopped_further first second more fault a b c before stopped = (
+  AppendsBeginning-further a.held b.held c.held first (second ++ more) before.0 (beginning_longer b.held c.held second more stopped.0),
+  subst (λ (counts : WriteCounts). CountsFault fault counts c.counts) before.1 stopped.1,
+)
+
 module _ {A : Type 0} (f : A → List ℕ) (xs : List A) (i : ℕ) (d : A) (inside : i < length xs) where
   all_pieces : flat_map f (take i xs) ++ (f (get_or xs i d) ++ flat_map f (drop (suc i) xs)) ≡ flat_map f xs
   all_pieces =

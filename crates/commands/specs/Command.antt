@@ -15,13 +15,14 @@ use Rattle.commands.specs.Failure.{NamesFile, Says, SaysFile, SaysLine, SaysMemo
 use Rattle.commands.specs.Files.{Disk, IsFailed}
 use Rattle.commands.specs.Filter.{IsFilterRefusal}
 use Rattle.commands.specs.Geocode as geocode
+use Rattle.commands.specs.GeocodeBatch as geocode_batch
 use Rattle.commands.specs.Inputs.{IsInput}
 use Rattle.commands.specs.Run as run
 use Rattle.commands.specs.Select as select
 use Rattle.commands.specs.Trace as trace
 use Rattle.commands.specs.Verify as verify
 use Rattle.commands.specs.declared.request.Request.{Request}
-use Rattle.commands.specs.declared.request.Request.TheVariants.{Run, Trace, Geocode, Verify, Assemble, Disassemble, Compile, Select}
+use Rattle.commands.specs.declared.request.Request.TheVariants.{Run, Trace, Geocode, GeocodeBatch, Verify, Assemble, Disassemble, Compile, Select}
 use Rattle.commands.specs.declared.failure.Failure.{Failure}
 use Rattle.commands.specs.declared.failure.Failure.TheVariants.{Refusal, Memory, Write, File, CountyFile, NotUtf8, NoLine, Filter, County, Output}
 
@@ -30,6 +31,7 @@ abbrev pub Writes : Request → (List ℕ → Option (List ℕ)) → Result (Uni
 Writes (Run asked) known result out out' = run.Writes asked known result out out'
 Writes (Trace asked) known result out out' = trace.Writes asked known result out out'
 Writes (Geocode asked) known result out out' = geocode.Writes asked known result out out'
+Writes (GeocodeBatch asked) known result out out' = geocode_batch.Writes asked known result out out'
 Writes (Verify asked) known result out out' = verify.Writes asked known result out out'
 Writes (Assemble asked) known result out out' = assemble.Writes asked known result out out'
 Writes (Disassemble asked) known result out out' = disassemble.Writes asked known result out out'
@@ -45,6 +47,7 @@ abbrev pub IsRefused : Request → (List ℕ → Option (List ℕ)) → RefusalP
 IsRefused (Run asked) known refusal out out' = run.IsRefused asked known refusal out out'
 IsRefused (Trace asked) known refusal out out' = trace.IsRefused asked known refusal out out'
 IsRefused (Geocode asked) known refusal out out' = geocode.IsRefused asked known refusal out out'
+IsRefused (GeocodeBatch asked) known refusal out out' = geocode_batch.IsRefused asked known refusal out out'
 IsRefused (Verify asked) known refusal out out' = verify.IsRefused asked known refusal out out'
 IsRefused (Assemble asked) known refusal out out' = assemble.IsRefused asked known refusal out out'
 IsRefused (Disassemble asked) known refusal out out' = disassemble.IsRefused asked known refusal out out'
@@ -95,6 +98,7 @@ abbrev pub IsFileOf : Request → List ℕ → Type 0
 IsFileOf (Run asked) name = IsInput asked.program.now asked.«data».now asked.code.now name
 IsFileOf (Trace asked) name = IsInput asked.program.now asked.«data».now asked.code.now name
 IsFileOf (Geocode asked) name = IsFileOfCounties asked.«data».now (geocode.codes_of asked) name
+IsFileOf (GeocodeBatch asked) name = geocode_batch.IsFileOf asked name
 IsFileOf (Verify asked) name = name ≡ asked.program.now
 IsFileOf (Assemble asked) name = name ≡ asked.source.now
 IsFileOf (Disassemble asked) name = name ≡ asked.program.now

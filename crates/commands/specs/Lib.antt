@@ -6,6 +6,7 @@ pub mod Inputs
 pub mod Run
 pub mod Trace
 pub mod Geocode
+pub mod GeocodeBatch
 pub mod Verify
 pub mod Assemble
 pub mod Disassemble

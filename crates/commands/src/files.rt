@@ -250,6 +250,7 @@ pub fn read_file<A: Allocator, F: Files>(
     name: &str,
 ) -> Result<Vec<u8, A>, FileFault>
     ensures known { IfOk result (λ bytes. Keeps (F.bytes files.old name.now) (Some bytes.items)) }
+    ensures stay { (other : List ℕ) → F.bytes files.new other ≡ F.bytes files.old other }
     ensures uses { TellsUse result (disk F.bytes F.failed_opens F.failed_reads files.old)
         (disk F.bytes F.failed_opens F.failed_reads files.new) }
 {

@@ -9,6 +9,7 @@ mod disassemble;
 mod failure;
 mod files;
 mod filter;
+mod geocode_batch;
 mod geocoder;
 mod inputs;
 mod line;
@@ -27,6 +28,7 @@ pub use files::{
     FileFault, Files, INPUT_BUFFER, ProgramInputFault, SystemFiles, read_program, read_to_end,
 };
 pub use filter::Compiling;
+pub use geocode_batch::GeocodeBatch;
 pub use geocoder::Geocode;
 pub use line::Line;
 pub use request::Request;

@@ -10,6 +10,7 @@ use crate::compile::Compile;
 use crate::disassemble::Disassemble;
 use crate::failure::{DONE, Failure, USAGE};
 use crate::files::Files;
+use crate::geocode_batch::GeocodeBatch;
 use crate::geocoder::Geocode;
 use crate::run::Run;
 use crate::select::Select;
@@ -24,6 +25,7 @@ pub enum Request<'a> {
     Run(Run<'a>),
     Trace(Trace<'a>),
     Geocode(Geocode<'a>),
+    GeocodeBatch(GeocodeBatch<'a>),
     Verify(Verify<'a>),
     Assemble(Assemble<'a>),
     Disassemble(Disassemble<'a>),
@@ -96,6 +98,7 @@ impl<'a> Request<'a> {
             Request::Run(run) => run.carry_out(alloc, files, out),
             Request::Trace(trace) => trace.carry_out(alloc, files, out),
             Request::Geocode(geocode) => geocode.carry_out(alloc, files, out),
+            Request::GeocodeBatch(batch) => batch.carry_out(alloc, files, out),
             Request::Verify(verify) => verify.carry_out(alloc, files, out),
             Request::Assemble(assemble) => assemble.carry_out(alloc, files, out),
             Request::Disassemble(disassemble) => disassemble.carry_out(alloc, files, out),
