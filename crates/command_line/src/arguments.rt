@@ -19,6 +19,7 @@ macro_rules! help_end {
 mod assemble;
 mod compile;
 mod disassemble;
+mod geocode_batch;
 mod geocoder;
 mod run;
 mod select;
@@ -63,6 +64,7 @@ fn request<'a>(
         "run" => Ok(Request::Run(run::request(matches)?)),
         "trace" => Ok(Request::Trace(trace::request(matches)?)),
         "geocode" => Ok(Request::Geocode(geocoder::request(alloc, matches)?)),
+        "geocode-batch" => Ok(Request::GeocodeBatch(geocode_batch::request(alloc, matches)?)),
         "verify" => Ok(Request::Verify(verify::request(matches)?)),
         "asm" => Ok(Request::Assemble(assemble::request(matches)?)),
         "compile" => Ok(Request::Compile(compile::request(alloc, matches)?)),
@@ -87,6 +89,7 @@ fn program_command<'a>(alloc: Global) -> Result<Command<'a>, AllocError> {
   extractd run --program street.bpf --data tiger 01001 > rows.tsv
   extractd trace --program street.bpf --data tiger --line 12 --limit 4096 01001
   extractd geocode --data tiger --number 151 --name main --zip 36067 01001
+  extractd geocode-batch --addresses addresses.csv --data tiger 01001 > places.csv
   extractd verify --program street.bpf
   extractd asm --source street.s > street.bpf
   extractd dis --program street.bpf
@@ -100,6 +103,7 @@ fn program_command<'a>(alloc: Global) -> Result<Command<'a>, AllocError> {
         .subcommand(run::command(alloc)?)?
         .subcommand(trace::command(alloc)?)?
         .subcommand(geocoder::command(alloc)?)?
+        .subcommand(geocode_batch::command(alloc)?)?
         .subcommand(verify::command(alloc)?)?
         .subcommand(assemble::command(alloc)?)?
         .subcommand(disassemble::command(alloc)?)?

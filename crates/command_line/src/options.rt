@@ -26,6 +26,20 @@ pub fn value<'a>(
     matches.get_str(name).ok_or(ArgumentsFault::Missing(name))
 }
 
+/// The file that a system calls its standard input.
+const STANDARD_INPUT: &str = "/dev/stdin";
+
+/// The name of a file that has to be given. `-` is the standard input.
+pub fn file<'a>(
+    matches: &ArgMatches<'a>,
+    name: &'static str,
+) -> Result<&'a str, ArgumentsFault<'a>> {
+    match value(matches, name)? {
+        "-" => Ok(STANDARD_INPUT),
+        name => Ok(name),
+    }
+}
+
 /// The argument `CODE`, a county, which has to be given.
 pub fn county_option<'a>(alloc: Global) -> Arg<'a> {
     Arg::new(alloc, "code")

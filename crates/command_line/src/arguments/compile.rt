@@ -1,12 +1,9 @@
 //! The arguments of `compile`.
 use crate::fault::ArgumentsFault;
-use crate::options::{compiling, option, score_option, value};
+use crate::options::{compiling, file, option, score_option};
 use clap::{ArgMatches, Command};
 use commands::Compile;
 use std::alloc::{AllocError, Global};
-
-/// The file that a system calls its standard input.
-const STANDARD_INPUT: &str = "/dev/stdin";
 
 pub fn command<'a>(alloc: Global) -> Result<Command<'a>, AllocError> {
     Command::new(alloc, "compile")
@@ -29,12 +26,8 @@ pub fn request<'a>(
     alloc: Global,
     matches: &ArgMatches<'a>,
 ) -> Result<Compile<'a>, ArgumentsFault<'a>> {
-    let filter = match value(matches, "filter")? {
-        "-" => STANDARD_INPUT,
-        name => name,
-    };
     Ok(Compile {
-        filter,
+        filter: file(matches, "filter")?,
         compiling: compiling(alloc, matches)?,
     })
 }

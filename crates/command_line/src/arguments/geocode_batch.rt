@@ -1,0 +1,54 @@
+//! The arguments of `geocode-batch`.
+use crate::fault::ArgumentsFault;
+use crate::options::{codes, counties_option, file, option, value};
+use clap::{ArgMatches, Command};
+use commands::GeocodeBatch;
+use std::alloc::{AllocError, Global};
+
+pub fn command<'a>(alloc: Global) -> Result<Command<'a>, AllocError> {
+    Command::new(alloc, "geocode-batch")
+        .about("Writes where each address of a file is")
+        .after_help(help_end!(
+            "Input, CSV with a header: the columns number and name, and optionally id, zip, predir, type and sufdir.
+
+Output, CSV with a header and a line for each match of an address, or one that gives the reason for none:
+  id                              the address's id, or its line if there is no such column
+  status                          match, tie (matches in several places) or no_match
+  reason                          of no match: no_such_street, no_such_number, other_zip, not_a_number,
+                                  name_too_long or missing
+  longitude, latitude             in decimal degrees
+  tlid, side                      the segment, and L or R
+  fedirp, fename, fetype, fedirs  the name of the street
+  zip, county                     the ZIP code of the side, and the county's code
+  from, to                        the address range
+
+Example:
+  extractd geocode-batch --addresses addresses.csv --data tiger 01001 > places.csv"
+        ))
+        .arg(option(
+            alloc,
+            "addresses",
+            "FILE",
+            "The addresses, as CSV; - is the standard input",
+        ))?
+        .arg(option(
+            alloc,
+            "data",
+            "DIR",
+            "The folder of the TIGER/Line 2006 files",
+        ))?
+        .arg(counties_option(alloc))
+}
+
+/// What the arguments that were matched ask for.
+pub fn request<'a>(
+    alloc: Global,
+    matches: &ArgMatches<'a>,
+) -> Result<GeocodeBatch<'a>, ArgumentsFault<'a>> {
+    Ok(GeocodeBatch {
+        addresses: file(matches, "addresses")?,
+        data: value(matches, "data")?,
+        codes: codes(alloc, matches)?,
+        tables: alloc,
+    })
+}
