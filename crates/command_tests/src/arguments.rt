@@ -61,6 +61,11 @@ extractd geocode --data d --name Main 01001; error:
 extractd geocode --number 1 --name Main 01001; error:
 extractd geocode --data d --number 1 --number 1 --name Main 01001; error:
 extractd geocode --data d --number 1 --name Main --program p.bpf 01001; error:
+extractd geocode-batch --addresses a.csv --data d; error:
+extractd geocode-batch --data d 01001; error:
+extractd geocode-batch --addresses a.csv 01001; error:
+extractd geocode-batch --addresses a.csv --addresses a.csv --data d 01001; error:
+extractd geocode-batch --addresses a.csv --data d 1001; error: CODE is five digits, and "1001" isn't
 extractd serve --data d --port 8080; error: the following required arguments were not provided:
 extractd serve --help; Answers requests
 extractd --help;; extractd serve --data tiger --port 8080 01001
@@ -70,6 +75,8 @@ extractd --help; Extracts the TIGER/Line street segments
 extractd run --help; Writes the rows
 extractd trace --help; Says what
 extractd geocode --help; Writes where
+extractd geocode-batch --help; Writes where each address of a file is; fedirp, fename, fetype, fedirs
+extractd geocode-batch --help;; extractd geocode-batch --addresses addresses.csv --data tiger 01001 > places.csv
 extractd select --help; Writes the rows of the street segments for which a filter is true
 extractd compile --help; Writes the BPF program of a filter
 extractd verify --help; Says whether
@@ -93,12 +100,14 @@ extractd select;; Usage: extractd select --where <TEXT> --data <DIR> <CODE>...
 extractd compile;; Usage: extractd compile --filter <FILE>
 extractd verify;; Usage: extractd verify --program <FILE>
 extractd geocode;; Usage: extractd geocode --data <DIR> --number <N> --name <TEXT> <CODE>...
+extractd geocode-batch;; Usage: extractd geocode-batch --addresses <FILE> --data <DIR> <CODE>...
 extractd asm;; Usage: extractd asm --source <FILE>
 extractd dis;; Usage: extractd dis --program <FILE>
 extractd frob;; Usage: extractd <COMMAND>
 extractd --help;; extractd run --program street.bpf --data tiger 01001 > rows.tsv
 extractd --help;; extractd trace --program street.bpf --data tiger --line 12 --limit 4096 01001
 extractd --help;; extractd geocode --data tiger --number 151 --name main --zip 36067 01001
+extractd --help;; extractd geocode-batch --addresses addresses.csv --data tiger 01001 > places.csv
 extractd --help;; extractd select --where "CFCC LIKE 'A4%' AND ZIPL = 36067" --data tiger 01001 > rows.tsv
 extractd --help;; extractd compile --filter street.cql2 > street.bpf
 extractd --help;; extractd verify --program street.bpf

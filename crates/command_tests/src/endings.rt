@@ -1,5 +1,6 @@
 //! How commands end on files: the tables of these rows.
-use super::cases::Case;
+use super::batches::{BATCHES, WORDS};
+use super::cases::{Case, filled};
 use super::conversions::{DOCUMENTED, PROGRAMS, SOURCES};
 use super::counties::{COUNTIES, OPENINGS};
 use super::devices::{CASES, LONG};
@@ -25,6 +26,15 @@ fn endings(rt: HostRuntime) -> Result<(), Fail> {
         for row in table(rt.alloc(), rows.trim())?.lines() {
             assert!(rt; is_right(rt.alloc(), row)?, "{row}");
         }
+    }
+    Ok(())
+}
+
+#[test]
+fn batches(rt: HostRuntime) -> Result<(), Fail> {
+    let rows = table(rt.alloc(), BATCHES.trim())?;
+    for row in filled(rt.alloc(), &rows, &WORDS)?.lines() {
+        assert!(rt; is_right(rt.alloc(), row)?, "{row}");
     }
     Ok(())
 }

@@ -4,6 +4,8 @@
 #[cfg(test)]
 mod arguments;
 #[cfg(test)]
+mod batches;
+#[cfg(test)]
 mod cases;
 #[cfg(test)]
 mod conversions;

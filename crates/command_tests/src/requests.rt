@@ -1,7 +1,8 @@
 //! Requests of commands on files, made without a command line.
 use super::files::MemoryFiles;
 use commands::{
-    Assemble, Compile, Compiling, Disassemble, Geocode, Request, Run, Select, Trace, Verify,
+    Assemble, Compile, Compiling, Disassemble, Geocode, GeocodeBatch, Request, Run, Select, Trace,
+    Verify,
 };
 use fixtures::{Refusing, Writer};
 use geocode::Query;
@@ -51,6 +52,21 @@ fn request_of<'a>(alloc: Global, words: &[&'a str]) -> Option<Request<'a>> {
                 data,
                 query: Query::of(number.as_bytes(), name.as_bytes(), None).ok()?,
                 codes: codes.to_vec(alloc).ok()?,
+            }))
+        }
+        [
+            "geocode-batch",
+            "--addresses",
+            addresses,
+            "--data",
+            data,
+            codes @ ..,
+        ] => {
+            Some(Request::GeocodeBatch(GeocodeBatch {
+                addresses,
+                data,
+                codes: codes.to_vec(alloc).ok()?,
+                tables: alloc,
             }))
         }
         ["verify", "--program", program] => Some(Request::Verify(Verify { program })),

@@ -1,4 +1,5 @@
 //! Each growth of requests, and each open, read, write and flush of requests and of command lines, fails in turn.
+use super::batches::WORDS;
 use super::cases::{Case, Ending, Faults, filled, parts};
 use super::files::Access;
 use fixtures::{Device, Refusing, cell, table, taken};
@@ -45,6 +46,15 @@ extractd geocode --data d --number 151 --name main 01001;; 1; refused 1 rt1 line
   d/TGR01001.RT1: {rt1 ..227}\n ! reads 228
 extractd geocode --data d --number 151 --name main 01001 01003;; 3; error: d/TGR01003.RT1: not found;
   d/TGR01001.RT1: {rt1}\n
+extractd geocode-batch --addresses a.csv --data d 01001 01003;
+  HEADER2,match,,-86.494898,32.405102,7,L,,Main,,,36067,01003,101,199\n3,no_match,no_such_street,EMPTY\n; 0;;
+  a.csv: number,name\n151,main\n151,elm\n; d/TGR01001.RT1:; d/TGR01003.RT1: {rt1 TLID=7}\n
+extractd geocode-batch --addresses a.csv --data d 01001; HEADERx,match,,-86.494898,32.405102,123456789,L,,Oak,,,36067,01001,101,199\n;
+  0;; a.csv: number,name,id\n151,oak,x\n; d/TGR01001.RT1: {rt1}\n; d/TGR01001.RT4: {rt4}\n; d/TGR01001.RT5: {rt5}\n
+extractd geocode-batch --addresses a.csv --data d 01001;; 1; refused 105 line 3 NotOneRecord;
+  a.csv: number,name\n151,main\n151,main\rx\n; d/TGR01001.RT1: {rt1}\n
+extractd geocode-batch --addresses a.csv --data d 01001;; 1; refused 1 rt1 line 1 WrongLength; a.csv: number,nam;
+  d/TGR01001.RT1: {rt1 ..227}\n ! reads 228
 extractd compile --filter f.cql; {asm mov r6, r1 | mov r0, 1 | exit | mov r0, 0 | exit}; 0;; f.cql: TRUE
 extractd compile --filter f.cql;; 1; refused 90 line 1 column 2 Syntax\nexpected a predicate, TRUE, FALSE or a
   parenthesis; f.cql: (
@@ -252,12 +262,13 @@ impl<'c> Trial<'_, '_, 'c> {
         )
     }
 
-    /// Tells whether the status is that of the way, and nothing is written, but of an extract whole rows.
+    /// Tells whether the status is that of the way, and nothing is written, but of an extract whole rows, and of a batch whole lines if an
+    /// allocation failed.
     fn is_with_rows(&self, ending: &Ending) -> bool {
         let written = taken(&ending.out);
         let are_rows = self.case.written.starts_with(written) && written.ends_with(b"\n");
         ending.is_with(cell(self.way, 2), written)
-            && (written.is_empty() || self.is_extract() && are_rows)
+            && (written.is_empty() || (self.is_extract() || self.is_batch()) && are_rows)
     }
 
     /// Tells whether a text is said, with the county's code on a second line where one of several counties is refused.
@@ -274,6 +285,10 @@ impl<'c> Trial<'_, '_, 'c> {
     /// Tells whether rows are written while the type 1 file is read.
     fn is_extract(&self) -> bool {
         self.is_select() || self.case.row.starts_with("extractd run ")
+    }
+
+    fn is_batch(&self) -> bool {
+        self.case.row.starts_with("extractd geocode-batch ")
     }
 
     /// How many lines of a county's file there are before the read at this place.
@@ -387,7 +402,7 @@ fn is_case_swept(
 
 #[test]
 fn each_read(rt: HostRuntime) -> Result<(), Fail> {
-    for row in table(rt.alloc(), REQUESTS.trim())?.lines() {
+    for row in requests(rt.alloc())?.lines() {
         assert!(rt; is_swept(rt.alloc(), row, INPUTS, false)?, "{row}");
         assert!(rt; is_swept(rt.alloc(), row, LINE_INPUTS, true)?, "{row}");
     }
@@ -396,7 +411,7 @@ fn each_read(rt: HostRuntime) -> Result<(), Fail> {
 
 #[test]
 fn each_write(rt: HostRuntime) -> Result<(), Fail> {
-    for row in table(rt.alloc(), REQUESTS.trim())?.lines() {
+    for row in requests(rt.alloc())?.lines() {
         assert!(rt; is_swept(rt.alloc(), row, OUTPUTS, false)?, "{row}");
         assert!(rt; is_swept(rt.alloc(), row, LINE_OUTPUTS, true)?, "{row}");
     }
@@ -409,6 +424,11 @@ fn each_write_of_arguments(rt: HostRuntime) -> Result<(), Fail> {
         assert!(rt; is_swept(rt.alloc(), row, LINE_OUTPUTS, true)?, "{row}");
     }
     Ok(())
+}
+
+/// The rows of requests.
+fn requests(alloc: Global) -> Result<String, AllocError> {
+    filled(alloc, &table(alloc, REQUESTS.trim())?, &WORDS)
 }
 
 /// Counts the growths of a row's request, each of which was refused once. `None` where it ends otherwise than it has
@@ -427,7 +447,7 @@ fn refused_growths(alloc: Global, row: &str) -> Result<Option<u64>, AllocError> 
 
 #[test]
 fn each_growth(rt: HostRuntime) -> Result<(), Fail> {
-    for row in table(rt.alloc(), REQUESTS.trim())?.lines() {
+    for row in requests(rt.alloc())?.lines() {
         let refused = refused_growths(rt.alloc(), row)?.unwrap_or(0);
         assert!(rt; refused > 0, "{row}");
     }

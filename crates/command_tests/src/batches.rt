@@ -1,0 +1,75 @@
+//! Rows of the command `geocode-batch`. Places are those of `geocodes`, in decimal degrees: house 151 is 50 of 98 parts of the way on the line
+//! of each street.
+
+/// Words that stand in rows for the first line of output, and for the cells that are empty in the line of an address without a match.
+pub const WORDS: [(&str, &str); 2] = [
+    (
+        "HEADER",
+        r"id,status,reason,longitude,latitude,tlid,side,fedirp,fename,fetype,fedirs,zip,county,from,to\n",
+    ),
+    ("EMPTY", ",,,,,,,,,,,"),
+];
+
+pub const BATCHES: &str = r#"
+extractd geocode-batch --addresses a.csv --data d 01001 >
+  a.csv d/TGR01001.RT1 d/TGR01001.RT4 d/TGR01001.RT5 d/TGR01001.RT6;
+  HEADERm,match,,-86.494898,32.405102,123456789,L,,Main,,,36067,01001,101,199\n; 0;;
+  a.csv: id,number,name,zip\nm,151,main,36067\n; d/TGR01001.RT1: {rt1}\n
+extractd geocode-batch --addresses a.csv --data d 01001;
+  HEADER2,match,,-86.494898,32.405102,123456789,R,,Main,,,36067,01001,100,198\n; 0;;
+  a.csv: NUMBER,\x20Name\x20\n\x20150\x20,\x20MAIN\x20\n; d/TGR01001.RT1: {rt1}\n
+extractd geocode-batch --addresses a.csv --data d 01001;
+  HEADERt,tie,,-86.494898,32.405102,7,L,,Oak,,,36067,01001,101,199\nt,tie,,-86.494898,32.410000,8,L,,Oak,,,36067,01001,101,199\n;
+  0;; a.csv: id,number,name\nt,151,oak\n; d/TGR01001.RT1: {rt1}\n{rt1 TLID=7 FENAME=Oak}\n{rt1 TLID=8 FENAME=Oak FRLAT=+32410000}\n
+extractd geocode-batch --addresses a.csv --data d 01001;
+  HEADERt,match,,-86.494898,32.405102,7,L,,Oak,,,36067,01001,101,199\nt,match,,-86.494898,32.405102,8,L,,Oak,,,07001,01001,101,199\n;
+  0;; a.csv: id,number,name\nt,151,oak\n; d/TGR01001.RT1: {rt1 TLID=7 FENAME=Oak}\n{rt1 TLID=8 FENAME=Oak ZIPL=07001}\n
+extractd geocode-batch --addresses a.csv --data d 01001; HEADER2,match,,,,123456789,L,,Main,,,36067,01001,101,199\n; 0;;
+  a.csv: number,name\n151,main\n; d/TGR01001.RT1: {rt1 FRLAT=}\n
+extractd geocode-batch --addresses a.csv --data d 01001;
+  HEADER2,tie,,,,7,L,,Main,,,36067,01001,101,199\n2,tie,,,,7,L,,Main,,,36067,01001,101,199\n; 0;;
+  a.csv: number,name\n151,main\n; d/TGR01001.RT1: {rt1 TLID=7 FRLAT=\n*2}
+extractd geocode-batch --addresses a.csv --data d 01001;
+  HEADER2,match,,-86.494898,32.405102,123456789,L,N,Main,Blvd,SE,36067,01001,101,199\n; 0;;
+  a.csv: sufdir,type,predir,name,number\nse,BLVD,n,main,151\n;
+  d/TGR01001.RT1: {rt1 FEDIRP=N FETYPE=Blvd FEDIRS=SE}\n{rt1 FEDIRP=S FETYPE=Blvd FEDIRS=SE}\n
+extractd geocode-batch --addresses a.csv --data d 01001;
+  HEADER2,match,,-86.494898,32.405102,123456789,L,,Oak,,,36067,01001,101,199\n; 0;; a.csv: number,name\n151,oak\n;
+  d/TGR01001.RT1: {rt1}\n; d/TGR01001.RT4: {rt4}\n; d/TGR01001.RT5: {rt5}\n
+extractd geocode-batch --addresses a.csv --data d 01001;
+  HEADERs,no_match,no_such_street,EMPTY\nn,no_match,no_such_number,EMPTY\nz,no_match,other_zip,EMPTY\nd,no_match,not_a_number,EMPTY\n; 0;;
+  a.csv: number,name,id,zip\n151,elm,s,\n99,main,n,\n151,main,z,36066\n151a,main,d,\n; d/TGR01001.RT1: {rt1}\n
+extractd geocode-batch --addresses a.csv --data d 01001;
+  HEADER2,no_match,name_too_long,EMPTY\n3,no_match,missing,EMPTY\n4,no_match,missing,EMPTY\n5,no_match,not_a_number,EMPTY\n; 0;;
+  a.csv: number,name,zip\n151,{x*31},\n,main,\n151,,\n151,main,x\n; d/TGR01001.RT1: {rt1}\n
+extractd geocode-batch --addresses a.csv --data d 01001 01003;
+  HEADERa,match,,-86.494898,32.405102,7,L,,Main,,,36067,01003,101,199\nb,no_match,no_such_street,EMPTY\n; 0;;
+  a.csv: id,number,name\na,151,main\nb,151,elm\n; d/TGR01001.RT1: {rt1 FENAME=Oak}\n; d/TGR01003.RT1: {rt1 TLID=7}\n
+extractd geocode-batch --addresses a.csv --data d 01001;
+  HEADER"a,""b""",no_match,no_such_street,EMPTY\n\x20c\x20,no_match,no_such_street,EMPTY\n,no_match,missing,EMPTY\n; 0;;
+  a.csv: id,number,name\r\n"a,""b""",151,"e\nlm"\r\n\r\n\x20c\x20,151,elm\r\n,\r\n; d/TGR01001.RT1: {rt1}\n
+extractd geocode-batch --addresses a.csv --data d 01001; HEADER; 0;; a.csv: number,name; d/TGR01001.RT1: {rt1}\n
+extractd geocode-batch --addresses a.csv --data d 01001; HEADER2,no_match,no_such_street,EMPTY\n; 0;;
+  a.csv: number,name\n151,main\n; d/TGR01001.RT1:
+extractd geocode-batch --addresses a.csv --data d 01001;; 1; refused 100 NoHeader; a.csv:; d/TGR01001.RT1: {rt1}\n
+extractd geocode-batch --addresses a.csv --data d 01001;; 1; refused 101 line 1 NoColumn; a.csv: number,nam\n151,main\n;
+  d/TGR01001.RT1: {rt1}\n
+extractd geocode-batch --addresses a.csv --data d 01001;; 1; refused 102 line 3 NotUtf8;
+  a.csv: number,name\n151,main\n151,\xff\n; d/TGR01001.RT1: {rt1}\n
+extractd geocode-batch --addresses a.csv --data d 01001;; 1; refused 103 line 2 OpenQuote;
+  a.csv: number,name\n151,"main\n151,main\n; d/TGR01001.RT1: {rt1}\n
+extractd geocode-batch --addresses a.csv --data d 01001;; 1; refused 104 line 3 LineTooLong;
+  a.csv: number,name\n151,main\n151,{x*65532}\n; d/TGR01001.RT1: {rt1}\n
+extractd geocode-batch --addresses a.csv --data d 01001; HEADER2,no_match,name_too_long,EMPTY\n; 0;;
+  a.csv: number,name\n151,{x*65531}\n; d/TGR01001.RT1: {rt1}\n
+extractd geocode-batch --addresses a.csv --data d 01001;; 1; refused 105 line 2 NotOneRecord;
+  a.csv: number,name\n151,main\r151,main\n; d/TGR01001.RT1: {rt1}\n
+extractd geocode-batch --addresses a.csv --data d 01001 > a.csv;; 3; error: a.csv: not found; d/TGR01001.RT1: {rt1}\n
+extractd geocode-batch --addresses - --data d 01001 > /dev/stdin;; 3; error: /dev/stdin: not found
+extractd geocode-batch --addresses a.csv --data d 01001 > a.csv;; 3; error: a.csv: is a directory;
+  a.csv: ! call 1 directory; d/TGR01001.RT1: {rt1}\n
+extractd geocode-batch --addresses a.csv --data d 01001;; 1; refused 1 rt1 line 2 WrongLength; a.csv: number,nam\n;
+  d/TGR01001.RT1: {rt1}\n{rt1 ..227}\n
+extractd geocode-batch --addresses a.csv --data d 01001 01003;; 3; error: d/TGR01003.RT1: not found;
+  a.csv: number,name\n151,"main\n; d/TGR01001.RT1: {rt1}\n
+"#;
