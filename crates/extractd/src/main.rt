@@ -4,12 +4,14 @@
 ghost use Rattle.std.specs.Prelude.{◌≡◌, ◌≢◌, IfErr, IfOk};
 ghost use Rattle.command_line.specs.declared.fault.ArgumentsFault.TheVariants.{Memory};
 
+mod progress;
 mod serving;
 
 use command_line::{ArgumentsFault, Invocation, read_arguments};
 use commands::{Request, SystemFiles};
+use progress::{Progress, terminal_start};
 use serving::serve;
-use std::io::BufWriter;
+use std::io::{BufWriter, Write};
 use std::process::ExitCode;
 use std::{env, io};
 use tl_fields::{CountedWrite, Counting};
@@ -71,10 +73,27 @@ fn answer_request<E: CountedWrite>(
     let out = BufWriter::with_capacity(rt.alloc(), OUTPUT_BUFFER, io::writer(rt)).map_err(
         |_wanting| ArgumentsFault::Memory,
     )?;
-    Ok(request.answer(
+    let start = match &request {
+        Request::GeocodeBatch(_) => terminal_start(rt),
+        _ => None,
+    };
+    Ok(match start {
+        Some(start) => answer_to(rt, request, Progress::new(rt, start, out), errors),
+        None => answer_to(rt, request, out, errors),
+    })
+}
+
+/// Does what is asked for over the system's files.
+fn answer_to<W: Write + Drop, E: CountedWrite>(
+    rt: &HostRuntime,
+    request: Request<'_>,
+    out: W,
+    errors: &mut E,
+) -> u8 {
+    request.answer(
         rt.alloc(),
         &mut SystemFiles::new(rt),
         &mut Counting::new(out),
         errors,
-    ))
+    )
 }

@@ -1,0 +1,94 @@
+//! How many lines were written, shown on a terminal while a command works.
+ghost use Rattle.std.specs.Io.{WritesAtMost};
+ghost use Rattle.std.specs.Io.KnownBytes.{Keeps, WriteAppends};
+
+use std::io;
+use std::io::{IsTerminal, Write};
+use std::time::{Duration, Instant};
+
+// The count is shown at most once in so many milliseconds.
+const PERIOD: u64 = 100;
+
+/// An output that counts its lines on standard error. A write to standard error that fails changes nothing.
+#[derive(Drop)]
+pub struct Progress<'a, W> {
+    out: W,
+    count: LineCount<'a>,
+}
+
+/// How many lines were written, and when that was shown last.
+#[derive(Drop)]
+struct LineCount<'a> {
+    rt: &'a HostRuntime,
+    lines: u64,
+    shown: Instant,
+}
+
+impl<'a, W> Progress<'a, W> {
+    /// Starts with no lines at this moment.
+    pub fn new(rt: &'a HostRuntime, start: Instant, out: W) -> Self {
+        Progress {
+            out,
+            count: LineCount {
+                rt,
+                lines: 0,
+                shown: start,
+            },
+        }
+    }
+}
+
+/// Returns the current time if standard error is a terminal.
+pub fn terminal_start(rt: &HostRuntime) -> Option<Instant> {
+    if !rt.stderr().is_terminal() {
+        return None;
+    }
+    Instant::now(rt).ok()
+}
+
+impl LineCount<'_> {
+    /// Counts the line feeds of bytes, and shows the count if it is due.
+    fn add(&mut self, bytes: &[u8]) {
+        let lines = bytes.iter().filter(|byte| **byte == b'\n').count();
+        self.lines = self.lines.wrapping_add(lines as u64);
+        let Ok(now) = Instant::now(self.rt) else {
+            return;
+        };
+        if now.duration_since(self.shown) >= Duration::from_millis(PERIOD) {
+            self.shown = now;
+            self.show();
+        }
+    }
+
+    /// Shows the count. What is written next to the terminal overwrites it.
+    fn show(&self) {
+        let lines = self.lines;
+        let _ = write!(self.rt.stderr(), "\x1b[K{lines} lines\r");
+    }
+
+    /// Clears the line of the count.
+    fn clear(&self) {
+        let _ = write!(self.rt.stderr(), "\r\x1b[K");
+    }
+}
+
+impl<W: Write> Write for Progress<'_, W> {
+    ghost contents = { λ progress. W.contents progress.out };
+
+    fn write(&mut self, buf: &[u8]) -> io::Result<usize>
+        ensures bound { WritesAtMost result buf.now }
+        ensures bytes { WriteAppends (W.contents self.old.out) (W.contents self.new.out) result buf.now }
+    {
+        let taken = self.out.write(buf)?;
+        self.count.add(&buf[..taken]);
+        Ok(taken)
+    }
+
+    fn flush(&mut self) -> io::Result<()>
+        ensures bytes { Keeps (W.contents self.old.out) (W.contents self.new.out) }
+    {
+        let flushed = self.out.flush();
+        self.count.clear();
+        flushed
+    }
+}
