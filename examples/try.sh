@@ -541,7 +541,7 @@ try_progress() {
     command -v script > /dev/null || { skip "the progress of a batch (there is no script here)"; return; }
     { printf 'number,name\n'; yes 751,Main | head -n 100000; } > batch/many.csv
     script -qec "extractd geocode-batch --addresses batch/many.csv --data $county 01001 > out" said < /dev/null > /dev/null
-    if [ "$(wc -l < out)" = 200001 ] && grep -q "$(printf '\r[0-9]* lines')" said; then pass; else
+    if [ "$(wc -l < out)" = 200001 ] && grep -q '[0-9] lines' said; then pass; else
         fail "geocode-batch tells a terminal how far it is" "$(head -c 400 said)"
     fi
     try_case 0 '*' '' "extractd geocode-batch --addresses batch/many.csv --data $county 01001"
