@@ -1,11 +1,13 @@
 -- What holds of the texts that a file is cut into.
-use Rattle.std.proofs.Common.{◌≡◌, ◌≢◌, ◌∙◌, ◌⊎◌, ℕ, zero, suc, Bool, true, false, not, ◌&&◌, List, [], ◌∷◌, ◌++◌, Some, length, take, refl, ap, sym, inl, inr, arith}
+use Rattle.std.proofs.Common.{◌≡◌, ◌≢◌, ◌∙◌, ◌⊎◌, ℕ, zero, suc, Bool, true, false, not, ◌&&◌, List, [], ◌∷◌, ◌++◌}
+use Rattle.std.proofs.Common.{Some, length, take, refl, ap, sym, inl, inr, arith}
 use Rattle.std.specs.Prelude.{slice_get, ◌+◌, ◌%◌, ◌==◌, if◌then◌else◌}
 use Rattle.std.specs.List.{concat, fold}
 use Rattle.std.proofs.lemmas.List.Sums.{sum_by-cons}
 use Rattle.std.proofs.lemmas.Bool.{and_parts, cases_Bool}
 use Rattle.std.proofs.lemmas.Bool.Decides.{nat_tests}
-use Rattle.addresses.specs.RecordText.{IsFirstText, inside_after, is_line_feed, is_open, is_quotation_mark, joined, quotation_marks, record_texts, texts_from, with_byte}
+use Rattle.addresses.specs.RecordText.{IsFirstText, inside_after, is_line_feed, is_open, is_quotation_mark, joined}
+use Rattle.addresses.specs.RecordText.{quotation_marks, record_texts, texts_from, with_byte}
 
 concat-joined : (byte : ℕ) (texts : List (List ℕ)) → concat (joined byte texts) ≡ byte ∷ concat texts
 concat-joined byte [] = refl

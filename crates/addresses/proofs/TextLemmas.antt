@@ -1,5 +1,6 @@
 -- A scan for the end of a file's first record.
-use Rattle.std.proofs.Common.{◌≡◌, ◌≢◌, ◌∙◌, ℕ, ◌+◌, ◌<◌, ◌≤◌, Bool, true, false, not, ◌&&◌, List, [], ◌∷◌, ◌++◌, length, take, drop, get_or, refl, ap, sym, subst, drop-cons, add-one, arith}
+use Rattle.std.proofs.Common.{◌≡◌, ◌≢◌, ◌∙◌, ℕ, ◌+◌, ◌<◌, ◌≤◌, Bool, true, false, not, ◌&&◌, List, [], ◌∷◌, ◌++◌}
+use Rattle.std.proofs.Common.{length, take, drop, get_or, refl, ap, sym, subst, drop-cons, add-one, arith}
 use Rattle.std.proofs.Math.Seq.{take-suc}
 use Rattle.std.proofs.lemmas.List.{drop_all, take_all}
 use Rattle.std.proofs.lemmas.Bool.Decides.{nat_tests}
@@ -23,7 +24,7 @@ all_joined-nil : (x : ℕ) (xs : List ℕ) → all_joined (x ∷ xs) [] ≡ (x �
 all_joined-nil x [] = refl
 all_joined-nil x (y ∷ ys) = ap (joined x) (all_joined-nil y ys)
 
--- so many bytes of a file were scanned, and its first record goes on after them
+-- these bytes of a file were scanned, and its first record goes on after them
 pub record IsScanned (file : List ℕ) (at : ℕ) (inside : Bool) : Type 0 where
   pub within : inside ≡ is_open (take at file)
   pub texts : record_texts file ≡ all_joined (take at file) (texts_from inside (drop at file))

@@ -100,7 +100,7 @@ module _ (codes : List (List ℕ)) (counties : List CountyParts) where
       append_assoc header (flat_map (lines_of codes counties) rows) (flat_map (lines_of codes counties) later)
       ∙ ap (λ text. header ++ text) (sym (flat_map-append (lines_of codes counties) rows later))
 
-  -- the lines of one more address are written behind it
+  -- the lines of one more address are written after it
   row_written : (rows : List AddressParts) (address : AddressParts) (a b c : Writer)
       → WritesText (lines_of_all codes counties rows) (Ok tt) a b → WritesText (lines_of codes counties address) (Ok tt) b c
       → WritesText (lines_of_all codes counties (rows ++ address ∷ [])) (Ok tt) a c

@@ -62,7 +62,7 @@ pub record Writes (batch : GeocodeBatch) (known : List ℕ → Option (List ℕ)
   pub are_addresses : AreAddressesOf inputs.file addresses
   pub written : WritesText (output inputs addresses) result out out'
 
--- the header and the lines of the first so many addresses were written
+-- the header and the lines of the first `count` addresses were written
 pub record WritesFirst (batch : GeocodeBatch) (known : List ℕ → Option (List ℕ)) (out out' : Writer) : Type 0 where
   pub inputs : Inputs batch known
   pub addresses : List AddressParts
@@ -71,7 +71,7 @@ pub record WritesFirst (batch : GeocodeBatch) (known : List ℕ → Option (List
   pub written : WritesText (output inputs (take count addresses)) (Ok tt) out out'
 
 -- What `geocode-batch` is refused for: one of the counties, or the file of addresses, and then nothing was written; or an allocation that
--- failed, and then nothing was written, or the header and the lines of the first so many addresses.
+-- failed, and then nothing was written, or the header and the lines of the first few addresses.
 pub data IsRefused (batch : GeocodeBatch) (known : List ℕ → Option (List ℕ)) (refusal : RefusalParts) (out out' : Writer) : Type 0 where
   of_county : HaveRefusedCounty known batch.«data».now (codes_of batch) refusal → out' ≡ out → IsRefused batch known refusal out out'
   of_addresses : (inputs : Inputs batch known) (fault : AddressFault) → IsFaultOf inputs.file fault → refusal ≡ address_fault.refusal fault
@@ -85,7 +85,7 @@ WritesUnlessMemory text WritesBefore (Err (Write fault)) out out' = WritesText t
 WritesUnlessMemory text WritesBefore (Err (Refusal refusal)) out out' = (refusal ≡ memory) × WritesBefore out out'
 WritesUnlessMemory text WritesBefore (Err failure) out out' = ⊥
 
--- the same of all addresses: before an allocation failed, the output for the first so many was written
+-- the same for all addresses: before an allocation failed, the output for the first `count` of them was written
 abbrev pub WritesBatch : (List AddressParts → List ℕ) → List AddressParts → Result (Unit {0}) Failure → Writer → Writer → Type 0
 WritesBatch output addresses result out out' = WritesUnlessMemory (output addresses)
     (λ before after. (count : ℕ) × WritesText (output (take count addresses)) (Ok tt) before after) result out out'

@@ -6,7 +6,7 @@ use std::io;
 use std::io::{IsTerminal, Write};
 use std::time::{Duration, Instant};
 
-// The count is shown at most once in so many milliseconds.
+// In milliseconds: the count isn't shown more often.
 const PERIOD: u64 = 100;
 
 /// An output that counts its lines on standard error. A write to standard error that fails changes nothing.

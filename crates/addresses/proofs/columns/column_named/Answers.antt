@@ -9,7 +9,8 @@ use Rattle.addresses.proofs.columns.column_named.Goals.{in-Some+else-is_named, i
 pub returns-then-is_named : goal.returns-then-is_named
 returns-then-is_named c =
     sym (c.loop-column.invariant
-    ∙ is-column (is_named c.args.name.now) (fields_of c.args.header.now) c.loop-column.column c.in-Some.cell.now (sym c.in-Some.ensures.value) (sym c.if-is_named.ensures))
+    ∙ is-column (is_named c.args.name.now) (fields_of c.args.header.now) c.loop-column.column c.in-Some.cell.now
+    (sym c.in-Some.ensures.value) (sym c.if-is_named.ensures))
 
 pub loop-column-preserved : goal.loop-column-preserved
 loop-column-preserved c =

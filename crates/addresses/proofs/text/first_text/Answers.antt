@@ -1,6 +1,7 @@
 use Rattle.std.proofs.Common.{◌≡◌, ◌∙◌, ◌&&◌, not, false, inl, inr, sym, ap, get_or, refl}
 use Rattle.addresses.specs.RecordText.{is_line_feed, is_open}
-use Rattle.addresses.proofs.TextLemmas.{IsNextByte, feed-inside, is-feed, not-feed, open-next, open-whole, scanned-end, scanned-next, scanned-none, scanned-whole}
+use Rattle.addresses.proofs.TextLemmas.{IsNextByte, feed-inside, is-feed, not-feed, open-next, open-whole}
+use Rattle.addresses.proofs.TextLemmas.{scanned-end, scanned-next, scanned-none, scanned-whole}
 use Rattle.addresses.proofs.text.first_text.Goals as goal
 
 pub loop-at-init : goal.loop-at-init
