@@ -9,14 +9,16 @@ use Rattle.std.proofs.lemmas.List.{append-nil}
 use Rattle.std.proofs.lemmas.Option.{get_or_from_slice_get, gets, slice_get-get_or}
 use Rattle.tl_segments.specs.Segment.{Contents, blank_segment}
 use Rattle.tl_segments.specs.County.{AreTlids, CountyParts, tlid_of}
-use Rattle.geocode.specs.Gazetteer.{AreIndexesOf, hits_if_named, segment_at}
+use Rattle.geocode.specs.Gazetteer.{AreIndexesOf, hits_if_named}
 use Rattle.geocode.specs.Hits.{has_name, hits_on_segment}
 use Rattle.geocode.specs.NameHash.{hash_of, key_of}
-use Rattle.geocode.specs.NameIndex.{IsChain, IsIndexOf, first_of, has_key, link_at, numbers_with}
+use Rattle.geocode.specs.NameIndex.{IsChain, IsIndexOf, first_of, has_key, link_at, numbers_with, segment_at}
+use Rattle.geocode.specs.Span.{IncludesHits, covers}
 use Rattle.geocode.specs.declared.hit.Hit.{Hit}
 use Rattle.geocode.specs.declared.hits.House.{House}
 use Rattle.geocode.specs.declared.name_index.Link.{Link}
 use Rattle.geocode.specs.declared.name_index.NameIndex.{NameIndex}
+use Rattle.geocode.specs.declared.span.Span.{Span}
 use Rattle.geocode.proofs.HitLemmas.{flat_map-at, tlid_at, tlids-long}
 use Rattle.geocode.proofs.NameHashLemmas.{has_name-key}
 
@@ -106,7 +108,7 @@ walked-start index f segments name start indexed nothing =
     let key = key_of index.keys (hash_of name) in
     record {
       rest = numbers_with (has_key index.keys key) 0 segments;
-      chain = indexed key;
+      chain = indexed.chains key;
       below = numbers-below (has_key index.keys key) (length segments) 0 segments (omega arith);
       so_far = ap (λ ys. start ++ ys) (numbers-give f (has_key index.keys key) segments 0 segments refl
           (λ segment none. nothing segment (has_name-key index.keys name segment none)));
@@ -118,7 +120,7 @@ chain-link : (links : List Link) (number : ℕ) (numbers : List ℕ) (link : Lin
     → (rest : List ℕ) × (numbers ≡ link.segment ∷ rest) × (link.next < number) × IsChain links link.next rest
 chain-link links number [] link chain is = absurd (grind (arith, nat_tests, common_steps, gets))
 chain-link links number (n ∷ numbers) link (next, at, rest) is =
-    let same : ◌≡◌ {A = Link} (record { segment = n; next = next }) link =
+    let same : ◌≡◌ {A = Link} (record { segment = n; span = at.span; next = next }) link =
     let both = sym at.link ∙ sym is in cc in (
       numbers,
       ap (λ (link : Link). link.segment ∷ numbers) same,
@@ -149,6 +151,13 @@ walked-next f links count number now whole {link} walked is =
       };
     }
 
+-- a link whose segment gives nothing is passed over
+pub walked-past : {Y : Type 0} (f : ℕ → List Y) (links : List Link) (count number : ℕ) (now whole : List Y) {link : Link}
+    → IsWalked f links count number now whole → Some link ≡ link_at links number → f link.segment ≡ []
+    → IsWalked f links count link.next now whole
+walked-past f links count number now whole {link} walked is nothing =
+    (walked-next f links count number now whole walked is).walked now (sym (append-nil now) ∙ ap (λ ys. now ++ ys) (sym nothing))
+
 -- after the last link it has all
 pub walked-end : {Y : Type 0} (f : ℕ → List Y) (links : List Link) (count number : ℕ) (now whole : List Y)
     → IsWalked f links count number now whole → None ≡ link_at links number → now ≡ whole
@@ -169,6 +178,15 @@ hits-walked index segments name house start indexed =
     (first_of index (key_of index.keys (hash_of name))) start (start ++ hits))
     (sym (flat_map-filter (has_name name) (hits_on_segment house) segments))
     (walked-start index (hits_if_named name house) segments name start indexed nothing)
+
+-- a segment whose span doesn't cover the house number has no hits
+pub hits-uncovered : (name : List ℕ) (house : House) (span : Span) (segment : Contents) → IncludesHits span segment
+    → covers span house.number ≡ false → hits_if_named name house segment ≡ []
+hits-uncovered name house span segment includes none = by (has_name name segment) (includes house none)
+  where
+    by : (named : Bool) → hits_on_segment house segment ≡ [] → (if named then hits_on_segment house segment else []) ≡ []
+    by true nothing = nothing
+    by false nothing = refl
 
 -- the indexes of counties, and one more
 AreIndexesOf-push : {A : Type 0} (indexes : List (NameIndex A)) (counties : List CountyParts) (index : NameIndex A) (county : CountyParts)

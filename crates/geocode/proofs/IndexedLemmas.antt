@@ -8,11 +8,10 @@ use Rattle.tl_segments.specs.FullName.{all_with_affixes, own_full_name, with_aff
 use Rattle.tl_segments.specs.Name.{name_equals}
 use Rattle.tl_segments.specs.Segment.{Contents}
 use Rattle.tl_segments.specs.declared.full_name.FullNameFields.{FullNameFields}
-use Rattle.geocode.specs.Gazetteer.{segment_at}
 use Rattle.geocode.specs.Hits.{has_name}
 use Rattle.geocode.specs.Matches.{MatchParts, matches_on_segment, matches_under}
 use Rattle.geocode.specs.NameHash.{hash_of, key_of}
-use Rattle.geocode.specs.NameIndex.{IsIndexOf, first_of}
+use Rattle.geocode.specs.NameIndex.{IsIndexOf, first_of, segment_at}
 use Rattle.geocode.specs.Street.{StreetParts, fits, is_on_street, name_on}
 use Rattle.geocode.specs.declared.hits.House.{House}
 use Rattle.geocode.specs.declared.name_index.NameIndex.{NameIndex}

@@ -7,3 +7,4 @@ mod MatchLemmas
 mod NameHashLemmas
 mod NameIndexLemmas
 mod QueryLemmas
+mod SpanLemmas

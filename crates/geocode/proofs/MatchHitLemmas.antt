@@ -17,11 +17,13 @@ use Rattle.geocode.specs.Hits.{find as find_hits, has_name, hit_on, hits_in_coun
 use Rattle.geocode.specs.Matches.{MatchParts, NamedSegment, hits_on_street, matches, matches_from, matches_in_county}
 use Rattle.geocode.specs.Matches.{matches_on_range, matches_on_segment, matches_under}
 use Rattle.geocode.specs.Sides.{side_of}
+use Rattle.geocode.specs.Span.{IncludesHits, covers}
 use Rattle.geocode.specs.Street.{StreetParts, WantsNameAlone, agrees, fits, is_on_street, name_on}
 use Rattle.geocode.specs.declared.hit.Hit.{Hit}
 use Rattle.geocode.specs.declared.hit.Side.{Side}
 use Rattle.geocode.specs.declared.hit.Side.TheVariants.{Left, Right}
 use Rattle.geocode.specs.declared.hits.House.{House}
+use Rattle.geocode.specs.declared.span.Span.{Span}
 use Rattle.geocode.proofs.GazetteerLemmas.{flat_map-filter}
 
 -- the parts of what a list gives
@@ -67,6 +69,21 @@ hits-segment street house place segment = by (name_on street segment)
         ≡ (if is_some name then hits_on_segment house segment else [])
     by None = refl
     by (Some name) = hits-under house (record { county = place; segment = segment; name = name })
+
+none-of-map : {X Y : Type 0} (f : X → Y) (xs : List X) → map f xs ≡ [] → xs ≡ []
+none-of-map f [] none = refl
+none-of-map f (x ∷ xs) none = absurd (cc)
+
+-- a segment whose span doesn't cover the house number has no matches
+pub matches-uncovered : (street : StreetParts) (house : House) (place : ℕ) (span : Span) (segment : Contents) → IncludesHits span segment
+    → covers span house.number ≡ false → matches_on_segment street house place segment ≡ []
+matches-uncovered street house place span segment includes none =
+    none-of-map (λ (found : MatchParts). found.hit) (matches_on_segment street house place segment)
+    (hits-segment street house place segment ∙ by (is_on_street street segment) (includes house none))
+  where
+    by : (on : Bool) → hits_on_segment house segment ≡ [] → (if on then hits_on_segment house segment else []) ≡ []
+    by true nothing = nothing
+    by false nothing = refl
 
 -- the hits of a county's matches
 hits-county : (street : StreetParts) (house : House) (place : ℕ) (county : CountyParts)

@@ -1,9 +1,10 @@
 -- Chains of segments by the keys of their names.
 use Rattle.std.proofs.Common.{◌≡◌, ℕ, ◌+◌, ◌<◌, ◌≤◌, nat_eq, Bool, true, false, if◌then◌else◌, List, [], ◌∷◌, ◌++◌, length}
 use Rattle.std.proofs.Common.{get_or, slice_get, Some, refl, ap, sym, ◌∙◌, subst, arith}
-use Rattle.std.proofs.Common.{◌||◌, take, drop, drop-cons, add-one}
+use Rattle.std.proofs.Common.{◌-◌, ◌||◌, nat_le, None, take, drop, drop-cons, add-one}
 use Rattle.std.specs.List.{list_any}
 use Rattle.std.specs.Option.{option_map_or}
+use Rattle.std.proofs.lemmas.List.Elements.{All-get_or, All-push}
 use Rattle.std.proofs.lemmas.List.Folds.{list_any_more}
 use Rattle.std.proofs.lemmas.Option.{get_or_from_slice_get, slice_get_within}
 use Rattle.tl_segments.specs.Segment.{Contents, names_of}
@@ -11,10 +12,12 @@ use Rattle.std.proofs.lemmas.Bool.Decides.{nat_tests}
 use Rattle.std.proofs.lemmas.Grind.{common_steps}
 use Rattle.std.proofs.lemmas.Option.{gets}
 use Rattle.geocode.specs.NameHash.{hash_of, key_of}
-use Rattle.geocode.specs.NameIndex.{AddsNames, AddsTo, IsChain, first_of, IsIndexFrom, has_key, is_link_of, link_at, numbers_with}
-use Rattle.geocode.specs.NameIndex.{with_first}
+use Rattle.geocode.specs.NameIndex.{AddsNames, AddsSpans, AddsTo, HasSpans, IsChain, first_of, IsIndexFrom, has_key, is_link_of, link_at}
+use Rattle.geocode.specs.NameIndex.{numbers_with, segment_at, with_first}
+use Rattle.geocode.specs.Span.{IncludesHits}
 use Rattle.geocode.specs.declared.name_index.NameIndex.{NameIndex}
 use Rattle.geocode.specs.declared.name_index.Link.{Link}
+use Rattle.geocode.specs.declared.span.Span.{Span}
 
 -- a link that is there has a number up to the length
 pub link_at-within : (links : List Link) (number : ℕ) (link : Link) → link_at links number ≡ Some link → number ≤ length links
@@ -33,7 +36,7 @@ link_at-last links more = grind (arith, nat_tests, common_steps, gets)
 pub IsChain-within : (links : List Link) (number : ℕ) (segments : List ℕ) → IsChain links number segments → number ≤ length links
 IsChain-within links number [] chain = omega (arith, chain)
 IsChain-within links number (segment ∷ segments) (next, link, rest) =
-    link_at-within links number (record { segment = segment; next = next }) link.link
+    link_at-within links number (record { segment = segment; span = link.span; next = next }) link.link
 
 -- a chain stays with one more link
 pub IsChain-push : (links : List Link) (more : Link) (number : ℕ) (segments : List ℕ) → IsChain links number segments
@@ -41,29 +44,33 @@ pub IsChain-push : (links : List Link) (more : Link) (number : ℕ) (segments : 
 IsChain-push links more number [] chain = chain
 IsChain-push links more number (segment ∷ segments) (next, link, rest) = (
   next,
-  record { link = link_at-push links more number (record { segment = segment; next = next }) link.link; before = link.before },
+  record {
+    span = link.span;
+    link = link_at-push links more number (record { segment = segment; span = link.span; next = next }) link.link;
+    before = link.before;
+  },
   IsChain-push links more next segments rest,
 )
 
 -- one more link before a chain
-pub IsChain-more : (links : List Link) (segment next : ℕ) (segments : List ℕ) → IsChain links next segments
-    → IsChain (links ++ record { segment = segment; next = next } ∷ []) (length links + 1) (segment ∷ segments)
-IsChain-more links segment next segments chain =
-    let more : Link = record { segment = segment; next = next } in (
+pub IsChain-more : (links : List Link) (segment : ℕ) (span : Span) (next : ℕ) (segments : List ℕ) → IsChain links next segments
+    → IsChain (links ++ record { segment = segment; span = span; next = next } ∷ []) (length links + 1) (segment ∷ segments)
+IsChain-more links segment span next segments chain =
+    let more : Link = record { segment = segment; span = span; next = next } in (
       next,
-      record { link = link_at-last links more; before = omega (arith, IsChain-within links next segments chain) },
+      record { span = span; link = link_at-last links more; before = omega (arith, IsChain-within links next segments chain) },
       IsChain-push links more next segments chain,
     )
 
 -- one more link, that of a segment which isn't the first of a chain
-pub IsChain-first : (links : List Link) (segment next : ℕ) (segments : List ℕ) → IsChain links next segments
+pub IsChain-first : (links : List Link) (segment : ℕ) (span : Span) (next : ℕ) (segments : List ℕ) → IsChain links next segments
     → is_link_of links next segment ≡ false
-    → IsChain (links ++ record { segment = segment; next = next } ∷ []) (length links + 1) (with_first segment segments)
-IsChain-first links segment next [] chain other = IsChain-more links segment next [] chain
-IsChain-first links segment next (first ∷ rest) (next', link, chain) other =
+    → IsChain (links ++ record { segment = segment; span = span; next = next } ∷ []) (length links + 1) (with_first segment segments)
+IsChain-first links segment span next [] chain other = IsChain-more links segment span next [] chain
+IsChain-first links segment span next (first ∷ rest) (next', link, chain) other =
     let apart : nat_eq first segment ≡ false =
     sym (ap (λ link. option_map_or (λ (link : Link). nat_eq link.segment segment) link false) link.link) ∙ other in
-    rw apart (IsChain-more links segment next (first ∷ rest) (next', link, chain))
+    rw apart (IsChain-more links segment span next (first ∷ rest) (next', link, chain))
 
 -- and one that is
 pub with_first-same : (links : List Link) (segment number : ℕ) (segments : List ℕ) → IsChain links number segments
@@ -91,10 +98,11 @@ chain-next segment chain false true new = new
 chain-next segment chain false false new = refl
 
 -- a segment is put before the chains of one more of its names
-pub AddsNames-next : {A : Type 0} (old now new : NameIndex A) (segment : ℕ) (names : List (List ℕ)) (n : ℕ) {name : List ℕ}
-    → Some name ≡ slice_get names n → AddsNames old now segment (take n names) × AddsTo now new (key_of now.keys (hash_of name)) segment
-    → AddsNames old new segment (take (n + 1) names)
-AddsNames-next old now new segment names n {name} is (so_far, more) = record {
+pub AddsNames-next : {A : Type 0} (old now new : NameIndex A) (segment : ℕ) (span : Span) (names : List (List ℕ)) (n : ℕ) {name : List ℕ}
+    → Some name ≡ slice_get names n
+    → AddsNames old now segment span (take n names) × AddsTo now new (key_of now.keys (hash_of name)) segment span
+    → AddsNames old new segment span (take (n + 1) names)
+AddsNames-next old now new segment span names n {name} is (so_far, more) = record {
   keys = more.keys ∙ so_far.keys;
   chains = λ chains chained fresh q.
       let test : List ℕ → Bool = λ name. nat_eq (key_of old.keys (hash_of name)) q in
@@ -111,6 +119,7 @@ AddsNames-next old now new segment names n {name} is (so_far, more) = record {
       (so_far.chains chains chained fresh) q) in
       subst (λ (test : Bool). IsChain new.links.items (first_of new q) (if test then segment ∷ chains q else chains q)) (sym read)
       (subst (IsChain new.links.items (first_of new q)) (chain-next segment (chains q) before (test name) (fresh q)) chain);
+  spans = λ segments includes spanned. more.spans segments includes (so_far.spans segments includes spanned);
 }
 
 -- a number before others that don't begin with it, where one after it is put before them or isn't
@@ -127,10 +136,10 @@ numbers-new test n m (segment ∷ segments) below =
     pick-new (test segment) n m (numbers_with test (m + 1) segments) below (numbers-new test n (m + 1) segments (omega arith))
 
 -- one more segment
-pub IsIndexFrom-next : {A : Type 0} (old new : NameIndex A) (n : ℕ) (segments : List Contents) {segment : Contents}
+pub IsIndexFrom-next : {A : Type 0} (old new : NameIndex A) (n : ℕ) (span : Span) (segments : List Contents) {segment : Contents}
     → (n < length segments) × (segment ≡ get_or segments n segment) → IsIndexFrom old (n + 1) (drop (n + 1) segments)
-    → AddsNames old new n (names_of segment) → IsIndexFrom new n (drop n segments)
-IsIndexFrom-next old new n segments {segment} at so_far more key =
+    → AddsNames old new n span (names_of segment) → IsIndexFrom new n (drop n segments)
+IsIndexFrom-next old new n span segments {segment} at so_far more key =
     let after = drop (n + 1) segments in
     let chains : ℕ → List ℕ = λ q. numbers_with (has_key old.keys q) (n + 1) after in
     let chain : IsChain new.links.items (first_of new key) (numbers_with (has_key old.keys key) n (segment ∷ after)) =
@@ -140,3 +149,22 @@ IsIndexFrom-next old new n segments {segment} at so_far more key =
     ap (λ (segment : Contents). segment ∷ after) at.1 ∙ sym (rw add-one (drop-cons segments n segment inside)) in
     subst (λ (keys : ℕ). IsChain new.links.items (first_of new key) (numbers_with (has_key keys key) n (drop n segments))) (sym more.keys)
     (subst (λ segments. IsChain new.links.items (first_of new key) (numbers_with (has_key old.keys key) n segments)) split chain)
+
+-- the links with one more, that has its segment's span
+pub AddsSpans-push : (links : List Link) (more : Link) → AddsSpans links (links ++ more ∷ []) more.segment more.span
+AddsSpans-push links more segments includes spanned =
+    All-push (λ (link : Link). IncludesHits link.span (segment_at segments link.segment)) links more spanned includes
+
+-- the span of a link that is read
+pub HasSpans-at : (links : List Link) (segments : List Contents) (number : ℕ) {link : Link} → HasSpans links segments
+    → Some link ≡ link_at links number → IncludesHits link.span (segment_at segments link.segment)
+HasSpans-at links segments number {link} spanned is = by (nat_le 1 number) is
+  where
+    by : (some : Bool) → Some link ≡ (if some then slice_get links (number - 1) else None)
+        → IncludesHits link.span (segment_at segments link.segment)
+    by false none = absurd (cc)
+    by true at =
+        subst (λ (link : Link). IncludesHits link.span (segment_at segments link.segment))
+        (get_or_from_slice_get links (number - 1) link link (sym at))
+        (All-get_or (λ (link : Link). IncludesHits link.span (segment_at segments link.segment)) links (number - 1) link
+        (slice_get_within links (number - 1) link (sym at)) spanned)

@@ -1,7 +1,7 @@
 -- Indexes of the street names of counties.
-use Rattle.std.specs.Prelude.{⊤, ℕ, if◌then◌else◌, List, [], ◌∷◌, slice_get, unwrap_or}
+use Rattle.std.specs.Prelude.{⊤, ℕ, if◌then◌else◌, List, [], ◌∷◌}
 use Rattle.tl_segments.specs.County.{CountyParts}
-use Rattle.tl_segments.specs.Segment.{Contents, blank_segment}
+use Rattle.tl_segments.specs.Segment.{Contents}
 use Rattle.geocode.specs.Hits.{has_name, hits_on_segment}
 use Rattle.geocode.specs.NameIndex.{IsIndexOf}
 use Rattle.geocode.specs.declared.gazetteer.Gazetteer.{Gazetteer}
@@ -18,10 +18,6 @@ AreIndexesOf indexes counties = ⊥
 -- the gazetteer has an index of each of these counties, in their order
 abbrev pub IsGazetteerOf : {A : Type 0} → Gazetteer A → List CountyParts → Type 0
 IsGazetteerOf gazetteer counties = AreIndexesOf gazetteer.indexes.items counties
-
--- the segment with a number, counted from 0
-abbrev pub segment_at : List Contents → ℕ → Contents
-segment_at segments n = unwrap_or (slice_get segments n) blank_segment
 
 -- the hits on a segment, if it has the name
 abbrev pub hits_if_named : List ℕ → House → Contents → List Hit

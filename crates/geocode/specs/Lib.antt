@@ -6,6 +6,7 @@ pub mod Hits
 pub mod Matches
 pub mod Position
 pub mod Sides
+pub mod Span
 pub mod Street
 pub mod StreetName
 pub mod Query

@@ -1,13 +1,15 @@
 -- An index of the names of a county's segments: for each key a chain of the segments that have a name with this key.
 use Rattle.std.specs.Prelude.{◌≡◌, ℕ, ◌+◌, ◌-◌, ◌<◌, nat_eq, nat_le, Bool, false, if◌then◌else◌, List, [], ◌∷◌, Option, Some, None}
-use Rattle.std.specs.Prelude.{slice_get, unwrap_or}
+use Rattle.std.specs.Prelude.{All, slice_get, unwrap_or}
 use Rattle.std.specs.HashMap.{get}
 use Rattle.std.specs.List.{list_any}
 use Rattle.std.specs.Option.{option_map_or}
-use Rattle.tl_segments.specs.Segment.{Contents, names_of}
+use Rattle.tl_segments.specs.Segment.{Contents, blank_segment, names_of}
 use Rattle.geocode.specs.NameHash.{hash_of, key_of}
+use Rattle.geocode.specs.Span.{IncludesHits}
 use Rattle.geocode.specs.declared.name_index.Link.{Link}
 use Rattle.geocode.specs.declared.name_index.NameIndex.{NameIndex}
+use Rattle.geocode.specs.declared.span.Span.{Span}
 
 -- the segment has a name with this key: its hash, reduced to this many keys
 abbrev pub has_key : ℕ → ℕ → Contents → Bool
@@ -29,7 +31,8 @@ is_link_of links number segment = option_map_or (λ link. nat_eq link.segment se
 
 -- the link with this number is that of this segment, and the one with the number `next` follows it
 pub record IsLink (links : List Link) (number segment next : ℕ) : Type 0 where
-  pub link : link_at links number ≡ Some (record { segment = segment; next = next })
+  pub span : Span
+  pub link : link_at links number ≡ Some (record { segment = segment; span = span; next = next })
   pub before : next < number
 
 -- the links from the one with this number on are those of these segments; number 0 is after the last one
@@ -49,27 +52,43 @@ HasChains index chains = (key : ℕ) → IsChain index.links.items (first_of ind
 abbrev pub IsIndexFrom : {A : Type 0} → NameIndex A → ℕ → List Contents → Type 0
 IsIndexFrom index n segments = HasChains index (λ key. numbers_with (has_key index.keys key) n segments)
 
--- each key has the segments of a county that have a name with it
-abbrev pub IsIndexOf : {A : Type 0} → NameIndex A → List Contents → Type 0
-IsIndexOf index segments = IsIndexFrom index 0 segments
+-- the segment with a number, counted from 0
+abbrev pub segment_at : List Contents → ℕ → Contents
+segment_at segments n = unwrap_or (slice_get segments n) blank_segment
+
+-- each link has a span of its segment's house numbers
+abbrev pub HasSpans : List Link → List Contents → Type 0
+HasSpans links segments = All (λ (link : Link). IncludesHits link.span (segment_at segments link.segment)) links
+
+-- each key has the segments of a county that have a name with it, each with a span of its house numbers
+pub record IsIndexOf {A : Type 0} (index : NameIndex A) (segments : List Contents) : Type 0 where
+  pub chains : IsIndexFrom index 0 segments
+  pub spans : HasSpans index.links.items segments
 
 -- a segment before others, unless it's the first of them
 abbrev pub with_first : ℕ → List ℕ → List ℕ
 with_first segment [] = segment ∷ []
 with_first segment (first ∷ rest) = if nat_eq first segment then first ∷ rest else segment ∷ first ∷ rest
 
--- a segment was put before the others of a key
-pub record AddsTo {A : Type 0} (old new : NameIndex A) (key segment : ℕ) : Type 0 where
+-- links were added for a segment at most, with this span
+abbrev pub AddsSpans : List Link → List Link → ℕ → Span → Type 0
+AddsSpans old new segment span =
+    (segments : List Contents) → IncludesHits span (segment_at segments segment) → HasSpans old segments → HasSpans new segments
+
+-- a segment with this span was put before the others of a key
+pub record AddsTo {A : Type 0} (old new : NameIndex A) (key segment : ℕ) (span : Span) : Type 0 where
   pub keys : new.keys ≡ old.keys
   pub chains : (chains : ℕ → List ℕ) → HasChains old chains
       → HasChains new (λ q. if nat_eq key q then with_first segment (chains q) else chains q)
+  pub spans : AddsSpans old.links.items new.links.items segment span
 
 -- it's the first of no key
 abbrev pub IsNew : ℕ → (ℕ → List ℕ) → Type 0
 IsNew segment chains = (key : ℕ) → with_first segment (chains key) ≡ segment ∷ chains key
 
--- a segment with this number was put before the others of the keys of these names
-pub record AddsNames {A : Type 0} (old new : NameIndex A) (segment : ℕ) (names : List (List ℕ)) : Type 0 where
+-- a segment with this number and span was put before the others of the keys of these names
+pub record AddsNames {A : Type 0} (old new : NameIndex A) (segment : ℕ) (span : Span) (names : List (List ℕ)) : Type 0 where
   pub keys : new.keys ≡ old.keys
   pub chains : (chains : ℕ → List ℕ) → HasChains old chains → IsNew segment chains
       → HasChains new (λ q. if list_any (λ name. nat_eq (key_of old.keys (hash_of name)) q) names then segment ∷ chains q else chains q)
+  pub spans : AddsSpans old.links.items new.links.items segment span

@@ -23,7 +23,8 @@ use tl_segments::{County, NAME_LENGTH};
 ///
 /// In each county the segments are in chains by a key of their names: the name's hash, reduced to one key for eight names. [`find`](Self::find)
 /// looks the key up in each county and walks along its chain, which has the segments with the name and, on average, at most eight others.
-/// Segments without a name have a chain of their own.
+/// Segments without a name have a chain of their own. A chain keeps the span of each segment's house numbers, so most segments that don't have the
+/// number aren't read.
 ///
 /// Each name of a segment takes 16 bytes, alternate names included, and the keys take at most 7 bytes for each name, if each key is used and the
 /// map of the keys has just grown, and about 4 typically. So a county takes at most 23 bytes for each name of its segments, about 20 typically, and
@@ -134,7 +135,9 @@ fn push_in_county<A: Allocator + Copy>(
 {
     let mut number = index.first(hash);
     while let Some(link) = index.link(number) {
-        push_if_named(name, house, county, link.segment as usize, hits)?;
+        if link.span.covers(house.number) {
+            push_if_named(name, house, county, link.segment as usize, hits)?;
+        }
         number = link.next;
     }
     Ok(())

@@ -1,7 +1,8 @@
 //! Hits of a house number over counties.
 ghost use Rattle.std.specs.Prelude.{◌≡◌, ◌<◌, ◌≤◌, ◌++◌, length, Some, IfOk, OnOk};
-ghost use Rattle.geocode.specs.Gazetteer.{hits_if_named, segment_at};
+ghost use Rattle.geocode.specs.Gazetteer.{hits_if_named};
 ghost use Rattle.geocode.specs.Hits.{find, has_name, has_zip, hit_on, hits_in_county, hits_on_range, hits_on_segment, is_on};
+ghost use Rattle.geocode.specs.NameIndex.{segment_at};
 ghost use Rattle.geocode.specs.Sides.{parts_of};
 ghost use Rattle.tl_fields.specs.Number.{number_of};
 ghost use Rattle.tl_records.specs.Layout.{field_at};

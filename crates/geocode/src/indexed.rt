@@ -1,10 +1,9 @@
 //! Matches on the segments of a county that its index has.
 ghost use Rattle.std.specs.Prelude.{◌≡◌, ◌<◌, ◌++◌, length, map, OnOk};
 ghost use Rattle.std.specs.List.{list_any};
-ghost use Rattle.geocode.specs.Gazetteer.{segment_at};
 ghost use Rattle.geocode.specs.Matches.{match_of, matches_in_county, matches_on_segment};
 ghost use Rattle.geocode.specs.NameHash.{hash_of};
-ghost use Rattle.geocode.specs.NameIndex.{IsIndexOf};
+ghost use Rattle.geocode.specs.NameIndex.{IsIndexOf, segment_at};
 ghost use Rattle.geocode.specs.Street.{is_on_street};
 ghost use Rattle.geocode.specs.Street as looked_for;
 
@@ -32,7 +31,9 @@ pub(crate) fn push_matches<'a, A: Allocator + Copy>(
 {
     let mut number = index.first(hash);
     while let Some(link) = index.link(number) {
-        push_matches_at(street, house, place, county, link.segment as usize, matches)?;
+        if link.span.covers(house.number) {
+            push_matches_at(street, house, place, county, link.segment as usize, matches)?;
+        }
         number = link.next;
     }
     Ok(())

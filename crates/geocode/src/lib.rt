@@ -12,6 +12,7 @@ mod name_index;
 mod position;
 mod query;
 mod sides;
+mod span;
 mod street;
 mod street_name;
 

@@ -4,6 +4,7 @@ ghost use Rattle.tl_segments.specs.Segment.{names_of};
 ghost use Rattle.geocode.specs.NameHash.{hash_of, key_of};
 
 use crate::name_hash::{FNV_OFFSET, hash_of};
+use crate::span::Span;
 use std::alloc::{AllocError, Allocator};
 use std::collections::HashMap;
 use std::hash::{BuildHasherDefault, FoldHasher};
@@ -19,6 +20,8 @@ const MOST_KEYS: usize = 1 << 31;
 pub(crate) struct Link {
     /// The segment's number in its county, counted from 0.
     pub segment: u32,
+    /// The span of its house numbers.
+    pub span: Span,
     /// The number of the link of the next segment that has a name with the key, counted from 1; 0 if there is none.
     pub next: usize,
 }
@@ -44,13 +47,15 @@ impl<A: Allocator + Copy> NameIndex<A> {
         let mut index = NameIndex::with_room(alloc, names_in(segments))?;
         // A link is put before the others of its key, so the last segment comes first.
         for n in (0..segments.len()).rev() {
-            index.add_names(n as u32, &segments[n])?;
+            let segment = &segments[n];
+            index.add_names(n as u32, Span::of(segment), segment)?;
         }
         Ok(index)
     }
 
     fn with_room(alloc: A, names: usize) -> Result<Self, AllocError>
-        ensures { IfOk result (λ index. HasChains index (λ key. [])) }
+        ensures chains { IfOk result (λ index. HasChains index (λ key. [])) }
+        ensures links { IfOk result (λ index. index.links.items ≡ []) }
     {
         let keys = (names / NAMES_PER_KEY).clamp(1, MOST_KEYS) as u32;
         Ok(NameIndex {
@@ -61,27 +66,31 @@ impl<A: Allocator + Copy> NameIndex<A> {
     }
 
     /// Puts a segment before the others of the keys of its names, once for each key.
-    fn add_names(&mut self, n: u32, segment: &Segment<A>) -> Result<(), AllocError>
-        ensures { OnOk result (AddsNames self.old self.new n (names_of segment.now)) }
+    fn add_names(&mut self, n: u32, span: Span, segment: &Segment<A>) -> Result<(), AllocError>
+        ensures { OnOk result (AddsNames self.old self.new n span (names_of segment.now)) }
     {
         for name in 0..=segment.names() {
             if let Some(name) = segment.name(name) {
-                self.add(n, hash_of(name))?;
+                self.add(n, span, hash_of(name))?;
             }
         }
         Ok(())
     }
 
     /// Puts a segment before the others of a hash's key, unless it's the first of them.
-    fn add(&mut self, segment: u32, hash: u64) -> Result<(), AllocError>
-        ensures { OnOk result (AddsTo self.old self.new (key_of self.old.keys hash) segment) }
+    fn add(&mut self, segment: u32, span: Span, hash: u64) -> Result<(), AllocError>
+        ensures { OnOk result (AddsTo self.old self.new (key_of self.old.keys hash) segment span) }
     {
         let key = self.key(hash);
         let next = self.first_of_key(key);
         if self.is_link_of(next, segment) {
             return Ok(());
         }
-        self.links.push(Link { segment, next })?;
+        self.links.push(Link {
+            segment,
+            span,
+            next,
+        })?;
         self.firsts.insert(key, self.links.len())?;
         Ok(())
     }

@@ -1,9 +1,10 @@
 use Rattle.std.proofs.Common.{◌≡◌, ℕ, ◌++◌, length, ap, sym, ◌∙◌, subst}
-use Rattle.geocode.specs.Gazetteer.{hits_if_named, segment_at}
+use Rattle.geocode.specs.Gazetteer.{hits_if_named}
 use Rattle.geocode.specs.Hits.{hits_in_county}
 use Rattle.geocode.specs.NameHash.{hash_of, key_of}
-use Rattle.geocode.specs.NameIndex.{first_of}
-use Rattle.geocode.proofs.GazetteerLemmas.{IsWalked, hits-walked, walked-end, walked-next}
+use Rattle.geocode.specs.NameIndex.{first_of, segment_at}
+use Rattle.geocode.proofs.GazetteerLemmas.{IsWalked, hits-uncovered, hits-walked, walked-end, walked-next, walked-past}
+use Rattle.geocode.proofs.NameIndexLemmas.{HasSpans-at}
 use Rattle.geocode.proofs.gazetteer.push_in_county.Goals as goal
 
 pub loop-link-init : goal.loop-link-init
@@ -24,9 +25,22 @@ push_if_named-requires-clause-inside g c = (walked-next _ _ _ _ _ _ c.loop-link.
 pub loop-link-smaller : goal.loop-link-smaller
 loop-link-smaller g c = (walked-next _ _ _ _ _ _ c.loop-link.invariant c.in-Some.ensures).before
 
+pub loop-link-smaller-in_ok-push_if_named : goal.loop-link-smaller-in_ok-push_if_named
+loop-link-smaller-in_ok-push_if_named g c = (walked-next _ _ _ _ _ _ c.loop-link.invariant c.in-Some.ensures).before
+
+pub loop-link-preserved-in_ok-push_if_named : goal.loop-link-preserved-in_ok-push_if_named
+loop-link-preserved-in_ok-push_if_named g c =
+    (walked-next _ _ _ _ _ _ c.loop-link.invariant c.in-Some.ensures).walked c.push_if_named.new.hits.items c.in_ok-push_if_named.ensures
+
 pub loop-link-preserved : goal.loop-link-preserved
 loop-link-preserved g c =
-    (walked-next _ _ _ _ _ _ c.loop-link.invariant c.in-Some.ensures).walked c.push_if_named.new.hits.items c.in_ok-push_if_named.ensures
+    let index = c.args.index.now in
+    let segments = c.args.county.now.segments in
+    let segment = segment_at segments c.in-Some.link.segment in
+    let span = c.in-Some.link.span in
+    let includes = HasSpans-at index.links.items segments c.loop-link.number c.requires.of.spans c.in-Some.ensures in
+    walked-past _ _ _ _ _ _ c.loop-link.invariant c.in-Some.ensures
+    (hits-uncovered c.args.name.now c.args.house span segment includes (sym c.covers.ensures ∙ c.if-covers.false))
 
 pub returns : goal.returns
 returns g c = walked-end _ _ _ _ _ _ c.loop-link.invariant c.in_default.ensures

@@ -1,6 +1,7 @@
 use Rattle.std.proofs.Common.{◌++◌, length}
-use Rattle.geocode.specs.Gazetteer.{hits_if_named, segment_at}
+use Rattle.geocode.specs.Gazetteer.{hits_if_named}
 use Rattle.geocode.specs.Hits.{hits_in_county}
+use Rattle.geocode.specs.NameIndex.{segment_at}
 use Rattle.geocode.proofs.GazetteerLemmas.{IsWalked}
 use Rattle.geocode.proofs.gazetteer.push_in_county.Given as goal
 

@@ -1,8 +1,7 @@
 use Rattle.std.proofs.Common.{◌≡◌, ℕ, ◌∷◌, [], Bool, true, false, if◌then◌else◌, length, ap, sym, ◌∙◌, subst}
 use Rattle.std.specs.List.{flat_map}
-use Rattle.geocode.specs.Gazetteer.{segment_at}
 use Rattle.geocode.specs.NameHash.{hash_of, key_of}
-use Rattle.geocode.specs.NameIndex.{first_of}
+use Rattle.geocode.specs.NameIndex.{first_of, segment_at}
 use Rattle.geocode.specs.Street.{is_on_street, parts_of}
 use Rattle.geocode.proofs.GazetteerLemmas.{IsWalked, walked-end, walked-next}
 use Rattle.geocode.proofs.IndexedLemmas.{has_any, list_any-signs, sign_of, signs-walked}

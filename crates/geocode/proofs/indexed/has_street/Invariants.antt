@@ -1,7 +1,7 @@
 use Rattle.std.proofs.Common.{[], length}
 use Rattle.std.specs.List.{flat_map}
-use Rattle.geocode.specs.Gazetteer.{segment_at}
 use Rattle.geocode.specs.Street.{parts_of}
+use Rattle.geocode.specs.NameIndex.{segment_at}
 use Rattle.geocode.proofs.GazetteerLemmas.{IsWalked}
 use Rattle.geocode.proofs.IndexedLemmas.{sign_of}
 use Rattle.geocode.proofs.indexed.has_street.Given as goal

@@ -1,11 +1,12 @@
 use Rattle.std.proofs.Common.{◌≡◌, ℕ, ◌++◌, length, map, ap, sym, ◌∙◌, subst}
-use Rattle.geocode.specs.Gazetteer.{segment_at}
 use Rattle.geocode.specs.Matches.{match_of, matches_in_county, matches_on_segment}
 use Rattle.geocode.specs.NameHash.{hash_of, key_of}
-use Rattle.geocode.specs.NameIndex.{first_of}
+use Rattle.geocode.specs.NameIndex.{first_of, segment_at}
 use Rattle.geocode.specs.Street.{parts_of}
-use Rattle.geocode.proofs.GazetteerLemmas.{IsWalked, walked-end, walked-next}
+use Rattle.geocode.proofs.GazetteerLemmas.{IsWalked, walked-end, walked-next, walked-past}
 use Rattle.geocode.proofs.IndexedLemmas.{matches-walked}
+use Rattle.geocode.proofs.MatchHitLemmas.{matches-uncovered}
+use Rattle.geocode.proofs.NameIndexLemmas.{HasSpans-at}
 use Rattle.geocode.proofs.indexed.push_matches.Goals as goal
 
 pub loop-link-init : goal.loop-link-init
@@ -26,10 +27,23 @@ push_matches_at-requires g c = (walked-next _ _ _ _ _ _ c.loop-link.invariant c.
 pub loop-link-smaller : goal.loop-link-smaller
 loop-link-smaller g c = (walked-next _ _ _ _ _ _ c.loop-link.invariant c.in-Some.ensures).before
 
-pub loop-link-preserved : goal.loop-link-preserved
-loop-link-preserved g c =
+pub loop-link-smaller-in_ok-push_matches_at : goal.loop-link-smaller-in_ok-push_matches_at
+loop-link-smaller-in_ok-push_matches_at g c = (walked-next _ _ _ _ _ _ c.loop-link.invariant c.in-Some.ensures).before
+
+pub loop-link-preserved-in_ok-push_matches_at : goal.loop-link-preserved-in_ok-push_matches_at
+loop-link-preserved-in_ok-push_matches_at g c =
     (walked-next _ _ _ _ _ _ c.loop-link.invariant c.in-Some.ensures).walked (map match_of c.push_matches_at.new.matches.items)
     c.in_ok-push_matches_at.ensures
+
+pub loop-link-preserved : goal.loop-link-preserved
+loop-link-preserved g c =
+    let index = c.args.index.now in
+    let segments = c.args.county.now.segments in
+    let segment = segment_at segments c.in-Some.link.segment in
+    let span = c.in-Some.link.span in
+    let includes = HasSpans-at index.links.items segments c.loop-link.number c.requires.of.spans c.in-Some.ensures in
+    walked-past _ _ _ _ _ _ c.loop-link.invariant c.in-Some.ensures
+    (matches-uncovered (parts_of c.args.street) c.args.house c.args.place span segment includes (sym c.covers.ensures ∙ c.if-covers.false))
 
 pub returns : goal.returns
 returns g c = walked-end _ _ _ _ _ _ c.loop-link.invariant c.in_default.ensures

@@ -1,7 +1,7 @@
 use Rattle.std.proofs.Common.{◌++◌, length, map}
-use Rattle.geocode.specs.Gazetteer.{segment_at}
 use Rattle.geocode.specs.Matches.{match_of, matches_in_county, matches_on_segment}
 use Rattle.geocode.specs.Street.{parts_of}
+use Rattle.geocode.specs.NameIndex.{segment_at}
 use Rattle.geocode.proofs.GazetteerLemmas.{IsWalked}
 use Rattle.geocode.proofs.indexed.push_matches.Given as goal
 

@@ -3,9 +3,9 @@ use Rattle.std.proofs.lemmas.Bool.Decides.{nat_tests}
 use Rattle.std.proofs.lemmas.Grind.{common_steps}
 use Rattle.std.specs.HashMap.{get}
 use Rattle.geocode.specs.NameHash.{key_of}
-use Rattle.geocode.specs.NameIndex.{IsChain, is_link_of, with_first, first_of}
+use Rattle.geocode.specs.NameIndex.{AddsSpans, IsChain, is_link_of, with_first, first_of}
 use Rattle.geocode.specs.declared.name_index.Link.{Link}
-use Rattle.geocode.proofs.NameIndexLemmas.{IsChain-cases, IsChain-first, IsChain-push, with_first-same}
+use Rattle.geocode.proofs.NameIndexLemmas.{AddsSpans-push, IsChain-cases, IsChain-first, IsChain-push, with_first-same}
 use Rattle.geocode.proofs.name_index.NameIndex.add.Goals as goal
 
 pub returns-then-is_link_of : goal.returns-then-is_link_of
@@ -21,6 +21,7 @@ returns-then-is_link_of g c = record {
       subst (λ number. is_link_of links number segment ≡ true) at (sym c.is_link_of.ensures ∙ c.if-is_link_of.true) in
       subst (IsChain links first) (sym (with_first-same links segment first (chains q) (chained q) is)) (chained q))
       (λ apart. chained q);
+  spans = λ segments includes spanned. spanned;
 }
 
 pub returns : goal.returns
@@ -31,7 +32,7 @@ returns g c = record {
       let segment = c.args.segment in
       let next = c.first_of_key-next.result in
       let first : ℕ = unwrap_or (get nat_eq c.insert.new.self q) 0 in
-      let more : Link = record { segment = segment; next = next } in
+      let more : Link = record { segment = segment; span = c.args.span; next = next } in
       let pushed : c.push.new.self.items ≡ links ++ more ∷ [] = c.in_ok-push.ensures.items in
       IsChain-cases (nat_eq (key_of c.args.self.now.keys c.args.hash) q) c.push.new.self.items first
       (with_first segment (chains q)) (chains q)
@@ -39,8 +40,12 @@ returns g c = record {
       let was : first_of c.args.self.now q ≡ next = grind (arith, nat_tests, common_steps) in
       let at : first ≡ length links + 1 = grind (arith, nat_tests, common_steps) in
       let chain = subst (λ number. IsChain links number (chains q)) was (chained q) in
-      rw (pushed, at) (IsChain-first links segment next (chains q) chain (sym c.is_link_of.ensures ∙ c.if-is_link_of.false)))
+      rw (pushed, at) (IsChain-first links segment c.args.span next (chains q) chain (sym c.is_link_of.ensures ∙ c.if-is_link_of.false)))
       (λ apart.
       let at : first ≡ first_of c.args.self.now q = grind (arith, nat_tests, common_steps) in
       rw (pushed, at) (IsChain-push links more (first_of c.args.self.now q) (chains q) (chained q)));
+  spans =
+      let links = c.args.self.now.links.items in
+      let more : Link = record { segment = c.args.segment; span = c.args.span; next = c.first_of_key-next.result } in
+      subst (λ links'. AddsSpans links links' c.args.segment c.args.span) (sym c.in_ok-push.ensures.items) (AddsSpans-push links more);
 }

@@ -14,10 +14,10 @@ loop-name-preserved g c =
     let n = c.loop-name.name in
     let inside : n < length names = omega (arith, c.loop-name-test.true, c.names-name-end.ensures.value) in
     elim c.match-name.branch [
-      | in-Some+in_ok-add w ↦ subst (λ index. AddsNames c.args.self.now index c.args.n (take (n + 1) names)) (sym w.self-is)
-          (AddsNames-next c.args.self.now c.loop-name.self w.add.new.self c.args.n names n w.in-Some.ensures.value (
+      | in-Some+in_ok-add w ↦ subst (λ index. AddsNames c.args.self.now index c.args.n c.args.span (take (n + 1) names)) (sym w.self-is)
+          (AddsNames-next c.args.self.now c.loop-name.self w.add.new.self c.args.n c.args.span names n w.in-Some.ensures.value (
             c.loop-name.invariant,
-            subst (λ hash. AddsTo c.loop-name.self w.add.new.self (key_of c.loop-name.self.keys hash) c.args.n) w.hash_of.ensures
+            subst (λ hash. AddsTo c.loop-name.self w.add.new.self (key_of c.loop-name.self.keys hash) c.args.n c.args.span) w.hash_of.ensures
                 w.in_ok-add.ensures,
           ))
       | in_default w ↦ absurd (read-within names n [] inside w.in_default.ensures.value)
@@ -29,13 +29,13 @@ returns-after-name g c =
     let n = c.loop-name.name in
     let inside : n < length names = omega (arith, c.loop-name-test.true, c.names-name-end.ensures.value) in
     let last : length names ≤ n + 1 = omega (arith, c.names-name-end.ensures.value) in
-    let all : AddsNames c.args.self.now c.match-name.self c.args.n (take (n + 1) names) = elim c.match-name.branch [
-      | in-Some+in_ok-add w ↦ subst (λ index. AddsNames c.args.self.now index c.args.n (take (n + 1) names)) (sym w.self-is)
-          (AddsNames-next c.args.self.now c.loop-name.self w.add.new.self c.args.n names n w.in-Some.ensures.value (
+    let all : AddsNames c.args.self.now c.match-name.self c.args.n c.args.span (take (n + 1) names) = elim c.match-name.branch [
+      | in-Some+in_ok-add w ↦ subst (λ index. AddsNames c.args.self.now index c.args.n c.args.span (take (n + 1) names)) (sym w.self-is)
+          (AddsNames-next c.args.self.now c.loop-name.self w.add.new.self c.args.n c.args.span names n w.in-Some.ensures.value (
             c.loop-name.invariant,
-            subst (λ hash. AddsTo c.loop-name.self w.add.new.self (key_of c.loop-name.self.keys hash) c.args.n) w.hash_of.ensures
+            subst (λ hash. AddsTo c.loop-name.self w.add.new.self (key_of c.loop-name.self.keys hash) c.args.n c.args.span) w.hash_of.ensures
                 w.in_ok-add.ensures,
           ))
       | in_default w ↦ absurd (read-within names n [] inside w.in_default.ensures.value)
     ] in
-    subst (AddsNames c.args.self.now c.match-name.self c.args.n) (take_all (n + 1) names last) all
+    subst (AddsNames c.args.self.now c.match-name.self c.args.n c.args.span) (take_all (n + 1) names last) all

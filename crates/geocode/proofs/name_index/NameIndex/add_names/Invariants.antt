@@ -5,4 +5,4 @@ use Rattle.geocode.proofs.name_index.NameIndex.add_names.Given as goal
 
 -- the segment was put before the chains of its names so far
 abbrev pub invariant-loop-name : goal.invariant-loop-name
-invariant-loop-name g l = AddsNames l.fn.self l.self l.n (take l.name (names_of l.segment))
+invariant-loop-name g l = AddsNames l.fn.self l.self l.n l.span (take l.name (names_of l.segment))

@@ -1,0 +1,80 @@
+//! Spans of house numbers.
+ghost use Rattle.std.specs.Prelude.{◌≡◌};
+ghost use Rattle.geocode.specs.Sides.{parts_of};
+ghost use Rattle.geocode.specs.Span.{IncludesHits, IncludesRange, IncludesSide, coarse, covers, widened};
+ghost use Rattle.tl_segments.specs.Range.{fields_of};
+
+use crate::hit::Side;
+use crate::sides::SideFields;
+use std::alloc::Allocator;
+use tl_fields::number as number_of;
+use tl_segments::{Range, Segment};
+
+/// The least and the greatest house number of a segment, each halved, and 65,535 if that is more: a walk over segments reads it instead of them.
+#[derive(Clone, Copy)]
+pub(crate) struct Span {
+    low: u16,
+    high: u16,
+}
+
+impl Span {
+    /// The span of no house number.
+    const EMPTY: Span = Span {
+        low: u16::MAX,
+        high: 0,
+    };
+
+    /// Returns the span of the numbers at the ends of all sides of the segment that have one at both.
+    pub(crate) fn of<A: Allocator>(segment: &Segment<A>) -> Self
+        ensures { IncludesHits result segment.now }
+    {
+        let mut span = Span::EMPTY;
+        for n in 0..segment.ranges() {
+            if let Some(range) = segment.range(n) {
+                span = span.with_range(range);
+            }
+        }
+        span
+    }
+
+    /// Tells whether a house with this number may be on the segment.
+    pub(crate) fn covers(self, number: u64) -> bool
+        ensures { result ≡ covers self number }
+    {
+        let number = coarse(number);
+        self.low <= number && number <= self.high
+    }
+
+    fn with_range(self, range: Range<'_>) -> Self
+        ensures { IncludesRange self result (fields_of range.entry) }
+    {
+        self.with_side(SideFields::of(range, Side::Left))
+            .with_side(SideFields::of(range, Side::Right))
+    }
+
+    fn with_side(self, side: SideFields<'_>) -> Self
+        ensures { IncludesSide self result (parts_of side.entry) }
+    {
+        match (number_of(side.from), number_of(side.to)) {
+            (Some(from), Some(to)) => self.with(from).with(to),
+            _ => self,
+        }
+    }
+
+    fn with(self, number: u64) -> Self
+        ensures { result ≡ widened self number }
+    {
+        let number = coarse(number);
+        Span {
+            low: self.low.min(number),
+            high: self.high.max(number),
+        }
+    }
+}
+
+/// Half a house number, or 65,535 if that is less.
+fn coarse(number: u64) -> u16
+    ensures { result ≡ coarse number }
+{
+    (number / 2).min(u64::from(u16::MAX)) as u16
+}
