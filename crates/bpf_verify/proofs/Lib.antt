@@ -23,3 +23,4 @@ pub mod RiseInstructions
 pub mod PassLemmas
 pub mod AheadLemmas
 pub mod VerdictLemmas
+mod VisitLemmas

@@ -1,7 +1,7 @@
 -- The pass: what it keeps is an annotation that is good up to where it has come.
 use Rattle.std.proofs.Common.{◌≡◌, ℕ, ℤ, pos, ◌≢◌, zero, suc, ◌+◌, ◌+ℤ◌, ◌<◌, ◌≤◌, ◌==◌, Bool, List, [], ◌∷◌, ◌++◌, length, Option}
 use Rattle.std.proofs.Common.{Some, None, option_map, IfSome, Result, Ok, Err, nat_le, true, false, if◌then◌else◌, refl, sym, ap, ◌∙◌}
-use Rattle.std.proofs.Common.{subst, arith, rules, inl, inr}
+use Rattle.std.proofs.Common.{take, subst, arith, rules, inl, inr}
 use Rattle.std.proofs.lemmas.Bool.{cases_lt}
 use Rattle.std.proofs.lemmas.Bool.Decides.{nat_tests}
 use Rattle.std.proofs.lemmas.Int.{ints}
@@ -23,7 +23,9 @@ use Rattle.bpf_kinds.specs.Offsets as offsets
 use Rattle.bpf_insn.specs.declared.value.Area.{Area}
 use Rattle.bpf_verify.specs.Annotation.{Annotation, PassesAt, IsGoodUpTo, IsLeastUpTo, Fails, IsAccepted, IsRefusedAt, IsVerifyFault}
 use Rattle.bpf_verify.specs.Annotation.{area_of, areas_from}
-use Rattle.bpf_verify.specs.Pass.{Ahead, AreProper, IsVisitFault, Visits, first, joined, joined_if, kept, propagated, state_of, waiting_at}
+use Rattle.bpf_verify.specs.Pass.{Ahead, AreProper, IsRefusedVisit, IsVisitFault, Visits, first, joined, joined_if, kept, propagated, state_of}
+use Rattle.bpf_verify.specs.Pass.{visit_of, waiting_at}
+use Rattle.bpf_verify.specs.Visit.{IsShown, IsShownRefusal, IsShownUpTo, Visit, visited_all, visits_from}
 use Rattle.bpf_meaning.specs.declared.cause.Cause.{Cause}
 use Rattle.bpf_verify.specs.AbstractState.{AbstractState, Unreached, Reached, Edges, AreEdgesWithin, entry, join, kind_of, IsProper}
 use Rattle.bpf_verify.specs.AbstractState.{IsProperKnown, IsWithin}
@@ -32,6 +34,7 @@ use Rattle.bpf_verify.specs.declared.fault.VerifyFault.{VerifyFault}
 use Rattle.bpf_verify.specs.declared.fault.VerifyFault.TheVariants.{Refused, Memory}
 use Rattle.bpf_verify.specs.declared.known.Known.{Known}
 use Rattle.bpf_verify.proofs.AreaLemmas.{areas_from-more, areas_from-same, length-areas_from}
+use Rattle.bpf_verify.proofs.VisitLemmas.{visited_all-more, visit-parts, visits_from-more, visits_from-same}
 use Rattle.bpf_verify.proofs.RiseInstructions.{same_edges, upward}
 use Rattle.bpf_verify.proofs.StateLaws as laws
 
@@ -126,7 +129,7 @@ joined_takes states (Some place) state proper proper-state = record {
 
 -- an annotation is good up to the place behind the instructions that were passed, and lies below every other that is; from there on it is
 -- what is kept, and the areas that were found are those of these instructions
-pub record IsOnItsWay (code passed : List Insn) (ahead : Ahead) (areas : List (Option Area)) : Type 0 where
+pub record IsOnItsWay (code passed : List Insn) (ahead : Ahead) (areas : List (Option Area)) (visits : List Visit) : Type 0 where
   pub of_code : ahead.code ≡ code
   pub at : ahead.place ≡ word_count passed
   pub proper : AreProper (kept ahead)
@@ -135,9 +138,10 @@ pub record IsOnItsWay (code passed : List Insn) (ahead : Ahead) (areas : List (O
   pub least : (other : Annotation) → IsGoodUpTo code ahead.place other → (at : ℕ) → IsWithin (annotation at) (other at)
   pub kept_on : (other : ℕ) → ahead.place ≤ other → annotation other ≡ kept ahead other
   pub found : areas ≡ areas_from annotation 0 passed
+  pub shown : visits ≡ visits_from annotation 0 passed
 
-pub length-found : {code passed : List Insn} {ahead : Ahead} {areas : List (Option Area)} → IsOnItsWay code passed ahead areas
-    → length areas ≡ length passed
+pub length-found : {code passed : List Insn} {ahead : Ahead} {areas : List (Option Area)} {visits : List Visit}
+    → IsOnItsWay code passed ahead areas visits → length areas ≡ length passed
 length-found {passed = passed} way = ap length way.found ∙ length-areas_from way.annotation 0 passed
 
 pub not_both : (edges : Edges) (cause : Cause) (found : Result Edges Cause) → found ≡ Ok edges → found ≡ Err cause → ⊥
@@ -186,8 +190,8 @@ jump_of place to (Some found) (Some distance) same is =
     let there : pos found ≡ target_of place distance = cc in
     (distance, refl, sym there ∙ ap pos here)
 
-module _ (code passed : List Insn) (insn : Insn) (before after : Ahead) (areas : List (Option Area)) (forward : IsForward code)
-    (stands : instruction_at code before.place ≡ Some insn) (way : IsOnItsWay code passed before areas)
+module _ (code passed : List Insn) (insn : Insn) (before after : Ahead) (areas : List (Option Area)) (earlier : List Visit) (forward : IsForward code)
+    (stands : instruction_at code before.place ≡ Some insn) (way : IsOnItsWay code passed before areas earlier)
     (all_proper : AreProper (kept after)) (visits : Visits insn before after) where
   abbrev place : ℕ
   place = before.place
@@ -283,6 +287,19 @@ module _ (code passed : List Insn) (insn : Insn) (before after : Ahead) (areas :
       ∙ ap (λ (area : Option Area). areas_from annotation 0 passed ++ area ∷ []) (sym area_here)
       ∙ sym (areas_from-more annotation 0 passed insn)
 
+  visit_here : (0 + word_count passed ≡ place) × (annotation (0 + word_count passed) ≡ states place)
+  visit_here =
+      let here : 0 + word_count passed ≡ place = omega (arith, way.at) in
+      (here, ap annotation here ∙ here_kept)
+
+  shown_more : earlier ++ visit_of before insn ∷ [] ≡ visits_from annotation 0 (passed ++ insn ∷ [])
+  shown_more =
+      let same = visits_from-same way.annotation annotation place 0 passed (behind-old way.annotation (kept after) place)
+      (let at = way.at in omega arith) in
+      ap (λ (visits : List Visit). visits ++ visit_of before insn ∷ []) (way.shown ∙ sym same)
+      ∙ ap (λ (visit : Visit). visits_from annotation 0 passed ++ visit ∷ []) (visit-parts _ insn _ (sym visit_here.0) (sym visit_here.1))
+      ∙ sym (visits_from-more annotation 0 passed insn)
+
   -- Below every other annotation that is good so far: its state here is above ours, so are its edges, and what is kept where they lead
   -- stays below it.
   module _ (other : Annotation) (good : IsGoodUpTo code next other) where
@@ -332,7 +349,7 @@ module _ (code passed : List Insn) (insn : Insn) (before after : Ahead) (areas :
     ]
 
   -- one instruction more
-  pub goes_on : IsOnItsWay code (passed ++ insn ∷ []) after (areas ++ area_of (states place) insn ∷ [])
+  pub goes_on : IsOnItsWay code (passed ++ insn ∷ []) after (areas ++ area_of (states place) insn ∷ []) (earlier ++ visit_of before insn ∷ [])
   goes_on = record {
     of_code = visits.code ∙ way.of_code;
     at = let more = word_count-append passed (insn ∷ []) in let one = word_count-one insn in let at = way.at in let end = goes in
@@ -348,6 +365,7 @@ module _ (code passed : List Insn) (insn : Insn) (before after : Ahead) (areas :
     kept_on = λ other past. let long = length-spelling_positive insn in
         behind-new way.annotation (kept after) place other (let end = goes in omega arith);
     found = found_more;
+    shown = shown_more;
   }
 
 -- Where a check fails in a state, some check fails in every state above: where none fails, none fails below.
@@ -362,8 +380,8 @@ fails_above insn lower higher cause proper above within fails = by_result (trans
         absurd (not_both passes.0 cause (transfer lower insn) passes.1 fails)
 
 -- a visit that is refused
-pub refuses : {code passed : List Insn} {insn : Insn} {ahead : Ahead} {areas : List (Option Area)} (fault : VerifyFault)
-    → instruction_at code ahead.place ≡ Some insn → IsOnItsWay code passed ahead areas → IsVisitFault ahead insn fault
+pub refuses : {code passed : List Insn} {insn : Insn} {ahead : Ahead} {areas : List (Option Area)} {visits : List Visit} (fault : VerifyFault)
+    → instruction_at code ahead.place ≡ Some insn → IsOnItsWay code passed ahead areas visits → IsVisitFault ahead insn fault
     → IsVerifyFault code fault
 refuses Memory stands way fault = tt
 refuses {code} {insn} {ahead} (Refused at cause) stands way fault =
@@ -405,8 +423,8 @@ first_are_least : (code : List Insn) (other : Annotation) → IsWithin (Reached 
 first_are_least code other entered = joined_each (λ at state. IsWithin state (other at)) (waiting_at []) 0 (Reached entry) entered
     (λ at. tt)
 
-pub starts : (code : List Insn) (ahead : Ahead) → ahead ≡ first code → IsOnItsWay code [] ahead []
-starts code ahead is = subst (λ (ahead : Ahead). IsOnItsWay code [] ahead []) (sym is) (record {
+pub starts : (code : List Insn) (ahead : Ahead) → ahead ≡ first code → IsOnItsWay code [] ahead [] []
+starts code ahead is = subst (λ (ahead : Ahead). IsOnItsWay code [] ahead [] []) (sym is) (record {
   of_code = refl;
   at = refl;
   proper = first_are_proper code;
@@ -419,15 +437,54 @@ starts code ahead is = subst (λ (ahead : Ahead). IsOnItsWay code [] ahead []) (
   least = λ other good. first_are_least code other good.entry;
   kept_on = λ other past. refl;
   found = refl;
+  shown = refl;
 })
 
 -- at the end
 
-pub accepts : (code passed : List Insn) (ahead : Ahead) (areas : List (Option Area)) → passed ≡ code → IsOnItsWay code passed ahead areas
-    → IsAccepted code areas
+pub accepts : (code passed : List Insn) (ahead : Ahead) (areas : List (Option Area)) {visits : List Visit} → passed ≡ code
+    → IsOnItsWay code passed ahead areas visits → IsAccepted code areas
 accepts code passed ahead areas all way = record {
   annotation = way.annotation;
   is_least = subst (λ (p : ℕ). IsLeastUpTo code p way.annotation) (way.at ∙ ap word_count all)
       (record { good = way.good; least = λ other good at before. way.least other good at });
   are = way.found ∙ ap (areas_from way.annotation 0) all;
 }
+
+-- what a visitor was shown
+
+-- of all instructions
+pub shows : {V : Type 0} (visited : V → Visit → V) (code passed : List Insn) (ahead : Ahead) {areas : List (Option Area)}
+    {visits : List Visit} (old new : V) → passed ≡ code → IsOnItsWay code passed ahead areas visits → new ≡ visited_all visited old visits
+    → IsShown visited code old new
+shows visited code passed ahead old new all way shown = record {
+  annotation = way.annotation;
+  is_least = subst (λ (p : ℕ). IsLeastUpTo code p way.annotation) (way.at ∙ ap word_count all)
+      (record { good = way.good; least = λ other good at before. way.least other good at });
+  shown = shown ∙ ap (visited_all visited old) (way.shown ∙ ap (visits_from way.annotation 0) all);
+}
+
+-- of one more, whose check failed
+pub shows_refusal : {V : Type 0} (visited : V → Visit → V) {code : List Insn} (insn : Insn) {ahead : Ahead} {areas : List (Option Area)}
+    {visits : List Visit} (index : ℕ) (fault : VerifyFault) (old now new : V) → take (index + 1) code ≡ take index code ++ insn ∷ []
+    → IsOnItsWay code (take index code) ahead areas visits → now ≡ visited_all visited old visits
+    → IsVisitFault ahead insn fault → IsRefusedVisit visited ahead insn fault now new → IsShownRefusal visited code fault old new
+shows_refusal visited insn index Memory old now new one_more way so_far fails last = tt
+shows_refusal {V} visited {code} insn {ahead} {visits = visits} index (Refused at cause) old now new one_more way so_far fails last =
+    let here : ahead.place ≡ 0 + word_count (take index code) = omega (arith, way.at) in
+    let state : kept ahead ahead.place ≡ way.annotation (0 + word_count (take index code)) =
+    sym (way.kept_on ahead.place (omega arith)) ∙ ap way.annotation here in
+    subst (λ (p : ℕ). IsShownUpTo visited code p old new) (sym fails.0)
+    (record {
+      annotation = way.annotation;
+      is_least = record { good = way.good; least = λ other good at before. way.least other good at };
+      index = index;
+      at = way.at;
+      shown =
+          last ∙ ap (λ visitor. visited visitor (visit_of ahead insn)) so_far ∙ visited_all-more visited old visits (visit_of ahead insn)
+          ∙ ap (λ visits. visited_all visited old (visits ++ visit_of ahead insn ∷ [])) way.shown
+          ∙ ap (λ visit. visited_all visited old (visits_from way.annotation 0 (take index code) ++ visit ∷ []))
+          (visit-parts ahead.place insn (kept ahead ahead.place) here state)
+          ∙ ap (visited_all visited old) (sym (visits_from-more way.annotation 0 (take index code) insn))
+          ∙ ap (λ passed. visited_all visited old (visits_from way.annotation 0 passed)) (sym one_more);
+    })

@@ -1,6 +1,6 @@
 -- Abstract states: what is known of each register and of the frame before an instruction, whatever the segment, or that no edge leads
 -- there. They stand in order: a state below another says more, and the bottom is that which isn't reached.
-use Rattle.std.specs.Prelude.{◌≡◌, ℕ, pos, [], ◌∷◌, length, slice_set, get_or}
+use Rattle.std.specs.Prelude.{◌≡◌, ℕ, pos, [], ◌∷◌, length, replicate, slice_set, get_or}
 use Rattle.bpf_frame.specs.FrameMap as map
 use Rattle.bpf_kinds.specs.Kind as kind
 use Rattle.bpf_kinds.specs.Offsets as offsets
@@ -38,6 +38,10 @@ entry = record {
       ∷ Nothing ∷ Frame (offsets.between (pos FRAME_LENGTH) (pos FRAME_LENGTH)) ∷ [];
   frame = map.unwritten;
 }
+
+-- what is known where nothing is
+abbrev pub unknown : Known
+unknown = record { registers = replicate REGISTERS Nothing; frame = map.unwritten }
 
 -- eleven kinds, each of them proper, and something proper of the frame
 pub record IsProperKnown (known : Known) : Type 0 where

@@ -4,3 +4,4 @@ pub mod Verified
 pub mod Annotation
 pub mod Pass
 pub mod VerifyFault
+pub mod Visit

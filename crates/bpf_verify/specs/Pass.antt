@@ -15,6 +15,7 @@ use Rattle.bpf_verify.specs.declared.ahead.KnownEdges.{KnownEdges}
 use Rattle.bpf_verify.specs.declared.fault.VerifyFault.{VerifyFault}
 use Rattle.bpf_verify.specs.declared.fault.VerifyFault.TheVariants.{Refused, Memory}
 use Rattle.bpf_verify.specs.declared.known.Known.{Known}
+use Rattle.bpf_verify.specs.Visit.{Visit}
 
 -- the states ahead of the pass over a code: where it has come to, the state on the edge from the instruction before that place, and the
 -- states that wait, by place
@@ -102,3 +103,12 @@ pub record Visits (insn : Insn) (before after : Ahead) : Type 0 where
 abbrev pub IsVisitFault : Ahead → Insn → VerifyFault → Type 0
 IsVisitFault before insn (Refused place cause) = (place ≡ before.place) × (transfer (kept before place) insn ≡ Err cause)
 IsVisitFault before insn Memory = Unit {0}
+
+-- what the pass shows of the instruction to which it has come
+abbrev pub visit_of : Ahead → Insn → Visit
+visit_of ahead insn = record { place = ahead.place; insn = insn; state = kept ahead ahead.place }
+
+-- a visitor was shown the instruction of which a check failed
+abbrev pub IsRefusedVisit : {V : Type 0} → (V → Visit → V) → Ahead → Insn → VerifyFault → V → V → Type 0
+IsRefusedVisit visited ahead insn (Refused place cause) old new = new ≡ visited old (visit_of ahead insn)
+IsRefusedVisit visited ahead insn Memory old new = Unit {0}

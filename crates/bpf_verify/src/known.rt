@@ -5,7 +5,7 @@ ghost use Rattle.bpf_frame.specs.FrameMap.{set_slot};
 ghost use Rattle.bpf_kinds.specs.Interval as interval;
 ghost use Rattle.bpf_kinds.specs.Offsets as pointer_offsets;
 ghost use Rattle.bpf_kinds.specs.Kind as kinds;
-ghost use Rattle.bpf_verify.specs.AbstractState.{IsProperKnown, entry, join_known, with_kind};
+ghost use Rattle.bpf_verify.specs.AbstractState.{IsProperKnown, entry, join_known, unknown, with_kind};
 ghost use Rattle.bpf_verify.specs.Transfer.{all_marked, lie_within, mark_bytes, read, state_after, touch_bytes, write_bytes};
 
 use bpf_frame::FrameMap;
@@ -16,7 +16,7 @@ use bpf_meaning::{Cause, REGISTERS};
 /// What is known before an instruction that is reached, whatever the segment. It's changed in place along the straight path of a code, and
 /// copied only where two edges leave an instruction.
 #[derive(Drop)]
-pub(crate) struct Known {
+pub struct Known {
     /// Registers 0 to 10.
     pub registers: [Kind; REGISTERS],
     /// Which bytes of the frame are written, and what its slots hold.
@@ -33,7 +33,7 @@ fn byte_at(pointer: i16, offset: i16) -> usize
 
 impl Known {
     /// What is known at the start: register 1 points to the record's first byte, register 10 behind the frame's last.
-    pub fn entry() -> Self
+    pub(crate) fn entry() -> Self
         ensures value { result ≡ entry }
         ensures proper { IsProperKnown result }
     {
@@ -53,7 +53,18 @@ impl Known {
         }
     }
 
-    /// The same once more.
+    /// Returns what is known where nothing is: neither of a register nor of a byte of the frame.
+    pub fn unknown() -> Self
+        ensures value { result ≡ unknown }
+        ensures proper { IsProperKnown result }
+    {
+        Known {
+            registers: [Kind::Nothing; REGISTERS],
+            frame: FrameMap::unwritten(),
+        }
+    }
+
+    /// Returns a copy.
     pub fn duplicate(&self) -> Self
         ensures { result ≡ self.now }
     {
@@ -64,7 +75,7 @@ impl Known {
     }
 
     /// What is known of a register that is read.
-    pub fn read(&self, register: u8) -> Result<Kind, Cause>
+    pub(crate) fn read(&self, register: u8) -> Result<Kind, Cause>
         requires in_range { register ≤ 10 }
         requires proper { IsProperKnown self.now }
         ensures value { result ≡ read self.now register }
@@ -77,7 +88,7 @@ impl Known {
     }
 
     /// Writes a register's kind.
-    pub fn set(&mut self, register: u8, kind: Kind)
+    pub(crate) fn set(&mut self, register: u8, kind: Kind)
         requires in_range { register ≤ 10 }
         requires proper { IsProperKnown self.old }
         requires kind { kinds.IsProper kind }
@@ -88,7 +99,7 @@ impl Known {
     }
 
     /// Writes bytes of the frame from one of the offsets on, with another offset added: so many in any case, and so many at most.
-    pub fn write_bytes(&mut self, offsets: Offsets, offset: i16, least: usize, most: usize)
+    pub(crate) fn write_bytes(&mut self, offsets: Offsets, offset: i16, least: usize, most: usize)
         requires proper { IsProperKnown self.old }
         requires offsets { pointer_offsets.IsProper offsets }
         requires counts { least ≤ most }
@@ -128,7 +139,7 @@ impl Known {
     }
 
     /// Keeps a kind in a slot of the frame.
-    pub fn keep(&mut self, slot: usize, kind: Kind)
+    pub(crate) fn keep(&mut self, slot: usize, kind: Kind)
         requires slot { slot < SLOTS }
         requires proper { IsProperKnown self.old }
         requires kind { kinds.IsProper kind }
@@ -140,7 +151,7 @@ impl Known {
 
     /// Whether each byte of the frame that may be read is written, where so many are read at most, from each of the offsets on, with another
     /// offset added.
-    pub fn all_marked(&self, offsets: Offsets, offset: i16, count: usize) -> bool
+    pub(crate) fn all_marked(&self, offsets: Offsets, offset: i16, count: usize) -> bool
         requires proper { IsProperKnown self.now }
         requires offsets { pointer_offsets.IsProper offsets }
         requires within { IsTrue (lie_within offsets offset count FRAME_LENGTH) }
@@ -154,7 +165,7 @@ impl Known {
     }
 
     /// Goes behind a call: register 0 has an answer of the interval, registers 1 to 5 hold nothing.
-    pub fn go_behind_call(&mut self, answer: Interval)
+    pub(crate) fn go_behind_call(&mut self, answer: Interval)
         requires proper { IsProperKnown self.old }
         requires answer { interval.IsProper answer }
         ensures value { self.new ≡ state_after answer self.old }
@@ -165,7 +176,7 @@ impl Known {
     }
 
     /// Joins what else is known: what holds of both is left.
-    pub fn join_with(&mut self, other: &Known)
+    pub(crate) fn join_with(&mut self, other: &Known)
         requires proper { IsProperKnown self.old }
         requires other { IsProperKnown other.now }
         ensures value { self.new ≡ join_known self.old other.now }

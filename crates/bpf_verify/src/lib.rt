@@ -13,7 +13,10 @@ mod pass;
 mod successors;
 mod table;
 mod verified;
+mod visitor;
 
 pub use fault::VerifyFault;
-pub use pass::verify;
+pub use known::Known;
+pub use pass::{verify, verify_with};
 pub use verified::{Entry, Verified};
+pub use visitor::Visitor;

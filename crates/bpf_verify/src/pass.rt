@@ -3,8 +3,9 @@ ghost use Rattle.std.specs.Prelude.{◌≡◌, IfOk, IfErr, OnOk, Some};
 ghost use Rattle.bpf_insn.specs.Code.{HasProgramSize, instruction_at, word_count};
 ghost use Rattle.bpf_meaning.specs.Run.{IsSafe};
 ghost use Rattle.bpf_verify.specs.Annotation.{HasGoodAnnotation, IsAccepted, IsVerifyFault, area_of};
-ghost use Rattle.bpf_verify.specs.Pass.{AreProper, IsVisitFault, Visits, edges_of, kept, state_of};
+ghost use Rattle.bpf_verify.specs.Pass.{AreProper, IsRefusedVisit, IsVisitFault, Visits, edges_of, kept, state_of, visit_of};
 ghost use Rattle.bpf_verify.specs.Transfer.{edges_to, on_edge};
+ghost use Rattle.bpf_verify.specs.Visit.{IsShown, IsShownRefusal};
 ghost use Rattle.bpf_verify.specs.declared.fault.VerifyFault.TheVariants.{Memory};
 
 use crate::ahead::{KnownEdges, StatesAhead};
@@ -15,6 +16,7 @@ use crate::memory::area_of;
 use crate::successors::{Edge, Successors};
 use crate::table::transfer;
 use crate::verified::Verified;
+use crate::visitor::Visitor;
 use bpf_flow::Flow;
 use bpf_insn::{Area, Insn};
 use std::alloc::{AllocError, Allocator};
@@ -31,30 +33,55 @@ pub fn verify<A: Allocator + Copy>(alloc: A, flow: Flow<A>) -> Result<Verified<A
     // A code that has such an annotation is refused for want of memory alone.
     ensures only { HasGoodAnnotation flow.code → IfErr result (λ fault. fault ≡ Memory) }
 {
-    let areas = pass(alloc, &flow)?;
+    verify_with(alloc, flow, &mut ())
+}
+
+/// Returns what [`verify`] does, and shows the visitor each instruction with what is known before it, the refused one included. It ends with the
+/// visitor's first error.
+pub fn verify_with<A: Allocator + Copy, V: Visitor>(
+    alloc: A,
+    flow: Flow<A>,
+    visitor: &mut V,
+) -> Result<Verified<A>, VerifyFault>
+    ensures ok { IfOk result (λ verified. (verified.code ≡ flow.code) × HasGoodAnnotation flow.code) }
+    ensures areas { IfOk result (λ verified. IsAccepted flow.code verified.areas) }
+    ensures safe { OnOk result (IsSafe flow.code) }
+    ensures err { IfErr result (IsVerifyFault flow.code) }
+    ensures only { HasGoodAnnotation flow.code → IfErr result (λ fault. fault ≡ Memory) }
+    ensures shown { OnOk result (IsShown V.visited flow.code visitor.old visitor.new) }
+    ensures shown_refusal { IfErr result (λ fault. IsShownRefusal V.visited flow.code fault visitor.old visitor.new) }
+{
+    let areas = pass(alloc, &flow, visitor)?;
     Ok(Verified::of(alloc, flow, &areas)?)
 }
 
 /// Visits each instruction in order. The answer is what each one's base points into.
-fn pass<A: Allocator + Copy>(alloc: A, flow: &Flow<A>) -> Result<Vec<Option<Area>, A>, VerifyFault>
+fn pass<A: Allocator + Copy, V: Visitor>(
+    alloc: A,
+    flow: &Flow<A>,
+    visitor: &mut V,
+) -> Result<Vec<Option<Area>, A>, VerifyFault>
     ensures ok { IfOk result (λ areas. IsAccepted flow.now.code areas.items) }
     ensures err { IfErr result (IsVerifyFault flow.now.code) }
+    ensures shown { OnOk result (IsShown V.visited flow.now.code visitor.old visitor.new) }
+    ensures shown_refusal { IfErr result (λ fault. IsShownRefusal V.visited flow.now.code fault visitor.old visitor.new) }
 {
     let instructions = flow.code().instructions();
     let mut areas = Vec::with_capacity(alloc, instructions.len())?;
     let mut ahead = StatesAhead::first(alloc, flow)?;
     for insn in instructions {
-        areas.push_reserved(visit(alloc, *insn, &mut ahead)?);
+        areas.push_reserved(visit(alloc, *insn, &mut ahead, visitor)?);
     }
     Ok(areas)
 }
 
 /// Takes what is known at the instruction to which the pass has come, and propagates what is known behind it, unless one of its checks fails.
 /// The answer is what its base points into, where it's a load or a store that is reached.
-fn visit<A: Allocator + Copy>(
+fn visit<A: Allocator + Copy, V: Visitor>(
     alloc: A,
     insn: Insn,
     ahead: &mut StatesAhead<'_, A>,
+    visitor: &mut V,
 ) -> Result<Option<Area>, VerifyFault>
     requires sized { HasProgramSize (word_count ahead.old.code) }
     requires stands { instruction_at ahead.old.code ahead.old.place ≡ Some insn }
@@ -62,12 +89,16 @@ fn visit<A: Allocator + Copy>(
     ensures ok { OnOk result (Visits insn ahead.old ahead.new) }
     ensures proper { OnOk result (AreProper (kept ahead.new)) }
     ensures err { IfErr result (IsVisitFault ahead.old insn) }
+    ensures shown { OnOk result (visitor.new ≡ V.visited visitor.old (visit_of ahead.old insn)) }
+    ensures shown_refusal { IfErr result (λ fault. IsRefusedVisit V.visited ahead.old insn fault visitor.old visitor.new) }
 {
     let place = ahead.place();
     let target = ahead.target();
     let Some(mut known) = ahead.take(insn) else {
+        visitor.unreached(place, insn)?;
         return Ok(None);
     };
+    visitor.reached(place, insn, &known)?;
     let area = area_of(&known, insn);
     let successors = match transfer(&mut known, insn) {
         Ok(successors) => successors,

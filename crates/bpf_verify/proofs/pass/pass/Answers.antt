@@ -1,4 +1,4 @@
-use Rattle.std.proofs.Common.{◌≡◌, ◌+◌, ◌<◌, ◌++◌, ◌∷◌, [], ℕ, List, Option, Some, length, take, get_or, sym, ap, subst, ◌∙◌, arith, rules}
+use Rattle.std.proofs.Common.{◌≡◌, ◌+◌, ◌<◌, ◌++◌, ◌∷◌, [], ℕ, List, Option, Some, length, take, get_or, refl, sym, ap, subst, ◌∙◌, arith, rules}
 use Rattle.std.proofs.lemmas.List.{length-take-le, take_all, take_more}
 use Rattle.bpf_insn.specs.Code.{instruction_at}
 use Rattle.bpf_insn.specs.declared.instruction.Insn.{Insn}
@@ -6,14 +6,16 @@ use Rattle.bpf_insn.specs.declared.value.Area.{Area}
 use Rattle.bpf_flow.proofs.FlowLemmas.{stands_at}
 use Rattle.bpf_flow.specs.Flow.{IsForward}
 use Rattle.bpf_verify.specs.Annotation.{area_of}
-use Rattle.bpf_verify.specs.Pass.{Ahead, AreProper, Visits, kept}
-use Rattle.bpf_verify.proofs.PassLemmas.{IsOnItsWay, length-found, starts, goes_on, refuses, accepts}
+use Rattle.bpf_verify.specs.Pass.{Ahead, AreProper, Visits, kept, visit_of}
+use Rattle.bpf_verify.specs.Visit.{Visit}
+use Rattle.bpf_verify.proofs.PassLemmas.{IsOnItsWay, length-found, starts, goes_on, refuses, accepts, shows, shows_refusal}
+use Rattle.bpf_verify.proofs.VisitLemmas.{visited_all-more}
 use Rattle.bpf_verify.proofs.pass.pass.Goals as goal
 
 module _ {code items : List Insn} (index : ℕ) {insn : Insn} (same : items ≡ code) (within : index < length items)
     (is : insn ≡ get_or items index insn) where
   -- the instruction to which the pass has come
-  comes_to : {ahead : Ahead} {areas : List (Option Area)} → IsOnItsWay code (take index code) ahead areas
+  comes_to : {ahead : Ahead} {areas : List (Option Area)} {visits : List Visit} → IsOnItsWay code (take index code) ahead areas visits
       → instruction_at code ahead.place ≡ Some insn
   comes_to {ahead} way = stands_at index ahead.place same within is way.at
 
@@ -24,19 +26,21 @@ module _ {code items : List Insn} (index : ℕ) {insn : Insn} (same : items ≡ 
       ∙ ap (λ (code : List Insn). take index code ++ insn ∷ []) same
 
   -- an iteration
-  one_more : {before after : Ahead} {areas more : List (Option Area)} {area : Option Area} → IsForward code
-      → IsOnItsWay code (take index code) before areas
+  one_more : {before after : Ahead} {areas more : List (Option Area)} {area : Option Area} {earlier : List Visit} → IsForward code
+      → IsOnItsWay code (take index code) before areas earlier
       → Visits insn before after → AreProper (kept after) → area ≡ area_of (kept before before.place) insn → more ≡ areas ++ area ∷ []
-      → IsOnItsWay code (take (index + 1) code) after more
-  one_more {before} {after} {areas} {more} forward way visits proper found pushed =
+      → IsOnItsWay code (take (index + 1) code) after more (earlier ++ visit_of before insn ∷ [])
+  one_more {before} {after} {areas} {more} {earlier = earlier} forward way visits proper found pushed =
       let all : more ≡ areas ++ area_of (kept before before.place) insn ∷ [] =
       pushed ∙ ap (λ (area : Option Area). areas ++ area ∷ []) found in
-      rw (passed_more, all) (goes_on code (take index code) insn before after areas forward (comes_to way) way proper visits)
+      rw (passed_more, all) (goes_on code (take index code) insn before after areas earlier forward (comes_to way) way proper visits)
 
 pub loop-insn-init : goal.loop-insn-init
 loop-insn-init g c = record {
-  way = subst (IsOnItsWay c.args.flow.now.code [] c.in_ok-ahead.ahead) (sym c.in_ok-areas.ensures.items)
+  visits = [];
+  way = subst (λ areas. IsOnItsWay c.args.flow.now.code [] c.in_ok-ahead.ahead areas []) (sym c.in_ok-areas.ensures.items)
       (starts c.args.flow.now.code c.in_ok-ahead.ahead c.in_ok-ahead.ensures);
+  shown = refl;
   room = omega (arith, c.in_ok-areas.ensures.capacity, ap length (c.instructions-instructions.ensures.value ∙ c.code.ensures.value));
 }
 
@@ -71,11 +75,15 @@ push_reserved-requires g c =
 
 pub loop-insn-preserved : goal.loop-insn-preserved
 loop-insn-preserved g c =
+    let invariant = c.loop-insn.invariant in
     record {
+      visits = invariant.visits ++ visit_of c.loop-insn.ahead c.insn-item.result ∷ [];
       way = one_more c.loop-insn.insn-index (c.instructions-instructions.ensures.value ∙ c.code.ensures.value)
           c.loop-insn-test.true c.insn-item.is
           c.code.ensures.forward c.loop-insn.invariant.way c.in_ok-visit.ensures.ok c.in_ok-visit.ensures.proper c.in_ok-visit.ensures.area
           c.push_reserved.ensures.items;
+      shown = c.in_ok-visit.ensures.shown ∙ ap (λ visitor. g.V.Visitor.visited visitor (visit_of c.loop-insn.ahead c.insn-item.result)) invariant.shown
+          ∙ visited_all-more g.V.Visitor.visited c.args.visitor.now invariant.visits (visit_of c.loop-insn.ahead c.insn-item.result);
       room = omega (arith, c.loop-insn.invariant.room, c.push_reserved.ensures.capacity);
     }
 
@@ -84,3 +92,18 @@ returns-clause-ok g c =
     let same = c.instructions-instructions.ensures.value ∙ c.code.ensures.value in
     accepts _ _ c.loop-insn.ahead _ (take_all c.loop-insn.insn-index c.args.flow.now.code
     (let long = ap length same in omega (arith, c.loop-insn-test.false))) c.loop-insn.invariant.way
+
+pub returns-clause-shown : goal.returns-clause-shown
+returns-clause-shown g c =
+    let same = c.instructions-instructions.ensures.value ∙ c.code.ensures.value in
+    shows g.V.Visitor.visited _ _ c.loop-insn.ahead c.args.visitor.now c.loop-insn.visitor (take_all c.loop-insn.insn-index c.args.flow.now.code
+    (let long = ap length same in omega (arith, c.loop-insn-test.false))) c.loop-insn.invariant.way c.loop-insn.invariant.shown
+
+pub returns-in_err-visit-clause-shown_refusal : goal.returns-in_err-visit-clause-shown_refusal
+returns-in_err-visit-clause-shown_refusal g c =
+    let invariant = c.loop-insn.invariant in
+    let same = c.instructions-instructions.ensures.value ∙ c.code.ensures.value in
+    let shown = shows_refusal g.V.Visitor.visited c.insn-item.result c.loop-insn.insn-index c.in_err-visit.field-0.0 c.args.visitor.now
+    c.loop-insn.visitor c.visit.new.visitor (passed_more c.loop-insn.insn-index same c.loop-insn-test.true c.insn-item.is)
+    invariant.way invariant.shown c.in_err-visit.ensures.err c.in_err-visit.ensures.shown_refusal in
+    search rules
