@@ -37,9 +37,17 @@ fn push_line<A: Allocator>(text: &mut String<A>, insn: Insn) -> Result<(), Alloc
     ensures text { OnOk result (string_bytes text.new ≡ string_bytes text.old ++ (line_text insn ++ codes "\n")) }
     ensures fits { OnOk result (NumbersFit insn) }
 {
-    text.push_str(form_of(insn).name())?;
-    push_operands(text, insn)?;
+    push_instruction(text, insn)?;
     text.push_str("\n")
+}
+
+/// Pushes an instruction as `disassemble` writes it, without an end of line.
+pub fn push_instruction<A: Allocator>(text: &mut String<A>, insn: Insn) -> Result<(), AllocError>
+    ensures text { OnOk result (string_bytes text.new ≡ string_bytes text.old ++ line_text insn) }
+    ensures fits { OnOk result (NumbersFit insn) }
+{
+    text.push_str(form_of(insn).name())?;
+    push_operands(text, insn)
 }
 
 /// The form of an instruction.

@@ -14,5 +14,5 @@ mod words;
 
 pub use assembler::assemble;
 pub use conversion::{assemble_source, disassemble_program};
-pub use disassembler::disassemble;
+pub use disassembler::{disassemble, push_instruction};
 pub use fault::{SourceFault, TextFault, TextFlaw};
