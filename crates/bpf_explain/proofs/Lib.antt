@@ -1,0 +1,7 @@
+pub mod LoopLemmas
+pub mod TextLemmas
+pub mod SourceLemmas
+pub mod ListingLemmas
+pub mod SlotLemmas
+pub mod NoteLemmas
+pub mod PrefixLemmas

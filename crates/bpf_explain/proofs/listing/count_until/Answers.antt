@@ -1,0 +1,12 @@
+use Rattle.std.proofs.Common.{◌∙◌}
+use Rattle.std.specs.Prelude.{nat_lt}
+use Rattle.bpf_explain.proofs.ListingLemmas.{count-found, count-missing, position-map}
+use Rattle.bpf_explain.proofs.listing.count_until.Goals as goal
+
+pub returns-in-Some-clause-value : goal.returns-in-Some-clause-value
+returns-in-Some-clause-value c =
+    count-found _ c.args.lines.now c.in-Some.count c.in-Some.ensures.value ∙ position-map (λ line. nat_lt c.args.place line.place) c.args.lines.now
+
+pub returns-in-None-clause-value : goal.returns-in-None-clause-value
+returns-in-None-clause-value c =
+    count-missing _ c.args.lines.now c.in-None.ensures.value ∙ position-map (λ line. nat_lt c.args.place line.place) c.args.lines.now

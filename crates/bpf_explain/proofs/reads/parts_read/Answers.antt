@@ -1,0 +1,18 @@
+use Rattle.std.proofs.Common.{refl, ◌∙◌, sym, rules}
+use Rattle.bpf_explain.specs.Notation.{IsPart}
+use Rattle.bpf_explain.specs.Reads.{reads}
+use Rattle.bpf_explain.proofs.LoopLemmas.{parts-next, no-parts, All-next}
+use Rattle.bpf_explain.proofs.reads.parts_read.Goals as goal
+
+pub loop-index-preserved : goal.loop-index-preserved
+loop-index-preserved g c = record {
+  value = parts-next (reads c.args.known.now c.args.insn) c.args.first c.loop-index.index _ c.part_at-part.result c.reads.result
+      c.loop-index.parts.items _ refl c.loop-index.invariant.value c.part_at-part.ensures.value c.reads.ensures c.in_ok-push_if.ensures;
+  are = All-next IsPart c.loop-index.parts.items _ c.part_at-part.result _ c.loop-index.invariant.are c.part_at-part.ensures.is c.in_ok-push_if.ensures;
+}
+
+pub loop-index-init : goal.loop-index-init
+loop-index-init g c = record {
+  value = c.new-parts.ensures.items ∙ sym (no-parts (reads c.args.known.now c.args.insn) c.args.first);
+  are = search rules;
+}

@@ -1,0 +1,91 @@
+-- Why an instruction is refused, in words: the check that fails, and what is known of the parts that it is about.
+use Rattle.std.specs.Prelude.{ℕ, List, [], ◌∷◌, ◌++◌, get_or, codes, decimal, Option, Some, None}
+use Rattle.std.specs.Int.{w32, cast_unsigned}
+use Rattle.std.specs.List.{flat_map}
+use Rattle.bpf_helpers.specs.Helper.{signature}
+use Rattle.bpf_helpers.specs.declared.helper.Helper.{Helper}
+use Rattle.bpf_helpers.specs.declared.signature.Argument.{Argument}
+use Rattle.bpf_helpers.specs.declared.signature.Argument.TheVariants as argument
+use Rattle.bpf_insn.specs.declared.instruction.Insn.{Insn}
+use Rattle.bpf_insn.specs.declared.instruction.Insn.TheVariants.{Call}
+use Rattle.bpf_meaning.specs.declared.cause.Cause.{Cause}
+use Rattle.bpf_meaning.specs.declared.cause.Cause.TheVariants as cause
+use Rattle.bpf_verify.specs.declared.known.Known.{Known}
+use Rattle.bpf_explain.specs.Facts.{facts_text}
+use Rattle.bpf_explain.specs.Notation.{fact_text}
+use Rattle.bpf_explain.specs.Reads.{helper_of, registers_read, slots_read}
+use Rattle.bpf_explain.specs.declared.notation.Part.{Part}
+use Rattle.bpf_explain.specs.Access.{access_text, base_text, offset_if, register_fact}
+use Rattle.bpf_explain.specs.Reach.{outside, unwritten}
+
+-- further facts, each after a comma
+unfoldable pub more_facts : Known → List Part → List ℕ
+more_facts known parts = flat_map (λ part. codes ", " ++ fact_text known part) parts
+
+unfoldable pub registers_text : Known → Insn → List ℕ
+registers_text known insn = facts_text known (registers_read known insn)
+
+unfoldable pub slots_text : Known → Insn → List ℕ
+slots_text known insn = more_facts known (slots_read known insn)
+
+-- the number of the helper function that is called
+unfoldable pub called_number : Insn → List ℕ
+called_number (Call immediate) = decimal (cast_unsigned w32 immediate)
+called_number insn = []
+
+-- what a helper function wants of its argument with this number, counted from 1
+abbrev pub wanted_by : Option Helper → ℕ → Argument
+wanted_by None number = argument.Unused
+wanted_by (Some helper) number = get_or (argument.Unused ∷ (signature helper).arguments) number argument.Unused
+
+unfoldable pub wanted : Insn → ℕ → Argument
+wanted (Call immediate) number = wanted_by (helper_of immediate) number
+wanted insn number = argument.Unused
+
+unfoldable pub wanted_text : Argument → List ℕ
+wanted_text argument.Unused = codes "anything"
+wanted_text (argument.Number x) = codes "a number from " ++ decimal x.low ++ codes " to " ++ decimal x.high
+wanted_text argument.Frame = codes "a pointer into the frame"
+
+-- an argument that isn't what the helper function wants
+unfoldable pub argument_text : Known → Insn → ℕ → List ℕ
+argument_text known insn number =
+    decimal number ++ codes " must be " ++ wanted_text (wanted insn number) ++ codes ": " ++ register_fact known number
+
+-- The words of the check that fails, by its cause. The first two causes occur only in runs: no check of the verifier fails with them. Bytes that
+-- are outside of an area, or that aren't written, have words of their own.
+abbrev pub failure_words : Cause → List ℕ
+failure_words cause.OutOfProgram = []
+failure_words cause.IntoWide = []
+failure_words (cause.ReadsNothing register) = codes "reads r"
+failure_words cause.PointerArithmetic = codes "a pointer is only copied, or moved by a number from -32768 to 32767: "
+failure_words cause.LeavesArea = codes "moves a pointer to an offset outside -32768..32767: "
+failure_words cause.NotPointer = codes "the base is no pointer: "
+failure_words cause.OutOfBounds = []
+failure_words cause.UnwrittenFrame = []
+failure_words cause.WritesRecord = codes "writes to the record, which is read-only: "
+failure_words cause.StoresPointer = codes "a pointer is stored only by stxdw, at one known offset divisible by 8: "
+failure_words cause.ComparesPointer = codes "compares a pointer: "
+failure_words cause.UnknownHelper = codes "there is no helper function "
+failure_words (cause.BadArgument number) = codes "argument "
+failure_words cause.ExitNotNumber = codes "exits with a pointer: "
+
+-- and what follows them
+abbrev pub failure_facts : Known → Insn → Cause → List ℕ
+failure_facts known insn cause.OutOfProgram = []
+failure_facts known insn cause.IntoWide = []
+failure_facts known insn (cause.ReadsNothing register) = decimal register ++ codes ", of which nothing is known"
+failure_facts known insn cause.PointerArithmetic = registers_text known insn
+failure_facts known insn cause.LeavesArea = registers_text known insn
+failure_facts known insn cause.NotPointer = base_text known insn
+failure_facts known insn cause.OutOfBounds = outside known insn
+failure_facts known insn cause.UnwrittenFrame = unwritten known insn ++ slots_text known insn
+failure_facts known insn cause.WritesRecord = access_text known insn
+failure_facts known insn cause.StoresPointer = registers_text known insn ++ offset_if insn
+failure_facts known insn cause.ComparesPointer = registers_text known insn
+failure_facts known insn cause.UnknownHelper = called_number insn
+failure_facts known insn (cause.BadArgument number) = argument_text known insn number
+failure_facts known insn cause.ExitNotNumber = register_fact known 0
+
+unfoldable pub failure_text : Known → Insn → Cause → List ℕ
+failure_text known insn cause = failure_words cause ++ failure_facts known insn cause

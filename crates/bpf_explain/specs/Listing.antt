@@ -1,0 +1,71 @@
+-- A program's listing, visit by visit, and how it ends.
+use Rattle.std.specs.Prelude.{ℕ, nat_lt, List, [], ◌++◌, drop, codes, Option, Some, None}
+use Rattle.std.specs.List.{before_first, flat_map, position_or_len}
+use Rattle.bpf_insn.specs.declared.instruction.Insn.{Insn}
+use Rattle.bpf_meaning.specs.declared.cause.Cause.{Cause}
+use Rattle.bpf_verify.specs.AbstractState.{AbstractState, Unreached, Reached, unknown}
+use Rattle.bpf_verify.specs.Visit.{Visit, visited_all}
+use Rattle.bpf_verify.specs.declared.known.Known.{Known}
+use Rattle.bpf_explain.specs.Facts.{instruction_line}
+use Rattle.bpf_explain.specs.Access.{text_if}
+use Rattle.bpf_explain.specs.Failure.{failure_text}
+use Rattle.bpf_explain.specs.SourceLines.{SourceLine}
+
+-- a listing so far: its text; what was known last, before an instruction that is reached; the last instruction; the source lines that are left
+pub record ListingParts : Type 0 where
+  pub text : List ℕ
+  pub known : Known
+  pub insn : Option Insn
+  pub left : List SourceLine
+
+-- at first nothing is known
+abbrev pub first : List SourceLine → ListingParts
+first lines = record { text = []; known = unknown; insn = None; left = lines }
+
+-- the source lines up to a place, and those after it
+unfoldable pub lines_until : ℕ → List SourceLine → List SourceLine
+lines_until place lines = before_first (λ line. nat_lt place line.place) lines
+
+unfoldable pub lines_after : ℕ → List SourceLine → List SourceLine
+lines_after place lines = drop (position_or_len (λ line. nat_lt place line.place) lines) lines
+
+abbrev pub source_text : SourceLine → List ℕ
+source_text line = codes "; " ++ line.text ++ codes "\n"
+
+unfoldable pub sources_text : List SourceLine → List ℕ
+sources_text lines = flat_map source_text lines
+
+-- what is known last, after a state
+abbrev pub known_after : Known → AbstractState → Known
+known_after last Unreached = last
+known_after last (Reached known) = known
+
+-- the lines of a visit: the source lines up to its place, and the instruction's
+unfoldable pub visit_text : ListingParts → Visit → List ℕ
+visit_text listing visit =
+    sources_text (lines_until visit.place listing.left) ++ instruction_line listing.known visit.place visit.insn visit.state
+
+-- what a visit makes of a listing
+abbrev pub visited : ListingParts → Visit → ListingParts
+visited listing visit = record {
+  text = listing.text ++ visit_text listing visit;
+  known = known_after listing.known visit.state;
+  insn = Some visit.insn;
+  left = lines_after visit.place listing.left;
+}
+
+-- the listing of visits
+abbrev pub listing : List SourceLine → List Visit → ListingParts
+listing lines visits = visited_all visited (first lines) visits
+
+-- the text of a listing whose program is accepted
+abbrev pub accepted_text : ListingParts → List ℕ
+accepted_text listing = listing.text ++ (sources_text listing.left ++ codes "accepted\n")
+
+-- the line of a refusal
+abbrev pub refusal_line : Known → Cause → Insn → List ℕ
+refusal_line known cause insn = codes "refused: " ++ failure_text known insn cause ++ codes "\n"
+
+-- the text of a listing whose last instruction is refused
+abbrev pub refused_text : ListingParts → Cause → List ℕ
+refused_text listing cause = listing.text ++ text_if (refusal_line listing.known cause) listing.insn

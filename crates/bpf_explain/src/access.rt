@@ -1,0 +1,180 @@
+//! What loads and stores do, and what is known of their bases.
+ghost use Rattle.std.specs.Prelude.{◌≡◌, ◌++◌, true, OnOk, decimal};
+ghost use Rattle.std.specs.Fmt.{signed_decimal};
+ghost use Rattle.std.specs.String.{string_bytes};
+ghost use Rattle.bpf_insn.specs.Memory.{store_length};
+ghost use Rattle.bpf_verify.specs.AbstractState.{IsProperKnown, kind_of};
+ghost use Rattle.bpf_explain.specs.Access.{access_facts, access_of, access_text, base_text, offset_if, offset_text, register_fact};
+
+use crate::notation::push_kind;
+use bpf_insn::{Insn, Register, StoreSize, load_length, store_length};
+use bpf_kinds::Kind;
+use bpf_verify::Known;
+use itoa::Buffer;
+use std::alloc::{AllocError, Allocator};
+
+/// What a load or a store does.
+#[derive(Clone, Copy)]
+pub struct Access {
+    pub base: Register,
+    /// What is added to the base.
+    pub offset: i16,
+    /// How many bytes it reads or writes.
+    pub count: usize,
+    pub writes: bool,
+}
+
+#[tactic(auto, unfolding(crate::specs::Access::base_text))]
+pub(crate) fn push_base<A: Allocator>(
+    text: &mut String<A>,
+    known: &Known,
+    insn: Insn,
+) -> Result<(), AllocError>
+    requires { IsProperKnown known.now }
+    ensures { OnOk result (string_bytes text.new ≡ string_bytes text.old ++ base_text known.now insn) }
+{
+    match access_of(insn) {
+        Some(access) => push_register(text, known, access.base.number),
+        None => Ok(()),
+    }
+}
+
+#[tactic(auto, unfolding(crate::specs::Access::access_text))]
+pub(crate) fn push_access_if<A: Allocator>(
+    text: &mut String<A>,
+    known: &Known,
+    insn: Insn,
+) -> Result<(), AllocError>
+    requires { IsProperKnown known.now }
+    ensures { OnOk result (string_bytes text.new ≡ string_bytes text.old ++ access_text known.now insn) }
+{
+    match access_of(insn) {
+        Some(access) => push_access(text, known, access),
+        None => Ok(()),
+    }
+}
+
+#[tactic(auto, unfolding(crate::specs::Access::offset_if))]
+pub(crate) fn push_offset_if<A: Allocator>(
+    text: &mut String<A>,
+    insn: Insn,
+) -> Result<(), AllocError>
+    ensures { OnOk result (string_bytes text.new ≡ string_bytes text.old ++ offset_if insn) }
+{
+    match access_of(insn) {
+        Some(access) => push_offset(text, access),
+        None => Ok(()),
+    }
+}
+
+/// Returns what a load or a store does.
+#[tactic(auto, unfolding(crate::specs::Access::access_of))]
+pub(crate) fn access_of(insn: Insn) -> Option<Access>
+    ensures { result ≡ access_of insn }
+{
+    match insn {
+        Insn::Load {
+            format,
+            base,
+            offset,
+            ..
+        } => Some(Access {
+            base,
+            offset,
+            count: load_length(format),
+            writes: false,
+        }),
+        Insn::StoreImmediate {
+            size,
+            base,
+            offset,
+            ..
+        } => Some(store_access(size, base, offset)),
+        Insn::Store {
+            size,
+            base,
+            offset,
+            ..
+        } => Some(store_access(size, base, offset)),
+        _ => None,
+    }
+}
+
+pub(crate) fn store_access(size: StoreSize, base: Register, offset: i16) -> Access
+    ensures { result ≡ record { base = base; offset = offset; count = store_length size; writes = true } }
+{
+    Access {
+        base,
+        offset,
+        count: store_length(size),
+        writes: true,
+    }
+}
+
+/// Pushes what is known of a load's or a store's base, and the offset that is added.
+#[tactic(auto, unfolding(crate::specs::Access::access_facts))]
+pub(crate) fn push_access<A: Allocator>(
+    text: &mut String<A>,
+    known: &Known,
+    access: Access,
+) -> Result<(), AllocError>
+    requires { IsProperKnown known.now }
+    ensures { OnOk result (string_bytes text.new ≡ string_bytes text.old ++ access_facts known.now access) }
+{
+    push_register(text, known, access.base.number)?;
+    push_offset(text, access)
+}
+
+#[tactic(auto, unfolding(crate::specs::Access::offset_text))]
+pub(crate) fn push_offset<A: Allocator>(
+    text: &mut String<A>,
+    access: Access,
+) -> Result<(), AllocError>
+    ensures { OnOk result (string_bytes text.new ≡ string_bytes text.old ++ offset_text access) }
+{
+    text.push_str(", offset ")?;
+    push_signed(text, i128::from(access.offset))
+}
+
+/// Pushes what is known of a register. Of one that there isn't nothing is known.
+#[tactic(auto, unfolding(crate::specs::Access::register_fact))]
+pub(crate) fn push_register<A: Allocator>(
+    text: &mut String<A>,
+    known: &Known,
+    register: u8,
+) -> Result<(), AllocError>
+    requires { IsProperKnown known.now }
+    ensures { OnOk result (string_bytes text.new ≡ string_bytes text.old ++ register_fact known.now register) }
+{
+    text.push_str("r")?;
+    push_number(text, u64::from(register))?;
+    text.push_str(" = ")?;
+    push_kind(text, kind_of(known, register))
+}
+
+pub(crate) fn kind_of(known: &Known, register: u8) -> Kind
+    requires { IsProperKnown known.now }
+    ensures { result ≡ kind_of known.now register }
+{
+    if register > 10 {
+        return Kind::Nothing;
+    }
+    known.registers[usize::from(register)]
+}
+
+pub(crate) fn push_number<A: Allocator>(text: &mut String<A>, number: u64) -> Result<(), AllocError>
+    ensures { OnOk result (string_bytes text.new ≡ string_bytes text.old ++ decimal number) }
+{
+    let mut digits = Buffer::new();
+    text.push_str(digits.format(number))
+}
+
+pub(crate) fn push_signed<A: Allocator>(
+    text: &mut String<A>,
+    number: i128,
+) -> Result<(), AllocError>
+    ensures { OnOk result (string_bytes text.new ≡ string_bytes text.old ++ signed_decimal number) }
+{
+    let mut digits = Buffer::new();
+    text.push_str(digits.format(number))
+}

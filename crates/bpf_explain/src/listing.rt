@@ -1,0 +1,169 @@
+//! A program's listing, as the verifier goes over it.
+ghost use Rattle.std.specs.Prelude.{◌≡◌, ◌≤◌, ◌++◌, Some, nat_lt, length, ◌<◌, IfOk, IfSome, OnOk};
+ghost use Rattle.std.specs.List.{position, position_or_len};
+ghost use Rattle.std.specs.String.{string_bytes};
+ghost use Rattle.bpf_explain.specs.Listing.{accepted_text, first, lines_after, lines_until, refusal_line, refused_text, source_text, sources_text};
+ghost use Rattle.bpf_verify.specs.AbstractState.{IsProperKnown};
+ghost use Rattle.bpf_explain.specs.Facts.{noted, prefix_text};
+ghost use Rattle.std.specs.Prelude.{codes, map};
+ghost use Rattle.bpf_explain.specs.SourceLines.{line_of};
+
+use crate::facts::{note, push_instruction_line};
+use crate::failure::push_failure;
+use crate::source_lines::Line;
+use bpf_insn::Insn;
+use bpf_meaning::Cause;
+use bpf_verify::{Known, Visitor};
+use std::alloc::{AllocError, Allocator};
+use std::marker::Model;
+
+/// A listing so far. Contracts see it as a record of its parts.
+#[derive(Drop)]
+pub(crate) struct Listing<'a, A: Allocator> {
+    alloc: A,
+    text: String<A>,
+    /// What was known last, before an instruction that is reached.
+    known: Known,
+    /// The last instruction.
+    insn: Option<Insn>,
+    /// The source lines that are left.
+    left: &'a [Line<'a>],
+}
+
+impl<'a, A: Allocator> Model for Listing<'a, A> {
+    ghost use Rattle.std.specs.String.{string_bytes};
+    ghost use Rattle.bpf_verify.specs.AbstractState.{IsProperKnown};
+    ghost use Rattle.std.specs.Prelude.{map};
+    ghost use Rattle.bpf_explain.specs.Listing.{ListingParts};
+    ghost use Rattle.bpf_explain.specs.SourceLines.{line_of};
+
+    ghost Value = { ListingParts };
+
+    ghost view = { λ listing. record { text = string_bytes listing.text; known = listing.known; insn = listing.insn; left = map line_of listing.left.now } };
+
+    ghost invariant = { λ listing. IsProperKnown listing.known };
+}
+
+impl<'a, A: Allocator + Copy> Listing<'a, A> {
+    /// Returns the listing of no instruction.
+    pub fn first(alloc: A, lines: &'a [Line<'a>]) -> Self
+        ensures { result ≡ first (map line_of lines.now) }
+    {
+        Listing {
+            alloc,
+            text: String::new(alloc),
+            known: Known::unknown(),
+            insn: None,
+            left: lines,
+        }
+    }
+
+    /// Returns the text of a program that is accepted.
+    pub fn into_accepted(self) -> Result<Vec<u8, A>, AllocError>
+        ensures { IfOk result (λ text. text.items ≡ accepted_text self.entry) }
+    {
+        let mut text = self.text;
+        push_sources(&mut text, self.left)?;
+        text.push_str("accepted\n")?;
+        Ok(text.into_bytes())
+    }
+
+    /// Returns the text of a program whose last instruction is refused.
+    pub fn into_refused(self, cause: Cause) -> Result<Vec<u8, A>, AllocError>
+        ensures { IfOk result (λ text. text.items ≡ refused_text self.entry cause) }
+    {
+        let mut text = self.text;
+        if let Some(insn) = self.insn {
+            push_refusal(self.alloc, &mut text, &self.known, insn, cause)?;
+        }
+        Ok(text.into_bytes())
+    }
+
+    /// Pushes the source lines up to an instruction's place, and its line.
+    fn push_visit(&mut self, place: usize, insn: Insn, note: &str) -> Result<(), AllocError>
+        ensures { OnOk result (self.new ≡ record {
+          text = self.old.text ++ (sources_text (lines_until place self.old.left) ++ (noted (prefix_text place insn) note.now ++ codes "\n"));
+          known = self.old.known;
+          insn = Some insn;
+          left = lines_after place self.old.left;
+        }) }
+    {
+        let count = count_until(self.left, place);
+        push_sources(&mut self.text, &self.left[..count])?;
+        push_instruction_line(self.alloc, &mut self.text, place, insn, note)?;
+        self.left = &self.left[count..];
+        self.insn = Some(insn);
+        Ok(())
+    }
+}
+
+impl<'a, A: Allocator + Copy> Visitor for Listing<'a, A> {
+    ghost use Rattle.bpf_explain.specs.Listing.{visited};
+
+    ghost visited = { visited };
+
+    fn reached(&mut self, place: usize, insn: Insn, known: &Known) -> Result<(), AllocError> {
+        let note = note(self.alloc, &self.known, known, insn)?;
+        self.push_visit(place, insn, &note)?;
+        self.known = known.duplicate();
+        Ok(())
+    }
+
+    #[tactic(auto, unfolding(crate::specs::Listing::visit_text))]
+    fn unreached(&mut self, place: usize, insn: Insn) -> Result<(), AllocError> {
+        self.push_visit(place, insn, "unreached")
+    }
+}
+
+/// Returns how many source lines there are up to a place.
+fn count_until(lines: &[Line<'_>], place: usize) -> usize
+    ensures value { result ≡ position_or_len (λ line. nat_lt place line.place) (map line_of lines.now) }
+    ensures within { result ≤ length lines.now }
+{
+    match first_after(lines, place) {
+        Some(count) => count,
+        None => lines.len(),
+    }
+}
+
+fn first_after(lines: &[Line<'_>], place: usize) -> Option<usize>
+    ensures value { result ≡ position (λ line. nat_lt place line.place) lines.now }
+    ensures within { IfSome result (λ index. index < length lines.now) }
+{
+    lines.iter().position(|line| place < line.place)
+}
+
+/// Pushes source lines.
+#[tactic(auto, unfolding(crate::specs::Listing::sources_text))]
+fn push_sources<A: Allocator>(text: &mut String<A>, lines: &[Line<'_>]) -> Result<(), AllocError>
+    ensures { OnOk result (string_bytes text.new ≡ string_bytes text.old ++ sources_text (map line_of lines.now)) }
+{
+    for line in lines {
+        push_source(text, line)?;
+    }
+    Ok(())
+}
+
+fn push_source<A: Allocator>(text: &mut String<A>, line: &Line<'_>) -> Result<(), AllocError>
+    ensures { OnOk result (string_bytes text.new ≡ string_bytes text.old ++ source_text (line_of line.now)) }
+{
+    text.push_str("; ")?;
+    text.push_str(line.text)?;
+    text.push_str("\n")
+}
+
+/// Pushes the line that says why an instruction is refused.
+fn push_refusal<A: Allocator + Copy>(
+    alloc: A,
+    text: &mut String<A>,
+    known: &Known,
+    insn: Insn,
+    cause: Cause,
+) -> Result<(), AllocError>
+    requires { IsProperKnown known.now }
+    ensures { OnOk result (string_bytes text.new ≡ string_bytes text.old ++ refusal_line known.now cause insn) }
+{
+    text.push_str("refused: ")?;
+    push_failure(alloc, text, known, insn, cause)?;
+    text.push_str("\n")
+}

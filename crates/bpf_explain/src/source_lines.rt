@@ -1,0 +1,225 @@
+//! Lines of source code, each with the place of the program that it belongs to.
+ghost use Rattle.std.specs.Prelude.{◌≡◌, ◌<◌, ◌≤◌, ◌+◌, ◌==◌, ◌∷◌, ◌++◌, [], IfOk, IfSome, OnOk, MatchResult, Ok, Err, length, map, option_map};
+ghost use Rattle.std.specs.List.{position};
+ghost use Rattle.std.specs.Str.Lines.{lines, strip_carriage_return};
+ghost use Rattle.bpf_explain.specs.LinesFault as line_fault;
+ghost use Rattle.bpf_explain.specs.SourceLines.{IsChecked, checked, is_digit, line_in, line_of, lines_in, next_place, parts_of, place_from, place_in};
+
+use refusals::{Fault, Refusal};
+use std::alloc::{AllocError, Allocator};
+use thiserror::Error;
+
+/// The greatest place that a program can have.
+pub const GREATEST_PLACE: usize = 65_535;
+
+/// How many decimal digits a place has at most.
+pub const PLACE_DIGITS: usize = 5;
+
+/// A line of source code.
+#[derive(Clone, Copy)]
+pub(crate) struct Line<'a> {
+    /// The place that the line belongs to, which counts words from 0.
+    pub place: usize,
+    pub text: &'a str,
+}
+
+/// What is wrong with a line. The derived text is for people.
+#[derive(Clone, Copy, Debug, PartialEq, Eq, Error)]
+pub enum LineFlaw {
+    #[error("the line isn't UTF-8")]
+    NotText,
+    #[error("the line has no place before a tab")]
+    WithoutPlace,
+    #[error("the line's place is less than that of the line before")]
+    OutOfOrder,
+}
+
+/// Why a file of source lines can't be used. The derived text is for people.
+#[derive(Clone, Copy, Debug, PartialEq, Eq, Error)]
+#[error("line {line}: {flaw}")]
+pub struct LinesFault {
+    /// The line, counted from 1.
+    pub line: usize,
+    pub flaw: LineFlaw,
+}
+
+impl LineFlaw {
+    /// Returns the flaw as a refusal, without its line.
+    pub fn refusal(self) -> Refusal
+        ensures { result ≡ line_fault.flaw_refusal self }
+    {
+        match self {
+            LineFlaw::NotText => Refusal::refused(110, "LineNotText"),
+            LineFlaw::WithoutPlace => Refusal::refused(111, "LineWithoutPlace"),
+            LineFlaw::OutOfOrder => Refusal::refused(112, "LineOutOfOrder"),
+        }
+    }
+}
+
+impl Fault for LinesFault {
+    ghost use Rattle.bpf_explain.specs.LinesFault.{refusal};
+
+    ghost refusal_of = { refusal };
+
+    fn refusal(&self) -> Refusal {
+        self.flaw.refusal().at_line(self.line)
+    }
+}
+
+/// The lines of a file without a fault: a place of up to five decimal digits, a tab and a text each, with places that don't decrease. Lines end
+/// by LF or CR LF, and the last one may lack its end.
+#[derive(Clone, Copy)]
+pub struct SourceLines<'a> {
+    file: &'a [u8],
+}
+
+impl<'a> SourceLines<'a> {
+    /// Looks at each line of a file.
+    pub fn of(file: &'a [u8]) -> Result<SourceLines<'a>, LinesFault>
+        ensures { MatchResult result (λ lines. lines_in file.now ≡ Ok (parts_of lines)) (λ fault. lines_in file.now ≡ Err fault) }
+    {
+        let mut rest = file;
+        let mut number = 0;
+        let mut last = 0;
+        while !rest.is_empty() {
+            let (line, after) = first_line(rest);
+            rest = after;
+            number += 1;
+            let read = checked(number, last, line)?;
+            last = read.place;
+        }
+        Ok(SourceLines { file })
+    }
+
+    /// Returns the lines, or none if the file has a fault.
+    pub(crate) fn read<A: Allocator + Copy>(self, alloc: A) -> Result<Vec<Line<'a>, A>, AllocError>
+        ensures { IfOk result (λ lines. map line_of lines.items ≡ parts_of self.entry) }
+    {
+        let mut lines = Vec::new(alloc);
+        let mut rest = self.file;
+        let mut number = 0;
+        let mut last = 0;
+        while !rest.is_empty() {
+            let (line, after) = first_line(rest);
+            rest = after;
+            number += 1;
+            let Ok(read) = checked(number, last, line) else {
+                return Ok(Vec::new(alloc));
+            };
+            keep(&mut lines, read)?;
+            last = read.place;
+        }
+        Ok(lines)
+    }
+}
+
+fn keep<'a, A: Allocator>(lines: &mut Vec<Line<'a>, A>, line: Line<'a>) -> Result<(), AllocError>
+    ensures { OnOk result (lines.new.items ≡ lines.old.items ++ (line.entry ∷ [])) }
+{
+    lines.push(line)?;
+    Ok(())
+}
+
+/// Returns what a line says, after one of a place.
+fn checked(number: usize, last: usize, line: &[u8]) -> Result<Line<'_>, LinesFault>
+    ensures { IsChecked number (checked last line.now) result }
+{
+    match check(last, line) {
+        Ok(read) => Ok(read),
+        Err(flaw) => Err(LinesFault { line: number, flaw }),
+    }
+}
+
+#[tactic(auto, unfolding(crate::specs::SourceLines::checked))]
+fn check(last: usize, line: &[u8]) -> Result<Line<'_>, LineFlaw>
+    ensures { MatchResult result (λ read. checked last line.now ≡ Ok (line_of read)) (λ flaw. checked last line.now ≡ Err flaw) }
+{
+    let Ok(text) = str::from_utf8(line) else {
+        return Err(LineFlaw::NotText);
+    };
+    match line_in(text) {
+        Some(read) if read.place < last => Err(LineFlaw::OutOfOrder),
+        Some(read) => Ok(read),
+        None => Err(LineFlaw::WithoutPlace),
+    }
+}
+
+/// Returns the place and the text of a line.
+#[tactic(auto, unfolding(crate::specs::SourceLines::line_in))]
+fn line_in(text: &str) -> Option<Line<'_>>
+    ensures { option_map line_of result ≡ line_in text.now }
+{
+    let (digits, text) = text.split_once('\t')?;
+    let place = place_in(digits.as_bytes())?;
+    Some(Line { place, text })
+}
+
+/// Returns the place that one to five decimal digits write.
+#[tactic(auto, unfolding(crate::specs::SourceLines::place_in))]
+fn place_in(digits: &[u8]) -> Option<usize>
+    ensures { result ≡ place_in digits.now }
+{
+    if digits.is_empty() || digits.len() > PLACE_DIGITS {
+        return None;
+    }
+    place_from(digits)
+}
+
+fn place_from(digits: &[u8]) -> Option<usize>
+    ensures { result ≡ place_from 0 digits.now }
+{
+    let mut place = 0;
+    for digit in digits {
+        place = next_place(place, *digit)?;
+    }
+    Some(place)
+}
+
+/// Returns a place with one more decimal digit.
+#[tactic(auto, unfolding(crate::specs::SourceLines::next_place))]
+fn next_place(place: usize, digit: u8) -> Option<usize>
+    requires { place ≤ GREATEST_PLACE }
+    ensures value { result ≡ next_place place digit }
+    ensures within { IfSome result (λ next. next ≤ GREATEST_PLACE) }
+{
+    if !is_digit(digit) {
+        return None;
+    }
+    let next = 10 * place + usize::from(digit - b'0');
+    (next <= GREATEST_PLACE).then_some(next)
+}
+
+fn is_digit(byte: u8) -> bool
+    ensures { result ≡ is_digit byte }
+{
+    b'0' <= byte && byte <= b'9'
+}
+
+/// Returns the first line of a text that isn't empty, without its end, and what follows it.
+fn first_line(text: &[u8]) -> (&[u8], &[u8])
+    requires { 0 < length text.now }
+    ensures cut { lines text.now ≡ result.0.now ∷ lines result.1.now }
+    ensures shorter { length result.1.now < length text.now }
+{
+    match find_line_feed(text) {
+        Some(end) => (without_carriage_return(&text[..end]), &text[end + 1..]),
+        None => (text, &[]),
+    }
+}
+
+fn find_line_feed(text: &[u8]) -> Option<usize>
+    ensures value { result ≡ position (λ byte. byte == 10) text.now }
+    ensures within { IfSome result (λ index. index < length text.now) }
+{
+    text.iter().position(|byte| *byte == b'\n')
+}
+
+/// Returns a line without the carriage return that belongs to its end.
+fn without_carriage_return(line: &[u8]) -> &[u8]
+    ensures { result.now ≡ strip_carriage_return line.now }
+{
+    match line {
+        [front @ .., b'\r'] => front,
+        _ => line,
+    }
+}
