@@ -19,6 +19,7 @@ macro_rules! help_end {
 mod assemble;
 mod compile;
 mod disassemble;
+mod explain;
 mod geocode_batch;
 mod geocoder;
 mod run;
@@ -66,6 +67,7 @@ fn request<'a>(
         "geocode" => Ok(Request::Geocode(geocoder::request(alloc, matches)?)),
         "geocode-batch" => Ok(Request::GeocodeBatch(geocode_batch::request(alloc, matches)?)),
         "verify" => Ok(Request::Verify(verify::request(matches)?)),
+        "explain" => Ok(Request::Explain(explain::request(matches)?)),
         "asm" => Ok(Request::Assemble(assemble::request(matches)?)),
         "compile" => Ok(Request::Compile(compile::request(alloc, matches)?)),
         "select" => Ok(Request::Select(select::request(alloc, matches)?)),
@@ -91,6 +93,7 @@ fn program_command<'a>(alloc: Global) -> Result<Command<'a>, AllocError> {
   extractd geocode --data tiger --number 151 --name main --zip 36067 01001
   extractd geocode-batch --addresses addresses.csv --data tiger 01001 > places.csv
   extractd verify --program street.bpf
+  extractd explain --program street.bpf
   extractd asm --source street.s > street.bpf
   extractd dis --program street.bpf
   extractd serve --data tiger --port 8080 01001"
@@ -105,6 +108,7 @@ fn program_command<'a>(alloc: Global) -> Result<Command<'a>, AllocError> {
         .subcommand(geocoder::command(alloc)?)?
         .subcommand(geocode_batch::command(alloc)?)?
         .subcommand(verify::command(alloc)?)?
+        .subcommand(explain::command(alloc)?)?
         .subcommand(assemble::command(alloc)?)?
         .subcommand(disassemble::command(alloc)?)?
         .subcommand(serve::command(alloc)?)

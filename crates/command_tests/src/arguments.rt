@@ -32,6 +32,10 @@ extractd verify --source p.s; error:
 extractd verify --program p.bpf --data d; error:
 extractd verify --program p.bpf 01001; error:
 extractd verify --program p.bpf --program p.bpf; error:
+extractd explain; error:
+extractd explain p.bpf; error:
+extractd explain --lines l; error:
+extractd explain --program p.bpf --lines l --lines l; error:
 extractd asm; error:
 extractd asm --source; error:
 extractd asm p.s; error:
@@ -80,6 +84,7 @@ extractd geocode-batch --help;; extractd geocode-batch --addresses addresses.csv
 extractd select --help; Writes the rows of the street segments for which a filter is true
 extractd compile --help; Writes the BPF program of a filter
 extractd verify --help; Says whether
+extractd explain --help; Lists a program
 extractd asm --help; Writes the BPF
 extractd dis --help; Writes a program
 extractd geocode --data d --number '' --name main 01001; error: --number is 1 to 11 digits, and "" isn't
@@ -99,6 +104,7 @@ extractd trace;; Usage: extractd trace --program <FILE> --data <DIR> --line <N> 
 extractd select;; Usage: extractd select --where <TEXT> --data <DIR> <CODE>...
 extractd compile;; Usage: extractd compile --filter <FILE>
 extractd verify;; Usage: extractd verify --program <FILE>
+extractd explain;; Usage: extractd explain --program <FILE>
 extractd geocode;; Usage: extractd geocode --data <DIR> --number <N> --name <TEXT> <CODE>...
 extractd geocode-batch;; Usage: extractd geocode-batch --addresses <FILE> --data <DIR> <CODE>...
 extractd asm;; Usage: extractd asm --source <FILE>
@@ -111,6 +117,7 @@ extractd --help;; extractd geocode-batch --addresses addresses.csv --data tiger 
 extractd --help;; extractd select --where "CFCC LIKE 'A4%' AND ZIPL = 36067" --data tiger 01001 > rows.tsv
 extractd --help;; extractd compile --filter street.cql2 > street.bpf
 extractd --help;; extractd verify --program street.bpf
+extractd --help;; extractd explain --program street.bpf
 extractd --help;; extractd asm --source street.s > street.bpf
 extractd --help;; extractd dis --program street.bpf
 extractd --help;; extractd 0.1.0

@@ -6,6 +6,7 @@ use super::counties::{COUNTIES, OPENINGS};
 use super::devices::{CASES, LONG};
 use super::filters::FILTERS;
 use super::geocodes::GEOCODES;
+use super::listings::LISTINGS;
 use super::runs::FILES;
 use fixtures::table;
 use std::alloc::{AllocError, Global};
@@ -22,6 +23,7 @@ pub fn is_right(alloc: Global, row: &str) -> Result<bool, AllocError> {
 fn endings(rt: HostRuntime) -> Result<(), Fail> {
     for rows in [
         SOURCES, DOCUMENTED, PROGRAMS, COUNTIES, OPENINGS, FILES, GEOCODES, FILTERS, CASES,
+        LISTINGS,
     ] {
         for row in table(rt.alloc(), rows.trim())?.lines() {
             assert!(rt; is_right(rt.alloc(), row)?, "{row}");

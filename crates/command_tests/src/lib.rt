@@ -21,6 +21,7 @@ mod files;
 mod filters;
 #[cfg(test)]
 mod geocodes;
+mod listings;
 #[cfg(test)]
 mod reads;
 #[cfg(test)]

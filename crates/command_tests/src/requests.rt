@@ -1,8 +1,8 @@
 //! Requests of commands on files, made without a command line.
 use super::files::MemoryFiles;
 use commands::{
-    Assemble, Compile, Compiling, Disassemble, Geocode, GeocodeBatch, Request, Run, Select, Trace,
-    Verify,
+    Assemble, Compile, Compiling, Disassemble, Explain, Geocode, GeocodeBatch, Request, Run,
+    Select, Trace, Verify,
 };
 use fixtures::{Refusing, Writer};
 use geocode::Query;
@@ -70,6 +70,16 @@ fn request_of<'a>(alloc: Global, words: &[&'a str]) -> Option<Request<'a>> {
             }))
         }
         ["verify", "--program", program] => Some(Request::Verify(Verify { program })),
+        ["explain", "--program", program] => Some(Request::Explain(Explain {
+            program,
+            lines: None,
+        })),
+        ["explain", "--program", program, "--lines", lines] => {
+            Some(Request::Explain(Explain {
+                program,
+                lines: Some(lines),
+            }))
+        }
         ["asm", "--source", source] => Some(Request::Assemble(Assemble { source })),
         ["dis", "--program", program] => Some(Request::Disassemble(Disassemble { program })),
         _ => filter_request_of(alloc, words),

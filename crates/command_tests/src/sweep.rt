@@ -66,6 +66,11 @@ extractd verify --program p.bpf; accepted\n; 0;; p.bpf: {roads}
 extractd verify --program p.bpf;; 1; refused 40 place 0 ReadsNothing(0); p.bpf: {stuck}
 extractd verify --program p.bpf;; 1; refused 33 place 4096 LastNotExit; p.bpf: {asm mov r0, 1 *4097}
 extractd verify --program p.bpf;; 3; error: p.bpf: broken pipe; p.bpf: {every} ! call 2 pipe
+extractd explain --program p.bpf --lines l;
+  \x3b x\n0: mov r0, 1                            \x3b r1 = record + 0, r10 = frame + 512\n1: exit                                 \x3b r0 = 1\naccepted\n; 0;; p.bpf: {every}; l: 0\tx\n
+extractd explain --program p.bpf; 0: exit                                 \x3b r0 = ?, r1 = record + 0, r10 = frame + 512\nrefused: reads r0, of which nothing is
+  known\n; 1; refused 40 place 0 ReadsNothing(0); p.bpf: {stuck}
+extractd explain --program p.bpf --lines l;; 3; error: l: not found; p.bpf: {every}
 extractd asm --source p.s; {asm mov r0, 1 | ja +0 | exit}; 0;; p.s: mov r0, 1\nja out\nout:\nexit\n
 extractd asm --source p.s; {asm exit *2000}; 0;; p.s: {exit\n*2000}
 extractd asm --source p.s;; 1; refused 21 line 1 UnknownMnemonic; p.s: frob r0\n

@@ -1,4 +1,5 @@
 mod ClassLemmas
+mod ExplainLemmas
 mod FileLemmas
 mod ReadLemmas
 mod CarriedLemmas

@@ -11,6 +11,7 @@ use Rattle.commands.specs.Assemble as assemble
 use Rattle.commands.specs.Compile as compile
 use Rattle.commands.specs.Counties.{IsFileOfCounties}
 use Rattle.commands.specs.Disassemble as disassemble
+use Rattle.commands.specs.Explain as explain
 use Rattle.commands.specs.Failure.{NamesFile, Says, SaysFile, SaysLine, SaysMemory, SaysOutput, SaysText, TellsCounts, refusal_status, status as status_of}
 use Rattle.commands.specs.Files.{Disk, IsFailed}
 use Rattle.commands.specs.Filter.{IsFilterRefusal}
@@ -22,7 +23,7 @@ use Rattle.commands.specs.Select as select
 use Rattle.commands.specs.Trace as trace
 use Rattle.commands.specs.Verify as verify
 use Rattle.commands.specs.declared.request.Request.{Request}
-use Rattle.commands.specs.declared.request.Request.TheVariants.{Run, Trace, Geocode, GeocodeBatch, Verify, Assemble, Disassemble, Compile, Select}
+use Rattle.commands.specs.declared.request.Request.TheVariants.{Run, Trace, Geocode, GeocodeBatch, Verify, Explain, Assemble, Disassemble, Compile, Select}
 use Rattle.commands.specs.declared.failure.Failure.{Failure}
 use Rattle.commands.specs.declared.failure.Failure.TheVariants.{Refusal, Memory, Write, File, CountyFile, NotUtf8, NoLine, Filter, County, Output}
 
@@ -33,6 +34,7 @@ Writes (Trace asked) known result out out' = trace.Writes asked known result out
 Writes (Geocode asked) known result out out' = geocode.Writes asked known result out out'
 Writes (GeocodeBatch asked) known result out out' = geocode_batch.Writes asked known result out out'
 Writes (Verify asked) known result out out' = verify.Writes asked known result out out'
+Writes (Explain asked) known result out out' = explain.Writes asked known result out out'
 Writes (Assemble asked) known result out out' = assemble.Writes asked known result out out'
 Writes (Disassemble asked) known result out out' = disassemble.Writes asked known result out out'
 Writes (Compile asked) known result out out' = compile.Writes asked known result out out'
@@ -49,6 +51,7 @@ IsRefused (Trace asked) known refusal out out' = trace.IsRefused asked known ref
 IsRefused (Geocode asked) known refusal out out' = geocode.IsRefused asked known refusal out out'
 IsRefused (GeocodeBatch asked) known refusal out out' = geocode_batch.IsRefused asked known refusal out out'
 IsRefused (Verify asked) known refusal out out' = verify.IsRefused asked known refusal out out'
+IsRefused (Explain asked) known refusal out out' = explain.IsRefused asked known refusal out out'
 IsRefused (Assemble asked) known refusal out out' = assemble.IsRefused asked known refusal out out'
 IsRefused (Disassemble asked) known refusal out out' = disassemble.IsRefused asked known refusal out out'
 IsRefused request known refusal out out' = ⊥
@@ -100,6 +103,7 @@ IsFileOf (Trace asked) name = IsInput asked.program.now asked.«data».now asked
 IsFileOf (Geocode asked) name = IsFileOfCounties asked.«data».now (geocode.codes_of asked) name
 IsFileOf (GeocodeBatch asked) name = geocode_batch.IsFileOf asked name
 IsFileOf (Verify asked) name = name ≡ asked.program.now
+IsFileOf (Explain asked) name = explain.IsFileOf asked name
 IsFileOf (Assemble asked) name = name ≡ asked.source.now
 IsFileOf (Disassemble asked) name = name ≡ asked.program.now
 IsFileOf (Compile asked) name = name ≡ asked.filter.now

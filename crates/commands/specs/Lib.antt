@@ -10,6 +10,7 @@ pub mod GeocodeBatch
 pub mod Verify
 pub mod Assemble
 pub mod Disassemble
+pub mod Explain
 pub mod Filter
 pub mod Compile
 pub mod Select

@@ -335,6 +335,7 @@ pub fn read_program_file<A: Allocator, F: Files>(
     name: &str,
 ) -> Result<Vec<u8, A>, ProgramInputFault>
     ensures known { IfOk result (λ program. Keeps (F.bytes files.old name.now) (Some program.items)) }
+    ensures stay { (other : List ℕ) → F.bytes files.new other ≡ F.bytes files.old other }
     ensures refused { IfErr result (TellsProgram (F.bytes files.old name.now)) }
     ensures uses { TellsProgramUse result (disk F.bytes F.failed_opens F.failed_reads files.old)
         (disk F.bytes F.failed_opens F.failed_reads files.new) }

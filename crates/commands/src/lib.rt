@@ -6,6 +6,7 @@ mod compile;
 mod counties;
 mod county;
 mod disassemble;
+mod explain;
 mod failure;
 mod files;
 mod filter;
@@ -23,6 +24,7 @@ pub use assemble::Assemble;
 pub use compile::Compile;
 pub use counties::load_counties;
 pub use disassemble::Disassemble;
+pub use explain::Explain;
 pub use failure::{Failure, OUT_OF_MEMORY, UNUSABLE, USAGE};
 pub use files::{
     FileFault, Files, INPUT_BUFFER, ProgramInputFault, SystemFiles, read_program, read_to_end,

@@ -8,6 +8,7 @@ ghost use Rattle.commands.specs.Files.{disk};
 use crate::assemble::Assemble;
 use crate::compile::Compile;
 use crate::disassemble::Disassemble;
+use crate::explain::Explain;
 use crate::failure::{DONE, Failure, USAGE};
 use crate::files::Files;
 use crate::geocode_batch::GeocodeBatch;
@@ -27,6 +28,7 @@ pub enum Request<'a> {
     Geocode(Geocode<'a>),
     GeocodeBatch(GeocodeBatch<'a>),
     Verify(Verify<'a>),
+    Explain(Explain<'a>),
     Assemble(Assemble<'a>),
     Disassemble(Disassemble<'a>),
     Compile(Compile<'a>),
@@ -100,6 +102,7 @@ impl<'a> Request<'a> {
             Request::Geocode(geocode) => geocode.carry_out(alloc, files, out),
             Request::GeocodeBatch(batch) => batch.carry_out(alloc, files, out),
             Request::Verify(verify) => verify.carry_out(alloc, files, out),
+            Request::Explain(explain) => explain.carry_out(alloc, files, out),
             Request::Assemble(assemble) => assemble.carry_out(alloc, files, out),
             Request::Disassemble(disassemble) => disassemble.carry_out(alloc, files, out),
             Request::Compile(compile) => compile.carry_out(alloc, files, out),

@@ -1,0 +1,41 @@
+//! Rows of the command `explain`. The listings are worked out by hand.
+
+pub const LISTINGS: &str = r"
+extractd explain --program p.bpf; 0: mov r0, 0                            \x3b r1 = record + 0, r10 = frame + 512\n1:
+  exit                                 \x3b r0 = 0\naccepted\n; 0;; p.bpf: {asm mov r0, 0 | exit}
+extractd explain --program p.bpf; 0: mov r0, 0                            \x3b r1 = record + 0, r10 = frame + 512\n1:
+  ldxb r2, [r1+55]                     \x3b r0 = 0, r1 = record + 0\n2: jgt r2, 227, +2                      \x3b r2 =
+  0..255\n3: add r1, r2                           \x3b r1 = record + 0, r2 = 0..227\n4: ldxb r0,
+  [r1+0]                      \x3b r1 = record + 0..227\n5: exit                                 \x3b r0 = 0..255, r2 =
+  0..255\naccepted\n; 0;; p.bpf: {asm mov r0, 0 | ldxb r2, [r1+55] | jgt r2, 227, +2 | add r1, r2 | ldxb r0, [r1+0] |
+  exit}
+extractd explain --program p.bpf; 0: ldxb r0, [r1+228]                    \x3b r1 = record + 0, r10 = frame +
+  512\nrefused: reads bytes 228..228 of the record, which has 0..227: r1 = record + 0, offset 228\n; 1; refused 44 place
+  0 OutOfBounds; p.bpf: {asm ldxb r0, [r1+228] | exit}
+extractd explain --program p.bpf; 0: mov r0, 1                            \x3b r1 = record + 0, r10 = frame + 512\n1: ja
+  +1                                \x3b r0 = 1\n2: ldxb r0, [r9+0]                      \x3b unreached\n3:
+  exit                                 \x3b r0 = 1\naccepted\n; 0;; p.bpf: {asm mov r0, 1 | ja +1 | ldxb r0, [r9+0] |
+  exit}
+extractd explain --program p.bpf; 0: stxdw [r10-8], r1                    \x3b r1 = record + 0, r10 = frame + 512\n1:
+  ldxdw r2, [r10-8]                    \x3b r10 = frame + 512, [r10-8] = record + 0\n2: stb [r10-8],
+  7                       \x3b r2 = record + 0, r10 = frame + 512\n3: ldxh r0, [r10-8]                     \x3b r10 =
+  frame + 512, [r10-8] = m???????\nrefused: reads bytes 504..505 of the frame, not all of which are written: r10 = frame
+  + 512, offset -8, [r10-8] = m???????\n; 1; refused 45 place 3 UnwrittenFrame; p.bpf: {asm stxdw [r10-8], r1 | ldxdw
+  r2, [r10-8] | stb [r10-8], 7 | ldxh r0, [r10-8] | exit}
+extractd explain --program p.bpf; 0: lddw r2, 0x8000000000000000          \x3b r1 = record + 0, r10 = frame + 512\n2:
+  mov r0, r2                           \x3b r2 = -9223372036854775808\n3: exit                                 \x3b r0 =
+  -9223372036854775808\naccepted\n; 0;; p.bpf: {asm lddw r2, 0x8000000000000000 | mov r0, r2 | exit}
+extractd explain --program p.bpf --lines l; \x3b int x\n\x3b\x20\n0: mov r0, 0                            \x3b r1 =
+  record + 0, r10 = frame + 512\n\x3b return x\n1: exit                                 \x3b r0 = 0\n\x3b
+  end\naccepted\n; 0;; p.bpf: {asm mov r0, 0 | exit}; l: 0\tint x\n0\t\n1\treturn x\r\n9\tend
+extractd explain --program p.bpf --lines l;; 1; refused 110 line 2 LineNotText; p.bpf: {asm mov r0, 0 | exit}; l:
+  0\tx\n1\t\xff\n
+extractd explain --program p.bpf --lines l;; 1; refused 111 line 1 LineWithoutPlace; p.bpf: {asm mov r0, 0 | exit}; l:
+  int x\n
+extractd explain --program p.bpf --lines l;; 1; refused 112 line 3 LineOutOfOrder; p.bpf: {asm mov r0, 0 | exit}; l:
+  0\tx\n1\tx\n0\tx\n
+extractd explain --program p.bpf --lines l;; 1; refused 30 place 1 BackwardJump; p.bpf: {asm mov r0, 1 | ja -1 | exit};
+  l: int x\n
+extractd explain --program p.bpf;; 1; refused 10 Empty; p.bpf:
+extractd explain --program p.bpf --lines l;; 3; error: l: not found; p.bpf: {asm mov r0, 0 | exit}
+";

@@ -1,0 +1,102 @@
+-- What `explain` writes, and what it is refused for.
+use Rattle.std.specs.Prelude.{◌≡◌, ◌≢◌, ◌⊎◌, ℕ, List, [], Option, Some, None, Result, Ok, Err, ⊤}
+use Rattle.std.specs.Borrow.{Bor}
+use Rattle.std.specs.Io.KnownBytes.{Keeps}
+use Rattle.bpf_explain.specs.Explanation.{IsExplained}
+use Rattle.bpf_explain.specs.LinesFault as lines_fault
+use Rattle.bpf_explain.specs.SourceLines.{SourceLine, lines_in}
+use Rattle.bpf_explain.specs.declared.source_lines.LinesFault.{LinesFault}
+use Rattle.bpf_flow.specs.Flow as flow
+use Rattle.bpf_flow.specs.Flow.{IsForward}
+use Rattle.bpf_insn.specs.Code as code
+use Rattle.bpf_insn.specs.Code.{IsCodeOf}
+use Rattle.bpf_insn.specs.declared.fault.CodeFault.TheVariants as code_fault
+use Rattle.bpf_insn.specs.declared.instruction.Insn.{Insn}
+use Rattle.bpf_meaning.specs.declared.cause.Cause.{Cause}
+use Rattle.bpf_verify.specs.VerifyFault as verify_fault
+use Rattle.bpf_verify.specs.declared.fault.VerifyFault.{VerifyFault}
+use Rattle.bpf_verify.specs.declared.fault.VerifyFault.TheVariants.{Refused}
+use Rattle.extract.specs.ProgramFault as program_fault
+use Rattle.extract.specs.declared.program.ProgramFault.{ProgramFault}
+use Rattle.extract.specs.declared.program.ProgramFault.TheVariants.{Code, Flow, Verify, Memory}
+use Rattle.refusals.specs.Refusal.{RefusalParts, memory}
+use Rattle.tl_fields.specs.Device.{Writer}
+use Rattle.tl_fields.specs.Writing.{WritesText}
+use Rattle.tl_fields.specs.declared.writing.WriteFault.{WriteFault}
+use Rattle.commands.specs.Failure.{NamesFile}
+use Rattle.commands.specs.Files.{Disk, IsFailed}
+use Rattle.commands.specs.declared.explain.Explain.{Explain}
+use Rattle.commands.specs.declared.failure.Failure.{Failure}
+use Rattle.commands.specs.declared.failure.Failure.TheVariants as failure
+
+-- the file of source lines has these bytes, as far as they are known; none if there is no such file
+abbrev pub HoldsLines : (List ℕ → Option (List ℕ)) → Option (Bor (List ℕ)) → List ℕ → Type 0
+HoldsLines known None file = file ≡ []
+HoldsLines known (Some name) file = Keeps (known name.now) (Some file)
+
+-- a file of this name is the file of source lines
+abbrev pub IsLinesFile : Option (Bor (List ℕ)) → List ℕ → Type 0
+IsLinesFile None name = ⊥
+IsLinesFile (Some lines) name = name ≡ lines.now
+
+-- why the file of source lines isn't read: it can't be used, or an allocation fails
+abbrev pub TellsLines : Option (Bor (List ℕ)) → Disk → Disk → Failure → Type 0
+TellsLines lines disk disk' (failure.File name error) = IsLinesFile lines name.now × IsFailed disk disk'
+TellsLines lines disk disk' failure.Memory = ⊤
+TellsLines lines disk disk' failure = ⊥
+
+-- the first fault of a program's bytes, or else of its jumps and its end
+abbrev pub IsFlowFault : List ℕ → ProgramFault → Type 0
+IsFlowFault program (Code fault) = code.IsFirstFault program fault × (fault ≢ code_fault.Memory)
+IsFlowFault program (Flow fault) = (code : List Insn) × IsCodeOf program code × flow.IsFirstFault code fault
+IsFlowFault program (Verify fault) = ⊥
+IsFlowFault program Memory = Unit {0}
+
+-- a file of this name is one that is read
+abbrev pub IsFileOf : Explain → List ℕ → Type 0
+IsFileOf explain name = (name ≡ explain.program.now) ⊎ IsLinesFile explain.lines name
+
+-- what is explained: a program with its code, and source lines
+pub record Inputs (explain : Explain) (known : List ℕ → Option (List ℕ)) : Type 0 where
+  pub program : List ℕ
+  pub is_program : Keeps (known explain.program.now) (Some program)
+  pub code : List Insn
+  pub is_code : IsCodeOf program code
+  pub file : List ℕ
+  pub is_file : HoldsLines known explain.lines file
+  pub lines : List SourceLine
+  pub are_lines : lines_in file ≡ Ok lines
+
+-- The explanation of the verdict was written, or a beginning of it up to the fault of the output. If it was written whole, the program is
+-- accepted.
+pub record Writes (explain : Explain) (known : List ℕ → Option (List ℕ)) (result : Result (Unit {0}) WriteFault)
+    (out out' : Writer) : Type 0 where
+  pub inputs : Inputs explain known
+  pub text : List ℕ
+  pub verdict : Result (Unit {0}) VerifyFault
+  pub explained : IsExplained inputs.code inputs.lines text verdict
+  pub accepted : result ≡ Ok tt → verdict ≡ Ok tt
+  pub written : WritesText text result out out'
+
+-- What `explain` is refused for: the program's bytes or its jumps, or the source lines, or an allocation that failed, and then nothing was
+-- written; or the verdict, and then its explanation was written.
+pub data IsRefused (explain : Explain) (known : List ℕ → Option (List ℕ)) (refusal : RefusalParts) (out out' : Writer) : Type 0 where
+  of_program : (program : List ℕ) → Keeps (known explain.program.now) (Some program) → (fault : ProgramFault) → IsFlowFault program fault
+      → refusal ≡ program_fault.refusal fault → out' ≡ out → IsRefused explain known refusal out out'
+  of_lines : (file : List ℕ) → HoldsLines known explain.lines file → (fault : LinesFault) → lines_in file ≡ Err fault
+      → refusal ≡ lines_fault.refusal fault → out' ≡ out → IsRefused explain known refusal out out'
+  of_verdict : (inputs : Inputs explain known) (text : List ℕ) (place : ℕ) (cause : Cause)
+      → IsExplained inputs.code inputs.lines text (Err (Refused place cause)) → refusal ≡ verify_fault.refusal (Refused place cause)
+      → WritesText text (Ok tt) out out' → IsRefused explain known refusal out out'
+  of_memory : refusal ≡ memory → out' ≡ out → IsRefused explain known refusal out out'
+
+-- how the explanation of a code's verdict is written
+abbrev pub WritesExplained : List Insn → List SourceLine → Result (Unit {0}) Failure → Writer → Writer → Type 0
+WritesExplained code lines (Ok done) out out' = (text : List ℕ) × IsExplained code lines text (Ok tt) × WritesText text (Ok tt) out out'
+WritesExplained code lines (Err (failure.Write fault)) out out' = (text : List ℕ) × (verdict : Result (Unit {0}) VerifyFault)
+    × IsExplained code lines text verdict × WritesText text (Err fault) out out'
+WritesExplained code lines (Err (failure.Refusal refusal)) out out' =
+    ((refusal ≡ memory) × (out' ≡ out))
+    ⊎ ((text : List ℕ) × (place : ℕ) × (cause : Cause) × IsExplained code lines text (Err (Refused place cause))
+    × (refusal ≡ verify_fault.refusal (Refused place cause)) × WritesText text (Ok tt) out out')
+WritesExplained code lines (Err failure) out out' = ⊥

@@ -1,0 +1,117 @@
+//! `explain`: a program with what the verifier knows before each instruction.
+ghost use Rattle.std.specs.Prelude.{◌≢◌, IfOk, IfErr};
+ghost use Rattle.bpf_insn.specs.Code.{IsCodeOf};
+ghost use Rattle.bpf_explain.specs.SourceLines.{parts_of};
+ghost use Rattle.tl_fields.specs.Device.{writer};
+ghost use Rattle.commands.specs.Command.{CarriesOut};
+ghost use Rattle.commands.specs.Explain.{HoldsLines, IsFlowFault, TellsLines, WritesExplained};
+ghost use Rattle.commands.specs.Failure.{TellsCounts, status};
+ghost use Rattle.commands.specs.Files.{disk};
+ghost use Rattle.commands.specs.declared.request.Request.{Request};
+
+use crate::failure::{Failure, write};
+use crate::files::{Files, read_file, read_program_file};
+use bpf_explain::{Explanation, SourceLines, explain};
+use bpf_flow::Flow;
+use bpf_insn::decode;
+use extract::ProgramFault;
+use refusals::{Fault, Refusal};
+use std::alloc::Allocator;
+use tl_fields::CountedWrite;
+
+/// What `explain` is asked for.
+#[derive(Clone, Copy)]
+pub struct Explain<'a> {
+    /// The program's file.
+    pub program: &'a str,
+    /// The file of the source lines, each `place TAB text`, if there is one.
+    pub lines: Option<&'a str>,
+}
+
+impl<'a> Explain<'a> {
+    /// Reads the program and the source lines to their ends, and writes the listing, up to the instruction that is refused if there is one.
+    ///
+    /// A program whose bytes or jumps are refused has no listing.
+    pub fn carry_out<A: Allocator + Copy, F: Files, W: CountedWrite>(
+        self,
+        alloc: A,
+        files: &mut F,
+        out: &mut W,
+    ) -> Result<(), Failure<'a>>
+        ensures carried { CarriesOut (Request.Explain self.entry) result
+            (disk F.bytes F.failed_opens F.failed_reads files.old) (disk F.bytes F.failed_opens F.failed_reads files.new)
+            (writer W.contents W.counts out.old) (writer W.contents W.counts out.new) }
+        ensures usage { IfErr result (λ failure. status failure ≢ 2) }
+    {
+        let program = match read_program_file(alloc, files, self.program) {
+            Ok(program) => program,
+            Err(fault) => return Err(Failure::of_program(self.program, fault)),
+        };
+        let file = match read_lines_file(alloc, files, self.lines) {
+            Ok(file) => file,
+            Err(failure) => return Err(failure),
+        };
+        let flow = match flow_of(alloc, program) {
+            Ok(flow) => flow,
+            Err(fault) => return Err(Failure::Refusal(fault.refusal())),
+        };
+        let lines = match SourceLines::of(file.as_slice()) {
+            Ok(lines) => lines,
+            Err(fault) => return Err(Failure::Refusal(fault.refusal())),
+        };
+        write_explained(alloc, flow, lines, out)
+    }
+}
+
+/// Reads the file of source lines to its end, if there is one.
+fn read_lines_file<'a, A: Allocator, F: Files>(
+    alloc: A,
+    files: &mut F,
+    name: Option<&'a str>,
+) -> Result<Vec<u8, A>, Failure<'a>>
+    ensures hold { IfOk result (λ file. HoldsLines (F.bytes files.old) name.entry file.items) }
+    ensures err { IfErr result (TellsLines name.entry (disk F.bytes F.failed_opens F.failed_reads files.old)
+        (disk F.bytes F.failed_opens F.failed_reads files.new)) }
+    ensures counts { TellsCounts result (disk F.bytes F.failed_opens F.failed_reads files.old)
+        (disk F.bytes F.failed_opens F.failed_reads files.new) }
+{
+    let Some(name) = name else {
+        return Ok(Vec::new(alloc));
+    };
+    match read_file(alloc, files, name) {
+        Ok(file) => Ok(file),
+        Err(fault) => Err(Failure::of_file(name, fault)),
+    }
+}
+
+/// Decodes a program and follows its jumps. Its bytes are freed before the verifier takes memory.
+fn flow_of<A: Allocator + Copy>(alloc: A, program: Vec<u8, A>) -> Result<Flow<A>, ProgramFault>
+    ensures ok { IfOk result (λ flow. IsCodeOf program.items flow.code) }
+    ensures err { IfErr result (IsFlowFault program.items) }
+{
+    let code = decode(alloc, program.as_slice())?;
+    drop(program);
+    Ok(Flow::of(code)?)
+}
+
+/// Writes the listing, and says whether the verifier refuses the program.
+fn write_explained<'a, A: Allocator + Copy, W: CountedWrite>(
+    alloc: A,
+    flow: Flow<A>,
+    lines: SourceLines<'_>,
+    out: &mut W,
+) -> Result<(), Failure<'a>>
+    ensures { WritesExplained flow.code (parts_of lines.entry) result (writer W.contents W.counts out.old) (writer W.contents W.counts out.new) }
+{
+    let Ok(Explanation { text, verdict }) = explain(alloc, flow, lines) else {
+        return Err(Failure::Refusal(Refusal::memory()));
+    };
+    match write(out, text.as_slice()) {
+        Ok(()) => {}
+        Err(failure) => return Err(failure),
+    }
+    match verdict {
+        Ok(()) => Ok(()),
+        Err(fault) => Err(Failure::Refusal(fault.refusal())),
+    }
+}
