@@ -367,7 +367,7 @@ FORMS = [
     ("extend", "movsx(8|16|32)(_32)?"),
     ("swap", "(le|be|swap)(16|32|64)"),
     ("jump", "(%s)(32)?" % CONDITIONS),
-    ("always", "ja"),
+    ("always", "ja(32)?"),
     ("call", "call"),
     ("exit", "exit"),
     ("wide", "lddw"),
@@ -397,6 +397,7 @@ class Instruction(NamedTuple):
     parts: tuple
     operands: tuple
     after: int
+    mnemonic: str
 
     def targets(self):
         """The places that edges lead to, as `step` orders its edges."""
@@ -432,17 +433,37 @@ def read_line(line, place):
         if found:
             operands = tuple(operand(word) for word in rest.split(", ") if word)
             if form == "wide":
-                return Instruction(form, found.groups(), operands, place + 2)
-            return Instruction(form, found.groups(), tuple(map(immediate, operands)), place + 1)
+                return Instruction(form, found.groups(), operands, place + 2, mnemonic)
+            return Instruction(form, found.groups(), tuple(map(immediate, operands)), place + 1, mnemonic)
     raise ValueError("no such instruction: " + line)
 
 
-def read_program(text):
+def without_labels(lines):
+    """The lines of instructions, with distances in place of labels."""
+    afters, labels, place = [], {}, 0
+    for line in lines:
+        if line.endswith(":"):
+            labels[line[:-1]] = place
+        else:
+            place += 2 if line.startswith("lddw") else 1
+            afters.append((line, place))
+    for line, after in afters:
+        start, _, last = line.rpartition(" ")
+        yield "%s %+d" % (start, labels[last] - after) if last in labels else line
+
+
+def read_instructions(text):
     """The instructions by their places."""
     program, place = {}, 0
-    for line in text.split("|"):
-        program[place] = read_line(line.strip(), place)
+    for line in without_labels([line.strip() for line in text.split("|")]):
+        program[place] = read_line(line, place)
         place = program[place].after
+    return program
+
+
+def read_program(text):
+    """The instructions by their places, of a code that `verify` looks at for more than its jumps."""
+    program = read_instructions(text)
     edges = [(place, target) for place, instruction in program.items() for target in instruction.targets()]
     if any(target <= place or target not in program for place, target in edges) or list(program.values())[-1].form != "exit":
         raise ValueError("no forward code: " + text)

@@ -148,6 +148,11 @@ make_files() {
     extractd geocode-batch --addresses batch.csv --data small 01001 > batch.places
     printf '\xb7\0\0\0\1\0\0\0\x95\0\0\0\0\0\0\0' > all.words
     printf 'mov r0, 1\nexit\n' > all.text
+    cat > all.listing <<'END'
+0: mov r0, 1                            ; r1 = record + 0, r10 = frame + 512
+1: exit                                 ; r0 = 1
+accepted
+END
     # It chooses each segment, too, and asks how many names it has, so types 4, 5 and 6 are kept.
     printf 'call 3\nmov r0, 1\nexit\n' > asking.s
     extractd asm --source asking.s > asking.bpf
@@ -245,6 +250,7 @@ try_spaces() {
     try_space verify 0 accepted 'extractd verify --program all.bpf'
     try_space asm 0 all.words 'extractd asm --source all.text'
     try_space dis 0 all.text 'extractd dis --program all.bpf'
+    try_space explain 0 all.listing 'extractd explain --program all.bpf'
     try_space compile 0 long_filter.bpf 'extractd compile --filter long_filter.cql'
     try_space select rows small.rows 'extractd select --where TRUE --data small 01001'
     try_space run rows small.rows 'extractd run --program all.bpf --data small 01001'
@@ -276,6 +282,7 @@ try_outputs() {
     # Less than the output's buffer of 64 KiB is handed on at the end; what `run` and a long `dis` write is more.
     local run='extractd run --program all.bpf --data small 01001' dis='extractd dis --program longest.bpf'
     local few=('extractd run --program all.bpf --data one 01001' 'extractd verify --program all.bpf' 'extractd dis --program all.bpf'
+        'extractd explain --program all.bpf'
         'extractd asm --source all.text' 'extractd trace --program all.bpf --data small --line 1 --limit 1 01001'
         'extractd geocode --data small --number 751 --name main 01001' 'extractd compile --filter long_filter.cql'
         "extractd geocode-batch --addresses $top/examples/addresses.csv --data small 01001"
