@@ -62,15 +62,37 @@ enum { FRLONG, FRLAT, TOLONG, TOLAT };
 /* What in_range answers. */
 enum { NO_SIDE, LEFT, RIGHT, BOTH_SIDES };
 
-/* The helper functions, by their numbers. docs/helpers.md says what each is handed and answers. */
-static uint64_t (*const field)(uint64_t id) = (void *) 1;
-static uint64_t (*const has)(uint64_t id) = (void *) 2;
-static uint64_t (*const names)(void) = (void *) 3;
-static uint64_t (*const ranges)(void) = (void *) 4;
-static uint64_t (*const in_range)(uint64_t range, uint64_t house) = (void *) 5;
-static uint64_t (*const name_copy)(uint64_t name, void *bytes, uint64_t length) = (void *) 6;
-static uint64_t (*const name_is)(uint64_t name, const void *bytes, uint64_t length) = (void *) 7;
-static uint64_t (*const emit)(uint64_t score) = (void *) 8;
-static int64_t (*const coord)(uint64_t which) = (void *) 9;
+/* How each compiler calls a helper function, by its number. */
+#ifdef __clang__
+#define HELPER(number, answer, name, arguments) static answer (*const name) arguments = (void *) number
+#else
+#define HELPER(number, answer, name, arguments) answer name arguments __attribute__((kernel_helper(number)))
+#endif
+
+/* The helper functions. docs/helpers.md says what each takes and returns. */
+HELPER(1, uint64_t, field, (uint64_t id));
+HELPER(2, uint64_t, has, (uint64_t id));
+HELPER(3, uint64_t, names, (void));
+HELPER(4, uint64_t, ranges, (void));
+HELPER(5, uint64_t, in_range, (uint64_t range, uint64_t house));
+HELPER(6, uint64_t, name_copy, (uint64_t name, void *bytes, uint64_t length));
+HELPER(7, uint64_t, name_is, (uint64_t name, const void *bytes, uint64_t length));
+HELPER(8, uint64_t, emit, (uint64_t score));
+HELPER(9, int64_t, coord, (uint64_t which));
+
+/* Stands before a loop with a fixed number of rounds, up to 100, and unrolls it. */
+#ifdef __clang__
+#define UNROLL _Pragma("unroll")
+#else
+#define UNROLL _Pragma("GCC unroll 100")
+#endif
+
+/* The number's bits that the mask has, such as bounded(x, 15) for an index of 0 to 15. A compiler may leave out a plain `&` that it proves
+   needless, and the verifier then doesn't know the bound. */
+static inline __attribute__((always_inline)) uint64_t bounded(uint64_t number, uint64_t mask)
+{
+    __asm__("" : "+r"(number));
+    return number & mask;
+}
 
 #endif

@@ -4,7 +4,7 @@
 uint64_t choose(const struct record *record)
 {
     uint64_t length = 0;
-#pragma unroll
+    UNROLL
     for (unsigned i = 0; i < sizeof record->fename; i++)
         if (record->fename[i] != ' ')
             length = i + 1;

@@ -1,0 +1,475 @@
+#!/usr/bin/env python3
+"""Compares compiled BPF with native code: draws loop-free programs in C, and runs each by `extractd run` and natively.
+
+    python3 random_programs.py [--count N] [--seed N] [--compiler clang] [--cpu v1,v2,v3] [--order both]
+
+`extractd` is the one on the search path. A program has early returns, nested conditions, switches, unrolled loops,
+gotos and calls of helper functions, and no undefined behavior. It is compiled for BPF as compile.sh does, at -O1, -O2
+and -Os and for each of the given instruction sets, and for this machine by `cc` together with native.c. Each build
+has to be accepted, and has to write the rows of the native program over the example county, byte for byte.
+
+Two sorts of builds are counted apart. Clang may leave a loop that is to be unrolled, mostly at -O1, and warns then, and
+version 14 cuts a distance of more than 32,767 words. And at -O1 it asks the same condition twice, first before it sets
+a register and again before it reads it. The verifier doesn't remember conditions, and refuses such a build by 40 or 45.
+
+Prints each build that is refused otherwise or writes other rows, with the program's source, then how many builds agree,
+differ, have a loop or too long a jump, and ask twice. The exit status is 1 if any differs, or if more than a tenth ask
+twice. The same seed draws the same programs.
+"""
+# Needs Python 3.11, cc, llvm-objcopy and the compiler, and nothing else.
+
+import argparse
+import os
+import subprocess
+import sys
+import tempfile
+from collections.abc import Callable, Iterator
+from concurrent.futures import ThreadPoolExecutor
+from contextlib import contextmanager
+from dataclasses import dataclass, field
+from enum import Enum
+from pathlib import Path
+from random import Random
+
+import forward
+
+HERE = Path(__file__).resolve().parent
+COUNTY = HERE.parent
+CODE = "01001"
+LEVELS = ("-O1", "-O2", "-Os")
+ORDER_FLAGS = ("-mllvm", "-disable-block-placement", "-disable-branch-fold")
+CPUS = "v1,v2,v3"
+
+# ---- Programs
+
+# Fields of struct record and their lengths.
+BYTES = {
+    "fedirp": 2, "fename": 30, "fetype": 4, "cfcc": 3, "fraddl": 11, "toaddr": 11, "imputed": 4, "zipl": 5, "zipr": 5,
+    "countyl": 3, "cousubr": 5, "placel": 5, "tractl": 6, "blockr": 4, "frlong": 10, "tolat": 9,
+}  # fmt: skip
+IDS = (
+    "TLID", "FRADDL", "TOADDL", "FRADDR", "TOADDR", "ZIPL", "ZIPR", "STATEL", "STATER", "COUNTYL", "COUNTYR", "PLACEL",
+    "PLACER", "TRACTL", "TRACTR", "BLOCKL", "BLOCKR",
+)  # fmt: skip
+COORDINATES = ("FRLONG", "FRLAT", "TOLONG", "TOLAT")
+LETTERS = "AABFH12467 0135aeinrtSMYW"
+NAMES = ("Yarrow", "yarrow", "Northgate", "Lantern", "Pine Rest", "County Road 67", "US Hwy 480", "M")
+OPERATORS = ("+", "-", "*", "&", "|", "^")
+COMPARISONS = ("==", "!=", "<", "<=", ">", ">=")
+DEEPEST_BLOCK = 4
+INLINE = "static inline __attribute__((always_inline))"
+
+
+@dataclass
+class ProgramWriter:
+    """Draws one program. All numbers in it are uint64_t, so that nothing overflows but unsigned."""
+
+    dice: Random
+    lines: list[str] = field(default_factory=list)
+    variables: list[str] = field(default_factory=list)
+    counters: list[tuple[str, int]] = field(default_factory=list)
+    parts: list[str] = field(default_factory=list)
+    depth: int = 0
+    arrays: int = 0
+    gotos: bool = False
+
+    def write(self, line: str) -> None:
+        self.lines.append("    " * self.depth + line if line else "")
+
+    def chance(self, percent: int) -> bool:
+        return self.dice.randrange(100) < percent
+
+    @contextmanager
+    def block(self, head: str = "") -> Iterator[None]:
+        self.write(f"{head} {{" if head else "{")
+        self.depth += 1
+        yield
+        self.depth -= 1
+        self.write("}")
+
+    # ---- Expressions
+
+    def constant(self) -> str:
+        bits = self.dice.choice((2, 4, 6, 8, 16, 31, 32, 40, 64))
+        return f"{self.dice.getrandbits(bits)}ull"
+
+    def byte(self) -> str:
+        """Returns an expression of type uint8_t, of the record."""
+        name = self.dice.choice(list(BYTES))
+        if self.counters and self.chance(60):
+            counter, rounds = self.dice.choice(self.counters)
+            name = self.dice.choice([name for name, length in BYTES.items() if length >= rounds])
+            return f"record->{name}[{counter}]"
+        if self.variables and self.chance(15):
+            return f"record->fename[bounded({self.dice.choice(self.variables)}, 15)]"
+        return f"record->{name}[{self.dice.randrange(BYTES[name])}]"
+
+    def leaf(self) -> str:
+        kind = self.dice.randrange(10)
+        if kind < 4 and self.variables:
+            return self.dice.choice(self.variables)
+        if kind < 6:
+            return f"(uint64_t) {self.byte()}"
+        if kind < 7:
+            return self.constant()
+        return self.call()
+
+    def call(self) -> str:
+        calls: list[Callable[[], str]] = [
+            lambda: f"field({self.dice.choice(IDS)})",
+            lambda: f"field({self.dice.choice(IDS)})",
+            lambda: f"has({self.dice.choice(IDS)})",
+            lambda: "names()",
+            lambda: "ranges()",
+            lambda: f"(uint64_t) coord({self.dice.choice(COORDINATES)})",
+            lambda: f"in_range({self.dice.randrange(3)}, {self.dice.randrange(1, 4000)})",
+            lambda: f"in_range({self.dice.randrange(3)}, field({self.dice.choice(IDS[1:5])}))",
+        ]
+        return self.dice.choice(calls)()
+
+    def number(self, depth: int) -> str:
+        """Returns an expression of type uint64_t."""
+        if depth == 0:
+            return self.leaf()
+        first, second = self.number(depth - 1), self.number(self.dice.randrange(depth))
+        forms = (
+            f"{first} / ({second} | 1)", f"{first} % ({second} | 1)", f"{first} / {self.dice.randrange(1, 300)}",
+            f"({first} << ({second} & 63))", f"({first} >> ({second} & 31))", f"~({first})",
+            f"(uint64_t) ((uint32_t) ({first}) * (uint32_t) ({second}))",
+            f"(uint64_t) ((uint32_t) ({first}) + (uint32_t) ({second}))",
+            f"(uint64_t) ((int64_t) ({first}) >> ({second} & 63))", f"(uint64_t) (int64_t) (int8_t) ({first})",
+            f"(uint64_t) (uint16_t) ({first})", f"(uint64_t) ({self.condition(depth - 1)})",
+            f"({self.condition(depth - 1)} ? {first} : {second})",
+        )  # fmt: skip
+        if self.chance(45):
+            return f"({first} {self.dice.choice(OPERATORS)} {second})"
+        if self.parts and self.chance(10):
+            return f"{self.dice.choice(self.parts)}(record, {first}, {second})"
+        return f"({self.dice.choice(forms)})"
+
+    def condition(self, depth: int) -> str:
+        kind = self.dice.randrange(10)
+        if kind < 4 or depth <= 0:
+            return f"{self.byte()} {self.dice.choice(COMPARISONS)} {self.letter()}"
+        if kind < 5:
+            return f"has({self.dice.choice(IDS)})"
+        if kind < 7:
+            operator = self.dice.choice(("&&", "||"))
+            return f"({self.condition(depth - 1)} {operator} {self.condition(depth - 1)})"
+        if kind < 8:
+            return f"!({self.condition(depth - 1)})"
+        cast = self.dice.choice(("", "", "(int64_t) ", "(int32_t) ", "(uint32_t) "))
+        return f"{cast}({self.number(depth - 1)}) {self.dice.choice(COMPARISONS)} {cast}({self.number(depth - 1)})"
+
+    def letter(self) -> str:
+        return f"'{self.dice.choice(LETTERS)}'"
+
+    # ---- Statements
+
+    def statements(self, count: int) -> None:
+        for _ in range(count):
+            self.statement()
+
+    def statement(self) -> None:
+        simple = (self.assign, self.assign, self.score, self.early_return, self.copied_name, self.compared_name)
+        nested = (self.condition_block, self.condition_block, self.switch, self.loop)
+        deeper = self.depth < DEEPEST_BLOCK and len(self.counters) < 2 and self.chance(55)
+        self.dice.choice(nested if deeper else simple)()
+
+    def assign(self) -> None:
+        variable = self.dice.choice(self.variables)
+        self.write(f"{variable} {self.dice.choice(('', '', '+', '^', '-'))}= {bare(self.number(2))};")
+
+    def score(self) -> None:
+        self.write(f"emit({bare(self.number(1))});")
+
+    def early_return(self) -> None:
+        leave = f"return {self.dice.choice(('0', '1', bare(self.number(1))))};"
+        if self.gotos and self.chance(40):
+            leave = f"goto {self.dice.choice(('found', 'missed'))};"
+        # Clang often leaves a loop if it and one in it are left in this way.
+        if len(self.counters) == 1 and self.chance(50):
+            leave = self.dice.choice(("break;", "continue;"))
+        with self.block(f"if ({bare(self.condition(2))})"):
+            if self.chance(40):
+                self.score()
+            self.write(leave)
+
+    def condition_block(self) -> None:
+        with self.block(f"if ({bare(self.condition(2))})"):
+            self.statements(self.dice.randint(1, 3))
+        if self.chance(50):
+            with self.block("else"):
+                self.statements(self.dice.randint(1, 2))
+
+    def switch(self) -> None:
+        values = self.dice.choice((range(8), [ord(letter) for letter in "ABDFH1"]))
+        of = f"({self.number(1)}) & 7" if 0 in values else self.byte()
+        counters, self.counters = self.counters, []
+        with self.block(f"switch ({of})"):
+            for value in self.dice.sample(list(values), self.dice.randint(2, 6)):
+                self.write(f"case {value}:")
+                self.depth += 1
+                self.statements(self.dice.randint(1, 2))
+                if self.chance(75):
+                    self.write("break;")
+                self.depth -= 1
+            self.write("default:")
+            self.depth += 1
+            self.assign()
+            self.depth -= 1
+        self.counters = counters
+
+    def loop(self) -> None:
+        counter, rounds = "ijk"[len(self.counters)], self.dice.randint(2, 3 if self.counters else 7)
+        self.write("UNROLL")
+        with self.block(f"for (unsigned {counter} = 0; {counter} < {rounds}; {counter}++)"):
+            self.counters.append((counter, rounds))
+            self.statements(self.dice.randint(1, 2))
+            self.counters.pop()
+
+    def copied_name(self) -> None:
+        self.arrays += 1
+        name, length = f"name{self.arrays}", self.dice.choice((4, 8, 13, 30))
+        with self.block():
+            self.write(f"uint8_t {name}[{length}];")
+            self.write(f"{self.dice.choice(self.variables)} += name_copy({self.number(1)} & 3, {name}, sizeof {name});")
+            byte = f"{name}[{self.dice.randrange(length)}]"
+            with self.block(f"if ({byte} {self.dice.choice(COMPARISONS)} {self.letter()})"):
+                self.assign()
+
+    def compared_name(self) -> None:
+        self.arrays += 1
+        name, text = f"text{self.arrays}", self.dice.choice(NAMES)
+        with self.block():
+            self.write(f'const char {name}[{len(text)}] = "{text}";')
+            with self.block(f"if (name_is({self.dice.randrange(3)}, {name}, sizeof {name}))"):
+                self.statements(1)
+
+    # ---- Functions
+
+    def function(self, head: str, count: int, variables: list[str]) -> None:
+        self.write("")
+        self.write(head)
+        with self.block():
+            self.variables = list(variables)
+            for name in ("a", "b", "c")[: self.dice.randint(1, 3)]:
+                self.write(f"uint64_t {name} = {bare(self.number(1))};")
+                self.variables.append(name)
+            endings_first = self.gotos and self.chance(50)
+            if endings_first:
+                self.write("goto begin;")
+                self.endings()
+                self.write("begin:")
+            self.statements(count)
+            self.write(f"return {bare(self.number(2)) if self.chance(50) else self.condition(2)};")
+            if self.gotos and not endings_first:
+                self.endings()
+
+    def endings(self) -> None:
+        """Writes what the gotos of the function lead to."""
+        self.write("found:")
+        self.score()
+        self.write("return 1;")
+        self.write("missed:")
+        self.write("emit(0);")
+        self.write(f"return {self.condition(1)};")
+
+    def program(self) -> str:
+        self.lines = ['#include "extractd.h"']
+        for index in range(self.dice.choice((0, 0, 1, 2))):
+            parameters = "const struct record *record, uint64_t x, uint64_t y"
+            self.function(f"{INLINE} uint64_t part{index}({parameters})", 2, ["x", "y"])
+            self.parts.append(f"part{index}")
+        self.gotos = self.chance(40)
+        self.function("uint64_t choose(const struct record *record)", self.dice.randint(2, 6), [])
+        return "\n".join(self.lines) + "\n"
+
+
+def bare(expression: str) -> str:
+    """Takes off the parentheses around an expression."""
+    depth = 0
+    for position, character in enumerate(expression):
+        depth += {"(": 1, ")": -1}.get(character, 0)
+        if depth == 0:
+            return bare(expression[1:-1]) if expression[0] == "(" and position == len(expression) - 1 else expression
+    return expression
+
+
+def draw_program(seed: int, number: int) -> str:
+    return ProgramWriter(Random(f"{seed} {number}")).program()
+
+
+# ---- Builds
+
+
+class BuildFailure(Exception):
+    """A command failed: its name, then what it wrote to standard error."""
+
+
+class LoopFailure(Exception):
+    """The compiler left a loop, and warned, or cut the distance of a jump that is too long."""
+
+
+class ConditionFailure(Exception):
+    """The verifier refuses a read that depends on a condition which is asked twice."""
+
+
+class Order(Enum):
+    """What makes jumps lead forwards."""
+
+    FLAGS = "flags"
+    FORWARD = "forward"
+    BOTH = "both"
+
+
+def run(*command: str | Path) -> subprocess.CompletedProcess[bytes]:
+    done = subprocess.run(command, stdin=subprocess.DEVNULL, capture_output=True, timeout=300)
+    if done.returncode != 0:
+        said = done.stderr.decode(errors="replace").strip()[:600]
+        raise BuildFailure(f"{Path(command[0]).name}: status {done.returncode}: {said}")
+    return done
+
+
+@dataclass(frozen=True)
+class Build:
+    """How a program becomes BPF words."""
+
+    compiler: str
+    level: str
+    cpu: str | None
+    order: Order
+
+    def __str__(self) -> str:
+        return " ".join((self.compiler, self.level, self.cpu or "", self.order.value))
+
+    def flags(self) -> list[str]:
+        if self.cpu is None:
+            return [f"@{HERE / 'gcc-flags'}", self.level, "-w"]
+        flags = (HERE / "flags").read_text().split()
+        if self.order is Order.FORWARD:
+            flags = [flag for flag in flags if flag not in ORDER_FLAGS]
+        return [*flags, f"-mcpu={self.cpu}", self.level, "-Wno-everything", "-Wpass-failed"]
+
+    def words(self, source: Path, scratch: Path) -> Path:
+        """Returns the file of the program's words."""
+        code, program = scratch / "program.o", scratch / "program.bpf"
+        compiled = run(self.compiler, *self.flags(), f"-I{HERE}", "-c", source, "-o", code)
+        run("llvm-objcopy", "-O", "binary", "--only-section=.text", code, program)
+        if self.order is not Order.FLAGS:
+            put_in_order(program, warned=b"loop not unrolled" in compiled.stderr)
+        return program
+
+
+def put_in_order(program: Path, warned: bool) -> None:
+    """Puts a program in order. `warned` says that the compiler warned of a loop that it left."""
+    try:
+        words, _ = forward.put_in_order(program.read_bytes())
+    except forward.LoopError as error:
+        if warned:
+            raise LoopFailure from error
+        raise BuildFailure(f"forward.py: {error}") from error
+    except forward.ProgramError as error:
+        raise LoopFailure from error
+    program.write_bytes(words)
+
+
+def native_rows(source: Path, harness: Path, scratch: Path) -> bytes:
+    """Returns the rows that the program writes if it runs on this machine. Undefined behavior ends it."""
+    program = scratch / "native"
+    trap = ("-fsanitize=undefined", "-fsanitize-undefined-trap-on-error")
+    run("cc", "-w", "-O1", *trap, f"-I{HERE}", "-include", HERE / "native.h", source, harness, "-o", program)
+    return run(program, COUNTY, CODE).stdout
+
+
+def rows_of(build: Build, source: Path, scratch: Path) -> bytes:
+    """Returns the rows that the build's program writes by `extractd run`."""
+    program = build.words(source, scratch)
+    try:
+        return run("extractd", "run", "--program", program, "--data", COUNTY, CODE).stdout
+    except BuildFailure as failure:
+        if build.level == "-O1" and any(refusal in str(failure) for refusal in ("refused 40 ", "refused 45 ")):
+            raise ConditionFailure from failure
+        raise
+
+
+@dataclass
+class Outcome:
+    source: str
+    agree: int = 0
+    loops: int = 0
+    conditions: int = 0
+    differences: list[str] = field(default_factory=list)
+
+
+def try_program(source: str, builds: list[Build], harness: Path) -> Outcome:
+    outcome = Outcome(source)
+    with tempfile.TemporaryDirectory() as folder:
+        scratch = Path(folder)
+        path = scratch / "program.c"
+        path.write_text(source)
+        expected = native_rows(path, harness, scratch)
+        for build in builds:
+            try:
+                rows = rows_of(build, path, scratch)
+            except LoopFailure:
+                outcome.loops += 1
+                continue
+            except ConditionFailure:
+                outcome.conditions += 1
+                continue
+            except BuildFailure as failure:
+                outcome.differences.append(f"{build}: {failure}")
+                continue
+            if rows == expected:
+                outcome.agree += 1
+            else:
+                counts = f"{rows.count(10)} rows, natively {expected.count(10)}"
+                outcome.differences.append(f"{build}: {counts}, or other scores")
+    return outcome
+
+
+def try_programs(count: int, seed: int, builds: list[Build]) -> Iterator[Outcome]:
+    with tempfile.TemporaryDirectory() as folder:
+        harness = Path(folder) / "native.o"
+        run("cc", "-std=c11", "-O1", "-c", HERE / "native.c", "-o", harness)
+        sources = [draw_program(seed, number) for number in range(count)]
+        with ThreadPoolExecutor(os.cpu_count()) as pool:
+            yield from pool.map(lambda source: try_program(source, builds, harness), sources)
+
+
+def parse_arguments() -> argparse.Namespace:
+    summary, _, rest = (__doc__ or "").partition("\n")
+    formatter = argparse.RawDescriptionHelpFormatter
+    parser = argparse.ArgumentParser(description=summary, epilog=rest, formatter_class=formatter)
+    parser.add_argument("--count", type=int, default=300, help="how many programs (300)")
+    parser.add_argument("--seed", type=int, default=1, help="what the programs are drawn from (1)")
+    parser.add_argument("--compiler", default="clang", help="clang, or bpf-gcc (clang)")
+    parser.add_argument("--cpu", default=CPUS, help=f"values of -mcpu, with commas between them ({CPUS})")
+    parser.add_argument("--order", type=Order, choices=list(Order), default=Order.BOTH, metavar="flags|forward|both",
+                        help="what makes jumps lead forwards: clang's flags, forward.py, or both (both)")  # fmt: skip
+    parser.add_argument("--print", type=int, metavar="NUMBER", help="only print the program of this number")
+    return parser.parse_args()
+
+
+def main() -> int:
+    options = parse_arguments()
+    if options.print is not None:
+        print(draw_program(options.seed, options.print), end="")
+        return 0
+    cpus = [None] if "gcc" in options.compiler else options.cpu.split(",")
+    builds = [Build(options.compiler, level, cpu, options.order) for cpu in cpus for level in LEVELS]
+    agree = differ = loops = conditions = 0
+    for number, outcome in enumerate(try_programs(options.count, options.seed, builds)):
+        agree += outcome.agree
+        differ += len(outcome.differences)
+        loops += outcome.loops
+        conditions += outcome.conditions
+        if outcome.differences:
+            print(f"program {number} of seed {options.seed}", *outcome.differences, outcome.source, sep="\n")
+    print(f"{agree} builds agree, {differ} differ, {loops} have a loop or too long a jump, {conditions} ask twice")
+    return 1 if differ or 10 * conditions > agree else 0
+
+
+if __name__ == "__main__":
+    sys.exit(main())

@@ -1,0 +1,180 @@
+#!/usr/bin/env python3
+"""Tests forward.py, with programs as text: python3 test_forward.py
+
+`extractd`, whose `asm` and `dis` turn text into words and back, is the one on the search path. The expected orders,
+distances and messages were worked out by hand.
+"""
+
+import subprocess
+import sys
+import tempfile
+import unittest
+from pathlib import Path
+
+import forward
+
+ORDERS = (
+    # A program whose jumps lead forwards stays as it is.
+    (
+        "ldxb r0, [r1+55] | jeq r0, 65, out | mov r0, 0 | out: | exit",
+        "ldxb r0, [r1+55] | jeq r0, 65, +1 | mov r0, 0 | exit",
+    ),
+    ("jeq r1, 1, +2 | mov r0, 0 | exit | mov r0, 1 | exit", "jeq r1, 1, +2 | mov r0, 0 | exit | mov r0, 1 | exit"),
+    # A shared ending goes after the jump to it, and the jump over it is no longer needed.
+    (
+        "ja start | found: | mov r0, 1 | exit | start: | ldxb r2, [r1+55] | jeq r2, 65, found | mov r0, 0 | exit",
+        "ldxb r2, [r1+55] | jeq r2, 65, +2 | mov r0, 0 | exit | mov r0, 1 | exit",
+    ),
+    # Both ways of a conditional jump may lead backwards.
+    (
+        "ja start | no: | mov r0, 0 | exit | yes: | mov r0, 1 | exit | start: | jeq r1, 1, no | ja yes",
+        "jeq r1, 1, +1 | ja +2 | mov r0, 0 | exit | mov r0, 1 | exit",
+    ),
+    # A block that can't follow what was before it is reached by a jump.
+    (
+        "jeq r1, 1, second | join: | mov r0, 2 | exit | second: | mov r2, 3 | ja join",
+        "jeq r1, 1, +1 | ja +1 | mov r2, 3 | mov r0, 2 | exit",
+    ),
+    # Blocks without a way to them go, whatever they hold. So do jumps to the next word.
+    ("mov r0, 1 | exit | mov r0, 2 | ja -2 | exit", "mov r0, 1 | exit"),
+    ("mov r0, 1 | ja +0 | exit", "mov r0, 1 | exit"),
+    ("jeq r1, 1, +0 | exit", "jeq r1, 1, +0 | exit"),
+    # A wide load has two places.
+    (
+        "ja start | found: | lddw r0, 4294967296 | exit | start: | jeq r1, 1, found | lddw r0, 1 | exit",
+        "jeq r1, 1, +3 | lddw r0, 0x0000000000000001 | exit | lddw r0, 0x0000000100000000 | exit",
+    ),
+    # Every kind of jump: 32 bits, registers, signed.
+    (
+        "ja32 start | out: | mov r0, 1 | exit | start: | jsgt32 r1, -1, out | jset r1, r2, out | jle r1, r2, out |"
+        " mov r0, 0 | exit",
+        "jsgt32 r1, -1, +4 | jset r1, r2, +3 | jle r1, r2, +2 | mov r0, 0 | exit | mov r0, 1 | exit",
+    ),
+)
+
+ERRORS = (
+    (
+        "mov r0, 1 | top: | add r0, 1 | jne r0, 9, top | exit",
+        "there is a loop: the jump at place 2 leads back to place 1",
+    ),
+    ("lddw r0, 1 | top: | add r0, 1 | ja top", "there is a loop: the jump at place 3 leads back to place 2"),
+    ("ja -1", "there is a loop: the jump at place 0 leads back to place 0"),
+    ("jeq r1, 1, +0 | ja -2", "there is a loop: the jump at place 1 leads back to place 0"),
+    # The search meets the later block of the loop first; the jump backwards is named all the same.
+    (
+        "jeq r1, 1, two | ja two | one: | mov r0, 1 | two: | mov r0, 2 | ja one",
+        "there is a loop: the jump at place 4 leads back to place 2",
+    ),
+    ("mov r0, 1", "the program runs past its last word after place 0"),
+    ("jeq r1, 1, +1 | exit | mov r0, 1", "the program runs past its last word after place 2"),
+    ("mov r0, 1 | jeq r0, 1, -2", "the program runs past its last word after place 1"),
+    ("jeq r1, 1, +1 | exit", "the jump at place 0 leads to place 2, which is outside of the program"),
+    ("ja -2 | exit", "the jump at place 0 leads to place -1, which is outside of the program"),
+    ("jeq r1, 1, +1 | lddw r0, 1 | exit", "the jump at place 0 leads to place 2, the second word of a wide load"),
+)
+
+BYTE_ERRORS = (
+    (b"", "the program is empty"),
+    (bytes(8) * 65_537, "the program has 65537 words, and it may have 65536"),
+    (bytes(9), "the program has 9 bytes, which isn't a multiple of 8"),
+    (bytes((0x95,)) + bytes(7) + bytes((0x18,)) + bytes(7), "the wide load at place 1 lacks its second word"),
+)
+
+# The beginning of a program whose first ending is before the jump to it.
+FOUND_FIRST = "ja start | out: | mov r0, 1 | exit | start: | jeq r1, 1, out"
+
+LINES = "0\tint x = f();\n1\tif (x)\n2\t{\n2\t    return 1;\n4\treturn 0;\n"
+
+
+class ForwardTest(unittest.TestCase):
+    def setUp(self) -> None:
+        folder = tempfile.TemporaryDirectory()
+        self.addCleanup(folder.cleanup)
+        self.scratch = Path(folder.name)
+
+    def assemble(self, text: str) -> bytes:
+        source = self.scratch / "program.s"
+        source.write_text("".join(f"{line.strip()}\n" for line in text.split("|")))
+        return subprocess.run(["extractd", "asm", "--source", source], check=True, capture_output=True).stdout
+
+    def disassemble(self, words: bytes) -> str:
+        program = self.scratch / "program.bpf"
+        program.write_bytes(words)
+        command = ["extractd", "dis", "--program", str(program)]
+        return subprocess.run(command, check=True, capture_output=True, text=True).stdout
+
+    def test_orders(self) -> None:
+        for text, expected in ORDERS:
+            with self.subTest(text):
+                words, _ = forward.put_in_order(self.assemble(text))
+                self.assertEqual(self.disassemble(words).splitlines(), expected.split(" | "))
+
+    def test_errors(self) -> None:
+        for text, expected in ERRORS:
+            with self.subTest(text), self.assertRaises(forward.ProgramError) as caught:
+                forward.put_in_order(self.assemble(text))
+            self.assertEqual(str(caught.exception), expected)
+
+    def test_byte_errors(self) -> None:
+        for data, expected in BYTE_ERRORS:
+            with self.subTest(data), self.assertRaises(forward.ProgramError) as caught:
+                forward.put_in_order(data)
+            self.assertEqual(str(caught.exception), expected)
+
+    def test_farthest_jump(self) -> None:
+        """A conditional jump reaches 32,767 words, and one word more by way of a ja32."""
+        for filling, beginning in (
+            (32_765, ["jeq r1, 1, +32767"]),
+            (32_766, ["jeq r1, 1, +1", "ja +1", "ja32 +32768"]),
+        ):
+            text = FOUND_FIRST + " | mov r0, 0" * (filling + 1) + " | exit"
+            words, _ = forward.put_in_order(self.assemble(text))
+            listing = self.disassemble(words).splitlines()
+            self.assertEqual(listing[: len(beginning)], beginning)
+            self.assertEqual(listing[len(beginning) :], ["mov r0, 0"] * (filling + 1) + ["exit", "mov r0, 1", "exit"])
+
+    def test_far_plain_jump(self) -> None:
+        """A plain jump that its offset field doesn't reach is a ja32."""
+        text = "jeq r1, 1, second | join: | mov r0, 2" + " | exit | second:" + " | mov r2, 3" * 32_768 + " | ja32 join"
+        words, _ = forward.put_in_order(self.assemble(text))
+        listing = self.disassemble(words).splitlines()
+        self.assertEqual(listing, ["jeq r1, 1, +1", "ja32 +32768", *["mov r2, 3"] * 32_768, "mov r0, 2", "exit"])
+
+    def test_too_long(self) -> None:
+        """Jumps that are added may make a program too long."""
+        text = "jeq r1, 1, second | join: | mov r0, 2 | exit | second:" + " | mov r2, 3" * 65_532 + " | ja32 join"
+        words, _ = forward.put_in_order(self.assemble(text))
+        self.assertEqual(len(words) // 8, 65_536)
+        # Here the first jump gets too far, and takes two words more.
+        text = FOUND_FIRST + " | mov r0, 0" * 65_531 + " | exit"
+        with self.assertRaises(forward.ProgramError) as caught:
+            forward.put_in_order(self.assemble(text))
+        self.assertEqual(str(caught.exception), "the program has 65537 words, and it may have 65536")
+
+    def test_lines(self) -> None:
+        """A block keeps its lines, and gets the line that it goes on with if it is moved away from it."""
+        text = "mov r0, 1 | ja start | out: | mov r0, 1 | exit | start: | jeq r0, 1, out | mov r0, 0 | exit"
+        words = self.assemble(text)
+        _, layout = forward.put_in_order(words)
+        expected = "0\tint x = f();\n1\tif (x)\n1\treturn 0;\n4\t{\n4\t    return 1;\n"
+        self.assertEqual(forward.move_lines(forward.read_lines(LINES), layout), expected)
+        expected = "0\tint x = f();\n1\tint x = f();\n4\tint x = f();\n"
+        self.assertEqual(forward.move_lines({0: ["int x = f();"]}, layout), expected)
+        with self.assertRaises(forward.ProgramError):
+            forward.read_lines("if (x)\n")
+
+    def test_command(self) -> None:
+        program, output = self.scratch / "program.bpf", self.scratch / "output.bpf"
+        program.write_bytes(self.assemble("ja start | out: | exit | start: | mov r0, 1 | ja out"))
+        command = [sys.executable, forward.__file__, str(program), str(output)]
+        self.assertEqual(subprocess.run(command).returncode, 0)
+        self.assertEqual(self.disassemble(output.read_bytes()), "mov r0, 1\nexit\n")
+        output.unlink()
+        program.write_bytes(self.assemble("ja -1"))
+        done = subprocess.run(command, capture_output=True, text=True)
+        self.assertEqual((done.returncode, done.stdout, output.exists()), (1, "", False))
+        self.assertEqual(done.stderr, "forward.py: there is a loop: the jump at place 0 leads back to place 0\n")
+
+
+if __name__ == "__main__":
+    unittest.main()
