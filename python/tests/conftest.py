@@ -1,0 +1,82 @@
+"""Finds the built program and the tools, and prints how many tests passed and why others were skipped."""
+
+import contextlib
+import os
+import shutil
+from collections import Counter
+from pathlib import Path
+
+import pytest
+
+with contextlib.suppress(ImportError):
+    import hypothesis
+
+    # The same examples each time, so that one commit has one verdict.
+    hypothesis.settings.register_profile("repeatable", derandomize=True, deadline=None, database=None)
+    hypothesis.settings.load_profile("repeatable")
+
+PASSED = "passed"
+_passed = 0
+_skipped: Counter[str] = Counter()
+
+
+@pytest.fixture(scope="session")
+def extractd() -> str:
+    """The built program, by the environment variable EXTRACTD."""
+    path = os.environ.get("EXTRACTD")
+    if not path:
+        pytest.skip("EXTRACTD isn't set")
+    return path
+
+
+@pytest.fixture(scope="session")
+def frames() -> None:
+    """Skips a test if pandas and geopandas aren't installed."""
+    for module in ("pandas", "geopandas"):
+        pytest.importorskip(module, reason=f"no {module}")
+
+
+@pytest.fixture(scope="session")
+def gdal() -> None:
+    """Skips a test if GDAL's tools aren't installed."""
+    if not shutil.which("ogr2ogr"):
+        pytest.skip("no ogr2ogr")
+
+
+@pytest.fixture
+def scratch(tmp_path: Path, monkeypatch: pytest.MonkeyPatch) -> Path:
+    """The folder for temporary files of the package and of all processes; at the end it has to be empty."""
+    folder = tmp_path / "scratch"
+    folder.mkdir()
+    monkeypatch.setenv("TMPDIR", str(folder))
+    monkeypatch.setattr("tempfile.tempdir", str(folder))
+    yield folder
+    assert not list(folder.iterdir())
+
+
+def pytest_runtest_logreport(report: pytest.TestReport) -> None:
+    global _passed
+    if report.when == "call" and report.outcome == PASSED:
+        _passed += 1
+    _note_skip(report)
+
+
+def pytest_collectreport(report: pytest.CollectReport) -> None:
+    _note_skip(report)
+
+
+def _note_skip(report: pytest.TestReport | pytest.CollectReport) -> None:
+    if report.skipped and isinstance(report.longrepr, tuple):
+        _skipped[report.longrepr[2].removeprefix("Skipped: ")] += 1
+
+
+@pytest.hookimpl(trylast=True)
+def pytest_sessionfinish(session: pytest.Session) -> None:
+    """Where everything has to be there, as in CI, a skipped test is a failure."""
+    if _skipped and os.environ.get("REQUIRE_ALL") == "1":
+        session.exitstatus = pytest.ExitCode.TESTS_FAILED
+
+
+def pytest_unconfigure() -> None:
+    reasons = ", ".join(sorted(_skipped))
+    print(f"python: {_passed} passed, {_skipped.total()} skipped" + (f": {reasons}" if reasons else ""))

@@ -1,0 +1,92 @@
+"""The layout against docs/records.md, and the reading of fields against its rules."""
+
+import re
+import string
+
+import pytest
+from counties import TOP
+from tigerline import Row
+from tigerline import _layout as layout
+
+hypothesis = pytest.importorskip("hypothesis", reason="no hypothesis")
+from hypothesis import given  # noqa: E402
+from hypothesis import strategies as st  # noqa: E402
+
+FIELD_TEXT = st.text(st.sampled_from(" 0123456789+-\t\r\0a\xa0\xb2\xff"), min_size=1, max_size=14)
+
+
+def test_fields_are_those_of_the_document() -> None:
+    section = (TOP / "docs/records.md").read_text().split("### Type 1")[1].split("###")[0]
+    rows = re.findall(r"^\| ([A-Z0-9]+) \| ([0-9]+)(?:-([0-9]+))? \|", section, re.MULTILINE)
+    documented = [(name, int(first), int(last or first)) for name, first, last in rows]
+    flags = {"FRIADDL", "TOIADDL", "FRIADDR", "TOIADDR"}
+    assert documented == [(field.name, field.first, field.last) for field in layout.FIELDS if field.name not in flags]
+
+
+def test_kinds_are_those_of_filters() -> None:
+    document = (TOP / "docs/filters.md").read_text()
+    by_kind = {
+        layout.Kind.TEXT: "text",
+        layout.Kind.COORDINATE: "coordinate",
+        layout.Kind.CODE: "number",
+        layout.Kind.NUMBER: "number",
+    }
+    columns = {
+        kind: set(re.search(rf"^\| {kind} \| ([A-Z0-9, ]+) \|", document, re.MULTILINE)[1].split(", "))
+        for kind in by_kind.values()
+    }
+    for field in layout.FIELDS:
+        if field.name[2:6] != "IADD":
+            assert field.name in columns[by_kind[field.kind]]
+
+
+def test_row_has_all_columns() -> None:
+    assert Row._fields == ("county", "score", *layout.NAMES)
+
+
+@pytest.mark.parametrize(
+    ("field", "number"),
+    [
+        ("  123456789", 123456789),
+        ("00101      ", 101),
+        ("     164-20", None),
+        ("       10 1", None),
+        ("           ", None),
+    ],
+)
+def test_numbers_of_the_document(field: str, number: int | None) -> None:
+    assert layout.number(field) == number
+
+
+def number_by_hand(field: str) -> int | None:
+    """The rule of docs/records.md in other words."""
+    digits = field.strip(" ")
+    return int(digits) if 1 <= len(digits) <= 11 and set(digits) <= set(string.digits) else None
+
+
+def coordinate_by_hand(field: str) -> float | None:
+    stripped = field.strip(" ")
+    digits = stripped[1:] if stripped[:1] in ("+", "-") else stripped
+    if not 1 <= len(digits) <= 9 or not set(digits) <= set(string.digits):
+        return None
+    return (-int(digits) if stripped[0] == "-" else int(digits)) / 1e6
+
+
+@given(FIELD_TEXT)
+def test_numbers_and_coordinates(field: str) -> None:
+    assert layout.number(field) == number_by_hand(field)
+    assert layout.coordinate(field) == coordinate_by_hand(field)
+
+
+@given(st.text(st.characters(max_codepoint=255), max_size=30))
+def test_texts(field: str) -> None:
+    text = layout.text(field)
+    assert (text or "").ljust(len(field)) == field and text != "" and (text is None or text[-1] != " ")
+    code = layout.code(field)
+    assert (code or "") == field.strip(" ") and code != ""
+
+
+def test_unknown_column() -> None:
+    assert layout.chosen_names(["fename", "TLID", "FENAME"]) == ("FENAME", "TLID")
+    with pytest.raises(ValueError, match="no column has the name ZIP"):
+        layout.chosen_names(["ZIP"])

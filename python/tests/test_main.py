@@ -1,0 +1,282 @@
+"""The command: files that appear completely or not at all, its statuses and errors."""
+
+import csv
+import json
+import os
+import shutil
+import sqlite3
+import subprocess
+import sys
+from collections.abc import Iterator
+from pathlib import Path
+
+import pytest
+from counties import CODE, EXAMPLES, SEGMENTS, TOP, copy_county, gdal_rows, points_of, program_of, records, write_shapes
+
+pytestmark = pytest.mark.usefixtures("scratch")
+
+COMMAND = [sys.executable, "-m", "tigerline"]
+ROADS = "CFCC LIKE 'A%'"
+
+
+def run(*arguments: object, before: list[str] | None = None, **options: object) -> subprocess.CompletedProcess[str]:
+    environment = {**os.environ, "PYTHONPATH": str(TOP / "python"), **options.pop("environment", {})}
+    command = [*(before or []), *COMMAND, *map(str, arguments)]
+    return subprocess.run(
+        command, env=environment, stderr=subprocess.PIPE, text=True, **{"stdout": subprocess.PIPE, **options}
+    )
+
+
+@pytest.fixture
+def out(tmp_path: Path) -> Iterator[Path]:
+    """A folder for output, in which no temporary file may be left."""
+    folder = tmp_path / "out"
+    folder.mkdir()
+    yield folder
+    assert not [path.name for path in folder.iterdir() if path.name.startswith(".")]
+
+
+def layer(path: Path) -> list[dict[str, str]]:
+    """The features of a file, as GDAL reads them."""
+    command = ["ogr2ogr", "-f", "CSV", "/vsistdout/", str(path), "-lco", "GEOMETRY=AS_WKT"]
+    written = subprocess.run(command, stdout=subprocess.PIPE, check=True, text=True).stdout
+    return list(csv.DictReader(written.splitlines()))
+
+
+def by_tlid(row: dict[str, str]) -> str:
+    return row["TLID"]
+
+
+@pytest.mark.usefixtures("extractd", "gdal")
+class TestFormats:
+    """Every format has the segments that GDAL's TIGER driver reads."""
+
+    @pytest.mark.parametrize("suffix", ["gpkg", "geojson", "fgb", "csv"])
+    def test_segments_and_points(self, out: Path, tmp_path: Path, suffix: str) -> None:
+        write_shapes(copy_county(tmp_path / "data"))
+        done = run(tmp_path / "data", out / f"roads.{suffix}", "--where", ROADS, "--geometry", "shape")
+        assert (done.returncode, done.stderr, done.stdout) == (0, "", f"{out}/roads.{suffix}: 240 segments\n")
+        expected = gdal_rows(tmp_path / "data/TGR01001.RT1", "-where", ROADS)
+        found = sorted(layer(out / f"roads.{suffix}"), key=by_tlid)  # FlatGeobuf sorts by place.
+        assert [row["TLID"] for row in found] == [row["TLID"] for row in expected]
+        assert [points_of(row["WKT"]) for row in found] == [points_of(row["WKT"]) for row in expected]
+        assert [row["FENAME"] for row in found] == [row["FENAME"] for row in expected]
+        assert {row["STATEL"] for row in found} == {"01"} and {row["county"] for row in found} == {CODE}
+
+    @pytest.mark.parametrize("suffix", ["gpkg", "geojson", "csv"])
+    def test_columns_without_geometry(self, out: Path, suffix: str) -> None:
+        done = run(
+            EXAMPLES,
+            out / f"a.{suffix}",
+            "--where",
+            ROADS,
+            "--columns",
+            "tlid",
+            "ZIPL",
+            "--geometry",
+            "none",
+            "--counties",
+            CODE,
+        )
+        assert done.returncode == 0
+        found = layer(out / f"a.{suffix}")
+        assert len(found) == 240 and set(found[0]) - {"WKT"} == {"county", "score", "TLID", "ZIPL"}
+        assert not found[0].get("WKT")
+
+    def test_odd_names(self, out: Path) -> None:
+        for name in ("a b?c&d=e:f%20.gpkg", "-n.geojson", "CAPITALS.FGB", "\u00e9.csv"):
+            path = out / name
+            done = run(EXAMPLES, path, "--where", ROADS, "--counties", CODE, "--columns", "TLID")
+            assert (done.returncode, done.stderr) == (0, "") and path.stat().st_size > 10_000
+
+    def test_no_segment(self, out: Path) -> None:
+        for suffix in ("gpkg", "geojson", "fgb", "csv"):
+            assert run(EXAMPLES, out / f"a.{suffix}", "--where", "FALSE", "--counties", CODE).returncode == 0
+            assert layer(out / f"a.{suffix}") == []
+
+    def test_types_and_missing_values(self, out: Path) -> None:
+        assert run(EXAMPLES, out / "a.gpkg", "--where", "TRUE", "--counties", CODE).returncode == 0
+        with sqlite3.connect(out / "a.gpkg") as database:
+            types = {name: kind for _, name, kind, *_ in database.execute("PRAGMA table_info(segments)")}
+            blank = database.execute("SELECT COUNT(*) FROM segments WHERE FENAME IS NULL").fetchone()
+            empty = database.execute("SELECT COUNT(*) FROM segments WHERE FENAME = ''").fetchone()
+            system = database.execute("SELECT srs_id FROM gpkg_geometry_columns").fetchone()
+        assert types["TLID"] == "INTEGER" and types["ZIPL"] == "TEXT" and types["FRLAT"] == "REAL"
+        expected = sum(not record[19:49].strip() for record in records(EXAMPLES / "TGR01001.RT1"))
+        assert blank == (expected,) and empty == (0,) and system == (4269,)
+
+    def test_scores(self, out: Path) -> None:
+        options = ("--where", "TRUE", "--score", "FRLONG", "--counties", CODE, "--columns", "TLID")
+        done = run(EXAMPLES, out / "a.gpkg", *options)
+        assert done.returncode == 2 and "use --signed" in done.stderr and not list(out.iterdir())
+        assert run(EXAMPLES, out / "a.gpkg", *options, "--signed").returncode == 0
+        expected = [int(record[190:200]) for record in records(EXAMPLES / "TGR01001.RT1")]
+        assert [int(row["score"]) for row in layer(out / "a.gpkg")] == expected
+        assert run(EXAMPLES, out / "a.csv", *options).returncode == 0
+        assert [int(row["score"]) - 2**64 for row in layer(out / "a.csv")] == expected
+
+    def test_odd_bytes_and_no_coordinates(self, out: Path, tmp_path: Path) -> None:
+        lines = records(EXAMPLES / "TGR01001.RT1")[:4]
+        lines[0] = lines[0][:19] + b'"a,b;\t\\\xe9\xa0  NULL'.ljust(30) + lines[0][49:]
+        lines[1] = lines[1][:190] + b" " * 38
+        lines[2] = lines[2][:19] + b"nul\0cr\rx".ljust(30) + lines[2][49:]
+        (tmp_path / "TGR01001.RT1").write_bytes(b"\n".join(lines))
+        for suffix in ("gpkg", "geojson", "csv"):
+            done = run(tmp_path, out / f"a.{suffix}", "--where", "TRUE", "--columns", "FENAME")
+            assert done.returncode == 0 and done.stderr.startswith("warning: ") and done.stderr.count("\n") == 1
+        names = [feature["properties"]["FENAME"] for feature in json.loads((out / "a.geojson").read_text())["features"]]
+        with sqlite3.connect(out / "a.gpkg") as database:
+            assert [name for (name,) in database.execute("SELECT FENAME FROM segments ORDER BY fid")] == names
+        assert names[0] == '"a,b;\t\\\xe9\xa0  NULL' and names[2] == "nul?cr?x"
+        with open(out / "a.csv", newline="", encoding="utf-8") as file:
+            table = list(csv.DictReader(file))
+        assert [row["FENAME"] for row in table] == names and table[1]["WKT"] == ""
+        done = run(tmp_path, out / "a.fgb", "--where", "TRUE")
+        assert done.returncode == 2 and "1 have no coordinates" in done.stderr and not (out / "a.fgb").exists()
+
+
+@pytest.mark.usefixtures("extractd")
+class TestMaps:
+    """A map beside the file."""
+
+    @pytest.fixture(autouse=True)
+    def maps(self) -> None:
+        pytest.importorskip("tigerline.maps", reason="no tigerline.maps")
+
+    @pytest.mark.parametrize(("suffix", "by"), [("svg", "class"), ("html", "class"), ("svg", "score")])
+    def test_map(self, out: Path, suffix: str, by: str) -> None:
+        options = ("--where", ROADS, "--counties", CODE, "--score", "FRADDL", "--map-by", by)
+        done = run(EXAMPLES, out / "a.csv", *options, "--map", out / f"map.{suffix}")
+        assert done.returncode == 0 and "240 segments" in (out / f"map.{suffix}").read_text()
+
+    def test_neither_file_without_the_other(self, out: Path) -> None:
+        (out / "map.svg").write_text("old")
+        done = run(EXAMPLES, out / "a.csv", "--where", ROADS, "--map", out / "map.svg")
+        assert done.returncode == 3 and [path.name for path in out.iterdir()] == ["map.svg"]
+        done = run(
+            EXAMPLES, out / "a.csv", "--where", ROADS, "--counties", CODE, "--map", out / "map.svg", "--overwrite"
+        )
+        assert done.returncode == 0 and (out / "map.svg").read_text() != "old" and (out / "a.csv").exists()
+
+
+@pytest.mark.usefixtures("extractd")
+class TestFaults:
+    """One error, its status, and no file."""
+
+    def refused(self, out: Path, status: int, text: str, *arguments: object, **options: object) -> None:
+        before = sorted(out.iterdir())
+        done = run(*arguments, **options)
+        assert (done.returncode, done.stdout or "") == (status, "")
+        assert text in done.stderr and "Traceback" not in done.stderr
+        assert sorted(out.iterdir()) == before
+
+    def test_statuses(self, out: Path, tmp_path: Path) -> None:
+        table = out / "a.csv"
+        self.refused(out, 1, "refused 91 line 1 column 1 UnknownColumn\n", EXAMPLES, table, "--where", "ZIP = 1")
+        self.refused(out, 2, "no column has the name ZIP", EXAMPLES, table, "--where", "TRUE", "--columns", "ZIP")
+        self.refused(out, 2, "is no county", EXAMPLES, table, "--where", "TRUE", "--counties", "1001")
+        self.refused(out, 3, "has no TGR01003.RT1", EXAMPLES, table, "--where", "TRUE", "--counties", "01003")
+        self.refused(out, 3, "nowhere.bpf: not found", EXAMPLES, table, "--program", "nowhere.bpf", "--counties", CODE)
+        self.refused(out, 3, "there is no program nowhere", EXAMPLES, table, "--where", "TRUE", "--extractd", "nowhere")
+        short = program_of(tmp_path / "short", "echo refused memory >&2; exit 4")
+        self.refused(
+            out,
+            4,
+            "error: refused memory\n",
+            EXAMPLES,
+            table,
+            "--where",
+            "TRUE",
+            "--counties",
+            CODE,
+            "--extractd",
+            short,
+        )
+
+    def test_usage(self, out: Path) -> None:
+        for arguments in (
+            (EXAMPLES, out / "a.shp", "--where", "TRUE"),
+            (EXAMPLES, out / "a", "--where", "TRUE"),
+            (EXAMPLES, out / "a.csv"),
+            (EXAMPLES, out / "a.csv", "--where", "TRUE", "--program", "p"),
+            (EXAMPLES, out / "a.csv", "--where", "TRUE", "--map", out / "a.png"),
+            (EXAMPLES, out / "a.csv", "--program", "p", "--score", "TLID"),
+        ):
+            self.refused(out, 2, "error: ", *arguments)
+
+    def test_existing_file(self, out: Path) -> None:
+        (out / "a.csv").write_text("old")
+        options = (EXAMPLES, out / "a.csv", "--where", "TRUE", "--counties", CODE)
+        self.refused(out, 3, f"error: {out}/a.csv: File exists\n", *options)
+        assert (out / "a.csv").read_text() == "old"
+        self.refused(out, 1, "refused 90", EXAMPLES, out / "a.csv", "--where", "(", "--overwrite", "--counties", CODE)
+        assert (out / "a.csv").read_text() == "old"
+        assert run(*options, "--overwrite").returncode == 0
+        assert len((out / "a.csv").read_text().splitlines()) == SEGMENTS + 1
+
+    def test_no_folder(self, out: Path) -> None:
+        nowhere = out / "no/a.csv"
+        self.refused(out, 3, f"error: {nowhere}: No such file or directory\n", EXAMPLES, nowhere, "--where", "TRUE")
+        (out / "b.csv").mkdir()
+        self.refused(
+            out, 3, f"error: {out}/b.csv: Is a directory\n", EXAMPLES, out / "b.csv", "--where", "TRUE", "--overwrite"
+        )
+
+    def test_unwritable_folder(
+        self, out: Path, tmp_path: Path, tmp_path_factory: pytest.TempPathFactory, extractd: str
+    ) -> None:
+        """As root no folder is unwritable, so the command runs as nobody then, with copies that nobody may read."""
+        before = []
+        shutil.copytree(TOP / "python/tigerline", tmp_path / "python/tigerline")
+        shutil.copy(extractd, tmp_path / "extractd")
+        copy_county(tmp_path / "data")
+        if os.geteuid() == 0:
+            if not shutil.which("setpriv"):
+                pytest.skip("no setpriv")
+            before = ["setpriv", "--reuid=65534", "--regid=65534", "--clear-groups"]
+            for folder in out.parents:
+                folder.chmod(0o755)
+                if folder == tmp_path_factory.getbasetemp().parent:
+                    break
+        out.chmod(0o555)
+        (tmp_path / "scratch").chmod(0o777)
+        environment = {"PYTHONPATH": str(tmp_path / "python"), "EXTRACTD": str(tmp_path / "extractd")}
+        options = ("--where", "TRUE", "--counties", CODE)
+        done = run(tmp_path / "data", out / "a.csv", *options, before=before, environment=environment)
+        assert (done.returncode, done.stderr) == (3, f"error: {out}/a.csv: Permission denied\n")
+        out.chmod(0o755)
+
+    @pytest.mark.parametrize(
+        ("suffix", "kilobytes"),
+        [
+            ("csv", 4),
+            ("csv", 16),
+            ("gpkg", 64),
+            ("gpkg", 96),
+            ("geojson", 48),
+            ("geojson", 64),
+            ("fgb", 24),
+            ("fgb", 48),
+        ],
+    )
+    def test_full_disk(self, out: Path, tmp_path: Path, suffix: str, kilobytes: int, gdal: None) -> None:
+        """A limit on the size of files fails writes as a full disk does."""
+        before = ["sh", "-c", f'ulimit -f {kilobytes * 2}; exec "$@"', "sh"]
+        done = run(
+            EXAMPLES, out / f"a.{suffix}", "--where", "TRUE", "--counties", CODE, "--columns", "TLID", before=before
+        )
+        assert done.returncode == 3 and done.stderr.startswith("error: ") and done.stderr.count("\n") == 1
+        assert not list(out.iterdir())
+
+    def test_no_gdal(self, out: Path, tmp_path: Path) -> None:
+        (tmp_path / "bin").mkdir()
+        options = (EXAMPLES, out / "a.gpkg", "--where", "TRUE", "--counties", CODE)
+        self.refused(out, 3, "there is no program ogr2ogr", *options, environment={"PATH": str(tmp_path / "bin")})
+
+    def test_closed_output(self, out: Path) -> None:
+        reader, writer = os.pipe()
+        os.close(reader)
+        done = run(EXAMPLES, out / "a.csv", "--where", "TRUE", "--counties", CODE, stdout=writer)
+        os.close(writer)
+        assert (done.returncode, done.stderr) == (3, "error: the output can't be written: Broken pipe\n")
+        assert len((out / "a.csv").read_text().splitlines()) == SEGMENTS + 1

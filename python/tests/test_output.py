@@ -1,0 +1,54 @@
+"""Files that appear completely or not at all."""
+
+import errno
+import os
+from pathlib import Path
+
+import pytest
+from tigerline._output import pending_file
+
+
+def no_links(source: Path, target: Path) -> None:
+    raise OSError(errno.EPERM, os.strerror(errno.EPERM), str(source), None, str(target))
+
+
+@pytest.mark.parametrize("has_links", [True, False])
+@pytest.mark.parametrize("overwrite", [True, False])
+def test_publish(tmp_path: Path, monkeypatch: pytest.MonkeyPatch, has_links: bool, overwrite: bool) -> None:
+    if not has_links:
+        monkeypatch.setattr(os, "link", no_links)
+    final = tmp_path / "a.csv"
+    with pending_file(final, overwrite) as file:
+        file.path.write_text("new")
+        assert not final.exists()
+        file.publish()
+    assert final.read_text() == "new" and list(tmp_path.iterdir()) == [final]
+
+
+@pytest.mark.parametrize("has_links", [True, False])
+def test_file_that_appears_meanwhile(tmp_path: Path, monkeypatch: pytest.MonkeyPatch, has_links: bool) -> None:
+    if not has_links:
+        monkeypatch.setattr(os, "link", no_links)
+    final = tmp_path / "a.csv"
+    with pytest.raises(FileExistsError) as caught, pending_file(final, overwrite=False) as file:
+        file.path.write_text("new")
+        final.write_text("other")
+        file.publish()
+    assert caught.value.filename == str(final)
+    assert final.read_text() == "other" and list(tmp_path.iterdir()) == [final]
+
+
+def test_link_stays_a_link(tmp_path: Path) -> None:
+    (tmp_path / "real.csv").write_text("old")
+    (tmp_path / "a.csv").symlink_to("real.csv")
+    with pending_file(tmp_path / "a.csv", overwrite=True) as file:
+        file.path.write_text("new")
+        file.publish()
+    assert (tmp_path / "a.csv").is_symlink() and (tmp_path / "real.csv").read_text() == "new"
+
+
+def test_error_in_the_block(tmp_path: Path) -> None:
+    with pytest.raises(KeyError), pending_file(tmp_path / "a.csv", overwrite=False) as file:
+        file.path.write_text("half")
+        raise KeyError
+    assert not list(tmp_path.iterdir())

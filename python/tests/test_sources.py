@@ -1,0 +1,230 @@
+"""Counties as they are shipped: folders, zip files, names in any case; and files that aren't as they should be."""
+
+import os
+import struct
+import warnings
+import zipfile
+import zlib
+from collections.abc import Callable
+from pathlib import Path
+
+import pytest
+import tigerline
+from counties import CODE, EXAMPLES, SEGMENTS, copy_county, program_of, records, write_shapes, zip_folder
+from tigerline import _sources
+
+EXPECTED = [int(record[5:15]) for record in records(EXAMPLES / f"TGR{CODE}.RT1")]
+
+
+def segments(data: Path, counties: str | list[str] | None = None, extractd: str | None = None) -> list[int | None]:
+    return [row.TLID for row in tigerline.rows("TRUE", data, counties, extractd=extractd)]
+
+
+@pytest.mark.usefixtures("extractd", "scratch")
+class TestForms:
+    """Each form in which a county may come has the same segments."""
+
+    @pytest.mark.parametrize("name", [str.upper, str.lower, str.title])
+    def test_names_in_any_case(self, tmp_path: Path, name: Callable[[str], str]) -> None:
+        copy_county(tmp_path / "data/AL", name=name)
+        assert segments(tmp_path / "data", CODE) == EXPECTED
+
+    @pytest.mark.parametrize("name", ["TGR01001.ZIP", "tgr01001.zip"])
+    def test_zip_in_folders(self, tmp_path: Path, name: str) -> None:
+        (tmp_path / "data/AL").mkdir(parents=True)
+        zip_folder(copy_county(tmp_path / "plain", name=str.lower), tmp_path / "data/AL" / name, "some/folder/")
+        assert segments(tmp_path / "data", "AL") == EXPECTED
+
+    def test_zip_by_its_path(self, tmp_path: Path) -> None:
+        archive = zip_folder(copy_county(tmp_path / "plain"), tmp_path / "any name.zip")
+        assert segments(archive) == segments(archive, "01") == EXPECTED
+
+    def test_two_counties_in_one_zip(self, tmp_path: Path) -> None:
+        copy_county(tmp_path / "plain", "1456", "01003")
+        (tmp_path / "plain/TGR01003.RT1").write_bytes(b"\n".join(records(EXAMPLES / "one/TGR01001.RT1")))
+        archive = zip_folder(copy_county(tmp_path / "plain"), tmp_path / "TGR01001.ZIP")
+        assert segments(tmp_path, CODE) == EXPECTED
+        assert segments(archive, ["01003"]) == [107000725]
+        assert len(segments(archive)) == SEGMENTS + 1
+
+    def test_unpacked_files_come_first(self, tmp_path: Path) -> None:
+        (copy_county(tmp_path) / "TGR01001.ZIP").write_bytes(b"no zip file")
+        assert segments(tmp_path, CODE) == EXPECTED
+
+    def test_county_nearest_to_the_top(self) -> None:
+        assert (EXAMPLES / "one/TGR01001.RT1").exists()
+        assert segments(EXAMPLES, CODE) == EXPECTED
+
+    def test_states_and_codes(self, tmp_path: Path) -> None:
+        for code in ("01001", "01003", "28033"):
+            copy_county(tmp_path / code, code=code)
+        counties = [row.county for row in tigerline.rows("TRUE", tmp_path, ["28033", "AL", "01001"])]
+        assert counties == ["28033"] * SEGMENTS + ["01001"] * SEGMENTS + ["01003"] * SEGMENTS
+        assert [row.county for row in tigerline.rows("TRUE", tmp_path)][::SEGMENTS] == ["01001", "01003", "28033"]
+
+    def test_missing_types_are_reported(self, tmp_path: Path) -> None:
+        copy_county(tmp_path, "15")
+        with pytest.warns(UserWarning, match=r"has no TGR01001.RT4, TGR01001.RT6"):
+            assert segments(tmp_path) == EXPECTED
+        with warnings.catch_warnings():
+            warnings.simplefilter("error")
+            assert segments(EXAMPLES, CODE) == EXPECTED
+
+
+def flip(path: Path, at: int, content: bytes) -> None:
+    data = bytearray(path.read_bytes())
+    data[at : at + len(content)] = content
+    path.write_bytes(data)
+
+
+def state_less(checked: int | None = None) -> Callable[[Path], None]:
+    """Makes both headers of RT1, the first member, state 1,000 bytes, and the checksum of the first `checked` bytes."""
+
+    def change(archive: Path) -> None:
+        data = archive.read_bytes()
+        central = data.index(b"PK\x01\x02")
+        for size_at, checksum_at in ((22, 14), (central + 24, central + 16)):
+            flip(archive, size_at, struct.pack("<I", 1000))
+            if checked is not None:
+                content = (EXAMPLES / f"TGR{CODE}.RT1").read_bytes()[:checked]
+                flip(archive, checksum_at, struct.pack("<I", zlib.crc32(content)))
+
+    return change
+
+
+def cut(archive: Path) -> None:
+    archive.write_bytes(archive.read_bytes()[:-5000])
+
+
+def damage(archive: Path) -> None:
+    flip(archive, 2000, b"\xff" * 40)
+
+
+def encrypt(archive: Path) -> None:
+    data = archive.read_bytes()
+    flip(archive, 6, b"\x01")
+    flip(archive, data.index(b"PK\x01\x02") + 8, b"\x01")
+
+
+def packed_again(archive: Path) -> None:
+    inner = archive.rename(archive.with_name("inner"))
+    with zipfile.ZipFile(archive, "w") as outer:
+        outer.write(inner, "AL/TGR01001.ZIP")
+    inner.unlink()
+
+
+def add(name: str) -> Callable[[Path], None]:
+    def change(archive: Path) -> None:
+        with zipfile.ZipFile(archive, "a") as file:
+            file.writestr(name, b"4")
+
+    return change
+
+
+def add_link(archive: Path) -> None:
+    archive.unlink()
+    link = zipfile.ZipInfo("TGR01001.RT1")
+    link.external_attr = 0o120777 << 16
+    with zipfile.ZipFile(archive, "w") as file:
+        file.writestr(link, "/etc/passwd")
+
+
+@pytest.mark.usefixtures("scratch")
+class TestBadSources:
+    """Each fault is one error, and the program isn't started, or leaves nothing."""
+
+    @pytest.fixture
+    def never(self, tmp_path: Path) -> str:
+        return program_of(tmp_path / "never", "echo started; exit 9")
+
+    @pytest.mark.parametrize(
+        ("change", "text"),
+        [
+            (cut, "isn't a whole zip file"),
+            (damage, "isn't a whole zip file"),
+            (state_less(), "isn't a whole zip file"),
+            (state_less(1000), "isn't a whole zip file"),
+            (state_less(1001), "'TGR01001.RT1' has more than the stated 1000 bytes"),
+            (encrypt, "can't be unpacked"),
+            (packed_again, "has the zip file 'AL/TGR01001.ZIP' in it"),
+            (add("../TGR01001.RT4"), "has a member outside its folder: '../TGR01001.RT4'"),
+            (add("/TGR01001.RT4"), "has a member outside its folder"),
+            (add("a\\..\\..\\TGR01001.RT4"), "has a member outside its folder"),
+            (add("copy/tgr01001.rt1"), "has tgr01001.rt1 twice"),
+            (add_link, "has a link in place of a file"),
+        ],
+    )
+    def test_bad_zip_files(self, tmp_path: Path, never: str, change: Callable[[Path], None], text: str) -> None:
+        (tmp_path / "data").mkdir()
+        archive = zip_folder(copy_county(tmp_path / "plain"), tmp_path / "data/TGR01001.ZIP")
+        change(archive)
+        for data in (archive, tmp_path / "data"):
+            with pytest.raises(OSError, match="TGR01001.ZIP") as caught:
+                segments(data, CODE, never)
+            assert text in str(caught.value) and "\n" not in str(caught.value)
+        assert not (tmp_path / "TGR01001.RT4").exists()
+
+    def test_more_than_the_limit(self, tmp_path: Path, never: str, monkeypatch: pytest.MonkeyPatch) -> None:
+        monkeypatch.setattr(_sources, "UNPACKED_LIMIT", 100_000)
+        archive = zip_folder(copy_county(tmp_path / "plain"), tmp_path / "TGR01001.ZIP")
+        with pytest.raises(OSError, match="unpacks to more than 100000 bytes"):
+            segments(archive, CODE, never)
+
+    def test_zip_without_the_county(self, tmp_path: Path, never: str) -> None:
+        archive = zip_folder(copy_county(tmp_path / "plain", code="01003"), tmp_path / "TGR01001.ZIP")
+        with pytest.raises(FileNotFoundError, match="TGR01001.ZIP has no TGR01001.RT1"):
+            segments(tmp_path, CODE, never)
+        with pytest.raises(FileNotFoundError, match="has no TGR01001.RT1"):
+            segments(archive, CODE, never)
+
+    @pytest.mark.parametrize(
+        ("counties", "error"),
+        [
+            ("1001", ValueError),
+            ("XX", ValueError),
+            ("0100l", ValueError),
+            ("02", FileNotFoundError),
+            ("01003", FileNotFoundError),
+        ],
+    )
+    def test_counties_that_are_not_there(self, never: str, counties: str, error: type[Exception]) -> None:
+        with pytest.raises(error):
+            segments(EXAMPLES, counties, never)
+
+    def test_no_county_at_all(self, tmp_path: Path, never: str) -> None:
+        with pytest.raises(FileNotFoundError, match="has no county"):
+            segments(tmp_path, None, never)
+        with pytest.raises(FileNotFoundError):
+            segments(tmp_path / "nowhere", None, never)
+        os.mkfifo(tmp_path / "pipe")
+        with pytest.raises(OSError, match="neither a folder nor a zip file"):
+            segments(tmp_path / "pipe", None, never)
+        (tmp_path / "text").write_text("no zip file")
+        with pytest.raises(OSError, match="isn't a whole zip file"):
+            segments(tmp_path / "text", None, never)
+
+    def test_county_twice(self, tmp_path: Path, never: str) -> None:
+        copy_county(tmp_path / "a")
+        copy_county(tmp_path / "b")
+        with pytest.raises(OSError, match="has county 01001 twice: .*/a/TGR01001.RT1 and .*/b/TGR01001.RT1"):
+            segments(tmp_path, None, never)
+        copy_county(tmp_path / "a", "1", name=str.lower)
+        with pytest.raises(OSError, match="the same file of a county"):
+            segments(tmp_path / "a", None, never)
+
+    def test_shapes_without_type_2(self, never: str, frames: None) -> None:
+        with pytest.raises(FileNotFoundError, match="has no TGR01001.RT2"):
+            tigerline.select("TRUE", EXAMPLES, CODE, geometry="shape", extractd=never)
+
+    def test_broken_link(self, tmp_path: Path, never: str) -> None:
+        os.symlink("nowhere", tmp_path / "TGR01001.RT1")
+        with pytest.raises(FileNotFoundError, match="has no TGR01001.RT1"):
+            segments(tmp_path, None, never)
+
+    @pytest.mark.parametrize("line", [b"2 short\n", b"3" + b" " * 207 + b"\n", b"2" + b" " * 207 + b"\n", b"\n"])
+    def test_bad_shapes(self, tmp_path: Path, frames: None, line: bytes) -> None:
+        path = write_shapes(copy_county(tmp_path))
+        path.write_bytes(b"".join(path.read_bytes().splitlines(keepends=True)[:7]) + line)
+        nothing = program_of(tmp_path / "nothing", "exit 0")
+        with pytest.raises(OSError, match="TGR01001.RT2: line 8 isn't a record of type 2"):
+            tigerline.select("TRUE", tmp_path, CODE, geometry="shape", extractd=nothing)

@@ -1,0 +1,36 @@
+"""The types of the package, and the errors that a caller sees."""
+
+import subprocess
+import sys
+from pathlib import Path
+
+import pytest
+from counties import TOP
+
+CALLER = """
+import tigerline
+
+for row in tigerline.rows("TRUE", "data", ["AL"]):
+    reveal_type(row.TLID)
+    reveal_type(row.FENAME)
+    row.fename
+tigerline.select("TRUE", "data", geometry="lines")
+tigerline.select("TRUE", "data", geometry=False, columns=["TLID"])
+"""
+
+
+def mypy(tmp_path: Path, *arguments: str) -> subprocess.CompletedProcess[str]:
+    pytest.importorskip("mypy", reason="no mypy")
+    command = [sys.executable, "-m", "mypy", "--strict", "--cache-dir", str(tmp_path / "cache"), *arguments]
+    return subprocess.run(command, cwd=TOP / "python", stdout=subprocess.PIPE, text=True)
+
+
+def test_package(tmp_path: Path) -> None:
+    (tmp_path / "caller.py").write_text(CALLER)
+    shown = mypy(tmp_path, "tigerline", str(tmp_path / "caller.py")).stdout.splitlines()
+    assert [line.split(": ", 2)[2] for line in shown[:3]] == [
+        'Revealed type is "Union[builtins.int, None]"',
+        'Revealed type is "Union[builtins.str, None]"',
+        '"Row" has no attribute "fename"  [attr-defined]',
+    ]
+    assert "No overload variant" in shown[3] and shown[-1].startswith("Found 2 errors in 1 file ")

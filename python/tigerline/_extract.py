@@ -1,0 +1,124 @@
+"""Has `extractd` select the segments of counties, and returns its rows county by county."""
+
+import os
+from collections.abc import Iterable, Iterator
+from contextlib import AbstractContextManager, nullcontext
+from dataclasses import dataclass, field
+from pathlib import Path
+
+from . import _program
+from ._interrupts import Interrupts
+from ._layout import RECORD_LENGTH, TLID, number
+from ._program import PathLike
+from ._progress import counted
+from ._scratch import scratch_folder
+from ._shapes import Shapes, shape_points
+from ._sources import County, choose_counties, find_counties, opened_county
+
+# The system takes arguments of up to 131,072 bytes.
+LONGEST_ARGUMENT = 100_000
+
+
+@dataclass(frozen=True)
+class Request:
+    """Which segments are requested: by a filter, or by a program that is a file or its words."""
+
+    where: str | None = None
+    program: PathLike | bytes | None = None
+    score: str | None = None
+    extractd: PathLike | None = None
+
+    def __post_init__(self) -> None:
+        if (self.where is None) == (self.program is None):
+            raise ValueError("either where= or program= has to be given")
+        if self.score is not None and self.program is not None:
+            raise ValueError("score= needs where=: a program sets its score itself")
+
+
+@dataclass(frozen=True)
+class CountyRows:
+    """The rows of a county as `extractd` wrote them, and the shape points of their segments if they were requested."""
+
+    county: str
+    rows: bytes
+    shapes: Shapes = field(default_factory=dict)
+
+
+def extract(
+    request: Request,
+    data: PathLike,
+    counties: str | Iterable[str] | None,
+    *,
+    shapes: bool = False,
+    progress: bool = False,
+    interrupts: Interrupts | None = None,
+) -> Iterator[CountyRows]:
+    """Yields the rows of each county after `extractd` has ended for it with status 0.
+
+    No temporary file and no process is left while the caller has them.
+    """
+    folder = Path(data)
+    with _active(interrupts) as active:
+        program = _program.find_program(request.extractd, active)
+        chosen = choose_counties(find_counties(folder), counties, folder)
+    for county in counted(chosen, progress):
+        with _active(interrupts) as active:
+            rows = _county_rows(program, request, county, shapes, active)
+        yield rows
+
+
+def _active(interrupts: Interrupts | None) -> AbstractContextManager[Interrupts]:
+    if interrupts is None:
+        return Interrupts()
+    return nullcontext(interrupts)
+
+
+def _county_rows(program: str, request: Request, county: County, shapes: bool, interrupts: Interrupts) -> CountyRows:
+    types = "12456" if shapes else "1456"
+    with opened_county(county, types, interrupts) as files, scratch_folder() as scratch:
+        command = _command(program, request, files["1"].parent, county.code, scratch, interrupts)
+        try:
+            rows = _program.run(command, interrupts, county=county.code)
+        except OSError as error:
+            raise _with_own_paths(error, county, files) from None
+        if not shapes:
+            return CountyRows(county.code, rows)
+        name = str(county.files.get("2") or county.archive)
+        return CountyRows(county.code, rows, shape_points(files["2"], set(segments(rows)), name))
+
+
+def _command(
+    program: str, request: Request, folder: Path, code: str, scratch: Path, interrupts: Interrupts
+) -> list[str]:
+    """Returns the command that writes the rows of a county.
+
+    A program that isn't in a file yet, and that of a long filter, is written to a file in `scratch`.
+    """
+    of_county = ["--data", str(folder), code]
+    words = scratch / "program.bpf"
+    if request.where is not None:
+        if len(request.where.encode()) <= LONGEST_ARGUMENT:
+            return [program, "select", f"--where={request.where}", *_program.score_option(request.score), *of_county]
+        _program.compile_filter(program, request.where, request.score, words, interrupts)
+    elif isinstance(request.program, bytes):
+        words.write_bytes(request.program)
+    elif request.program is not None:
+        words = Path(os.path.abspath(request.program))
+    return [program, "run", "--program", str(words), *of_county]
+
+
+def _with_own_paths(error: OSError, county: County, files: dict[str, Path]) -> OSError:
+    """Names the county's files, not the temporary links to them."""
+    text = str(error)
+    for record_type, path in files.items():
+        text = text.replace(str(path), str(county.files.get(record_type, f"{county.archive}: {path.name}")))
+    return OSError(text)
+
+
+def segments(rows: bytes) -> Iterator[int]:
+    """Yields the TLID of each row."""
+    for row in rows.split(b"\n")[:-1]:
+        record = row[-RECORD_LENGTH:]
+        tlid = number(record[TLID.bytes].decode("latin-1"))
+        if tlid is not None:
+            yield tlid

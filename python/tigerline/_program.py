@@ -1,0 +1,129 @@
+"""Runs the built program `extractd`, which alone decides which segments are selected."""
+
+import os
+import re
+import shutil
+import subprocess
+import tempfile
+from collections.abc import Sequence
+from pathlib import Path
+
+from ._interrupts import Interrupts, kill_group
+
+VERSION = "0.1.0"
+_REFUSAL = re.compile(r"refused ([0-9]+)(?: ([a-z0-9 ]+))? ([A-Z][A-Za-z0-9]*(?:\([0-9]+\))?)")
+
+PathLike = str | os.PathLike[str]
+
+
+class Refused(Exception):
+    """A filter, a program or a file of a county was refused (docs/refusals.md).
+
+    `number` and `name` are those of the refusal. `place` is where the fault is, such as `line 1 column 5` or
+    `rt1 line 2`. `text` is what `extractd` wrote. `county` is the county that has the fault, or None if it is in the
+    filter or the program.
+    """
+
+    def __init__(self, number: int, name: str, place: str, text: str, county: str | None = None) -> None:
+        super().__init__(number, name, place, text, county)
+        self.number = number
+        self.name = name
+        self.place = place
+        self.text = text
+        self.county = county
+
+    def __str__(self) -> str:
+        return self.text
+
+
+def find_program(extractd: PathLike | None, interrupts: Interrupts) -> str:
+    """Returns the path of `extractd`: the argument, else the environment variable EXTRACTD, else the first in PATH.
+
+    Raises OSError if there is none, or if it isn't of the version that this package is for.
+    """
+    path = os.fspath(extractd) if extractd is not None else os.environ.get("EXTRACTD") or "extractd"
+    found = shutil.which(path)
+    if found is None:
+        raise FileNotFoundError(
+            f"there is no program {path}: name extractd by the argument extractd= or the variable EXTRACTD"
+        )
+    try:
+        _, output, said = run_process([found, "--version"], interrupts)
+    except OSError as error:
+        raise OSError(f"{found} can't be run: {error.strerror}") from None
+    version = said or output.decode("utf-8", "replace").strip()
+    if version != f"extractd {VERSION}":
+        raise OSError(f"{found} isn't extractd {VERSION}: --version says {version[:60]!r}")
+    return found
+
+
+def run(
+    command: Sequence[str], interrupts: Interrupts, *, standard_input: bytes = b"", county: str | None = None
+) -> bytes:
+    """Runs `extractd` and returns its output. Raises an exception for any status but 0, and drops the output."""
+    status, output, said = run_process(command, interrupts, standard_input)
+    if status != 0:
+        raise _failure(command[0], status, said, county)
+    return output
+
+
+def run_process(command: Sequence[str], interrupts: Interrupts, standard_input: bytes = b"") -> tuple[int, bytes, str]:
+    """Runs a process to its end, and returns its status, its output and what it wrote to standard error.
+
+    It has a process group of its own, so that Ctrl-C reaches it through `interrupts` alone. SIGPIPE and SIGXFSZ stay
+    ignored as they are in Python, so that it reports a closed pipe or a file that may not grow as an error.
+    """
+    with tempfile.TemporaryFile() as given, tempfile.TemporaryFile() as errors:
+        given.write(standard_input)
+        given.seek(0)
+        with subprocess.Popen(
+            command, stdin=given, stdout=subprocess.PIPE, stderr=errors, process_group=0, restore_signals=False
+        ) as process:
+            interrupts.watch(process)
+            try:
+                assert process.stdout is not None
+                output = process.stdout.read()
+                status = process.wait()
+            finally:
+                interrupts.watch(None)
+                if process.returncode is None:
+                    kill_group(process)
+        interrupts.check()
+        errors.seek(0)
+        return status, output, errors.read().decode("utf-8", "replace").strip()
+
+
+def _failure(program: str, status: int, said: str, county: str | None) -> Exception:
+    found = _REFUSAL.match(said)
+    said = said.removeprefix("error: ")
+    if status == 1 and found:
+        return _refused(found, said, county)
+    if status == 2:
+        return ValueError(said)
+    if status == 4:
+        return MemoryError(said)
+    if status == 3 and said:
+        return OSError(said)
+    if status < 0:
+        return OSError(f"{program} was ended by signal {-status}")
+    return OSError(f"{program} ended with status {status}: {said[:200]}")
+
+
+def _refused(found: re.Match[str], said: str, county: str | None) -> Refused:
+    place = found[2] or ""
+    if not place.startswith("rt"):
+        county = None
+    if county is not None and "county" not in said:
+        said = f"{said}\ncounty {county}"
+    return Refused(int(found[1]), found[3], place, said, county)
+
+
+def compile_filter(program: str, where: str, score: str | None, path: Path, interrupts: Interrupts) -> None:
+    """Writes the words of a filter to a file. For filters that are too long for an argument of `extractd select`."""
+    command = [program, "compile", "--filter", "-", *score_option(score)]
+    path.write_bytes(run(command, interrupts, standard_input=where.encode()))
+
+
+def score_option(score: str | None) -> list[str]:
+    """Returns the option that makes a column the score."""
+    return [] if score is None else ["--score", score]

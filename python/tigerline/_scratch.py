@@ -1,0 +1,34 @@
+"""Temporary folders, and the names of files in errors."""
+
+import shutil
+import tempfile
+from collections.abc import Iterator
+from contextlib import contextmanager
+from pathlib import Path
+
+BESIDE = ".tigerline-"
+
+
+@contextmanager
+def scratch_folder(beside: Path | None = None) -> Iterator[Path]:
+    """Makes a folder, in the system's folder for temporary files or in another one, and removes it at the end."""
+    folder = tempfile.mkdtemp(prefix="tigerline-" if beside is None else BESIDE, dir=beside)
+    try:
+        yield Path(folder)
+    finally:
+        shutil.rmtree(folder)
+
+
+@contextmanager
+def naming(path: Path) -> Iterator[None]:
+    """Has errors of the system name this file, if they name none, as those of writing, or one in a folder beside it."""
+    try:
+        yield
+    except OSError as error:
+        if error.errno is None or not _is_to_rename(error.filename):
+            raise
+        raise OSError(error.errno, error.strerror, str(path)) from None
+
+
+def _is_to_rename(name: str | None) -> bool:
+    return name is None or BESIDE in name

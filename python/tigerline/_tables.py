@@ -1,0 +1,188 @@
+"""Writes selected segments as files: CSV itself, the other formats by GDAL's tools."""
+
+import csv
+import os
+import re
+import shutil
+import struct
+from collections.abc import Callable, Iterable, Iterator
+from dataclasses import dataclass, replace
+from operator import itemgetter
+from pathlib import Path
+
+from ._extract import CountyRows
+from ._interrupts import Interrupts
+from ._layout import FIELDS, Kind
+from ._output import PendingFile
+from ._program import run_process
+from ._rows import Row, read_rows
+from ._scratch import naming, scratch_folder
+from ._shapes import Point, Shapes
+
+DRIVERS = {".gpkg": "GPKG", ".geojson": "GeoJSON", ".fgb": "FlatGeobuf"}
+SUFFIXES = (*DRIVERS, ".csv")
+CRS = "EPSG:4269"  # NAD 83
+GEOJSON_END = b"]\n}\n"
+LARGEST_INTEGER = (1 << 63) - 1
+# Readers of CSV, also GDAL's, end a text at NUL and take CR for a line end, so both become question marks.
+READABLE = bytes.maketrans(b"\0\r", b"??")
+
+Line = tuple[Point, ...] | None
+Watcher = Callable[[Row, Line], None]
+
+
+@dataclass(frozen=True)
+class Selection:
+    """The rows to write, which columns of them, whether with lines, and whether scores are signed.
+
+    `watcher` is called with each row and its line.
+    """
+
+    counties: Iterable[CountyRows]
+    names: tuple[str, ...]
+    has_lines: bool
+    signed: bool
+    watcher: Watcher | None = None
+
+    @property
+    def columns(self) -> tuple[str, ...]:
+        """The names of all columns but that of the lines."""
+        return ("county", "score", *self.names)
+
+    def values_of(self) -> Callable[[Row], tuple[object, ...]]:
+        """Returns a function that takes these columns from a row."""
+        return itemgetter(*[Row._fields.index(name) for name in self.columns])
+
+    def rows(self, interrupts: Interrupts) -> Iterator[tuple[Row, Line]]:
+        """Yields each row with its line, which is None for a segment without coordinates."""
+        for county in self.counties:
+            readable = replace(county, rows=county.rows.translate(READABLE))
+            for row in read_rows(readable, self.signed):
+                interrupts.check()
+                line = line_of(row, county.shapes)
+                if self.watcher is not None:
+                    self.watcher(row, line)
+                yield row, line
+
+
+def line_of(row: Row, shapes: Shapes) -> Line:
+    """Returns the points of a segment from its start to its end, or None if one of the two has no coordinates."""
+    if row.FRLONG is None or row.FRLAT is None or row.TOLONG is None or row.TOLAT is None:
+        return None
+    between = shapes.get(row.TLID, ()) if row.TLID is not None else ()
+    return ((row.FRLONG, row.FRLAT), *between, (row.TOLONG, row.TOLAT))
+
+
+def well_known_text(line: Line) -> str:
+    """Returns a line as WKT."""
+    return f"LINESTRING ({','.join(f'{longitude} {latitude}' for longitude, latitude in line)})" if line else ""
+
+
+def well_known_binary(line: Line) -> str:
+    """Returns a line as WKB in hexadecimal digits."""
+    if not line:
+        return ""
+    numbers = [number for point in line for number in point]
+    return struct.pack(f"<BII{len(numbers)}d", 1, 2, len(line), *numbers).hex()
+
+
+def write_csv(file: PendingFile, selection: Selection, interrupts: Interrupts) -> int:
+    """Writes a CSV file in UTF-8, with lines as WKT in a last column, and returns the number of segments."""
+    values_of = selection.values_of()
+    count = 0
+    with naming(file.final), open(file.path, "w", encoding="utf-8", newline="") as output:
+        writer = csv.writer(output, lineterminator="\n")
+        writer.writerow([*selection.columns, "WKT"] if selection.has_lines else selection.columns)
+        for row, line in selection.rows(interrupts):
+            values = values_of(row)
+            writer.writerow((*values, well_known_text(line)) if selection.has_lines else values)
+            count += 1
+    return count
+
+
+def write_by_gdal(file: PendingFile, selection: Selection, interrupts: Interrupts) -> int:
+    """Has ogr2ogr write a file, and returns the number of segments. Raises OSError if the file lacks some."""
+    suffix = file.path.suffix
+    if suffix == ".fgb" and not selection.has_lines:
+        raise ValueError("FlatGeobuf has no segments without geometry: use .gpkg, .geojson or .csv")
+    ogr2ogr, ogrinfo = _tool("ogr2ogr"), _tool("ogrinfo")
+    with scratch_folder() as scratch:
+        source = scratch / "segments.csv"
+        with naming(source):
+            count, without_line = _write_source(source, selection, interrupts)
+            source.with_suffix(".csvt").write_text(",".join(_types(selection)) + "\n")
+        if suffix == ".fgb" and without_line:
+            raise ValueError(
+                f"FlatGeobuf has no segments without geometry, and {without_line} have no coordinates: "
+                "use .gpkg, .geojson or .csv"
+            )
+        _convert(ogr2ogr, source, file, selection.has_lines, interrupts)
+    written = _features_of_geojson(file.path) if suffix == ".geojson" else None
+    if written != count:
+        written = _count(ogrinfo, file.path, interrupts)
+    if written != count:
+        raise OSError(f"{file.final}: ogr2ogr wrote {written or 'none'} of {count} segments; the disk may be full")
+    return count
+
+
+def _write_source(path: Path, selection: Selection, interrupts: Interrupts) -> tuple[int, int]:
+    """Writes CSV for ogr2ogr, with lines as WKB. Returns how many segments there are, and how many have no line."""
+    values_of = selection.values_of()
+    count = without_line = 0
+    with open(path, "w", encoding="utf-8", newline="") as file:
+        writer = csv.writer(file, lineterminator="\n")
+        writer.writerow(["geom", *selection.columns] if selection.has_lines else selection.columns)
+        for row, line in selection.rows(interrupts):
+            if row.score > LARGEST_INTEGER:
+                raise ValueError(
+                    f"the score {row.score} doesn't fit into a signed integer of 64 bits: use --signed, or .csv"
+                )
+            values = values_of(row)
+            writer.writerow((well_known_binary(line), *values) if selection.has_lines else values)
+            count += 1
+            without_line += line is None
+    return count, without_line
+
+
+def _types(selection: Selection) -> list[str]:
+    """Returns GDAL's types of the columns."""
+    kinds = {field.name: field.kind for field in FIELDS}
+    types = {Kind.NUMBER: "Integer64", Kind.COORDINATE: "Real"}
+    columns = ["String", "Integer64", *(types.get(kinds[name], "String") for name in selection.names)]
+    return ["String", *columns] if selection.has_lines else columns
+
+
+def _tool(name: str) -> str:
+    found = shutil.which(name)
+    if found is None:
+        raise FileNotFoundError(f"there is no program {name}: install gdal-bin, or write a .csv file")
+    return found
+
+
+def _convert(ogr2ogr: str, source: Path, file: PendingFile, has_lines: bool, interrupts: Interrupts) -> None:
+    options = "-nln segments -oo EMPTY_STRING_AS_NULL=YES"
+    if has_lines:
+        options += f" -nlt LINESTRING -a_srs {CRS} -oo GEOM_POSSIBLE_NAMES=geom -oo KEEP_GEOM_COLUMNS=NO"
+    else:
+        options += " -nlt NONE"
+    command = [ogr2ogr, "-f", DRIVERS[file.path.suffix], str(file.path), str(source), *options.split()]
+    status, _, said = run_process(command, interrupts)
+    error = re.search(r"^ERROR [0-9]+: (.*)", said, re.MULTILINE)
+    if status != 0 or error:
+        raise OSError(f"{file.final}: ogr2ogr can't write it: {error[1][:200] if error else f'status {status}'}")
+
+
+def _features_of_geojson(path: Path) -> int | None:
+    """Returns how many features a file of GDAL has, one per line, if it is whole. ogrinfo takes much longer."""
+    with open(path, "rb") as file:
+        features = sum(line.startswith(b'{ "type": "Feature", ') for line in file)
+        file.seek(-min(file.tell(), len(GEOJSON_END)), os.SEEK_END)
+        return features if file.read() == GEOJSON_END else None
+
+
+def _count(ogrinfo: str, path: Path, interrupts: Interrupts) -> int | None:
+    """Returns how many segments a file has, by reading it: ogr2ogr may end with status 0 on a full disk."""
+    query = "SELECT COUNT(score) AS segments FROM segments"
+    status, output, _ = run_process([ogrinfo, "-ro", "-q", "-sql", query, str(path)], interrupts)
+    found = re.search(rb"^  segments \(Integer(?:64)?\) = ([0-9]+)$", output, re.MULTILINE)
+    return int(found[1]) if status == 0 and found else None

@@ -1,0 +1,35 @@
+#!/bin/sh
+# Tests the Python package with a built program: python/try.sh PATH_TO_extractd, or with its path in EXTRACTD.
+#
+# It needs Python 3.11 with pytest. Some tests need geopandas, GDAL's tools, hypothesis or mypy, and are skipped if these are missing.
+# As root it installs what is missing by apt-get. With REQUIRE_ALL=1, as in CI, a skipped test is a failure.
+#
+# Prints what failed. The last line says how many tests passed, how many were skipped, and why. Exit status 0 means that no test failed.
+
+set -u
+python=${PYTHON:-/usr/bin/python3}
+here=$(cd "$(dirname "$0")" && pwd) || exit
+EXTRACTD=$(realpath "${1:-${EXTRACTD:-$here/../crates/extractd/out/extractd}}")
+export EXTRACTD
+if [ ! -x "$EXTRACTD" ] || [ -d "$EXTRACTD" ]; then
+    echo "usage: ${0##*/} PATH_TO_extractd" >&2
+    exit 2
+fi
+
+missing=
+has_module() { "$python" -c "import $1" 2> /dev/null; }
+has_module geopandas || missing="$missing python3-geopandas"
+has_module pytest || missing="$missing python3-pytest"
+has_module hypothesis || missing="$missing python3-hypothesis"
+has_module mypy || missing="$missing python3-mypy"
+command -v ogr2ogr > /dev/null || missing="$missing gdal-bin"
+if [ -n "$missing" ] && [ "$(id -u)" = 0 ] && command -v apt-get > /dev/null; then
+    log=$(mktemp)
+    # shellcheck disable=SC2086 # The names of packages are words.
+    { apt-get update && DEBIAN_FRONTEND=noninteractive apt-get install -y --no-install-recommends $missing; } > "$log" 2>&1 ||
+        tail -n 3 "$log"
+    rm -f "$log"
+fi
+
+cd "$here" || exit
+PYTHONDONTWRITEBYTECODE=1 exec "$python" -m pytest -q -rs
