@@ -24,14 +24,19 @@
 # Then the tables of examples/rows, by rows.py.
 #
 # Then the program over files that are missing or faulty, and the outcomes of a trace: each text of an error has to stand in docs/refusals.md. And
-# examples/verdicts/generated.txt has to be what annotations.py writes.
+# examples/verdicts/generated.txt has to be what annotations.py writes,
+# and examples/town what mktown.py writes.
 #
 # Then 300 filters, whose rows have to be those that SQLite selects, by filters.py, and 1,000 addresses, which have to be where addresses.py finds them.
+#
+# Then the tests of c/forward.py, and 40 programs in C, which have to select the rows that they select when they are compiled for this machine, by
+# c/random_programs.py.
 #
 # At last exhaustion.sh, which stands beside it: the program without memory, room or descriptors enough.
 #
 # Prints what failed, and ends with 0 where nothing did, else with 1. It needs bash and coreutils, and takes less than two minutes. The blocks ```http
-# need curl, annotations.py and rows.py need python3, filters.py and addresses.py need Python 3.11, and exhaustion.sh needs curl and python3.
+# need curl, annotations.py and rows.py need python3, filters.py, addresses.py, listings.py, mktown.py and the scripts of c need Python 3.11,
+# random_programs.py also clang, llvm-objcopy and cc, and exhaustion.sh needs curl and python3.
 
 set -u
 export LC_ALL=C
@@ -105,7 +110,7 @@ start_server() {
 # The documents' commands run in a folder that looks as a clone does once it was built.
 clone() {
     mkdir -p "$1/crates/extractd/out"
-    cp -R "$top/README.md" "$top/docs" "$top/examples" "$1"
+    cp -R "$top/README.md" "$top/docs" "$top/examples" "$top/python" "$1"
     cp "$program" "$1/crates/extractd/out/extractd"
 }
 
@@ -639,7 +644,7 @@ dis --program $'\377'|error: an argument isn't UTF-8|
 --version|extractd 0.1.0|
 END
     try_case 2 0 "*Usage: extractd <COMMAND>*Examples:*Exit status:*extractd 0.1.0" 'extractd --help'
-    for command in select compile run trace geocode geocode-batch verify asm dis serve; do
+    for command in select compile run trace geocode geocode-batch verify explain asm dis serve; do
         try_case 2 0 "*Usage: extractd $command *Example:*extractd $command *Exit status:*extractd 0.1.0" "extractd $command --help"
     done
 
@@ -685,6 +690,14 @@ try_table() {
     fi
 }
 
+# The made-up town is what the script that writes it writes.
+try_town() {
+    python3 -c 'import sys; sys.exit(sys.version_info < (3, 11))' 2> /dev/null || { skip "examples/town (there is no Python 3.11 here)"; return; }
+    if python3 -B examples/mktown.py "$scratch/town" && diff -r "$scratch/town" examples/town > "$scratch/differences"; then pass; else
+        fail "examples/mktown.py writes other files than examples/town" "$(head -n 20 "$scratch/differences")"
+    fi
+}
+
 # The table of public calls, and what compares it with the sources.
 try_calls() {
     command -v python3 > /dev/null || { skip "examples/calls.txt (there is no python3 here)"; return; }
@@ -714,6 +727,26 @@ try_addresses() {
     if said=$(python3 -B examples/addresses.py 1000); then tried=$((tried + ${said%% *})); else fail "examples/addresses.py" "$said"; fi
 }
 
+# Listings of many programs are those of a second reading of the rules.
+try_listings() {
+    local said
+    python3 -c 'import sys; sys.exit(sys.version_info < (3, 11))' 2> /dev/null || { skip "examples/listings.py (there is no Python 3.11 here)"; return; }
+    if said=$(python3 -B examples/listings.py); then tried=$((tried + ${said%% *})); else fail "examples/listings.py" "$said"; fi
+}
+
+# The scripts for programs in C.
+try_c() {
+    local said needed
+    python3 -c 'import sys; sys.exit(sys.version_info < (3, 11))' 2> /dev/null || { skip "examples/c (there is no Python 3.11 here)"; return; }
+    if said=$(python3 -B examples/c/test_forward.py 2>&1); then pass; else fail "examples/c/test_forward.py" "$said"; fi
+    for needed in clang llvm-objcopy cc; do
+        command -v "$needed" > /dev/null || { skip "examples/c/random_programs.py (there is no $needed here)"; return; }
+    done
+    if said=$(python3 -B examples/c/random_programs.py --count 40 --cpu v2); then tried=$((tried + ${said%% *})); else
+        fail "examples/c/random_programs.py" "$said"
+    fi
+}
+
 # A program of 4,003 words, nearly all of them conditional jumps: of it `verify` and the server say the same, too.
 try_long_program() {
     mkdir -p "$scratch/long" && cd "$scratch/long" || exit 1
@@ -725,6 +758,7 @@ try_long_program() {
 
 cd "$top" || exit 1
 try_table
+try_town
 try_calls
 for document in README.md docs/*.md examples/README.md; do
     try_document "$document"
@@ -736,6 +770,8 @@ try_long_program
 try_rows
 try_filters
 try_addresses
+try_listings
+try_c
 try_cases
 echo "$tried passed, $failed failed"
 "$top/examples/exhaustion.sh" "$program" || failed=$((failed + 1))
