@@ -4,7 +4,8 @@
 #     compile.sh [--section NAME] [--lines LINES] PROGRAM.c OUTPUT [FLAG...]
 #
 # The program is the first function of the section .text unless another section is named. With --lines it also writes the source lines of the words,
-# as `extractd explain --lines` reads them. Each FLAG goes to the compiler after those of the file `flags`, so -O1 replaces its -O2.
+# as `extractd explain --lines` reads them. Each FLAG goes to the compiler after those of the file `flags`, so -Os replaces its -O2. With -O1
+# clang gets those of `flags-O1`, too.
 #
 # CC names the compiler: clang if it isn't set, or GCC's bpf-gcc. Needs llvm-objcopy and Python 3.11, and llvm-objdump for --lines.
 set -eu
@@ -31,7 +32,10 @@ shift 2
 compiler=${CC:-clang}
 case ${compiler##*/} in
 *gcc*) flags=$here/gcc-flags ;;
-*) flags=$here/flags ;;
+*)
+    flags=$here/flags
+    case " $* " in *" -O1 "*) set -- "@$here/flags-O1" "$@" ;; esac
+    ;;
 esac
 [ -z "$lines" ] || set -- "$@" -g
 
