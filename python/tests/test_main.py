@@ -3,6 +3,7 @@
 import csv
 import json
 import os
+import re
 import shutil
 import sqlite3
 import subprocess
@@ -12,6 +13,7 @@ from pathlib import Path
 
 import pytest
 from counties import CODE, EXAMPLES, SEGMENTS, TOP, copy_county, gdal_rows, points_of, program_of, records, write_shapes
+from tigerline import _command, _map_rows
 
 pytestmark = pytest.mark.usefixtures("scratch")
 
@@ -139,15 +141,60 @@ class TestFormats:
 class TestMaps:
     """A map beside the file."""
 
-    @pytest.fixture(autouse=True)
-    def maps(self) -> None:
-        pytest.importorskip("tigerline.maps", reason="no tigerline.maps")
-
     @pytest.mark.parametrize(("suffix", "by"), [("svg", "class"), ("html", "class"), ("svg", "score")])
     def test_map(self, out: Path, suffix: str, by: str) -> None:
         options = ("--where", ROADS, "--counties", CODE, "--score", "FRADDL", "--map-by", by)
         done = run(EXAMPLES, out / "a.csv", *options, "--map", out / f"map.{suffix}")
-        assert done.returncode == 0 and "240 segments" in (out / f"map.{suffix}").read_text()
+        assert done.returncode == 0
+        page = (out / f"map.{suffix}").read_text()
+        assert f"CFCC LIKE &#x27;A%&#x27;: 240 segments</text>" in page and ">Not selected<" in page
+
+    def test_background_is_around_the_selection(self, out: Path, tmp_path: Path) -> None:
+        """Of the town, its copy far in the east, and a county without selected segments."""
+        town = EXAMPLES / "town"
+        copy_county(tmp_path / "data")
+        east = []
+        for record in records(town / "TGR01007.RT1"):
+            east.append(record[:190] + b"+080000000" + record[200:209] + b"+080000000" + record[219:])
+        (tmp_path / "data/TGR01007.RT1").write_bytes(b"\n".join(records(town / "TGR01007.RT1") + east))
+        north = [record for record in records(town / "TGR01007.RT1") if b"35042" in (record[106:111], record[111:116])]
+        roads = [record for record in north if record[55:57] == b"A4"]
+        where = "CFCC LIKE 'A4%' AND (ZIPL = 35042 OR ZIPR = 35042) AND FRLONG < 0"
+        for options, background in (((), True), (("--no-background",), False)):
+            done = run(
+                tmp_path / "data", out / "a.csv", "--where", where, "--map", out / "a.svg", "--overwrite", *options
+            )
+            assert done.returncode == 0 and done.stderr.count("\n") == 1, done.stderr
+            counts = re.findall(r">(Local road|Not selected)</text><text[^>]*>([0-9,]+)<", (out / "a.svg").read_text())
+            assert dict(counts)["Local road"] == str(len(roads))
+            rest = len(records(town / "TGR01007.RT1")) - len(roads)
+            assert (
+                len(north) - len(roads) < int(dict(counts).get("Not selected", 0)) < rest
+                if background
+                else len(counts) == 1
+            )
+
+    def test_too_much_background(
+        self, monkeypatch: pytest.MonkeyPatch, out: Path, capsys: pytest.CaptureFixture[str]
+    ) -> None:
+        monkeypatch.setattr(_map_rows, "MOST_SEGMENTS", 100)
+        arguments = [
+            str(EXAMPLES),
+            str(out / "a.csv"),
+            "--where",
+            ROADS,
+            "--counties",
+            CODE,
+            "--map",
+            str(out / "a.svg"),
+        ]
+        assert _command.run(arguments) == 0
+        assert "warning: the map shows the selection alone: its counties have more than 100" in capsys.readouterr().err
+        assert "Not selected" not in (out / "a.svg").read_text()
+
+    def test_nothing_selected(self, out: Path) -> None:
+        done = run(EXAMPLES, out / "a.csv", "--where", "FALSE", "--counties", CODE, "--map", out / "a.svg")
+        assert (done.returncode, done.stderr) == (0, "") and "FALSE: 0 segments" in (out / "a.svg").read_text()
 
     def test_neither_file_without_the_other(self, out: Path) -> None:
         (out / "map.svg").write_text("old")

@@ -13,8 +13,11 @@ from pathlib import Path
 from xml.etree import ElementTree
 
 import pytest
-
-from tigerline.maps import MapSegment, draw_html, draw_svg, records_of, segment_of, shape_points
+from tigerline._lines import line_of
+from tigerline._map_rows import box_around
+from tigerline._map_view import Box
+from tigerline._rows import read_rows
+from tigerline.maps import MapSegment, county_of, draw_html, draw_svg
 
 SVG = "{http://www.w3.org/2000/svg}"
 TOWN = Path(__file__).parents[2] / "examples" / "town"
@@ -243,6 +246,28 @@ def test_closed_outlines_of_lakes_are_filled() -> None:
     assert not re.search("fill-rule", draw_svg([STREET, RIVER], caption=""))
 
 
+def test_box_is_what_the_map_shows() -> None:
+    """A box reaches beyond what is drawn in the west, and what is drawn reaches beyond the box in the east."""
+    picture = draw_svg([line("A41", (10, 0), (11, 0)), line("A41", (10, 1), (14, 1))], caption="", box=Box(8, 0, 12, 1))
+    across = [x for points in lines_of(map_of(picture)) for x, _ in points]
+    width = float(map_of(picture).get("width", ""))
+    assert min(across) == pytest.approx(14, abs=0.1)  # the margin
+    assert across.count(max(across)) == 1 and max(across) == pytest.approx(14 + 2 * (width - 28), rel=0.001)
+
+
+@pytest.mark.parametrize(
+    ("segments", "box"),
+    [
+        ([], None),
+        ([line("A41")], None),
+        ([line("A41", (10, 50), (12, 50)), line("A41", (10, 51), (11, 50))], (9.7, 49.7, 12.3, 51.3)),
+        ([line("A41", (10, 50), (10, 50))], (9.9997, 49.9997, 10.0003, 50.0003)),
+    ],
+)
+def test_box_around_a_selection(segments: list[MapSegment], box: tuple[float, ...] | None) -> None:
+    assert box_around(segments) == (pytest.approx(box) if box else None)
+
+
 def test_names_of_main_roads_are_on_the_map() -> None:
     assert texts_of(map_of(draw_svg(SOME, caption=""))).count("I-65") == 1
     assert "N Oak Ave" not in texts_of(map_of(draw_svg(SOME, caption="")))
@@ -294,6 +319,35 @@ def test_picture_of_the_readme_is_what_the_command_draws() -> None:
     assert len(picture) < 300_000
 
 
+@pytest.mark.parametrize(
+    ("rows", "county", "status", "text"),
+    [
+        (None, None, 3, "nowhere: No such file or directory"),
+        (b"no row\n", None, 3, "extractd wrote something that isn't a row: b'no row\\n'"),
+        (b"", "nowhere", 3, "nowhere: No such file or directory"),
+        (b"", b"1" * 228 + b"\n" + b"2" * 228 + b"\n", 3, "county: line 2 isn't a record of type 1"),
+    ],
+)
+def test_bad_input(tmp_path: Path, rows: bytes | None, county: bytes | str | None, status: int, text: str) -> None:
+    command = [sys.executable, "-m", "tigerline.maps", "nowhere" if rows is None else "rows"]
+    if rows is not None:
+        (tmp_path / "rows").write_bytes(rows)
+    if isinstance(county, bytes):
+        (tmp_path / "county").write_bytes(county)
+    if county is not None:
+        command += ["--county", "county" if isinstance(county, bytes) else county]
+    environment = {**os.environ, "PYTHONPATH": str(PACKAGES)}
+    done = subprocess.run(command, cwd=tmp_path, env=environment, capture_output=True, text=True)
+    assert (done.returncode, done.stdout, done.stderr) == (status, "", f"error: {text}\n")
+
+
+def test_closed_pipe() -> None:
+    command = f'"{sys.executable}" -m tigerline.maps /dev/null --caption "$(yes | head -n 60000)"; echo $? >&2'
+    environment = {**os.environ, "PYTHONPATH": str(PACKAGES)}
+    done = subprocess.run(["sh", "-c", f"{{ {command}; }} | true"], env=environment, stderr=subprocess.PIPE, text=True)
+    assert done.stderr == "error: the output can't be written: Broken pipe\n3\n"
+
+
 def test_command_needs_only_rows() -> None:
     assert sum(map(int, legend_of(drawn_by_command("--by", "score")).values())) == select_by_hand().count(b"\n")
     assert drawn_by_command("--html").startswith("<!DOCTYPE html>")
@@ -315,13 +369,13 @@ def assert_gdal_reads(folder: Path) -> None:
     precision = ["-lco", "COORDINATE_PRECISION=6"]
     command = [needed("ogr2ogr"), "-f", "GeoJSONSeq", "/vsistdout/", str(folder), "CompleteChain", *precision]
     features = subprocess.run(command, stdout=subprocess.PIPE, check=True).stdout.decode().splitlines()
-    shapes = shape_points(folder / "TGR01007.RT2")
-    segments = [segment_of(record, 0, shapes) for record in records_of(folder / "TGR01007.RT1")]
+    county = county_of(folder / "TGR01007.RT1")
+    segments = [(row.CFCC, line_of(row, county.shapes)) for row in read_rows(county, signed=False)]
     assert len(features) == len(segments) > 300
-    assert sum(len(segment.points) for segment in segments) > 2.5 * len(segments)
-    for feature, segment in zip(map(json.loads, features), segments):
-        assert [tuple(point) for point in feature["geometry"]["coordinates"]] == list(segment.points)
-        assert feature["properties"]["CFCC"] == segment.cfcc
+    assert sum(len(line) for _, line in segments) > 2.5 * len(segments)
+    for feature, (cfcc, line) in zip(map(json.loads, features), segments):
+        assert [tuple(point) for point in feature["geometry"]["coordinates"]] == list(line)
+        assert feature["properties"]["CFCC"] == cfcc
 
 
 def test_gdal_finds_the_same_points_in_the_town() -> None:

@@ -39,14 +39,6 @@ class TestForms:
         archive = zip_folder(copy_county(tmp_path / "plain"), tmp_path / "any name.zip")
         assert segments(archive) == segments(archive, "01") == EXPECTED
 
-    def test_two_counties_in_one_zip(self, tmp_path: Path) -> None:
-        copy_county(tmp_path / "plain", "1456", "01003")
-        (tmp_path / "plain/TGR01003.RT1").write_bytes(b"\n".join(records(EXAMPLES / "one/TGR01001.RT1")))
-        archive = zip_folder(copy_county(tmp_path / "plain"), tmp_path / "TGR01001.ZIP")
-        assert segments(tmp_path, CODE) == EXPECTED
-        assert segments(archive, ["01003"]) == [107000725]
-        assert len(segments(archive)) == SEGMENTS + 1
-
     def test_unpacked_files_come_first(self, tmp_path: Path) -> None:
         (copy_county(tmp_path) / "TGR01001.ZIP").write_bytes(b"no zip file")
         assert segments(tmp_path, CODE) == EXPECTED
@@ -106,6 +98,18 @@ def encrypt(archive: Path) -> None:
     flip(archive, data.index(b"PK\x01\x02") + 8, b"\x01")
 
 
+def misname(archive: Path) -> None:
+    """Says that the name of a member is UTF-8, which it isn't."""
+    central = archive.read_bytes().index(b"PK\x01\x02")
+    flip(archive, central + 9, b"\x08")
+    flip(archive, central + 46, b"\xff")
+
+
+def packed_by_bzip2(archive: Path) -> None:
+    with zipfile.ZipFile(archive, "w", zipfile.ZIP_BZIP2) as file:
+        file.write(EXAMPLES / f"TGR{CODE}.RT1", f"TGR{CODE}.RT1")
+
+
 def packed_again(archive: Path) -> None:
     inner = archive.rename(archive.with_name("inner"))
     with zipfile.ZipFile(archive, "w") as outer:
@@ -146,11 +150,15 @@ class TestBadSources:
             (state_less(1000), "isn't a whole zip file"),
             (state_less(1001), "'TGR01001.RT1' has more than the stated 1000 bytes"),
             (encrypt, "can't be unpacked"),
+            (misname, "isn't a whole zip file"),
+            (packed_by_bzip2, "can't be unpacked: 'TGR01001.RT1' isn't compressed by deflate"),
             (packed_again, "has the zip file 'AL/TGR01001.ZIP' in it"),
             (add("../TGR01001.RT4"), "has a member outside its folder: '../TGR01001.RT4'"),
             (add("/TGR01001.RT4"), "has a member outside its folder"),
             (add("a\\..\\..\\TGR01001.RT4"), "has a member outside its folder"),
             (add("copy/tgr01001.rt1"), "has tgr01001.rt1 twice"),
+            (add("TGR01003.RT1"), "has more than one county, 01001 and 01003: unpack it"),
+            (add("TGR01003.RT4"), "has more than one county, 01001 and 01003: unpack it"),
             (add_link, "has a link in place of a file"),
         ],
     )
@@ -167,7 +175,7 @@ class TestBadSources:
     def test_more_than_the_limit(self, tmp_path: Path, never: str, monkeypatch: pytest.MonkeyPatch) -> None:
         monkeypatch.setattr(_sources, "UNPACKED_LIMIT", 100_000)
         archive = zip_folder(copy_county(tmp_path / "plain"), tmp_path / "TGR01001.ZIP")
-        with pytest.raises(OSError, match="unpacks to more than 100000 bytes"):
+        with pytest.raises(OSError, match="unpacks to more than 100,000 bytes"):
             segments(archive, CODE, never)
 
     def test_zip_without_the_county(self, tmp_path: Path, never: str) -> None:

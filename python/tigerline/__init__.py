@@ -7,22 +7,28 @@
 tuples, and needs the standard library alone.
 """
 
+from importlib import import_module
 from typing import TYPE_CHECKING, Any
-
-from ._program import Refused
-from ._rows import Row, rows
 
 if TYPE_CHECKING:
     from ._frames import read_county, select
+    from ._program import Refused
+    from ._rows import Row, rows
 
 __all__ = ["Refused", "Row", "read_county", "rows", "select"]
 __version__ = "0.1.0"
 
+# Each is imported on its first use, so that `rows` does without pandas, and commands start soon.
+_MODULES = {"Refused": "_program", "Row": "_rows", "read_county": "_frames", "rows": "_rows", "select": "_frames"}
+
 
 def __getattr__(name: str) -> Any:
-    """Imports the functions that need pandas on their first use."""
-    if name not in ("read_county", "select"):
+    """Imports a function or a class on its first use."""
+    if name not in _MODULES:
         raise AttributeError(f"module {__name__!r} has no attribute {name!r}")
-    from . import _frames
+    return getattr(import_module(f".{_MODULES[name]}", __name__), name)
 
-    return getattr(_frames, name)
+
+def __dir__() -> list[str]:
+    """Returns the names of the package, also those that aren't imported yet."""
+    return sorted({*globals(), *__all__})

@@ -35,13 +35,21 @@ class Request:
             raise ValueError("score= needs where=: a program sets its score itself")
 
 
+ALL_SEGMENTS = Request("TRUE")
+
+
 @dataclass(frozen=True)
 class CountyRows:
-    """The rows of a county as `extractd` wrote them, and the shape points of their segments if they were requested."""
+    """The rows of a county as `extractd` wrote them.
+
+    If they were requested, the shape points of the segments, and the rows of all segments of a county of which some are
+    selected.
+    """
 
     county: str
     rows: bytes
     shapes: Shapes = field(default_factory=dict)
+    all_rows: bytes = b""
 
 
 def extract(
@@ -50,12 +58,13 @@ def extract(
     counties: str | Iterable[str] | None,
     *,
     shapes: bool = False,
+    all_rows: bool = False,
     progress: bool = False,
     interrupts: Interrupts | None = None,
 ) -> Iterator[CountyRows]:
     """Yields the rows of each county after `extractd` has ended for it with status 0.
 
-    No temporary file and no process is left while the caller has them.
+    When it yields, its temporary files and its processes are gone.
     """
     folder = Path(data)
     with _active(interrupts) as active:
@@ -63,7 +72,7 @@ def extract(
         chosen = choose_counties(find_counties(folder), counties, folder)
     for county in counted(chosen, progress):
         with _active(interrupts) as active:
-            rows = _county_rows(program, request, county, shapes, active)
+            rows = _county_rows(program, request, county, shapes, all_rows, active)
         yield rows
 
 
@@ -73,18 +82,26 @@ def _active(interrupts: Interrupts | None) -> AbstractContextManager[Interrupts]
     return nullcontext(interrupts)
 
 
-def _county_rows(program: str, request: Request, county: County, shapes: bool, interrupts: Interrupts) -> CountyRows:
+def _county_rows(
+    program: str, request: Request, county: County, shapes: bool, all_rows: bool, interrupts: Interrupts
+) -> CountyRows:
     types = "12456" if shapes else "1456"
     with opened_county(county, types, interrupts) as files, scratch_folder() as scratch:
-        command = _command(program, request, files["1"].parent, county.code, scratch, interrupts)
+        folder = files["1"].parent
+        command = _command(program, request, folder, county.code, scratch, interrupts)
         try:
             rows = _program.run(command, interrupts, county=county.code)
+            everything = b""
+            if all_rows and rows:
+                command = _command(program, ALL_SEGMENTS, folder, county.code, scratch, interrupts)
+                everything = _program.run(command, interrupts, county=county.code)
         except OSError as error:
             raise _with_own_paths(error, county, files) from None
         if not shapes:
-            return CountyRows(county.code, rows)
+            return CountyRows(county.code, rows, all_rows=everything)
         name = str(county.files.get("2") or county.archive)
-        return CountyRows(county.code, rows, shape_points(files["2"], set(segments(rows)), name))
+        points = shape_points(files["2"], set(segments(everything or rows)), name)
+        return CountyRows(county.code, rows, points, everything)
 
 
 def _command(

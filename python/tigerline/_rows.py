@@ -91,11 +91,8 @@ def read_rows(county: CountyRows, signed: bool) -> Iterator[Row]:
     A record may have any byte but LF, so it is found by its length from the end, and not by the tab before it.
     """
     for line in io.BytesIO(county.rows):
-        score, tab, record = (
-            line[: -RECORD_LENGTH - 2],
-            line[-RECORD_LENGTH - 2 : -RECORD_LENGTH - 1],
-            line[-RECORD_LENGTH - 1 :],
-        )
+        before, record = line[: -RECORD_LENGTH - 1], line[-RECORD_LENGTH - 1 :]
+        score, tab = before[:-1], before[-1:]
         if tab != b"\t" or not score.isdigit() or not record.endswith(b"\n"):
             raise OSError(f"extractd wrote something that isn't a row: {line[:40]!r}")
         yield Row._make([county.county, score_of(int(score), signed), *_fields(record.decode("latin-1"))])
@@ -103,6 +100,12 @@ def read_rows(county: CountyRows, signed: bool) -> Iterator[Row]:
 
 def _fields(record: str) -> list[Any]:
     return [read(record[place]) for place, read in _COLUMNS]
+
+
+def without(rows: bytes, others: bytes) -> bytes:
+    """Returns the rows whose records aren't among those of the other rows."""
+    records = {line[-RECORD_LENGTH - 1 :] for line in io.BytesIO(others)}
+    return b"".join(line for line in io.BytesIO(rows) if line[-RECORD_LENGTH - 1 :] not in records)
 
 
 def score_of(score: int, signed: bool) -> int:

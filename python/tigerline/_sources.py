@@ -3,6 +3,7 @@
 import os
 import re
 import stat
+import struct
 import warnings
 import zipfile
 import zlib
@@ -171,7 +172,7 @@ def _opened_archive(path: Path) -> Iterator[zipfile.ZipFile]:
     try:
         with zipfile.ZipFile(path) as archive:
             yield archive
-    except (zipfile.BadZipFile, zlib.error, EOFError) as error:
+    except (zipfile.BadZipFile, zlib.error, struct.error, EOFError, IndexError, OverflowError, ValueError) as error:
         raise OSError(f"{path} isn't a whole zip file: {error}") from None
     except (NotImplementedError, RuntimeError) as error:
         raise OSError(f"{path} can't be unpacked: {error}") from None
@@ -180,7 +181,8 @@ def _opened_archive(path: Path) -> Iterator[zipfile.ZipFile]:
 def _members(archive: zipfile.ZipFile, path: Path) -> dict[tuple[str, str], zipfile.ZipInfo]:
     """Returns the members with records, by county and record type.
 
-    Raises OSError if a member is outside the archive's folder, a link or another zip file, or if one is there twice.
+    Raises OSError if a member is outside the archive's folder, a link or another zip file, if one is there twice, or if
+    there are several counties.
     """
     found: dict[tuple[str, str], zipfile.ZipInfo] = {}
     for member in archive.infolist():
@@ -197,6 +199,9 @@ def _members(archive: zipfile.ZipFile, path: Path) -> dict[tuple[str, str], zipf
         if (name[1], name[2]) in found:
             raise OSError(f"{path} has {inside.name} twice")
         found[name[1], name[2]] = member
+    codes = sorted({code for code, _ in found})
+    if len(codes) > 1:
+        raise OSError(f"{path} has more than one county, {' and '.join(codes[:2])}: unpack it, and name the folder")
     return found
 
 
@@ -205,8 +210,10 @@ def _unpack(path: Path, code: str, types: str, folder: Path, interrupts: Interru
         members = _members(archive, path)
         wanted = {record_type: members[code, record_type] for record_type in types if (code, record_type) in members}
         if sum(member.file_size for member in wanted.values()) > UNPACKED_LIMIT:
-            raise OSError(f"{path} unpacks to more than {UNPACKED_LIMIT} bytes")
+            raise OSError(f"{path} unpacks to more than {UNPACKED_LIMIT:,} bytes")
         for record_type, member in wanted.items():
+            if member.compress_type not in (zipfile.ZIP_STORED, zipfile.ZIP_DEFLATED):
+                raise OSError(f"{path} can't be unpacked: {member.filename!r} isn't compressed by deflate")
             unpacked = folder / f"TGR{code}.RT{record_type}"
             with naming(unpacked), open(unpacked, "wb") as file:
                 _unpack_member(archive, member, path, file, interrupts)

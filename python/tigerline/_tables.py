@@ -4,7 +4,6 @@ import csv
 import os
 import re
 import shutil
-import struct
 from collections.abc import Callable, Iterable, Iterator
 from dataclasses import dataclass, replace
 from operator import itemgetter
@@ -13,11 +12,11 @@ from pathlib import Path
 from ._extract import CountyRows
 from ._interrupts import Interrupts
 from ._layout import FIELDS, Kind
+from ._lines import Line, line_of, well_known_binary, well_known_text
 from ._output import PendingFile
 from ._program import run_process
 from ._rows import Row, read_rows
 from ._scratch import naming, scratch_folder
-from ._shapes import Point, Shapes
 
 DRIVERS = {".gpkg": "GPKG", ".geojson": "GeoJSON", ".fgb": "FlatGeobuf"}
 SUFFIXES = (*DRIVERS, ".csv")
@@ -27,7 +26,6 @@ LARGEST_INTEGER = (1 << 63) - 1
 # Readers of CSV, also GDAL's, end a text at NUL and take CR for a line end, so both become question marks.
 READABLE = bytes.maketrans(b"\0\r", b"??")
 
-Line = tuple[Point, ...] | None
 Watcher = Callable[[Row, Line], None]
 
 
@@ -63,27 +61,6 @@ class Selection:
                 if self.watcher is not None:
                     self.watcher(row, line)
                 yield row, line
-
-
-def line_of(row: Row, shapes: Shapes) -> Line:
-    """Returns the points of a segment from its start to its end, or None if one of the two has no coordinates."""
-    if row.FRLONG is None or row.FRLAT is None or row.TOLONG is None or row.TOLAT is None:
-        return None
-    between = shapes.get(row.TLID, ()) if row.TLID is not None else ()
-    return ((row.FRLONG, row.FRLAT), *between, (row.TOLONG, row.TOLAT))
-
-
-def well_known_text(line: Line) -> str:
-    """Returns a line as WKT."""
-    return f"LINESTRING ({','.join(f'{longitude} {latitude}' for longitude, latitude in line)})" if line else ""
-
-
-def well_known_binary(line: Line) -> str:
-    """Returns a line as WKB in hexadecimal digits."""
-    if not line:
-        return ""
-    numbers = [number for point in line for number in point]
-    return struct.pack(f"<BII{len(numbers)}d", 1, 2, len(line), *numbers).hex()
 
 
 def write_csv(file: PendingFile, selection: Selection, interrupts: Interrupts) -> int:

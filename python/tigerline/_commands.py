@@ -1,0 +1,71 @@
+"""What the commands of this package have in common: exit statuses, one-line errors, and how they end at Ctrl-C."""
+
+import os
+import signal
+import sys
+import warnings
+from collections.abc import Callable
+from contextlib import suppress
+from typing import TextIO
+
+REFUSED, USAGE, FILES, MEMORY = 1, 2, 3, 4
+
+
+def end_at_interrupt() -> None:
+    """Has Ctrl-C end the process at once and without a traceback. If it is ignored, it stays ignored."""
+    if signal.getsignal(signal.SIGINT) is signal.default_int_handler:
+        signal.signal(signal.SIGINT, signal.SIG_DFL)
+
+
+def exit_status(work: Callable[[], bytes]) -> int:
+    """Does the work of a command, writes what it returns to standard output, and returns the exit status.
+
+    Errors and warnings go to standard error.
+    """
+    from ._program import Refused
+
+    try:
+        with warnings.catch_warnings():
+            warnings.simplefilter("always", UserWarning)
+            warnings.showwarning = _show_warning
+            return _write(work())
+    except Refused as error:
+        return _fail(str(error), REFUSED)
+    except ValueError as error:
+        return _fail(f"error: {error}", USAGE)
+    except OSError as error:
+        named = f"{error.filename}: " if error.filename else ""
+        return _fail(f"error: {named}{error.strerror or error}", FILES)
+    except MemoryError as error:
+        return _fail(f"error: {str(error) or 'out of memory'}", MEMORY)
+
+
+def _write(output: bytes) -> int:
+    if sys.stdout is None:
+        return _fail("error: the output can't be written: it is closed", FILES)
+    try:
+        sys.stdout.buffer.write(output)
+        sys.stdout.buffer.flush()
+        return 0
+    except OSError as error:
+        # Python would fail once more when it flushes at its end.
+        os.dup2(os.open(os.devnull, os.O_WRONLY), sys.stdout.fileno())
+        return _fail(f"error: the output can't be written: {error.strerror}", FILES)
+
+
+def _fail(text: str, status: int) -> int:
+    with suppress(OSError):
+        print(text, file=sys.stderr)
+    return status
+
+
+def _show_warning(
+    message: Warning | str,
+    category: type[Warning],
+    filename: str,
+    lineno: int,
+    file: TextIO | None = None,
+    line: str | None = None,
+) -> None:
+    with suppress(OSError):
+        print(f"warning: {message}", file=sys.stderr)
