@@ -1,7 +1,7 @@
 #!/usr/bin/env python3
 """Writes a made-up county with a town in it: record types 1, 2, 4, 5 and 6 as TGR01007.RT1 to .RT6.
 
-    python3 mktown.py [--seed N] [FOLDER]
+    python3 mktown.py [--seed N] [--code CODE] [FOLDER]
 
 The files go into FOLDER, by default `town` next to this script. The county has a bent street grid, a river, creeks, a
 lake, a railroad, an interstate and rural roads. Streets, streams and boundaries are drawn as lines first. Then all
@@ -15,6 +15,7 @@ The same seed writes the same bytes on every machine: numbers come from make_cou
 
 import argparse
 import math
+import re
 from collections import Counter, defaultdict
 from collections.abc import Iterable, Iterator, Sequence
 from dataclasses import dataclass, field, replace
@@ -468,16 +469,16 @@ def sides(points: Sequence[Point]) -> tuple[Point, Point]:
 # Records
 
 
-def area_fields(side: str, at: Point) -> dict[str, str]:
-    """The areas around a point, with the name of the side at the end of each field."""
+def area_fields(code: str, side: str, at: Point) -> dict[str, str]:
+    """The areas around a point, with the name of the side at the end of each field. `code` is the county's."""
     if not is_inside(at, BORDER):
         return {}
     in_town = ((at[0] - TOWN[0]) / 17_500) ** 2 + ((at[1] - TOWN[1]) / 13_500) ** 2 < 1
     quarter = 1 + (at[0] > TOWN[0]) + 2 * (at[1] > TOWN[1])
     tract = quarter if in_town else quarter + 4
     fields = {
-        "STATE": CODE[:2],
-        "COUNTY": CODE[2:],
+        "STATE": code[:2],
+        "COUNTY": code[2:],
         "COUSUB": "90477" if at[0] > INTERSTATE[18][0] else "90315",
         "PLACE": "13264" if in_town else "",
         "TRACT": f"01{tract:02}00",
@@ -552,12 +553,12 @@ class Names:
             self.numbers[name] = max(self.numbers.values(), default=0) + self.dice.between(1, 5)
         return self.numbers[name]
 
-    def records(self) -> list[bytes]:
-        head = {"RT": "5", "VERSION": "0006", "FILE": CODE}
+    def records(self, code: str) -> list[bytes]:
+        head = {"RT": "5", "VERSION": "0006", "FILE": code}
         return [record({**head, "FEAT": str(number), **name.fields()}) for name, number in self.numbers.items()]
 
 
-def type_1(segment: Line, tlid: str, numbers: dict[str, str]) -> bytes:
+def type_1(code: str, segment: Line, tlid: str, numbers: dict[str, str]) -> bytes:
     left, right = sides(segment.points)
     (longitude, latitude), (to_longitude, to_latitude) = degrees(segment.points[0]), degrees(segment.points[-1])
     return record(
@@ -570,8 +571,8 @@ def type_1(segment: Line, tlid: str, numbers: dict[str, str]) -> bytes:
             "CFCC": segment.cfcc,
             **segment.name.fields(),
             **numbers,
-            **area_fields("L", left),
-            **area_fields("R", right),
+            **area_fields(code, "L", left),
+            **area_fields(code, "R", right),
             "FRLONG": f"{longitude:+010d}",
             "FRLAT": f"{latitude:+09d}",
             "TOLONG": f"{to_longitude:+010d}",
@@ -580,7 +581,7 @@ def type_1(segment: Line, tlid: str, numbers: dict[str, str]) -> bytes:
     )
 
 
-def county(seed: int) -> dict[str, list[bytes]]:
+def county(seed: int, code: str) -> dict[str, list[bytes]]:
     """The lines of each record type."""
     dice = Dice(seed)
     segments = list(segments_of(drawn(dice)))
@@ -590,7 +591,7 @@ def county(seed: int) -> dict[str, list[bytes]]:
         tlid += dice.between(1, 9)
         own, further = house_numbers(segment, dice)
         head = {"VERSION": "0006", "TLID": str(tlid)}
-        types["1"].append(type_1(segment, str(tlid), own))
+        types["1"].append(type_1(code, segment, str(tlid), own))
         types["2"] += shape_records(str(tlid), segment.points[1:-1])
         if segment.name.name:
             names.number(segment.name)
@@ -599,7 +600,7 @@ def county(seed: int) -> dict[str, list[bytes]]:
             types["4"].append(record({"RT": "4", **head, "RTSQ": "1", **feats}))
         for which, fields in enumerate(further, start=1):
             types["6"].append(record({"RT": "6", **head, "RTSQ": str(which), **fields}))
-    types["5"] = names.records()
+    types["5"] = names.records(code)
     return types
 
 
@@ -608,10 +609,13 @@ def main() -> None:
     add, town = parser.add_argument, Path(__file__).parent / "town"
     add("folder", nargs="?", type=Path, default=town, help="where the files go (default: town, next to this script)")
     add("--seed", type=int, default=SEED, help="another seed draws another county (default: %(default)s)")
+    add("--code", default=CODE, help="the county's code, five digits (default: %(default)s)")
     arguments = parser.parse_args()
+    if not re.fullmatch("[0-9]{5}", arguments.code):
+        parser.error(f"a code is five digits, and {arguments.code!r} isn't")
     arguments.folder.mkdir(parents=True, exist_ok=True)
-    for number, lines in county(arguments.seed).items():
-        (arguments.folder / f"TGR{CODE}.RT{number}").write_bytes(b"".join(line + LINE_END for line in lines))
+    for number, lines in county(arguments.seed, arguments.code).items():
+        (arguments.folder / f"TGR{arguments.code}.RT{number}").write_bytes(b"".join(line + LINE_END for line in lines))
 
 
 if __name__ == "__main__":

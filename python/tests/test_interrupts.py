@@ -96,6 +96,13 @@ def test_command_at_any_moment(scratch: Path, tmp_path: Path, large: Path) -> No
         check_output(out)
 
 
+def test_command_is_ready_for_signals_soon() -> None:
+    """Ctrl-C while modules are imported would show a traceback, so only small ones come before it ends the process."""
+    code = "import tigerline._start, sys; print({'typing', 'subprocess', 'zipfile'} & set(sys.modules))"
+    done = subprocess.run([sys.executable, "-S", "-c", code], env=environment(), stdout=subprocess.PIPE, text=True)
+    assert done.stdout == "set()\n"
+
+
 @pytest.mark.usefixtures("extractd", "gdal")
 def test_kill(scratch: Path, tmp_path: Path, large: Path) -> None:
     """After SIGKILL a folder is left, but no half file has the output's name, and the other processes end."""

@@ -13,7 +13,8 @@ from pathlib import Path
 
 import pytest
 from counties import CODE, EXAMPLES, SEGMENTS, TOP, copy_county, gdal_rows, points_of, program_of, records, write_shapes
-from tigerline import _command, _map_rows
+from tigerline import __main__ as command
+from tigerline import _map_rows
 
 pytestmark = pytest.mark.usefixtures("scratch")
 
@@ -188,7 +189,7 @@ class TestMaps:
             "--map",
             str(out / "a.svg"),
         ]
-        assert _command.run(arguments) == 0
+        assert command.main(arguments) == 0
         assert "warning: the map shows the selection alone: its counties have more than 100" in capsys.readouterr().err
         assert "Not selected" not in (out / "a.svg").read_text()
 

@@ -8,8 +8,8 @@ tuples, and needs the standard library alone.
 """
 
 from importlib import import_module
-from typing import TYPE_CHECKING, Any
 
+TYPE_CHECKING = False  # For type checkers this is true. The module typing takes long to import.
 if TYPE_CHECKING:
     from ._frames import read_county, select
     from ._program import Refused
@@ -22,7 +22,7 @@ __version__ = "0.1.0"
 _MODULES = {"Refused": "_program", "Row": "_rows", "read_county": "_frames", "rows": "_rows", "select": "_frames"}
 
 
-def __getattr__(name: str) -> Any:
+def __getattr__(name: str) -> object:
     """Imports a function or a class on its first use."""
     if name not in _MODULES:
         raise AttributeError(f"module {__name__!r} has no attribute {name!r}")

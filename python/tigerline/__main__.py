@@ -1,17 +1,153 @@
 """The command `tigerline`: writes selected segments to a file for a GIS, and draws a map of them."""
 
-import sys
-from collections.abc import Sequence
+from ._start import end_at_interrupt
 
-from ._commands import end_at_interrupt
+if __name__ == "__main__":
+    end_at_interrupt()  # before the imports that take some time
+
+import argparse
+import os
+import signal
+import sys
+from collections.abc import Callable, Iterator, Sequence
+from contextlib import ExitStack
+from pathlib import Path
+
+from . import __version__
+from ._commands import exit_status
+from ._extract import CountyRows, Request, extract
+from ._interrupts import Interrupts
+from ._layout import chosen_names
+from ._map_rows import Surroundings, box_around, map_segment
+from ._map_view import MapSegment
+from ._output import PendingFile, pending_file
+from ._scratch import naming
+from ._tables import SUFFIXES, Selection, write_by_gdal, write_csv
+
+MAP_SUFFIXES = (".svg", ".html")
+
+
+def parser() -> argparse.ArgumentParser:
+    """Returns the parser of the command line."""
+    result = argparse.ArgumentParser(
+        prog="tigerline",
+        description="Writes selected street segments of TIGER/Line 2006 to a file for a GIS.",
+        epilog="Exit status: 0 written, 1 refused by extractd, 2 usage, 3 files, 4 out of memory.",
+    )
+    add = result.add_argument
+    add("data", metavar="DATA", help="a folder with counties, searched with its subfolders, or a zip file")
+    add("out", metavar="OUT", type=path_with(SUFFIXES), help="the file to write: " + ", ".join(SUFFIXES))
+    _add_selection(result)
+    add("--signed", action="store_true", help="write scores as signed numbers")
+    add("--overwrite", action="store_true", help="replace OUT and the map if they exist")
+    add("--map", metavar="FILE", type=path_with(MAP_SUFFIXES), help="also draw a map: .svg or .html")
+    add("--map-by", choices=("class", "score"), default="class", help="what the map shows (default: class)")
+    add("--no-background", action="store_true", help="leave other segments out of the map")
+    add("--progress", action="store_true", help="show on standard error how many counties are done")
+    add("--extractd", metavar="FILE", help="the program (default: the variable EXTRACTD, or extractd in PATH)")
+    add("--version", action="version", version=f"tigerline {__version__}")
+    return result
+
+
+def _add_selection(result: argparse.ArgumentParser) -> None:
+    which = result.add_mutually_exclusive_group(required=True)
+    which.add_argument("--where", metavar="TEXT", help="a filter, such as \"CFCC LIKE 'A%%'\"")
+    which.add_argument("--program", metavar="FILE", help="a program, as extractd asm or compile writes it")
+    counties = "01001 is a county, 01 or AL all of a state (default: all in DATA)"
+    result.add_argument("--counties", metavar="CODE", nargs="+", help=counties)
+    columns = "fields of record type 1 by their TIGER names (default: all)"
+    result.add_argument("--columns", metavar="NAME", nargs="+", help=columns)
+    geometry = "line: the two ends; shape: also the shape points of record type 2, which are not proved; none"
+    result.add_argument("--geometry", choices=("line", "shape", "none"), default="line", help=geometry)
+    result.add_argument("--score", metavar="COLUMN", help="the column that becomes the score of a filter")
+
+
+def path_with(suffixes: Sequence[str]) -> Callable[[str], Path]:
+    """Returns a function that takes paths with these suffixes alone."""
+
+    def path(text: str) -> Path:
+        if Path(text).suffix.lower() not in suffixes:
+            raise argparse.ArgumentTypeError(f"{text!r} doesn't end with {' or '.join(suffixes)}")
+        return Path(text)
+
+    return path
+
+
+def write(options: argparse.Namespace) -> int:
+    """Writes the requested files, and returns the number of segments in them."""
+    names = chosen_names(options.columns)
+    request = Request(options.where, options.program, options.score, options.extractd)
+    if options.map is not None and os.path.realpath(options.map) == os.path.realpath(options.out):
+        raise ValueError("OUT and the map are the same file")
+    with Interrupts(signal.SIGINT, signal.SIGTERM, signal.SIGHUP) as interrupts, ExitStack() as files:
+        table = files.enter_context(pending_file(options.out, options.overwrite))
+        picture = files.enter_context(pending_file(options.map, options.overwrite)) if options.map else None
+        segments: list[MapSegment] = []
+        surroundings = Surroundings()
+        selection = Selection(
+            counties=surroundings.of(selected_counties(request, options, interrupts)),
+            names=names,
+            has_lines=options.geometry != "none",
+            signed=options.signed,
+            watcher=(lambda row, line: segments.append(map_segment(row, line))) if picture else None,
+        )
+        write_table = write_csv if table.path.suffix == ".csv" else write_by_gdal
+        count = write_table(table, selection, interrupts)
+        if picture:
+            draw(picture, segments, surroundings, options, interrupts)
+        interrupts.check()
+        for file in (table, picture):
+            if file is not None:
+                file.publish()
+    return count
+
+
+def selected_counties(request: Request, options: argparse.Namespace, interrupts: Interrupts) -> Iterator[CountyRows]:
+    """Yields the rows of the counties, with those of their other segments if the map shows these."""
+    return extract(
+        request,
+        options.data,
+        options.counties,
+        shapes=options.geometry == "shape",
+        all_rows=options.map is not None and not options.no_background,
+        progress=options.progress,
+        interrupts=interrupts,
+    )
+
+
+def draw(
+    file: PendingFile,
+    segments: list[MapSegment],
+    surroundings: Surroundings,
+    options: argparse.Namespace,
+    interrupts: Interrupts,
+) -> None:
+    """Draws the map."""
+    from . import maps
+
+    selected_by = os.path.basename(options.program) if options.where is None else options.where
+    box = box_around(segments)
+    drawn = maps.draw_svg if file.path.suffix == ".svg" else maps.draw_html
+    picture = drawn(
+        segments,
+        caption=f"{selected_by}: {counted(len(segments))}",
+        by=options.map_by,
+        background=surroundings.within(box, interrupts),
+        box=box,
+    )
+    with naming(file.final):
+        file.path.write_text(picture, encoding="utf-8")
+
+
+def counted(segments: int) -> str:
+    """Returns the number with its noun."""
+    return f"{segments} segment{'' if segments == 1 else 's'}"
 
 
 def main(arguments: Sequence[str] | None = None) -> int:
     """Runs the command, and returns its exit status."""
-    end_at_interrupt()
-    from ._command import run  # The other modules take some time, in which Ctrl-C may arrive.
-
-    return run(arguments)
+    options = parser().parse_args(arguments)
+    return exit_status(lambda: os.fsencode(f"{options.out}: {counted(write(options))}\n"))
 
 
 if __name__ == "__main__":

@@ -1,7 +1,6 @@
-"""What the commands of this package have in common: exit statuses, one-line errors, and how they end at Ctrl-C."""
+"""What the commands of this package have in common: exit statuses and one-line errors."""
 
 import os
-import signal
 import sys
 import warnings
 from collections.abc import Callable
@@ -9,12 +8,6 @@ from contextlib import suppress
 from typing import TextIO
 
 REFUSED, USAGE, FILES, MEMORY = 1, 2, 3, 4
-
-
-def end_at_interrupt() -> None:
-    """Has Ctrl-C end the process at once and without a traceback. If it is ignored, it stays ignored."""
-    if signal.getsignal(signal.SIGINT) is signal.default_int_handler:
-        signal.signal(signal.SIGINT, signal.SIG_DFL)
 
 
 def exit_status(work: Callable[[], bytes]) -> int:

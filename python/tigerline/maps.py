@@ -15,7 +15,7 @@ from collections.abc import Iterable, Iterator, Sequence
 from pathlib import Path
 from typing import NamedTuple
 
-from ._commands import end_at_interrupt, exit_status
+from ._commands import exit_status
 from ._extract import CountyRows
 from ._extract import segments as segments_of
 from ._layout import RECORD_LENGTH
@@ -28,6 +28,7 @@ from ._map_rows import map_segment
 from ._map_view import MARGIN, Box, MapSegment, View, view_of
 from ._rows import read_rows, without
 from ._shapes import shape_points
+from ._start import end_at_interrupt
 
 CAPTION_LINES = 6
 FONT = "'Liberation Sans', Arial, Helvetica, sans-serif"
