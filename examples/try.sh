@@ -5,7 +5,7 @@
 # - A block ```console is what a terminal shows. Each command in it, `$ ` with further lines behind `> `, runs in a copy of the documents and
 #   the examples, and what it writes has to be what stands below it. Words behind `console` name commands that the block needs
 #   beside coreutils: where one isn't there, the block is left out, and said to be. `rt` is played: `rt try -- ..` and `rt run -- ..`
-#   run the program that is tried, and `rt ci` does nothing.
+#   run the program that is tried, and `.ci/run` does nothing.
 # - A block ```asm that a block ```hex follows is a program and its words: `asm` makes these of it, and of what `dis` writes of them.
 # - In a block ```verdicts each row is a program, with `|` between its lines, and behind `;` what `verify` says of it. A row that ends with `|`
 #   goes on in the next line.
@@ -109,7 +109,9 @@ start_server() {
 
 # The documents' commands run in a folder that looks as a clone does once it was built.
 clone() {
-    mkdir -p "$1/crates/extractd/out"
+    mkdir -p "$1/crates/extractd/out" "$1/.ci"
+    printf '#!/bin/sh\n' > "$1/.ci/run"
+    chmod 755 "$1/.ci/run"
     cp -R "$top/README.md" "$top/docs" "$top/examples" "$top/python" "$1"
     cp "$program" "$1/crates/extractd/out/extractd"
 }

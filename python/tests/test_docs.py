@@ -1,4 +1,4 @@
-"""What docs/python.md shows is what happens."""
+"""What the documents show of the package is what happens. The other blocks are those of examples/try.sh."""
 
 import doctest
 import os
@@ -7,44 +7,64 @@ import shutil
 import subprocess
 import sys
 from pathlib import Path
+from typing import NamedTuple
 
 import pytest
 from counties import EXAMPLES, TOP
 
-PAGE = (TOP / "docs/python.md").read_text()
+PAGES = ("README.md", *(f"docs/{path.name}" for path in sorted((TOP / "docs").glob("*.md"))))
 OPTIONS = doctest.NORMALIZE_WHITESPACE
 
 pytestmark = pytest.mark.usefixtures("extractd", "frames", "gdal", "scratch")
 
 
-def blocks(kind: str) -> list[tuple[int, str]]:
-    """The blocks of a kind, and the lines in which they begin."""
-    found = re.finditer(rf"^```{kind}\b.*\n((?:.*\n)*?)```$", PAGE, re.MULTILINE)
-    return [(PAGE.count("\n", 0, match.start()) + 1, match[1]) for match in found]
+class Block(NamedTuple):
+    """A block of a page, and the line in which it begins."""
+
+    page: str
+    line: int
+    text: str
+
+    def __str__(self) -> str:
+        return f"{self.page}, line {self.line}"
+
+
+def blocks(page: str, kind: str) -> list[Block]:
+    """The blocks of a page whose first line matches the kind."""
+    content = (TOP / page).read_text()
+    found = re.finditer(rf"^```{kind}\n((?:.*\n)*?)```$", content, re.MULTILINE)
+    return [Block(page, content.count("\n", 0, match.start()) + 1, match[1]) for match in found]
+
+
+CONSOLES = [block for page in PAGES for block in blocks(page, r"console\b.* tigerline\b.*")]
 
 
 @pytest.fixture
 def clone(tmp_path: Path, monkeypatch: pytest.MonkeyPatch) -> Path:
-    """A folder with the examples, in which commands find `tigerline`."""
+    """A folder with the examples, in which commands find `tigerline` and the Python that runs the tests."""
     shutil.copytree(EXAMPLES, tmp_path / "clone/examples")
-    command = tmp_path / "bin/tigerline"
-    command.parent.mkdir()
-    command.write_text(f'#!/bin/sh\nPYTHONPATH="{TOP}/python" exec "{sys.executable}" -m tigerline "$@"\n')
-    command.chmod(0o755)
-    monkeypatch.setenv("PATH", f"{command.parent}{os.pathsep}{os.environ['PATH']}")
+    commands = tmp_path / "bin"
+    commands.mkdir()
+    for name, arguments in (("tigerline", "-m tigerline"), ("python3", "")):
+        script = f'#!/bin/sh\nPYTHONPATH="{TOP}/python" exec "{sys.executable}" {arguments} "$@"\n'
+        (commands / name).write_text(script)
+        (commands / name).chmod(0o755)
+    monkeypatch.setenv("PATH", f"{commands}{os.pathsep}{os.environ['PATH']}")
     monkeypatch.chdir(tmp_path / "clone")
     return tmp_path / "clone"
 
 
-@pytest.mark.parametrize(
-    ("line", "text"), blocks("console"), ids=lambda value: f"line {value}" if isinstance(value, int) else ""
-)
-def test_console(clone: Path, line: int, text: str) -> None:
+@pytest.mark.parametrize("block", CONSOLES, ids=str)
+def test_console(clone: Path, block: Block) -> None:
     script = "last=0\n"
-    for command in re.findall(r"^\$ (.*)$", text, re.MULTILINE):
+    for command in re.findall(r"^\$ (.*)$", block.text, re.MULTILINE):
         script += f"printf '%s\\n' {sh_quoted('$ ' + command)}\n(exit $last)\n{command}\nlast=$?\n"
     done = subprocess.run(["bash", "-c", script], stdout=subprocess.PIPE, stderr=subprocess.STDOUT, text=True)
-    assert done.stdout == text, f"docs/python.md, line {line}"
+    assert done.stdout == block.text
+
+
+def test_pages_have_blocks() -> None:
+    assert {"docs/filters.md", "docs/python.md"} <= {block.page for block in CONSOLES}
 
 
 def sh_quoted(text: str) -> str:
@@ -54,8 +74,8 @@ def sh_quoted(text: str) -> str:
 def test_python(clone: Path, capsys: pytest.CaptureFixture[str]) -> None:
     """All blocks of Python are one session."""
     session: dict[str, object] = {}
-    for line, text in blocks("pycon"):
-        test = doctest.DocTestParser().get_doctest(text, session, "docs/python.md", "docs/python.md", line)
+    for page, line, text in blocks("docs/python.md", "pycon"):
+        test = doctest.DocTestParser().get_doctest(text, session, page, page, line)
         runner = doctest.DocTestRunner(optionflags=OPTIONS)
         runner.run(test, clear_globs=False)
         session = test.globs
@@ -63,4 +83,4 @@ def test_python(clone: Path, capsys: pytest.CaptureFixture[str]) -> None:
 
 
 def test_page_is_short() -> None:
-    assert PAGE.count("\n") < 200
+    assert (TOP / "docs/python.md").read_text().count("\n") < 200

@@ -207,6 +207,47 @@ class TestMaps:
         assert done.returncode == 0 and (out / "map.svg").read_text() != "old" and (out / "a.csv").exists()
 
 
+def named_main(folder: Path, code: str) -> list[str]:
+    """The TLIDs of the segments with a name Main, by a join of record types 1, 4 and 5."""
+    named = {int(record[10:18]): record[20:50].strip().lower() for record in records(folder / f"TGR{code}.RT5")[::-1]}
+    names: dict[int, list[bytes]] = {}
+    for record in records(folder / f"TGR{code}.RT4"):
+        numbers = [record[at : at + 8] for at in range(18, 58, 8)]
+        names.setdefault(int(record[5:15]), []).extend(
+            named.get(int(number), b"") for number in numbers if number.strip()
+        )
+    found = []
+    for record in records(folder / f"TGR{code}.RT1"):
+        if b"main" in (record[19:49].strip().lower(), *names.get(int(record[5:15]), ())):
+            found.append(record[5:15].decode().strip())
+    return found
+
+
+@pytest.mark.usefixtures("extractd")
+class TestTasks:
+    """The two tasks of docs/filters.md, with what they find found by other means."""
+
+    def test_any_name_main_over_three_counties(self, out: Path, tmp_path: Path) -> None:
+        data = copy_county(tmp_path / "data")
+        shutil.copytree(EXAMPLES / "town", data, dirs_exist_ok=True)
+        command = [sys.executable, "-B", EXAMPLES / "mktown.py", "--seed", "7", "--code", "01009", data]
+        subprocess.run(command, check=True)
+        assert run(data, out / "a.csv", "--where", "HAS_NAME('Main')", "--geometry", "none").returncode == 0
+        with open(out / "a.csv", newline="", encoding="utf-8") as file:
+            found = [(row["county"], row["TLID"]) for row in csv.DictReader(file)]
+        codes = ("01001", "01007", "01009")
+        assert found == [(code, tlid) for code in codes for tlid in named_main(data, code)]
+        assert all(sum(county == code for county, _ in found) > 20 for code in codes)
+
+    def test_local_roads_of_a_zip_code_as_a_map(self, out: Path, gdal: None) -> None:
+        where = "CFCC LIKE 'A4%' AND (ZIPL = 35042 OR ZIPR = 35042)"
+        options = ("--where", where, "--geometry", "shape", "--map", out / "a.svg")
+        assert run(EXAMPLES / "town", out / "a.gpkg", *options).returncode == 0
+        expected = gdal_rows(EXAMPLES / "town/TGR01007.RT1", "-where", where)
+        assert [row["TLID"] for row in layer(out / "a.gpkg")] == [row["TLID"] for row in expected]
+        assert re.search(rf">Local road</text><text[^>]*>{len(expected)}<", (out / "a.svg").read_text())
+
+
 @pytest.mark.usefixtures("extractd")
 class TestFaults:
     """One error, its status, and no file."""
