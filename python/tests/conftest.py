@@ -16,8 +16,7 @@ with contextlib.suppress(ImportError):
     hypothesis.settings.register_profile("repeatable", derandomize=True, deadline=None, database=None)
     hypothesis.settings.load_profile("repeatable")
 
-PASSED = "passed"
-_passed = 0
+_outcomes: Counter[str] = Counter()
 _skipped: Counter[str] = Counter()
 
 
@@ -56,9 +55,8 @@ def scratch(tmp_path: Path, monkeypatch: pytest.MonkeyPatch) -> Iterator[Path]:
 
 
 def pytest_runtest_logreport(report: pytest.TestReport) -> None:
-    global _passed
-    if report.when == "call" and report.outcome == PASSED:
-        _passed += 1
+    if report.when == "call" or report.failed:
+        _outcomes[report.outcome] += 1
     _note_skip(report)
 
 
@@ -80,4 +78,5 @@ def pytest_sessionfinish(session: pytest.Session) -> None:
 
 def pytest_unconfigure() -> None:
     reasons = ", ".join(sorted(_skipped))
-    print(f"python: {_passed} passed, {_skipped.total()} skipped" + (f": {reasons}" if reasons else ""))
+    counts = f"{_outcomes['passed']} passed, {_outcomes['failed']} failed, {_skipped.total()} skipped"
+    print(f"python: {counts}" + (f": {reasons}" if reasons else ""))

@@ -4,18 +4,15 @@ import io
 from collections.abc import Iterable, Iterator
 from typing import Any, NamedTuple
 
-from . import _layout
 from ._extract import CountyRows, Request, extract
-from ._layout import FIELDS, RECORD_LENGTH, Kind
+from ._layout import FIELDS, RECORD_LENGTH, Kind, coordinate, number
 from ._program import PathLike
 
-_READ = {
-    Kind.NUMBER: _layout.number,
-    Kind.TEXT: _layout.text,
-    Kind.CODE: _layout.code,
-    Kind.COORDINATE: _layout.coordinate,
-}
-_COLUMNS = tuple((field.bytes, _READ[field.kind]) for field in FIELDS)
+# Most fields are texts and codes, which methods of str read: calls of Python functions would take twice the time.
+_STRIP = {Kind.TEXT: str.rstrip}
+_TEXTS = tuple((field.bytes, _STRIP.get(field.kind, str.strip)) for field in FIELDS)
+_READ = {Kind.NUMBER: number, Kind.COORDINATE: coordinate}
+_NUMBERS = tuple((index, field.bytes, _READ[field.kind]) for index, field in enumerate(FIELDS) if field.kind in _READ)
 
 
 class Row(NamedTuple):
@@ -99,7 +96,10 @@ def read_rows(county: CountyRows, signed: bool) -> Iterator[Row]:
 
 
 def _fields(record: str) -> list[Any]:
-    return [read(record[place]) for place, read in _COLUMNS]
+    fields: list[Any] = [strip(record[place], " ") or None for place, strip in _TEXTS]
+    for index, place, read in _NUMBERS:
+        fields[index] = read(record[place])
+    return fields
 
 
 def without(rows: bytes, others: bytes) -> bytes:
