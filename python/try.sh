@@ -28,7 +28,7 @@ command -v chromium > /dev/null || missing="$missing chromium"
 if [ -n "$missing" ] && [ "$(id -u)" = 0 ] && command -v apt-get > /dev/null; then
     log=$(mktemp)
     # shellcheck disable=SC2086 # The names of packages are words.
-    { apt-get update && DEBIAN_FRONTEND=noninteractive apt-get install -y --no-install-recommends $missing; } > "$log" 2>&1 ||
+    { apt-get update && DEBIAN_FRONTEND=noninteractive apt-get -o DPkg::Lock::Timeout=300 install -y --no-install-recommends $missing; } > "$log" 2>&1 ||
         tail -n 3 "$log"
     rm -f "$log"
 fi

@@ -477,5 +477,19 @@ def test_browser_runs_the_page(tmp_path: Path) -> None:
     assert probed(page, tmp_path) == {"said": [*hover, *zoom, *drag, *whole, *click, *escape], "faults": []}
 
 
+def test_browser_shows_lines_that_leave_the_map(tmp_path: Path) -> None:
+    """A selection of some meters, and lines of hundreds of kilometers around it."""
+    around = [line("A11", (-90 + number / 1000, 30), (-84 + number / 1000, 36)) for number in range(100)]
+    page = draw_html(
+        [STREET._replace(points=((-87, 33), (-86.9999, 33.0001)))],
+        caption="",
+        background=around,
+        box=Box(-87.01, 32.99, -86.99, 33.01),
+    )
+    started = time.monotonic()
+    assert probed(page, tmp_path)["faults"] == []
+    assert time.monotonic() - started < 20
+
+
 def test_browser_shows_an_empty_map(tmp_path: Path) -> None:
     assert probed(draw_html([], caption="nothing"), tmp_path) == {"said": [], "faults": []}

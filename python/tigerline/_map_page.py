@@ -28,12 +28,14 @@ const strokes = Array.from(map.querySelectorAll("[stroke-width]"))
 const CELL = 20, cells = new Map();
 let pinned = false, grabbed = null;
 
-// The straight pieces of all segments, by square of the map.
+// The straight pieces of all segments, by square of the map. Some reach far beyond it.
 sheet.segments.forEach(([, , , points], number) => {
     for (let at = 0; at + 3 < points.length; at += 2) {
         const [x, y, toX, toY] = points.slice(at, at + 4).map(value => value / 10);
-        for (let column = Math.floor(Math.min(x, toX) / CELL); column <= Math.max(x, toX) / CELL; column++)
-            for (let row = Math.floor(Math.min(y, toY) / CELL); row <= Math.max(y, toY) / CELL; row++) {
+        const west = Math.max(Math.min(x, toX), 0), east = Math.min(Math.max(x, toX), width);
+        const north = Math.max(Math.min(y, toY), 0), south = Math.min(Math.max(y, toY), height);
+        for (let column = Math.floor(west / CELL); column <= east / CELL; column++)
+            for (let row = Math.floor(north / CELL); row <= south / CELL; row++) {
                 const key = column + "," + row;
                 if (!cells.has(key)) cells.set(key, []);
                 cells.get(key).push([number, x, y, toX, toY]);
