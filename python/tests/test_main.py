@@ -362,6 +362,15 @@ class TestFaults:
         options = (EXAMPLES, out / "a.gpkg", "--where", "TRUE", "--counties", CODE)
         self.refused(out, 3, "there is no program ogr2ogr", *options, environment={"PATH": str(tmp_path / "bin")})
 
+    def test_no_outputs(self, out: Path) -> None:
+        """With standard output or standard error closed."""
+        close = ["sh", "-c", 'exec "$@" >&-', "sh"]
+        done = run(EXAMPLES, out / "a.csv", "--where", "TRUE", "--counties", CODE, before=close)
+        assert (done.returncode, done.stderr) == (3, "error: the output can't be written: it is closed\n")
+        close = ["sh", "-c", 'exec "$@" 2>&-', "sh"]
+        done = run(EXAMPLES, out / "a.csv", "--where", "TRUE", "--counties", CODE, before=close)
+        assert (done.returncode, done.stdout) == (3, "")
+
     def test_closed_output(self, out: Path) -> None:
         reader, writer = os.pipe()
         os.close(reader)

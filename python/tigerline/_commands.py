@@ -47,9 +47,15 @@ def _write(output: bytes) -> int:
 
 
 def _fail(text: str, status: int) -> int:
-    with suppress(OSError):
-        print(text, file=sys.stderr)
+    _report(text)
     return status
+
+
+def _report(text: str) -> None:
+    """Writes to standard error, if that is possible. `print` takes standard output if standard error is closed."""
+    if sys.stderr is not None:
+        with suppress(OSError):
+            print(text, file=sys.stderr)
 
 
 def _show_warning(
@@ -60,5 +66,4 @@ def _show_warning(
     file: TextIO | None = None,
     line: str | None = None,
 ) -> None:
-    with suppress(OSError):
-        print(f"warning: {message}", file=sys.stderr)
+    _report(f"warning: {message}")
