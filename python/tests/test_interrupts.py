@@ -8,6 +8,7 @@ import subprocess
 import sys
 import threading
 import time
+from collections.abc import Iterator
 from pathlib import Path
 
 import pytest
@@ -28,6 +29,20 @@ try:
 except KeyboardInterrupt:
     print("interrupted")
 """
+
+
+@pytest.fixture(autouse=True)
+def signals() -> Iterator[None]:
+    """Handles signals as in a terminal. A run in the background ignores Ctrl-C, and so would all that it starts."""
+    handlers = {
+        signal.SIGINT: signal.default_int_handler,
+        signal.SIGTERM: signal.SIG_DFL,
+        signal.SIGHUP: signal.SIG_DFL,
+    }
+    previous = {number: signal.signal(number, handler) for number, handler in handlers.items()}
+    yield
+    for number, handler in previous.items():
+        signal.signal(number, handler)
 
 
 @pytest.fixture
@@ -142,14 +157,17 @@ def test_package_at_any_moment(scratch: Path, large: Path) -> None:
 
 def test_hanging_program(scratch: Path, tmp_path: Path) -> None:
     """A program that never ends is killed at once with what it started, even if it ignores Ctrl-C."""
-    program = program_of(tmp_path / "program", 'trap "" INT; sleep 98765.4321; true')
+    sleep = f"sleep 98765.{os.getpid()}"  # which no other run of the tests has
+    program = program_of(tmp_path / "program", f'trap "" INT; {sleep}; true')
     timer = threading.Timer(0.5, os.kill, (os.getpid(), signal.SIGINT))
     timer.start()
     started = time.monotonic()
     with pytest.raises(KeyboardInterrupt):
         list(tigerline.rows("TRUE", EXAMPLES, CODE, extractd=program))
     assert time.monotonic() - started < 10
-    assert not processes_with(str(tmp_path / "program")) and not processes_with("sleep 98765.4321")
+    assert not processes_with(str(tmp_path / "program"))
+    while processes_with(sleep):  # It is killed, and ends a moment later.
+        assert time.monotonic() - started < 10
     assert signal.getsignal(signal.SIGINT) is signal.default_int_handler
 
 
