@@ -23,6 +23,7 @@ has_module geopandas || missing="$missing python3-geopandas"
 has_module pytest || missing="$missing python3-pytest"
 has_module hypothesis || missing="$missing python3-hypothesis"
 has_module mypy || missing="$missing python3-mypy"
+has_module owslib || missing="$missing python3-owslib"
 command -v ogr2ogr > /dev/null || missing="$missing gdal-bin"
 command -v chromium > /dev/null || missing="$missing chromium"
 if [ -n "$missing" ] && [ "$(id -u)" = 0 ] && command -v apt-get > /dev/null; then

@@ -63,7 +63,7 @@ def run(
     """Runs `extractd` and returns its output. Raises an exception for any status but 0, and drops the output."""
     status, output, said = run_process(command, interrupts, standard_input)
     if status != 0:
-        raise _failure(command[0], status, said, county)
+        raise failure(command[0], status, said, county)
     return output
 
 
@@ -93,7 +93,7 @@ def run_process(command: Sequence[str], interrupts: Interrupts, standard_input: 
         return status, output, errors.read().decode("utf-8", "replace").strip()
 
 
-def _failure(program: str, status: int, said: str, county: str | None) -> Exception:
+def failure(program: str, status: int, said: str, county: str | None) -> Exception:
     found = _REFUSAL.match(said)
     said = said.removeprefix("error: ")
     if status == 1 and found:

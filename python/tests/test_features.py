@@ -1,0 +1,613 @@
+"""The OGC API as a WSGI application: pages, boxes, ids, bad input, and how often `extractd` runs."""
+
+import json
+import random
+import sqlite3
+import threading
+import time
+from collections.abc import Callable, Iterator
+from pathlib import Path
+from typing import Any, NamedTuple
+from urllib.parse import parse_qsl, urlencode, urlsplit
+from wsgiref.util import setup_testing_defaults
+from wsgiref.validate import validator
+
+import pytest
+from counties import CODE, EXAMPLES, SEGMENTS, copy_county, program_of, records, zip_folder
+from test_features_command import HANGING
+from test_interrupts import processes_with
+from tigerline.features import Limits, Service, application
+
+BASE = "http://127.0.0.1"
+ITEMS = f"/collections/{CODE}/items"
+SEED = 2006
+
+pytestmark = pytest.mark.usefixtures("scratch")
+
+Make = Callable[..., Service]
+
+
+class Answer(NamedTuple):
+    """A reply of the application."""
+
+    status: int
+    headers: dict[str, str]
+    document: Any
+
+
+def ask(service: Service, target: str, method: str = "GET", **environ: Any) -> Answer:
+    """Requests a path, with its query, in the way of WSGI, which is checked."""
+    path, _, query = target.removeprefix(BASE).partition("?")
+    environ |= {"REQUEST_METHOD": method, "SCRIPT_NAME": "", "PATH_INFO": path, "QUERY_STRING": query}
+    setup_testing_defaults(environ)
+    started: list[Any] = []
+
+    def start_response(*arguments: Any) -> Callable[[bytes], None]:
+        started[:] = arguments
+        return lambda data: None
+
+    parts = validator(service)(environ, start_response)
+    body = b"".join(parts)
+    parts.close()
+    headers = dict(started[1])
+    if method != "HEAD":
+        assert headers["Content-Length"] == str(len(body))
+    return Answer(int(started[0][:3]), headers, json.loads(body) if body else None)
+
+
+def query(**parameters: object) -> str:
+    return f"{ITEMS}?{urlencode(parameters)}"
+
+
+def pages(service: Service, target: str, relation: str = "next") -> Iterator[dict[str, Any]]:
+    """The pages from one on, by their links."""
+    while target:
+        page = ask(service, target).document
+        yield page
+        target = next((link["href"] for link in page["links"] if link["rel"] == relation), "")
+
+
+def tlids(document: dict[str, Any]) -> list[int]:
+    return [feature["properties"]["TLID"] for feature in document["features"]]
+
+
+def ids(document: dict[str, Any]) -> list[int]:
+    return [feature["id"] for feature in document["features"]]
+
+
+@pytest.fixture
+def make() -> Iterator[Make]:
+    """Makes services, and ends their processes."""
+    made: list[Service] = []
+
+    def start(data: Path = EXAMPLES, counties: str | None = None, **options: Any) -> Service:
+        made.append(application(data, counties or CODE, **options))
+        return made[-1]
+
+    yield start
+    for service in made:
+        service.close()
+
+
+@pytest.fixture
+def service(make: Make, extractd: str) -> Service:
+    return make()
+
+
+class TestDocuments:
+    """What the standard asks of the documents beside the features."""
+
+    def test_every_link(self, make: Make, extractd: str, tmp_path: Path) -> None:
+        copy_county(copy_county(tmp_path), code="01003")
+        service = make(tmp_path, "01")
+        seen: set[str] = set()
+        todo = [(f"{BASE}/", "application/json")]
+        while todo:
+            target, media_type = todo.pop()
+            seen.add(target)
+            answer = ask(service, target)
+            assert (answer.status, answer.headers["Content-Type"]) == (200, media_type), target
+            documents = [answer.document, *answer.document.get("collections", [])]
+            links = [link for document in documents for link in document.get("links", [])]
+            todo += [(link["href"], link["type"]) for link in links if link["href"] not in seen]
+        paths = {urlsplit(target).path for target in seen}
+        assert {"/", "/api", "/conformance", "/collections", ITEMS, "/collections/01003/queryables"} <= paths
+
+    def test_one_county_is_as_in_the_list(self, service: Service) -> None:
+        listed = ask(service, "/collections").document["collections"]
+        assert listed == [ask(service, f"/collections/{CODE}").document] and listed[0]["id"] == CODE
+        lines = [record.decode() for record in records(EXAMPLES / "TGR01001.RT1")]
+        ends = [(int(line[at : at + 10]), int(line[at + 10 : at + 19])) for line in lines for at in (190, 209)]
+        bounds = [choose(values) / 1e6 for choose in (min, max) for values in zip(*ends)]
+        assert listed[0]["extent"]["spatial"]["bbox"] == [bounds]
+        assert listed[0]["storageCrs"].endswith("CRS83") and listed[0]["crs"][0].endswith("CRS84")
+
+    def test_definition_has_the_parameters(self, service: Service) -> None:
+        """Each parameter of the definition can be used, and GDAL finds `cql-text` in it."""
+        paths = ask(service, "/api").document["paths"]
+        given = {item["name"]: item for item in paths["/collections/{collectionId}/items"]["get"]["parameters"]}
+        assert given["filter-lang"]["schema"]["enum"] == ["cql2-text", "cql-text"]
+        assert given["limit"]["schema"]["maximum"] == 10_000
+        values = {"bbox": "-87,32,-86,33", "datetime": "2006-01-01T00:00:00Z", "filter": "TRUE", "f": "json"}
+        for name, item in given.items():
+            default = item["schema"].get("default", "1")
+            if item["in"] == "query":
+                assert ask(service, query(**{name: values.get(name, default)})).status == 200, name
+
+    def test_queryables_are_of_their_types(self, service: Service) -> None:
+        """A filter takes the values of a feature in all listed columns."""
+        columns = ask(service, f"/collections/{CODE}/queryables").document["properties"]
+        for column in columns:
+            feature = ask(service, query(filter=f"{column} IS NOT NULL", limit=1)).document["features"]
+            value = feature[0]["properties"][column] if feature else "A"
+            literal = f"'{value}'" if isinstance(value, str) else value
+            answer = ask(service, query(filter=f"{column} = {literal}", limit=1))
+            assert answer.status == 200 and (answer.document["features"] == feature or column == "FENAME"), column
+
+    def test_public_address(self, make: Make, extractd: str) -> None:
+        service = make(url="https://example.org/tiger/")
+        for link in ask(service, query(limit=1)).document["links"]:
+            assert link["href"].startswith("https://example.org/tiger/collections/01001")
+        for url in ("example.org", "ftp://example.org", "https://example.org/?a"):
+            with pytest.raises(ValueError, match="is no address"):
+                make(url=url)
+
+    def test_head(self, service: Service) -> None:
+        answer = ask(service, query(limit=3), "HEAD")
+        assert answer.status == 200 and answer.document is None and int(answer.headers["Content-Length"]) > 1000
+
+
+class TestFeatures:
+    """Records become features."""
+
+    def test_properties(self, service: Service) -> None:
+        record = records(EXAMPLES / "TGR01001.RT1")[145].decode()
+        feature = ask(service, query(limit=1, offset=145)).document["features"][0]
+        assert feature["id"] == feature["properties"]["TLID"] == int(record[5:15])
+        assert feature["properties"]["TRACTL"] == record[170:176] and feature["properties"]["STATEL"] == "01"
+        assert feature["properties"]["FENAME"] == record[19:49].strip() and feature["properties"]["FEDIRP"] is None
+        numbers = [int(record[first:last]) / 1e6 for first, last in ((190, 200), (200, 209), (209, 219), (219, 228))]
+        assert feature["geometry"] == {"type": "LineString", "coordinates": [numbers[:2], numbers[2:]]}
+
+    def test_any_byte(self, make: Make, extractd: str, tmp_path: Path) -> None:
+        odd = bytes(byte for byte in range(256) if byte != 10)
+        lines = []
+        for shift in range(40):
+            line = bytearray((odd * 2)[shift * 5 : shift * 5 + 228])
+            line[0:1], line[5:15], line[227:] = b"1", b"%10d" % (1000 + shift), b"9"
+            lines.append(bytes(line))
+        (copy_county(tmp_path) / "TGR01001.RT1").write_bytes(b"\n".join(lines) + b"\n")
+        features = ask(make(tmp_path), ITEMS).document["features"]
+        for line, feature in zip(lines, features, strict=True):
+            assert feature["properties"]["FENAME"] == line[19:49].decode("latin-1").rstrip(" ")
+
+    @pytest.mark.parametrize("limit", [1, 7, 100, 399, 400, 401, 10**30])
+    def test_each_page_once(self, service: Service, limit: int) -> None:
+        expected = [int(record[5:15]) for record in records(EXAMPLES / "TGR01001.RT1")]
+        found = list(pages(service, query(limit=limit)))
+        assert [tlid for page in found for tlid in tlids(page)] == expected
+        assert {page["numberMatched"] for page in found} == {SEGMENTS}
+        assert all(page["numberReturned"] == len(page["features"]) for page in found)
+
+    @pytest.mark.parametrize("offset", [0, 1, 399, 400, 401, 5000, 10**30])
+    def test_pages_back(self, service: Service, offset: int) -> None:
+        """The pages before one have all features before it, each once."""
+        back = list(pages(service, query(limit=70, offset=offset), "prev"))
+        expected = [int(record[5:15]) for record in records(EXAMPLES / "TGR01001.RT1")]
+        assert [tlid for page in back[:0:-1] for tlid in tlids(page)] == expected[:offset]
+        assert tlids(back[0]) == expected[offset : offset + 70]
+
+    def test_links_repeat_the_request(self, service: Service) -> None:
+        given = {"filter": "FENAME LIKE 'M%'", "bbox": "-87,32,-86,33", "limit": "2", "filter-lang": "cql2-text"}
+        links = {link["rel"]: link["href"] for link in ask(service, query(**given)).document["links"]}
+        assert dict(parse_qsl(urlsplit(links["next"]).query)) == given | {"offset": "2"}
+        assert tlids(ask(service, links["self"]).document) == tlids(ask(service, query(**given)).document)
+
+    def test_all_conditions_hold(self, service: Service) -> None:
+        """Filter, box and properties are joined by AND, also if the filter has an OR."""
+        given = {"filter": "CFCC = 'A41' OR CFCC = 'A61'", "FETYPE": "Ct", "bbox": "-86.7,32.3,-86.5,32.6"}
+        found = ask(service, query(**given)).document["features"]
+        each = [set(ids(ask(service, query(**{name: value})).document)) for name, value in given.items()]
+        assert {feature["id"] for feature in found} == set.intersection(*each) and 0 < len(found) < SEGMENTS
+
+    def test_forms_of_a_county(self, make: Make, extractd: str, tmp_path: Path) -> None:
+        copy_county(tmp_path / "lower", name=str.lower)
+        archive = zip_folder(copy_county(tmp_path / "plain"), tmp_path / "TGR01001.ZIP")
+        expected = ask(make(), ITEMS).document["features"]
+        for data in (tmp_path / "lower", archive):
+            assert ask(make(data), ITEMS).document["features"] == expected
+
+
+class TestIds:
+    """Ids are unique, and the same in each selection, even if a file has a TLID several times."""
+
+    @pytest.fixture
+    def repeated(self, make: Make, extractd: str, tmp_path: Path) -> Service:
+        lines = records(EXAMPLES / "TGR01001.RT1")[:30]
+        other = lines[3][:55] + b"A99" + lines[3][58:]
+        zeros = lines[9][:5] + b"%010d" % int(lines[9][5:15]) + lines[9][15:]
+        written = [*lines, other, lines[3], lines[5], zeros, other, zeros, lines[9], lines[3]]
+        (copy_county(tmp_path) / "TGR01001.RT1").write_bytes(b"\n".join(written) + b"\n")
+        return make(tmp_path)
+
+    def test_unique_and_found(self, repeated: Service) -> None:
+        features = ask(repeated, ITEMS).document["features"]
+        assert len({feature["id"] for feature in features}) == len(features) == 38
+        for feature in features:
+            found = ask(repeated, f"{ITEMS}/{feature['id']}").document
+            assert {name: found[name] for name in feature} == feature
+
+    @pytest.mark.parametrize("limit", [1, 2, 5, 100])
+    def test_same_in_each_selection(self, repeated: Service, limit: int) -> None:
+        features = {feature["id"]: feature for feature in ask(repeated, ITEMS).document["features"]}
+        for where in ("CFCC = 'A99'", "CFCC <> 'A99'", "TLID > 0", "FENAME IS NOT NULL"):
+            found = [page["features"] for page in pages(repeated, query(filter=where, limit=limit))]
+            selected = [feature for page in found for feature in page]
+            assert selected and all(features[feature["id"]] == feature for feature in selected)
+            assert len({feature["id"] for feature in selected}) == len(selected)
+
+    @pytest.mark.parametrize(
+        "name", ["1", "x", "-1", "0107000003", "107000003.0", "9" * 40, "30107000003", "%2e%2e", "1/2"]
+    )
+    def test_unknown(self, repeated: Service, name: str) -> None:
+        assert ask(repeated, f"{ITEMS}/{name}").status == 404
+
+
+class TestBoxes:
+    """A box selects the segments with a box around their ends that meets it; SQLite compares the same numbers."""
+
+    @pytest.fixture
+    def moved(self, make: Make, extractd: str, tmp_path: Path) -> tuple[Service, sqlite3.Connection]:
+        randoms = random.Random(SEED)
+        table = sqlite3.connect(":memory:")
+        table.execute("CREATE TABLE segments (tlid, x1, y1, x2, y2)")
+        lines = []
+        for number, line in enumerate(records(EXAMPLES / "TGR01001.RT1"), start=1):
+            longitude, latitude = randoms.choice([-179_999_000, 179_999_000, 0, -86_700_000]), randoms.choice(
+                [0, 32_400_000]
+            )
+            ends = [
+                base + randoms.randint(-3, 3) * step if randoms.random() < 0.95 else None
+                for base, step in ((longitude, 1), (latitude, 1), (longitude, 500), (latitude, 500))
+            ]
+            texts = [" " * width if end is None else f"{end:+0{width}d}" for end, width in zip(ends, (10, 9, 10, 9))]
+            lines.append(line[:5] + b"%10d" % number + line[15:190] + "".join(texts).encode())
+            degrees = [end / 1e6 if end else None for end in ends]  # 0 is the same as missing.
+            table.execute("INSERT INTO segments VALUES (?, ?, ?, ?, ?)", (number, *degrees))
+        (copy_county(tmp_path) / "TGR01001.RT1").write_bytes(b"\n".join(lines) + b"\n")
+        return make(tmp_path), table
+
+    def test_random_boxes(self, moved: tuple[Service, sqlite3.Connection]) -> None:
+        service, table = moved
+        randoms = random.Random(SEED)
+        sizes = set()
+        for _ in range(30):
+            west, east = (self.near(randoms, (-180, 180, 0, -86.7)) for _ in range(2))
+            south, north = sorted(self.near(randoms, (0, 32.4)) for _ in range(2))
+            joined = "OR" if west > east else "AND"
+            expected = table.execute(
+                f"SELECT tlid FROM segments WHERE (MAX(x1, x2) >= ? {joined} MIN(x1, x2) <= ?)"
+                " AND MAX(y1, y2) >= ? AND MIN(y1, y2) <= ?",
+                (west, east, south, north),
+            )
+            box = ",".join(randoms.choice(("%r", "%.17g", "%.16f")) % number for number in (west, south, east, north))
+            found = ask(service, query(bbox=box)).document
+            assert tlids(found) == [tlid for tlid, in expected], box
+            sizes.add(found["numberMatched"])
+        assert len(sizes) > 8
+
+    @staticmethod
+    def near(randoms: random.Random, numbers: tuple[float, ...]) -> float:
+        """A number at, next to, or not far from ends of segments, also between two millionths of a degree."""
+        largest, steps = randoms.choice(((4000, 1e6), (3, 1e6), (35, 1e7)))
+        return randoms.choice(numbers) + randoms.randint(-largest, largest) / steps
+
+    def test_without_coordinates(self, moved: tuple[Service, sqlite3.Connection]) -> None:
+        service, _ = moved
+        everything = ask(service, ITEMS).document["features"]
+        without = {feature["id"] for feature in everything if feature["geometry"] is None}
+        about_zero = ask(service, query(bbox="-1,-1,1,1")).document
+        assert without and not without & set(ids(about_zero))
+        assert not without & set(ids(ask(service, query(bbox="-180,-90,180,90")).document))
+
+    @pytest.mark.parametrize(
+        ("box", "same"),
+        [
+            ("-86.700000000000003,32.399999999999999,-86.599999999999994,32.5", "-86.7,32.4,-86.6,32.5"),
+            ("-86.7,32.4,-100,-86.6,32.5,1e3", "-86.7,32.4,-86.6,32.5"),
+            (" -86.7, 32.4, -86.6, 32.5", "-86.7,32.4,-86.6,32.5"),
+            ("-867e-1,+32.4,-86.6,.325e2", "-86.7,32.4,-86.6,32.5"),
+            ("-1e300,-1e300,1e300,1e300", "-180,-90,180,90"),
+            ("-86.69999999999999999999,32.4,-86.6,32.5", "-86.7,32.4,-86.6,32.5"),
+        ],
+    )
+    def test_forms(self, service: Service, box: str, same: str) -> None:
+        if box.count(",") == 5:
+            west, south, low, east, north, high = box.split(",")
+            box = ",".join((west, south, low, east, north, high))
+        assert tlids(ask(service, query(bbox=box)).document) == tlids(ask(service, query(bbox=same)).document)
+
+
+FILTERS = [
+    # The table of docs/filters.md: filter, number, line, column.
+    ("ZIPL = 36067 AND", 90, 1, 17),
+    ("ZIP = 36067", 91, 1, 1),
+    ("ZIPL = '36067'", 92, 1, 8),
+    ("FRLAT > 1000", 93, 1, 9),
+    ("CFCC = 'A410'", 94, 1, 8),
+    ("(" * 65, 95, 1, 65),
+    ("HAS_NAME('Main', 5000)", 96, 1, 1),
+    # Parentheses that aren't pairs, other lines, other characters, nothing.
+    ("TRUE) OR (TRUE", 90, 1, 5),
+    ("TRUE AND\n  ZIP = 1", 91, 2, 3),
+    ("FENAME = 'é' AND ZIP = 1", 91, 1, 18),
+    ("FENAME = '\u20ac'", 90, 1, 11),
+    ("", 90, 1, 1),
+    ("--", 90, 1, 1),
+]
+
+
+class TestBadInput:
+    """Each fault has its status, its kind, and the parameter or the place that has it."""
+
+    @pytest.mark.parametrize("more", [{}, {"bbox": "-87,32,-86,33"}, {"CFCC": "A41"}], ids=["alone", "box", "property"])
+    @pytest.mark.parametrize(("text", "number", "line", "column"), FILTERS)
+    def test_filters(
+        self, service: Service, text: str, number: int, line: int, column: int, more: dict[str, str]
+    ) -> None:
+        answer = ask(service, query(filter=text, **more))
+        assert (answer.status, answer.headers["Content-Type"]) == (400, "application/problem+json")
+        problem = answer.document
+        assert problem["type"].endswith("#refused-filter") and problem["parameter"] == "filter"
+        place = (problem["refusal"], problem["line"], problem["column"])
+        assert place == (number, line, column) and problem["detail"].startswith(f"refused {number} line {line} column")
+
+    def test_deep_filter_and_box(self, service: Service) -> None:
+        """The box costs a filter one of its 64 levels of parentheses, and the place is in the filter as it was sent."""
+        given = {"filter": "(" * 64 + "TRUE" + ")" * 64}
+        assert ask(service, query(**given)).status == 200
+        problem = ask(service, query(**given, bbox="-87,32,-86,33")).document
+        assert (problem["refusal"], problem["column"]) == (95, 64)
+
+    @pytest.mark.parametrize(
+        ("given", "kind", "parameter"),
+        [
+            ("unknown=1", "unknown-parameter", "unknown"),
+            ("Limit=1", "unknown-parameter", "Limit"),
+            ("ZIPL=36067", "unknown-parameter", "ZIPL"),
+            ("limit=1&limit=2", "bad-parameter", "limit"),
+            ("limit=0", "bad-parameter", "limit"),
+            ("limit=-1", "bad-parameter", "limit"),
+            ("limit=1e3", "bad-parameter", "limit"),
+            ("limit=", "bad-parameter", "limit"),
+            ("limit=%D9%A1", "bad-parameter", "limit"),
+            ("offset=-1", "bad-parameter", "offset"),
+            ("offset=x", "bad-parameter", "offset"),
+            ("bbox=", "bad-parameter", "bbox"),
+            ("bbox=1,2,3", "bad-parameter", "bbox"),
+            ("bbox=1,2,3,4,5", "bad-parameter", "bbox"),
+            ("bbox=1,2,3,x", "bad-parameter", "bbox"),
+            ("bbox=1,2,3,nan", "bad-parameter", "bbox"),
+            ("bbox=1,2,3,inf", "bad-parameter", "bbox"),
+            ("bbox=1,2,3,1e999", "bad-parameter", "bbox"),
+            ("bbox=1,2,3,1_0", "bad-parameter", "bbox"),
+            ("bbox=-87,33,-86,32", "bad-parameter", "bbox"),
+            ("bbox=-87,32,5,-86,33,4", "bad-parameter", "bbox"),
+            ("bbox-crs=http://www.opengis.net/def/crs/EPSG/0/4326", "bad-parameter", "bbox-crs"),
+            ("crs=EPSG:4326", "bad-parameter", "crs"),
+            ("filter=TRUE&filter-crs=x", "bad-parameter", "filter-crs"),
+            ("filter=TRUE&filter-lang=cql2-json", "bad-parameter", "filter-lang"),
+            ("filter=TRUE%00", "bad-parameter", "filter"),
+            ("filter=" + "x" * 16_385, "long-filter", "filter"),
+            ("filter=%FF", "bad-parameter", None),
+            ("datetime=yesterday", "bad-parameter", "datetime"),
+            ("datetime=2006-01-01/2006-02-01/2006-03-01", "bad-parameter", "datetime"),
+            ("f=html", "bad-parameter", "f"),
+            ("CFCC=A410", "bad-parameter", "CFCC"),
+            ("CFCC=", "bad-parameter", "CFCC"),
+            ("CFCC=%C5%81", "bad-parameter", "CFCC"),
+            ("FENAME=a%0Ab", "bad-parameter", "FENAME"),
+            ("TLID=1x", "bad-parameter", "TLID"),
+            ("FRLONG=1000", "bad-parameter", "FRLONG"),
+            ("FRLONG=0.1234567", "bad-parameter", "FRLONG"),
+        ],
+    )
+    def test_parameters(self, service: Service, given: str, kind: str, parameter: str | None) -> None:
+        answer = ask(service, f"{ITEMS}?{given}")
+        assert (answer.status, answer.headers["Content-Type"]) == (400, "application/problem+json")
+        assert answer.document["type"] == f"{BASE}/api#{kind}" and answer.document.get("parameter") == parameter
+
+    @pytest.mark.parametrize(
+        "given",
+        [
+            "FENAME=O'Neil",
+            "FENAME='",
+            "FENAME=%25",
+            "datetime=../2006-01-01",
+            "offset=400",
+            "filter=TRUE" + "+" * 16_380,
+        ],
+    )
+    def test_odd_but_good(self, service: Service, given: str) -> None:
+        assert ask(service, f"{ITEMS}?{given}").status == 200
+
+    @pytest.mark.parametrize(
+        ("target", "status"),
+        [
+            ("/nothing", 404),
+            ("/collections/99999", 404),
+            ("/collections/99999/items", 404),
+            ("/collections/01001/nothing", 404),
+            ("/collections/01001/items/1/2", 404),
+            ("/../etc/passwd", 404),
+            ("//", 404),
+            ("/\xff", 404),
+            ("/collections?limit=1", 400),
+            ("/?x=1", 400),
+            ("/api?f=yaml", 400),
+            ("/collections/01001/items/107000003?limit=1", 400),
+            ("/collections/", 200),
+        ],
+    )
+    def test_paths(self, service: Service, target: str, status: int) -> None:
+        assert ask(service, target).status == status
+
+    @pytest.mark.parametrize("method", ["POST", "PUT", "DELETE", "OPTIONS"])
+    def test_methods(self, service: Service, method: str) -> None:
+        answer = ask(service, ITEMS, method)
+        assert answer.status == 405 and answer.headers["Allow"] == "GET, HEAD"
+
+    @pytest.mark.parametrize("host", ["a b", 'a"', "", "a/b"])
+    def test_hosts(self, service: Service, host: str) -> None:
+        assert ask(service, "/", HTTP_HOST=host).status == (400 if host else 200)
+
+    def test_faulty_county(self, make: Make, extractd: str, tmp_path: Path, capfd: pytest.CaptureFixture[str]) -> None:
+        with open(copy_county(tmp_path) / "TGR01001.RT1", "ab") as file:
+            file.write(b"x\n")
+        service = make(copy_county(tmp_path, code="01003"), "01")
+        answer = ask(service, ITEMS)
+        assert answer.status == 500 and answer.document["type"].endswith("#refused-county")
+        assert answer.document["refusal"] == 1 and "rt1 line 401 WrongLength" in answer.document["detail"]
+        assert ask(service, "/collections/01003/items").status == 200
+        assert ["extent" in item for item in ask(service, "/collections").document["collections"]] == [False, True]
+
+    def test_missing_file(self, make: Make, extractd: str, tmp_path: Path, capfd: pytest.CaptureFixture[str]) -> None:
+        """Names of files are for the operator alone."""
+        service = make(copy_county(tmp_path))
+        (tmp_path / "TGR01001.RT1").unlink()
+        answer = ask(service, ITEMS)
+        assert answer.status == 500 and str(tmp_path) not in json.dumps(answer.document)
+        assert f"{tmp_path} has no TGR01001.RT1" in capfd.readouterr().err
+
+
+class Counting:
+    """The built program with a list of its calls."""
+
+    def __init__(self, folder: Path, extractd: str, before: str = "") -> None:
+        self.log = folder / "calls"
+        self.path = program_of(folder / "counting", f'{before}\necho "$1" >> {self.log}\nexec {extractd} "$@"')
+
+    def calls(self) -> list[str]:
+        found = self.log.read_text().split() if self.log.exists() else []
+        self.log.unlink(missing_ok=True)
+        return found
+
+
+class TestRuns:
+    """A selection is one run, however many pages and clients it has."""
+
+    def test_pages(self, make: Make, extractd: str, tmp_path: Path) -> None:
+        program = Counting(tmp_path, extractd)
+        service = make(extractd=program.path)
+        for where in ("CFCC LIKE 'A%'", "CFCC LIKE 'H%'"):
+            assert len(list(pages(service, query(filter=where, limit=5)))) > 10
+        # One of all segments, for the ids, and one for each filter.
+        assert program.calls() == ["select"] * 3
+        list(pages(service, query(filter="CFCC LIKE 'A%'", limit=50)))
+        list(pages(service, query(limit=50)))
+        assert program.calls() == []
+        list(pages(service, query(filter="CFCC LIKE 'A%'", bbox="-87,32,-86,33", limit=50)))
+        assert program.calls() == ["compile", "select"]
+
+    def test_buffers_are_bounded(self, make: Make, extractd: str, tmp_path: Path) -> None:
+        """A county that has more bytes than all buffers together may have is kept while it is read."""
+        program = Counting(tmp_path, extractd)
+        service = make(extractd=program.path, limits=Limits(buffers=50_000))
+        assert sum(len(page["features"]) for page in pages(service, query(limit=10))) == SEGMENTS
+        assert program.calls() == ["select"]
+        first, second = query(filter="CFCC = 'A41'"), query(filter="CFCC = 'A61'")
+        for target in (first, second, first, second):
+            assert ask(service, target).status == 200
+        assert program.calls() == ["select"] * 2
+        ask(service, ITEMS)
+        ask(service, first)
+        assert program.calls() == ["select"] * 2
+
+    def test_single_segments_take_no_room(
+        self, make: Make, extractd: str, tmp_path: Path, monkeypatch: pytest.MonkeyPatch
+    ) -> None:
+        monkeypatch.setattr("tigerline._features_rows.MOST_BUFFERS", 2)
+        program = Counting(tmp_path, extractd)
+        service = make(extractd=program.path)
+        ask(service, query(filter="CFCC = 'A41'"))
+        assert program.calls() == ["select"] * 2
+        for number in range(3):
+            ask(service, f"{ITEMS}/{number}")
+        assert program.calls() == ["select"] * 3
+        ask(service, query(filter="CFCC = 'A41'", offset=10))
+        ask(service, ITEMS)
+        assert program.calls() == []
+
+    def test_same_request_at_once(self, make: Make, extractd: str, tmp_path: Path) -> None:
+        program = Counting(tmp_path, extractd, "sleep 0.3")
+        service = make(extractd=program.path)
+        found: list[int] = []
+        threads = [threading.Thread(target=lambda: found.append(ask(service, query(limit=1)).status)) for _ in range(8)]
+        for thread in threads:
+            thread.start()
+        for thread in threads:
+            thread.join()
+        assert found == [200] * 8 and program.calls() == ["select"]
+
+    def test_time_limit(self, make: Make, tmp_path: Path) -> None:
+        program = program_of(tmp_path / "hanging", f"{HANGING}; true")
+        started = time.monotonic()
+        answer = ask(make(extractd=program, limits=Limits(seconds=0.3)), ITEMS)
+        assert answer.status == 503 and answer.document["type"].endswith("#time-limit")
+        assert time.monotonic() - started < 10 and answer.headers["Retry-After"]
+        assert not processes_with(program) and not processes_with(HANGING)
+
+    def test_too_many_wait(self, make: Make, tmp_path: Path) -> None:
+        program = program_of(tmp_path / "hanging", f"{HANGING}; true")
+        service = make(extractd=program, limits=Limits(processes=1, waiting=1, seconds=2))
+        found: list[str] = []
+
+        def request(number: int) -> None:
+            answer = ask(service, f"{ITEMS}/{number}")
+            found.append(answer.document["type"].partition("#")[2])
+
+        threads = [threading.Thread(target=request, args=(number,)) for number in range(5)]
+        for thread in threads:
+            thread.start()
+        time.sleep(0.5)
+        assert found == ["busy"] * 3
+        for thread in threads:
+            thread.join()
+        assert found[3:] == ["time-limit", "busy"] or set(found[3:]) <= {"time-limit", "busy"}
+        assert not processes_with(program)
+
+    def test_client_that_left(self, make: Make, tmp_path: Path) -> None:
+        program = program_of(tmp_path / "hanging", f"{HANGING}; true")
+        started = time.monotonic()
+        left = started + 0.3
+        environ = {"tigerline.client_is_there": lambda: time.monotonic() < left}
+        assert ask(make(extractd=program), ITEMS, **environ).status == 503
+        assert time.monotonic() - started < 10 and not processes_with(program)
+
+    def test_close(self, make: Make, tmp_path: Path) -> None:
+        program = program_of(tmp_path / "hanging", f"{HANGING}; true")
+        service = make(extractd=program)
+        thread = threading.Thread(target=lambda: ask(service, ITEMS))
+        thread.start()
+        while not processes_with(program):
+            time.sleep(0.02)
+        service.close()
+        thread.join(10)
+        assert not thread.is_alive() and not processes_with(program)
+        assert ask(service, ITEMS).status == 503
+
+    @pytest.mark.parametrize(
+        ("script", "status", "kind"),
+        [
+            ("printf x", 500, "failed"),
+            ("printf '0\\t%0229d' 1", 500, "failed"),
+            ("printf '1\\t%0228d\\n' 1", 500, "failed"),
+            ("kill -9 $$", 500, "failed"),
+            ("exit 77", 500, "failed"),
+            ("echo 'refused 60 Write' >&2; exit 3", 500, "failed"),
+            ("echo 'refused memory' >&2; exit 4", 503, "memory"),
+        ],
+    )
+    def test_failures(self, make: Make, tmp_path: Path, script: str, status: int, kind: str) -> None:
+        answer = ask(make(extractd=program_of(tmp_path / "program", script)), ITEMS)
+        assert answer.status == status and answer.document["type"].endswith(f"#{kind}")

@@ -1,0 +1,56 @@
+"""What docs/features.md shows is what happens."""
+
+import doctest
+import re
+import shutil
+import subprocess
+from collections.abc import Callable
+from pathlib import Path
+
+import pytest
+from counties import EXAMPLES, TOP
+from test_docs import sh_quoted
+from test_features_command import Running, start  # noqa: F401 (a fixture)
+
+PAGE = (TOP / "docs/features.md").read_text()
+ADDRESS = "http://127.0.0.1:8080"
+
+pytestmark = pytest.mark.usefixtures("scratch")
+
+
+def blocks(kind: str) -> list[str]:
+    return re.findall(rf"^```{kind}\b.*\n((?:.*\n)*?)```$", PAGE, re.MULTILINE)
+
+
+@pytest.fixture
+def service(start: Callable[..., Running], tmp_path: Path, monkeypatch: pytest.MonkeyPatch) -> Running:  # noqa: F811
+    """A service over a copy of the examples, in whose folder the commands run."""
+    shutil.copytree(EXAMPLES, tmp_path / "clone/examples")
+    monkeypatch.chdir(tmp_path / "clone")
+    return start("--data", "examples")
+
+
+@pytest.mark.usefixtures("gdal")
+def test_console(service: Running) -> None:
+    for text in blocks("console"):
+        text = text.replace(ADDRESS, service.url)
+        commands = re.findall(r"^\$ (.*)$", text, re.MULTILINE)
+        script = "".join(f"printf '%s\\n' {sh_quoted('$ ' + command)}\n{command}\n" for command in commands)
+        done = subprocess.run(["bash", "-c", script], stdout=subprocess.PIPE, stderr=subprocess.STDOUT, text=True)
+        assert done.stdout == text
+
+
+def test_python(service: Running, capsys: pytest.CaptureFixture[str]) -> None:
+    pytest.importorskip("owslib", reason="no owslib")
+    for text in blocks("pycon"):
+        test = doctest.DocTestParser().get_doctest(text.replace(ADDRESS, service.url), {}, "features.md", None, 0)
+        runner = doctest.DocTestRunner()
+        runner.run(test)
+        assert runner.failures == 0, capsys.readouterr().out
+
+
+def test_options_are_those_of_the_command(capsys: pytest.CaptureFixture[str]) -> None:
+    from tigerline.features import parser
+
+    options = set(re.findall(r"--[a-z]+", parser().format_help())) - {"--help", "--version"}
+    assert options == set(re.findall(r"--[a-z]+", PAGE))

@@ -1,0 +1,67 @@
+"""The errors of the service, as problem details (RFC 9457)."""
+
+import re
+from typing import Any
+
+from ._program import Refused
+
+_PLACE = re.compile(r"line ([0-9]+) column ([0-9]+)")
+RETRY_SECONDS = 5
+
+
+class Problem(Exception):
+    """A request that gets an error: the status, the kind of problem, a text for people and further members."""
+
+    def __init__(self, status: int, kind: str, detail: str, **members: Any) -> None:
+        super().__init__(status, kind, detail)
+        self.status = status
+        self.kind = kind
+        self.detail = detail
+        self.members = members
+
+    def document(self, title: str, base: str) -> dict[str, Any]:
+        """Returns the members of the reply's body."""
+        return {
+            "type": f"{base}/api#{self.kind}",
+            "title": title,
+            "status": self.status,
+            "detail": self.detail,
+            **self.members,
+        }
+
+
+class ClientLeft(Exception):
+    """The client has closed its connection, so nobody waits for the reply."""
+
+
+def bad_parameter(name: str, detail: str) -> Problem:
+    """Returns the problem of a parameter with a value that can't be used."""
+    return Problem(400, "bad-parameter", f"{name}: {detail}", parameter=name)
+
+
+def not_found(what: str) -> Problem:
+    """Returns the problem of something that isn't there."""
+    return Problem(404, "not-found", f"there is no {what}")
+
+
+def refused_filter(refused: Refused) -> Problem:
+    """Returns the problem of a filter that `extractd` refuses, with the place in the text of the parameter."""
+    found = _PLACE.fullmatch(refused.place)
+    place = {"line": int(found[1]), "column": int(found[2])} if found else {}
+    members = {"parameter": "filter", "refusal": refused.number, "name": refused.name, **place}
+    return Problem(400, "refused-filter", refused.text, **members)
+
+
+def refused_county(refused: Refused, county: str) -> Problem:
+    """Returns the problem of a county whose files `extractd` refuses."""
+    return Problem(500, "refused-county", f"county {county}: {refused.text}", refusal=refused.number, name=refused.name)
+
+
+def busy() -> Problem:
+    """Returns the problem of a request that would have to wait for too many others."""
+    return Problem(503, "busy", "too many requests are waiting for a selection; try again")
+
+
+def late(seconds: float) -> Problem:
+    """Returns the problem of a selection that took too long."""
+    return Problem(503, "time-limit", f"the selection took more than {seconds:g} seconds")

@@ -1,0 +1,195 @@
+"""Reads the parameters of a request for features, and makes the filter of them that `extractd` compiles."""
+
+import math
+import re
+from collections.abc import Collection
+from dataclasses import dataclass
+from decimal import ROUND_CEILING, ROUND_FLOOR, Decimal
+from urllib.parse import parse_qsl
+
+from ._features_problems import Problem, bad_parameter
+from ._layout import FIELDS, Field, Kind
+
+# The longitude comes first in both. The files are in NAD 83, which is CRS83.
+CRS84 = "http://www.opengis.net/def/crs/OGC/1.3/CRS84"
+CRS83 = "http://www.opengis.net/def/crs/OGC/1.3/CRS83"
+SYSTEMS = (CRS84, CRS83)
+LANGUAGES = ("cql2-text", "cql-text")
+# The fields that are of the same type in a filter as in a feature. Codes aren't: ZIPL is a number in a filter alone.
+PROPERTIES = tuple(field for field in FIELDS if field.kind is not Kind.CODE)
+DEFAULT_PAGE = 1000
+LARGEST_NUMBER = 999_999_999_999_999_999
+# A coordinate of a filter has less than 1000 degrees and up to six decimals.
+LARGEST_DEGREES = Decimal("999.999999")
+MICRODEGREE = Decimal("0.000001")
+
+_NUMBER = re.compile(r"[-+]?([0-9]+\.?[0-9]*|\.[0-9]+)([eE][-+]?[0-9]{1,4})?")
+_LITERALS = {
+    Kind.NUMBER: re.compile(r"[0-9]{1,18}"),
+    Kind.COORDINATE: re.compile(r"[-+]?[0-9]{1,3}(\.[0-9]{1,6})?"),
+}
+_DAY = r"[0-9]{4}-[0-9]{2}-[0-9]{2}([Tt][0-9]{2}:[0-9]{2}:[0-9]{2}(\.[0-9]+)?([Zz]|[-+][0-9]{2}:[0-9]{2}))?"
+_TIME = re.compile(rf"{_DAY}|({_DAY}|(\.\.)?)/({_DAY}|(\.\.)?)")
+
+
+@dataclass(frozen=True)
+class Box:
+    """A box of longitudes and latitudes as literals of a filter. West of `east`, it crosses the 180th meridian."""
+
+    west: Decimal
+    south: Decimal
+    east: Decimal
+    north: Decimal
+
+    def filter(self) -> str:
+        """Returns the filter for the segments with both ends known, and with a box around these that meets this one."""
+        longitudes = [_either("LONG", ">=", self.west), _either("LONG", "<=", self.east)]
+        latitudes = [_either("LAT", ">=", self.south), _either("LAT", "<=", self.north)]
+        # These are last, so that they are looked at for few segments.
+        known = [f"{name} IS NOT NULL" for name in ("FRLONG", "FRLAT", "TOLONG", "TOLAT")]
+        across = " OR " if self.west > self.east else " AND "
+        return " AND ".join((f"({across.join(longitudes)})", *latitudes, *known))
+
+
+def _either(axis: str, operator: str, value: Decimal) -> str:
+    return f"(FR{axis} {operator} {value:f} OR TO{axis} {operator} {value:f})"
+
+
+@dataclass(frozen=True)
+class Selection:
+    """Which segments of a county a request is about: those of a filter, of which all conditions are true too."""
+
+    filter: str | None = None
+    conditions: tuple[str, ...] = ()
+
+    # What is in front of the filter in the text of both.
+    PREFIX = "("
+
+    @property
+    def text(self) -> str:
+        """The filter for `extractd`."""
+        if not self.conditions:
+            return "TRUE" if self.filter is None else self.filter
+        filters = () if self.filter is None else (f"{self.PREFIX}{self.filter})",)
+        return " AND ".join((*filters, *self.conditions))
+
+
+@dataclass(frozen=True)
+class ItemsQuery:
+    """A request for a page of features."""
+
+    selection: Selection
+    limit: int
+    offset: int
+    crs: str
+
+
+def parameters(query: str, known: Collection[str]) -> dict[str, str]:
+    """Returns the parameters of a query. Raises Problem for an unknown one, and for one that is there twice."""
+    try:
+        pairs = parse_qsl(query, keep_blank_values=True, errors="strict")
+    except (UnicodeDecodeError, ValueError):
+        raise Problem(400, "bad-parameter", "the query isn't UTF-8") from None
+    found: dict[str, str] = {}
+    for name, value in pairs:
+        if name not in known:
+            raise Problem(400, "unknown-parameter", f"there is no parameter {name[:60]!r} here", parameter=name[:60])
+        if name in found:
+            raise bad_parameter(name, "it is there twice")
+        if "\0" in value:
+            raise bad_parameter(name, "a NUL can't be in it")
+        found[name] = value
+    if found.get("f", "json") != "json":
+        raise bad_parameter("f", "the only format is json")
+    return found
+
+
+def items_query(given: dict[str, str], filter_length: int, largest_page: int) -> ItemsQuery:
+    """Returns the request that the parameters make. Raises Problem for values that can't be used."""
+    for name in ("bbox-crs", "filter-crs"):
+        system(given, name)
+    if given.get("filter-lang", LANGUAGES[0]) not in LANGUAGES:
+        raise bad_parameter("filter-lang", f"it is {' or '.join(LANGUAGES)}")
+    if not _TIME.fullmatch(given.get("datetime", "../..")):
+        raise bad_parameter("datetime", "it is a date, a time or an interval of RFC 3339")
+    text = given.get("filter")
+    if text is not None and len(text.encode()) > filter_length:
+        raise Problem(400, "long-filter", f"filter: it has more than {filter_length} bytes", parameter="filter")
+    limit = whole_number(given, "limit", min(DEFAULT_PAGE, largest_page))
+    if limit < 1:
+        raise bad_parameter("limit", "it is 1 or more")
+    conditions = [equality(field, given[field.name]) for field in PROPERTIES if field.name in given]
+    if "bbox" in given:
+        conditions.append(box(given["bbox"]).filter())
+    return ItemsQuery(
+        Selection(text, tuple(conditions)),
+        min(limit, largest_page),
+        whole_number(given, "offset", 0),
+        system(given, "crs"),
+    )
+
+
+def system(given: dict[str, str], name: str) -> str:
+    """Returns the coordinate reference system that a parameter names."""
+    found = given.get(name, CRS84)
+    if found not in SYSTEMS:
+        raise bad_parameter(name, f"it is {' or '.join(SYSTEMS)}")
+    return found
+
+
+def whole_number(given: dict[str, str], name: str, default: int) -> int:
+    """Returns the number of a parameter. One of more than 18 digits becomes the largest that has 18."""
+    text = given.get(name, str(default))
+    if not re.fullmatch(r"[0-9]+", text):
+        raise bad_parameter(name, "it is a whole number")
+    digits = text.lstrip("0") or "0"
+    return int(digits) if len(digits) <= len(str(LARGEST_NUMBER)) else LARGEST_NUMBER
+
+
+def equality(field: Field, value: str) -> str:
+    """Returns the filter for the segments that have a value in a field. Raises Problem if none can have it."""
+    if field.kind is Kind.TEXT:
+        width = field.last - field.first + 1
+        if not value.strip(" ") or len(value) > width or not value.isprintable() or max(value) > "\xff":
+            raise bad_parameter(field.name, f"it is a text of up to {width} characters")
+        return f"{field.name} = {quoted(value)}"
+    if not _LITERALS[field.kind].fullmatch(value):
+        raise bad_parameter(field.name, "it is a number that the field can have")
+    return f"{field.name} = {value}"
+
+
+def quoted(text: str) -> str:
+    """Returns the literal of a text."""
+    return "'" + text.replace("'", "''") + "'"
+
+
+def box(text: str) -> Box:
+    """Returns the box of the parameter bbox. Heights, in a box of six numbers, don't matter: segments have none."""
+    parts = [part.strip(" ") for part in text.split(",")]
+    if len(parts) not in (4, 6) or not all(_NUMBER.fullmatch(part) for part in parts):
+        raise bad_parameter("bbox", "it is four or six numbers with commas between them")
+    numbers = [float(part) for part in parts]
+    if not all(math.isfinite(number) for number in numbers):
+        raise bad_parameter("bbox", "a number is too large")
+    if len(numbers) == 6:
+        if numbers[2] > numbers[5]:
+            raise bad_parameter("bbox", "its lower height is above its upper one")
+        del numbers[5], numbers[2]
+    west, south, east, north = numbers
+    if south > north:
+        raise bad_parameter("bbox", "its south is north of its north")
+    return Box(
+        _literal(west, ROUND_CEILING),
+        _literal(south, ROUND_CEILING),
+        _literal(east, ROUND_FLOOR),
+        _literal(north, ROUND_FLOOR),
+    )
+
+
+def _literal(number: float, rounding: str) -> Decimal:
+    """Returns a literal that the same coordinates are at least, or at most, which have up to six decimals too.
+
+    GDAL sends -86.7 as -86.700000000000003. Both are the same floating point number, and -86.7 is its shortest form.
+    """
+    degrees = min(max(Decimal(repr(number)), -LARGEST_DEGREES), LARGEST_DEGREES)
+    return degrees.quantize(MICRODEGREE, rounding=rounding) + 0

@@ -1,0 +1,258 @@
+"""An HTTP/1.1 server for one WSGI application, in which slow clients hold up no others.
+
+A task reads each request and sends each reply, and threads run the application. So a client that is slow, or does
+nothing, costs a connection alone, and at the limit of connections that is closed which has waited longest.
+"""
+
+import asyncio
+import io
+import signal
+import sys
+from collections.abc import Callable
+from concurrent.futures import ThreadPoolExecutor
+from contextlib import suppress
+from dataclasses import dataclass, field
+from http import HTTPStatus
+from typing import TYPE_CHECKING, Any
+from urllib.parse import unquote_to_bytes
+
+if TYPE_CHECKING:
+    from .features import Service
+
+from ._features_rows import Limits
+
+CLIENT_IS_THERE = "tigerline.client_is_there"
+LONGEST_HEAD = 65_536
+IDLE_SECONDS = 30.0
+SENDING_SECONDS = 60.0
+# Replies that clients haven't taken yet have up to this many bytes; past it the oldest of them is given up.
+MOST_UNSENT = 128 << 20
+SPARE_THREADS = 8
+BACKLOG = 512
+
+
+class BadRequest(Exception):
+    """A request that isn't HTTP, or that this server doesn't take."""
+
+    def __init__(self, status: HTTPStatus) -> None:
+        super().__init__(status)
+        self.status = status
+
+
+@dataclass(frozen=True)
+class Request:
+    """The head of a request."""
+
+    method: str
+    target: str
+    version: str
+    headers: dict[str, str]
+
+    @property
+    def keeps_alive(self) -> bool:
+        """Whether the connection has another request after this one. A body isn't read, so it ends the connection."""
+        has_body = self.headers.get("content-length", "0") != "0" or "transfer-encoding" in self.headers
+        return self.version == "HTTP/1.1" and not has_body and self.headers.get("connection", "").lower() != "close"
+
+
+def read_request(head: bytes) -> Request:
+    """Returns the request of a head. Raises BadRequest if it is none."""
+    first, *lines = head.decode("latin-1").removesuffix("\r\n\r\n").split("\r\n")
+    parts = first.split(" ")
+    if len(parts) != 3 or not parts[0].isalpha() or not parts[1] or parts[2] not in ("HTTP/1.0", "HTTP/1.1"):
+        raise BadRequest(HTTPStatus.BAD_REQUEST)
+    headers: dict[str, str] = {}
+    for line in lines:
+        name, colon, value = line.partition(":")
+        if not colon or not name or name != name.strip() or any(character in "\r\n\0" for character in line):
+            raise BadRequest(HTTPStatus.BAD_REQUEST)
+        if headers.setdefault(name.lower(), value.strip(" \t")) != value.strip(" \t"):
+            headers[name.lower()] += f", {value.strip()}"
+    if parts[2] == "HTTP/1.1" and "host" not in headers:
+        raise BadRequest(HTTPStatus.BAD_REQUEST)
+    return Request(parts[0], parts[1], parts[2], headers)
+
+
+@dataclass(eq=False)
+class Connection:
+    """A connection, and the bytes of its reply that the client hasn't taken yet."""
+
+    reader: asyncio.StreamReader
+    writer: asyncio.StreamWriter
+    unsent: int = 0
+
+    def client_is_there(self) -> bool:
+        """Whether the client still has its connection."""
+        return not self.reader.at_eof() and self.reader.exception() is None
+
+    def abort(self) -> None:
+        """Closes the connection at once."""
+        self.writer.transport.abort()
+
+
+@dataclass
+class Server:
+    """The connections of a service. All of this runs in one thread, but for the application."""
+
+    service: "Service"
+    limits: Limits
+    threads: ThreadPoolExecutor
+    connections: dict[Connection, "asyncio.Task[None] | None"] = field(default_factory=dict)
+    # Both are in the order of time.
+    waiting: dict[Connection, None] = field(default_factory=dict)
+    sending: dict[Connection, None] = field(default_factory=dict)
+    unsent: int = 0
+
+    async def handle(self, reader: asyncio.StreamReader, writer: asyncio.StreamWriter) -> None:
+        """Answers the requests of a connection."""
+        connection = Connection(reader, writer)
+        if not self._has_room():
+            writer.write(bare_reply(HTTPStatus.SERVICE_UNAVAILABLE))
+            writer.close()
+            return
+        self.connections[connection] = asyncio.current_task()
+        writer.transport.set_write_buffer_limits(0)
+        try:
+            while await self._answer(connection):
+                pass
+        except (OSError, TimeoutError, asyncio.IncompleteReadError):
+            pass
+        finally:
+            self.connections.pop(connection, None)
+            writer.close()
+            with suppress(OSError):
+                await writer.wait_closed()
+
+    def _has_room(self) -> bool:
+        """Whether there is room for another connection; makes it by closing the one that has waited longest."""
+        if len(self.connections) < self.limits.connections:
+            return True
+        for oldest in self.waiting:
+            del self.waiting[oldest]
+            self.connections.pop(oldest, None)
+            oldest.abort()
+            return True
+        return False
+
+    async def _answer(self, connection: Connection) -> bool:
+        """Answers one request, and returns whether another may follow."""
+        try:
+            request = read_request(await self._read_head(connection))
+        except BadRequest as error:
+            await self._send(connection, bare_reply(error.status))
+            return False
+        environ = environ_of(request, connection)
+        reply = await asyncio.get_running_loop().run_in_executor(
+            self.threads, call, self.service, environ, request.keeps_alive
+        )
+        await self._send(connection, reply)
+        return request.keeps_alive
+
+    async def _read_head(self, connection: Connection) -> bytes:
+        self.waiting[connection] = None
+        try:
+            async with asyncio.timeout(IDLE_SECONDS):
+                return await connection.reader.readuntil(b"\r\n\r\n")
+        except asyncio.LimitOverrunError:
+            raise BadRequest(HTTPStatus.REQUEST_HEADER_FIELDS_TOO_LARGE) from None
+        finally:
+            self.waiting.pop(connection, None)
+
+    async def _send(self, connection: Connection, reply: bytes) -> None:
+        """Sends a reply by one write, so that its head and its body leave together."""
+        connection.unsent = len(reply)
+        self.unsent += connection.unsent
+        self.sending[connection] = None
+        while self.unsent > MOST_UNSENT and len(self.sending) > 1:
+            self._forget(oldest := next(iter(self.sending)))
+            oldest.abort()
+        try:
+            connection.writer.write(reply)
+            async with asyncio.timeout(SENDING_SECONDS):
+                await connection.writer.drain()
+        except TimeoutError:
+            connection.abort()
+            raise
+        finally:
+            self._forget(connection)
+
+    def _forget(self, connection: Connection) -> None:
+        self.sending.pop(connection, None)
+        self.unsent -= connection.unsent
+        connection.unsent = 0
+
+
+def bare_reply(status: HTTPStatus) -> bytes:
+    """Returns a reply of the server itself, to what isn't a request to the application."""
+    body = f'{{"type":"about:blank","title":"{status.phrase}","status":{status.value}}}'
+    head = f"HTTP/1.1 {status.value} {status.phrase}\r\nContent-Type: application/problem+json\r\n"
+    return f"{head}Content-Length: {len(body)}\r\nConnection: close\r\n\r\n{body}".encode()
+
+
+def environ_of(request: Request, connection: Connection) -> dict[str, Any]:
+    """Returns what WSGI says of a request (PEP 3333)."""
+    target = request.target
+    if "://" in target.partition("?")[0]:
+        target = "/" + target.split("://", 1)[1].partition("/")[2]
+    path, _, query = target.partition("?")
+    host, port = connection.writer.get_extra_info("sockname")[:2]
+    return {
+        "REQUEST_METHOD": request.method,
+        "SCRIPT_NAME": "",
+        "PATH_INFO": unquote_to_bytes(path.encode("latin-1")).decode("latin-1"),
+        "QUERY_STRING": query,
+        "SERVER_NAME": f"[{host}]" if ":" in host else host,
+        "SERVER_PORT": str(port),
+        "SERVER_PROTOCOL": request.version,
+        "wsgi.version": (1, 0),
+        "wsgi.url_scheme": "http",
+        "wsgi.input": io.BytesIO(),
+        "wsgi.errors": sys.stderr,
+        "wsgi.multithread": True,
+        "wsgi.multiprocess": False,
+        "wsgi.run_once": False,
+        CLIENT_IS_THERE: connection.client_is_there,
+        **{f"HTTP_{name.upper().replace('-', '_')}": value for name, value in request.headers.items()},
+    }
+
+
+def call(service: "Service", environ: dict[str, Any], keeps_alive: bool) -> bytes:
+    """Returns the whole reply of the application."""
+    head: list[str] = []
+
+    def start_response(status: str, headers: list[tuple[str, str]], *_: object) -> Callable[[bytes], object]:
+        head.append(f"HTTP/1.1 {status}\r\n" + "".join(f"{name}: {value}\r\n" for name, value in headers))
+        return lambda data: None
+
+    try:
+        body = b"".join(service(environ, start_response))
+    except Exception as error:
+        print(f"error: {type(error).__name__}: {error}", file=sys.stderr, flush=True)
+        return bare_reply(HTTPStatus.INTERNAL_SERVER_ERROR)
+    last = "" if keeps_alive else "Connection: close\r\n"
+    return f"{head[0]}{last}\r\n".encode("latin-1") + body
+
+
+async def serve(service: "Service", host: str, port: int, limits: Limits, say: Callable[[str], object]) -> None:
+    """Serves until SIGINT, SIGTERM or SIGHUP. Then all connections and processes are ended."""
+    stopped = asyncio.Event()
+    for number in (signal.SIGINT, signal.SIGTERM, signal.SIGHUP):
+        if signal.getsignal(number) is not signal.SIG_IGN:  # nohup ignores SIGHUP.
+            asyncio.get_running_loop().add_signal_handler(number, stopped.set)
+    with ThreadPoolExecutor(limits.processes + limits.waiting + SPARE_THREADS, "request") as threads:
+        server = Server(service, limits, threads)
+        listening = await asyncio.start_server(
+            server.handle, host, port, limit=LONGEST_HEAD, backlog=BACKLOG, reuse_address=True
+        )
+        try:
+            for socket in listening.sockets:
+                name, number = socket.getsockname()[:2]
+                say(f"listening http://{f'[{name}]' if ':' in name else name}:{number}")
+            await stopped.wait()
+        finally:
+            listening.close()
+            service.close()
+            for connection, task in list(server.connections.items()):
+                connection.abort()
+                if task is not None:
+                    task.cancel()
