@@ -14,12 +14,22 @@ if TYPE_CHECKING:
     from ._frames import read_county, select
     from ._program import Refused
     from ._rows import Row, rows
+    from .geocoding import Address, Match, geocode
 
-__all__ = ["Refused", "Row", "read_county", "rows", "select"]
+__all__ = ["Address", "Match", "Refused", "Row", "geocode", "read_county", "rows", "select"]
 __version__ = "0.1.0"
 
 # Each is imported on its first use, so that `rows` does without pandas, and commands start soon.
-_MODULES = {"Refused": "_program", "Row": "_rows", "read_county": "_frames", "rows": "_rows", "select": "_frames"}
+_MODULES = {
+    "Address": "geocoding",
+    "Match": "geocoding",
+    "Refused": "_program",
+    "Row": "_rows",
+    "geocode": "geocoding",
+    "read_county": "_frames",
+    "rows": "_rows",
+    "select": "_frames",
+}
 
 
 def __getattr__(name: str) -> object:

@@ -13,7 +13,7 @@ from collections.abc import Callable, Iterator, Sequence
 from contextlib import ExitStack
 from pathlib import Path
 
-from . import __version__
+from . import __version__, geocoding
 from ._commands import exit_status
 from ._extract import CountyRows, Request, extract
 from ._interrupts import Interrupts
@@ -146,7 +146,10 @@ def counted(segments: int) -> str:
 
 def main(arguments: Sequence[str] | None = None) -> int:
     """Runs the command, and returns its exit status."""
-    options = parser().parse_args(arguments)
+    words = list(sys.argv[1:] if arguments is None else arguments)
+    if words[:1] == [geocoding.COMMAND]:
+        return geocoding.main(words[1:])
+    options = parser().parse_args(words)
     return exit_status(lambda: os.fsencode(f"{options.out}: {counted(write(options))}\n"))
 
 

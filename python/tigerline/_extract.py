@@ -67,16 +67,16 @@ def extract(
     When it yields, its temporary files and its processes are gone.
     """
     folder = Path(data)
-    with _active(interrupts) as active:
+    with active_interrupts(interrupts) as active:
         program = _program.find_program(request.extractd, active)
         chosen = choose_counties(find_counties(folder), counties, folder)
     for county in counted(chosen, progress):
-        with _active(interrupts) as active:
+        with active_interrupts(interrupts) as active:
             rows = _county_rows(program, request, county, shapes, all_rows, active)
         yield rows
 
 
-def _active(interrupts: Interrupts | None) -> AbstractContextManager[Interrupts]:
+def active_interrupts(interrupts: Interrupts | None) -> AbstractContextManager[Interrupts]:
     if interrupts is None:
         return Interrupts()
     return nullcontext(interrupts)
@@ -96,7 +96,7 @@ def _county_rows(
                 command = _command(program, ALL_SEGMENTS, folder, county.code, scratch, interrupts)
                 everything = _program.run(command, interrupts, county=county.code)
         except OSError as error:
-            raise _with_own_paths(error, county, files) from None
+            raise with_own_paths(error, county, files) from None
         if not shapes:
             return CountyRows(county.code, rows, all_rows=everything)
         name = str(county.files.get("2") or county.archive)
@@ -124,7 +124,7 @@ def _command(
     return [program, "run", "--program", str(words), *of_county]
 
 
-def _with_own_paths(error: OSError, county: County, files: dict[str, Path]) -> OSError:
+def with_own_paths(error: OSError, county: County, files: dict[str, Path]) -> OSError:
     """Names the county's files, not the temporary links to them."""
     text = str(error)
     for record_type, path in files.items():

@@ -1,0 +1,207 @@
+"""Taking street strings apart: all readings of a string, the fullest first, or the reason for none."""
+
+import pytest
+from tigerline._addresses import LONGEST_NAME, Reading, Reason, Street, take_apart
+from tigerline._geocode_words import _TYPES, DIRECTIONS, TYPES, same_type
+
+# A street string, and its readings in order: direction, name, type, direction.
+READINGS = """
+5 Main                     | - Main - -
+123 N Main St              | N Main St -; N Main_St - -; - N_Main St -; - N_Main_St - -
+5 Main St SW               | - Main St SW; - Main_St - SW; - Main_St_SW - -
+5 Oak Hill                 | - Oak Hl -; - Oak_Hill - -
+5 Deer Trail Rd            | - Deer_Trail Rd -; - Deer_Trail_Rd - -
+5 west main avenue         | W main Ave -; W main_avenue - -; - west_main Ave -; - west_main_avenue - -
+5 N. E. 7th                | NE 7th - -; N E._7th - -; N E_7th - -; - N._E._7th - -; - N_E_7th - -
+5 North East 7th           | NE 7th - -; N East_7th - -; - North_East_7th - -
+5 North                    | - North - -
+5 Street                   | - Street - -
+5 Avenue N                 | - Avenue - N; - Avenue_N - -
+300 W 400 S                | W 400 - S; W 400_S - -; - W_400 - S; - W_400_S - -
+5 St. John's               | - St._John's - -; - St_John's - -
+0012 Main                  | - Main - -
+12B Main                   | - Main - -
+5 FM 1960                  | - FM_1960 - -; - F_M_1960 - -; - FM_Road_1960 - -; - Farm_to_Market_Road_1960 - -; - Farm-to-Market_Road_1960 - -
+5 Highway 9                | - Highway_9 - -; - Hwy_9 - -
+5 Main Apt 4               | - Main - -; - Main_Apt_4 - -
+5 Main, Ste. 200           | - Main - -; - Main_Ste._200 - -; - Main_Ste_200 - -
+5 Main Bldg C Unit 12-B    | - Main - -; - Main_Bldg_C_Unit_12-B - -
+5 Main #4                  | - Main - -
+5 Main # 4                 | - Main - -
+5 Main Apt #4              | - Main - -
+5 Main Apt#4               | - Main - -
+5 Main Apt4                | - Main - -; - Main_Apt4 - -
+5 Main Rear                | - Main - -; - Main_Rear - -
+5 Main Apt Rear            | - Main - -; - Main_Apt_Rear - -
+5 Main 2nd Floor           | - Main - -; - Main_2nd_Floor - -
+5 Main P.O. Box 9          | - Main - -; - Main_P.O._Box_9 - -; - Main_PO_Box_9 - -
+5 Lot Rd                   | - Lot Rd -; - Lot_Rd - -
+5 Old Lot Rd               | - Old_Lot Rd -; - Old_Lot_Rd - -
+5 Lot 7                    | - Lot_7 - -
+5 Main St 7                | - Main_St_7 - -
+""".strip().splitlines()
+
+# A numbered road, a name that it has to be read as, and whether this is another word.
+ROUTES = """
+CR 46                   | County Road 46      | same
+CR-46                   | Co Rd 46            | same
+CR 46                   | County Highway 46   | other
+Co Rd 46                | County Road 46      | same
+County Rd 46            | County Road 46      | same
+Cnty. Rd. 46            | County Road 46      | same
+County Road 46          | Co Rd 46            | same
+County Road 46          | County Road 46      | same
+Co Hwy 46               | County Hwy 46       | same
+SR 17                   | State Route 17      | same
+SR 17                   | State Road 17       | same
+SR 17                   | State Hwy 17        | other
+SR17                    | State Route 17      | same
+St Rte 17               | State Route 17      | same
+State Highway 17        | State Hwy 17        | same
+State Highway 17        | State Route 17      | other
+US 31                   | US Hwy 31           | same
+U.S. 31                 | US Hwy 31           | same
+US Highway 31           | US Hwy 31           | same
+US-31                   | US Hwy 31           | same
+US 31A                  | US Hwy 31A          | same
+I-65                    | Interstate 65       | same
+Interstate 65           | I-65                | same
+""".strip().splitlines()
+
+REASONS = """
+                        | no_house_number
+   ...                  | no_house_number
+Main St                 | no_house_number
+One Main St             | no_house_number
+1st St                  | no_house_number
+Poblano Rd              | no_house_number
+5                       | no_street
+5 #4                    | no_street
+5B                      | no_street
+164-20 Main St          | hyphenated_number
+12-B Main St            | hyphenated_number
+12 1/2 Main St          | fractional_number
+12-1/2 Main St          | fractional_number
+12½ Main St             | fractional_number
+12 ½ Main St            | fractional_number
+1234567890123 Main      | number_too_long
+N6W23001 Bluemound      | grid_address
+12S345 Main St          | grid_address
+123N Main St            | grid_address
+Main St & Oak Ave       | intersection
+5 Main St & Oak Ave     | intersection
+Main St and Oak Ave     | intersection
+Main @ Oak              | intersection
+PO Box 12               | po_box_or_rural_route
+P.O. Box 12             | po_box_or_rural_route
+P O Box 12              | po_box_or_rural_route
+Post Office Box 12      | po_box_or_rural_route
+POB 12                  | po_box_or_rural_route
+Box 12                  | po_box_or_rural_route
+RR 2 Box 7              | po_box_or_rural_route
+R.R. 2                  | po_box_or_rural_route
+HC 5 Box 7              | po_box_or_rural_route
+General Delivery        | po_box_or_rural_route
+""".strip(
+    "\n"
+).splitlines()
+
+
+def cells(row: str) -> list[str]:
+    return [cell.strip() for cell in row.split("|")]
+
+
+def written(reading: Reading) -> str:
+    fields = (reading.predir, reading.name, reading.type, reading.sufdir)
+    return " ".join(field.replace(" ", "_") or "-" for field in fields)
+
+
+@pytest.mark.parametrize("row", READINGS)
+def test_readings(row: str) -> None:
+    text, expected = cells(row)
+    street = take_apart(text)
+    assert isinstance(street, Street)
+    assert "; ".join(map(written, street.readings)) == expected
+    assert str(street.number) == text.split()[0].rstrip("B").lstrip("0")
+
+
+@pytest.mark.parametrize("row", ROUTES)
+def test_routes(row: str) -> None:
+    text, name, kind = cells(row)
+    street = take_apart(f"5 {text} N")
+    assert isinstance(street, Street)
+    assert Reading(name, sufdir="N", is_other_route=kind == "other") in street.readings
+
+
+@pytest.mark.parametrize("row", REASONS)
+def test_reasons(row: str) -> None:
+    text, reason = cells(row)
+    assert take_apart(text) is Reason(reason)
+
+
+def test_abbreviations() -> None:
+    """The fields have two and four places, and no word stands for two types."""
+    assert set(DIRECTIONS.values()) == {"N", "S", "E", "W", "NE", "NW", "SE", "SW"}
+    assert all(len(abbreviation) <= 4 for abbreviation in TYPES.values())
+    assert len(TYPES) == len(_TYPES.replace("|", " ").split())
+    assert same_type("Pky", "Pkwy") and same_type("AVENUE", "Ave") and not same_type("St", "Ave")
+    assert same_type("Xyz", "xYZ")
+
+
+def test_long_names() -> None:
+    street = take_apart("5 " + "x" * LONGEST_NAME)
+    assert isinstance(street, Street) and len(street.readings) == 1
+    assert take_apart("5 " + "x" * (LONGEST_NAME + 1)) == Street(5, ())
+    assert take_apart("5 " + "é" * (LONGEST_NAME // 2 + 1)) == Street(5, ())
+    assert take_apart("5 " + "N Main St " * 50_000) == Street(5, ())
+
+
+class TestAnything:
+    """Hypothesis: no string fails, and what is written from the fields is read as these."""
+
+    def test_no_string_fails(self) -> None:
+        hypothesis = pytest.importorskip("hypothesis", reason="no hypothesis")
+        strategies = pytest.importorskip("hypothesis.strategies", reason="no hypothesis")
+        words = strategies.sampled_from(
+            ["12", "1/2", "N", "East", "Main", "St", "Apt", "#", "4", "CR", "US", "PO", "Box", "&", ".", ",", "\u00bd"]
+        )
+        streets = strategies.lists(words, max_size=9).map(" ".join)
+
+        @hypothesis.settings(max_examples=400)
+        @hypothesis.given(strategies.one_of(strategies.text(), streets, streets.map(lambda street: f"7 {street}")))
+        def check(text: str) -> None:
+            street = take_apart(text)
+            assert isinstance(street, (Street, Reason))
+            if isinstance(street, Street):
+                assert len(set(street.readings)) == len(street.readings)
+                assert all(
+                    0 < len(reading.name.encode("utf-8", "replace")) <= LONGEST_NAME for reading in street.readings
+                )
+
+        check()
+
+    def test_canonical_address(self) -> None:
+        hypothesis = pytest.importorskip("hypothesis", reason="no hypothesis")
+        strategies = pytest.importorskip("hypothesis.strategies", reason="no hypothesis")
+        directions = strategies.sampled_from(["", "N", "S", "E", "W", "NE", "NW", "SE", "SW"])
+        known = strategies.sampled_from(
+            ["Oak", "Hill", "North", "Park", "St", "Lot", "Rear", "7", "County", "Road", "E"]
+        )
+        word = strategies.one_of(known, strategies.from_regex(r"[A-Za-z][a-z']{0,9}", fullmatch=True))
+        names = strategies.lists(word, min_size=1, max_size=4).map(" ".join).filter(lambda name: len(name) <= 30)
+
+        @hypothesis.settings(max_examples=400)
+        @hypothesis.given(
+            strategies.integers(0, 10**11 - 1),
+            directions,
+            names,
+            strategies.sampled_from(["", *sorted(set(TYPES.values()))]),
+            directions,
+        )
+        def check(number: int, predir: str, name: str, type_: str, sufdir: str) -> None:
+            text = " ".join(part for part in (str(number), predir, name, type_, sufdir) if part)
+            street = take_apart(text)
+            assert isinstance(street, Street) and street.number == number
+            assert Reading(name, predir, type_, sufdir) in street.readings
+
+        check()

@@ -1,0 +1,205 @@
+"""Takes street strings such as `123 N Main St Apt 4` apart. A string has several readings, and only the data decides."""
+
+import re
+from collections.abc import Iterator
+from enum import StrEnum
+from typing import NamedTuple
+
+from ._geocode_words import DIRECTIONS, PARTS_OF_HOUSES, TYPES, UNITS, route_names
+
+LONGEST_NAME = 30  # bytes of the field FENAME
+LONGEST_NUMBER = 11  # digits
+
+
+class Reason(StrEnum):
+    """Why an address has no match, or what a match that isn't exact lacks."""
+
+    NO_HOUSE_NUMBER = "no_house_number"
+    NO_STREET = "no_street"
+    HYPHENATED_NUMBER = "hyphenated_number"
+    FRACTIONAL_NUMBER = "fractional_number"
+    NUMBER_TOO_LONG = "number_too_long"
+    GRID_ADDRESS = "grid_address"
+    INTERSECTION = "intersection"
+    PO_BOX_OR_RURAL_ROUTE = "po_box_or_rural_route"
+    NO_SUCH_STREET = "no_such_street"
+    NO_SUCH_NUMBER_ON_STREET = "no_such_number_on_street"
+    NO_COORDINATES = "no_coordinates"
+    TIE = "tie"
+    OTHER_ZIP = "other_zip"
+    NO_ZIP = "no_zip"
+    DIRECTION = "direction"
+    TYPE = "type"
+    ROUTE = "route"
+
+
+class Reading(NamedTuple):
+    """A street as the fields FENAME, FEDIRP, FETYPE and FEDIRS would have it. What isn't stated is empty.
+
+    `is_other_route` says that the name has another word than was written: `State Hwy 17` for `SR 17`.
+    """
+
+    name: str
+    predir: str = ""
+    type: str = ""
+    sufdir: str = ""
+    is_other_route: bool = False
+
+
+class Street(NamedTuple):
+    """A house number, and the readings of the rest: those without units first, and of these the fullest."""
+
+    number: int
+    readings: tuple[Reading, ...]
+
+
+_BOX = re.compile(
+    r"(?:(?:P ?O|POST OFFICE) ?BOX\b|GENERAL DELIVERY\b"
+    r"|(?:P ?O ?B|BOX|R ?R|RURAL ROUTE|HC|HIGHWAY CONTRACT|STAR ROUTE) ?#?[0-9]).*",
+    re.DOTALL,
+)
+_CROSSING = re.compile(r".*(?:[&@]| AND | AT ).*", re.DOTALL)
+_FRACTION = re.compile(r"[0-9]+/[0-9]+|[¼½¾⅓⅔⅛⅜⅝⅞]")
+# Kinds of first words, the first that fits. A letter after the number is cut like a unit, but N, S, E and W are directions.
+_FIRST_WORDS = (
+    (Reason.FRACTIONAL_NUMBER, re.compile(r"[0-9]+(?:-?[0-9]+/[0-9]+|/[0-9]+|[¼½¾⅓⅔⅛⅜⅝⅞])")),
+    (Reason.HYPHENATED_NUMBER, re.compile(r"[0-9]+[A-Z]?-+[0-9A-Z]+")),
+    (Reason.GRID_ADDRESS, re.compile(r"[NSEW][0-9]+[NSEW0-9-]*|[0-9]+[NSEW](?:[0-9].*)?")),
+)
+_NUMBER = re.compile(r"([0-9]+)[A-Z]?")
+_ORDINAL = re.compile(r"[0-9]+(?:ST|ND|RD|TH)")
+_JOINED_UNIT = re.compile(rf"(?:{'|'.join(sorted(UNITS - {'FL', 'BOX'}))})#?[0-9]+[A-Z]?")
+_UNIT_VALUE = re.compile(r"#?[0-9A-Z]+(?:[-/][0-9A-Z]+)*")
+
+
+def take_apart(text: str) -> Street | Reason:
+    """Returns the house number and the readings of a street string, or the reason for having none."""
+    words = re.sub(r"#\s+", "#", re.sub(r"(?<=\w)#", " #", text)).replace(",", ", ").split()
+    words = [word for word in words if _key(word)]
+    keys = [_key(word) for word in words]
+    if _BOX.fullmatch(" ".join(keys)):
+        return Reason.PO_BOX_OR_RURAL_ROUTE
+    if not keys:
+        return Reason.NO_HOUSE_NUMBER
+    number = _number(keys)
+    if isinstance(number, Reason):
+        return number
+    readings = dict.fromkeys(reading for way in _ways(words[1:]) for reading in _readings(way))
+    return Street(number, tuple(readings))
+
+
+def _key(word: str) -> str:
+    """Returns a word in capitals, without dots and commas: `N.E.,` becomes `NE`."""
+    return word.replace(".", "").strip(",;").upper()
+
+
+def _number(keys: list[str]) -> int | Reason:
+    """Returns the house number of the words of a street string."""
+    first, rest = keys[0], keys[1:]
+    found = _NUMBER.fullmatch(first)
+    crossing = _CROSSING.fullmatch(f" {' '.join(keys)} ")
+    if crossing and (not found or re.search("[&@]", crossing[0])):
+        return Reason.INTERSECTION
+    for reason, pattern in _FIRST_WORDS:
+        if pattern.fullmatch(first):
+            return reason
+    if not found:
+        return Reason.NO_HOUSE_NUMBER
+    if rest and _FRACTION.fullmatch(rest[0]):
+        return Reason.FRACTIONAL_NUMBER
+    if not rest or not _without_unit(rest):
+        return Reason.NO_STREET
+    digits = found[1].lstrip("0") or "0"
+    return int(digits) if len(digits) <= LONGEST_NUMBER else Reason.NUMBER_TOO_LONG
+
+
+def _ways(words: list[str]) -> Iterator[list[str]]:
+    """Yields the words of a street without its units, and then with them, as a street may be called `Lot 5`."""
+    count = _without_unit([_key(word) for word in words])
+    yield words[:count]
+    if count < len(words) and not any("#" in word for word in words[count:]):
+        yield words
+
+
+def _without_unit(keys: list[str]) -> int:
+    """Returns how many words are left before the units. One is always left, unless it begins with #."""
+    count = len(keys)
+    while cut := _unit_at_end(keys[:count]):
+        count -= cut
+    return count
+
+
+def _unit_at_end(keys: list[str]) -> int:
+    """Returns how many of the last words are a unit."""
+    if keys and keys[-1].startswith("#"):
+        return 2 if len(keys) > 2 and keys[-2] in UNITS else 1
+    if len(keys) > 2 and keys[-2] in UNITS and _is_unit_value(keys[-1]):
+        before = keys[1:-2] if keys[-2] == "BOX" else []
+        return 4 if before[-2:] == ["P", "O"] else 3 if before[-1:] == ["PO"] else 2
+    if len(keys) > 2 and keys[-1] in ("FL", "FLOOR") and _ORDINAL.fullmatch(keys[-2]):
+        return 2
+    return int(len(keys) > 1 and (keys[-1] in PARTS_OF_HOUSES or bool(_JOINED_UNIT.fullmatch(keys[-1]))))
+
+
+def _is_unit_value(key: str) -> bool:
+    if not _UNIT_VALUE.fullmatch(key):
+        return False
+    is_word = key in TYPES or (len(key) > 1 and key in DIRECTIONS)
+    return any(character.isdigit() for character in key) or key in PARTS_OF_HOUSES or (len(key) <= 2 and not is_word)
+
+
+def _readings(words: list[str]) -> list[Reading]:
+    """Returns the readings of a street without number and unit, those that state the most parts first."""
+    keys = [_key(word) for word in words]
+    found = []
+    for predir, first in _directions_at_start(keys):
+        for sufdir, after in _directions_at_end(keys):
+            for type_, last in _type_at_end(keys[:after]):
+                found += [
+                    Reading(name, predir, type_, sufdir, is_other)
+                    for name, is_other in _names(words[first:last])
+                    if len(name.encode("utf-8", "replace")) <= LONGEST_NAME
+                ]
+    return sorted(found, key=lambda reading: -_parts(reading))
+
+
+def _parts(reading: Reading) -> int:
+    return bool(reading.predir) + bool(reading.type) + bool(reading.sufdir)
+
+
+def _directions_at_start(keys: list[str]) -> Iterator[tuple[str, int]]:
+    """Yields the directions that the first words may be, and where the rest begins."""
+    for count in (2, 1):
+        if direction := DIRECTIONS.get(" ".join(keys[:count])):
+            yield direction, count
+    yield "", 0
+
+
+def _directions_at_end(keys: list[str]) -> Iterator[tuple[str, int]]:
+    """Yields the directions that the last words may be, and where the rest ends."""
+    for count in (2, 1):
+        if len(keys) > count and (direction := DIRECTIONS.get(" ".join(keys[-count:]))):
+            yield direction, len(keys) - count
+    yield "", len(keys)
+
+
+def _type_at_end(keys: list[str]) -> Iterator[tuple[str, int]]:
+    """Yields the type that the last word may be, and where the rest ends."""
+    if len(keys) > 1 and keys[-1] in TYPES:
+        yield TYPES[keys[-1]], len(keys) - 1
+    yield "", len(keys)
+
+
+def _names(words: list[str]) -> Iterator[tuple[str, bool]]:
+    """Yields what the words may be in FENAME, and whether it's another word for a numbered road."""
+    if not words:
+        return
+    name = " ".join(word.strip(",;") for word in words)
+    yield name, False
+    if "." in name:
+        yield name.replace(".", ""), False
+    same, other = route_names(" ".join(_key(word) for word in words))
+    for text in same:
+        yield text, False
+    for text in other:
+        yield text, True

@@ -1,0 +1,105 @@
+"""The abbreviations of the fields FEDIRP, FETYPE and FEDIRS, and what people write for them."""
+
+import re
+from itertools import product
+
+_WORDS_OF_DIRECTIONS = {
+    "N": ("N", "NORTH"),
+    "S": ("S", "SOUTH"),
+    "E": ("E", "EAST"),
+    "W": ("W", "WEST"),
+}
+_WORDS_OF_CORNERS = {
+    north_or_south
+    + east_or_west: (
+        north_or_south + east_or_west,
+        _WORDS_OF_DIRECTIONS[north_or_south][1] + _WORDS_OF_DIRECTIONS[east_or_west][1],
+        *map(" ".join, product(_WORDS_OF_DIRECTIONS[north_or_south], _WORDS_OF_DIRECTIONS[east_or_west])),
+    )
+    for north_or_south, east_or_west in product("NS", "EW")
+}
+# What may be written for a direction, in capitals: N, NORTH, NE, NORTHEAST, N E, NORTH EAST ...
+DIRECTIONS = {
+    written: direction
+    for direction, words in (*_WORDS_OF_DIRECTIONS.items(), *_WORDS_OF_CORNERS.items())
+    for written in words
+}
+
+_TYPES = """
+    Aly Alley Allee Ally | Arc Arcade | Ave Avenue Av Aven Avenu Avn | Bch Beach | Blf Bluff | Blvd Boulevard Boul Bvd
+    Bnd Bend | Br Branch Brnch | Brg Bridge Brdge | Byp Bypass Bypa | Cir Circle Circ Crcl | Clf Cliff | Cmn Common
+    Cor Corner | Cors Corners | Cr Creek Crk | Cres Crescent Crs | Cswy Causeway | Ct Court Crt | Ctr Center Centre Cntr
+    Cts Courts | Curv Curve | Cv Cove | Cyn Canyon | Dr Drive Driv Drv | Est Estate | Ests Estates
+    Expy Expressway Expwy Exp | Ext Extension Extn | Fld Field | Flds Fields | Frst Forest | Fry Ferry
+    Fwy Freeway Frwy | Gdn Garden | Gdns Gardens | Gln Glen | Grn Green | Grv Grove | Gtwy Gateway | Hbr Harbor
+    Hl Hill | Hls Hills | Holw Hollow | Hts Heights | Hvn Haven | Hwy Highway Hiway | Inlt Inlet | Is Island Isle
+    Jct Junction | Knl Knoll | Knls Knolls | Lk Lake | Ln Lane | Lndg Landing | Loop Lp | Mall | Mdw Meadow
+    Mdws Meadows | Ml Mill | Mls Mills | Mnr Manor | Mt Mount | Mtn Mountain | Orch Orchard | Oval | Park Prk | Pass
+    Path | Pike | Pkwy Parkway Pky Pkwys Pwy | Pl Place | Pln Plain | Plns Plains | Plz Plaza | Pr Prairie | Pt Point
+    Rd Road | Rdg Ridge | Rmp Ramp | Row | Rte Route | Run | Shr Shore | Shrs Shores | Skwy Skyway | Smt Summit
+    Spg Spring | Spgs Springs | Spur | Sq Square | St Street Str Strt | Sta Station | Ter Terrace Terr
+    Thwy Throughway Thruway Trwy | Tpke Turnpike Tpk | Trce Trace | Trk Track | Trl Trail Trails | Tunl Tunnel
+    Un Union | Vis Vista | Vlg Village | Vly Valley | Vw View | Walk | Way Wy | Wls Wells | Xing Crossing | Xrd Crossroad
+"""
+# What may be written for a street type, in capitals, and the field FETYPE.
+TYPES = {
+    word.upper(): words.split()[0]
+    for line in _TYPES.splitlines()
+    for words in line.split("|")
+    for word in words.split()
+}
+
+_UNITS = "APARTMENT APT BLDG BOX BUILDING DEPT DEPARTMENT FL FLOOR HANGAR HNGR LOT RM ROOM SLIP SPACE SPC STE SUITE"
+# Words that come before the number of a unit, and words that are a unit by themselves.
+UNITS = frozenset(f"{_UNITS} TRAILER TRLR UNIT".split())
+PARTS_OF_HOUSES = frozenset("BASEMENT BSMT FRNT FRONT LOWER LOWR PENTHOUSE PH REAR UPPER UPPR".split())
+
+_COUNTY_ROAD = ("County Road {}", "County Rd {}", "Co Road {}", "Co Rd {}", "CR {}")
+_COUNTY_ROUTE = ("County Route {}", "County Rte {}", "Co Route {}", "Co Rte {}")
+_COUNTY_HIGHWAY = ("County Highway {}", "County Hwy {}", "Co Highway {}", "Co Hwy {}")
+_STATE_ROAD = ("State Road {}", "State Rd {}", "St Rd {}", "SR {}")
+_STATE_ROUTE = ("State Route {}", "State Rte {}", "St Rte {}", "SR {}")
+_STATE_HIGHWAY = ("State Highway {}", "State Hwy {}", "St Hwy {}", "SH {}")
+_US_HIGHWAY = ("US Hwy {}", "US Highway {}", "US Route {}", "US Rte {}", "U S Hwy {}", "U S Highway {}", "US {}")
+_INTERSTATE = ("I-{}", "I- {}", "I {}", "Interstate {}", "Interstate Hwy {}", "Interstate Highway {}")
+_FARM_ROAD = ("FM {}", "F M {}", "FM Road {}", "Farm to Market Road {}", "Farm-to-Market Road {}")
+
+_COUNTY, _STATE, _US = "(?:CO|CNTY|COUNTY)", "(?:ST|STATE)", "(?:US|U S|UNITED STATES)"
+_ROAD, _ROUTE, _HIGHWAY = "(?:RD|ROAD)", "(?:RT|RTE|ROUTE)", "(?:HWY|HIGHWAY|HIWAY)"
+# How a numbered road may be written, the names that mean the same, and those of the same system with another word.
+_ROUTES = [
+    (re.compile(rf"(?:{written})[ -]{{0,2}}([0-9]{{1,5}}[A-Z]?)"), same, other)
+    for written, same, other in (
+        (f"CR|{_COUNTY} {_ROAD}", _COUNTY_ROAD, _COUNTY_ROUTE + _COUNTY_HIGHWAY),
+        (f"{_COUNTY} {_ROUTE}", _COUNTY_ROUTE, _COUNTY_ROAD + _COUNTY_HIGHWAY),
+        (f"CH|{_COUNTY} {_HIGHWAY}", _COUNTY_HIGHWAY, _COUNTY_ROAD + _COUNTY_ROUTE),
+        ("SR|S R", _STATE_ROUTE + _STATE_ROAD, _STATE_HIGHWAY),
+        (f"{_STATE} {_ROUTE}", _STATE_ROUTE, _STATE_ROAD + _STATE_HIGHWAY),
+        (f"{_STATE} {_ROAD}", _STATE_ROAD, _STATE_ROUTE + _STATE_HIGHWAY),
+        (f"SH|{_STATE} {_HIGHWAY}", _STATE_HIGHWAY, _STATE_ROUTE + _STATE_ROAD),
+        (rf"{_US}(?: {_HIGHWAY}| {_ROUTE})?", _US_HIGHWAY, ()),
+        (f"(?:I|INTERSTATE)(?: {_HIGHWAY})?", _INTERSTATE, ()),
+        (f"(?:FM|F M)(?: {_ROAD})?|FARM[ -]TO[ -]MARKET {_ROAD}", _FARM_ROAD, ()),
+        (_HIGHWAY, ("Highway {}", "Hwy {}"), ()),
+    )
+]
+
+
+def route_names(name: str) -> tuple[list[str], list[str]]:
+    """Returns what else a numbered road may be called: names that mean the same, and names with another word.
+
+    `CR 46` means `County Road 46`; `County Highway 46` is called by another word. The name is in capitals, without dots.
+    """
+    for pattern, same, other in _ROUTES:
+        if found := pattern.fullmatch(name):
+            return [text.format(found[1]) for text in same], [text.format(found[1]) for text in other]
+    return [], []
+
+
+def same_type(one: str, other: str) -> bool:
+    """Says whether two street types are the same one, however they are abbreviated."""
+    return _type_of(one) == _type_of(other)
+
+
+def _type_of(field: str) -> str:
+    return TYPES.get(field.upper(), field.upper())

@@ -1,0 +1,269 @@
+"""Geocodes addresses by the program `extractd`: the function `geocode`, and the command `tigerline geocode`.
+
+Positions, and which segments have a house number, come from `extractd geocode-batch` alone. Taking street strings apart
+and choosing among hits is done here.
+"""
+
+import argparse
+import csv
+import os
+import re
+import signal
+import sys
+from collections import Counter
+from collections.abc import Iterable, Iterator, Sequence
+from contextlib import ExitStack
+from dataclasses import dataclass
+from enum import StrEnum
+from itertools import islice
+from pathlib import Path
+from select import PIPE_BUF, select
+
+from . import _program
+from ._addresses import Reason, Street, take_apart
+from ._commands import exit_status
+from ._extract import active_interrupts
+from ._geocode import Answer, Hit, ask
+from ._geocode_input import COLUMNS, POLL, STANDARD_INPUT, Address, AddressFile, opened_input
+from ._interrupts import Interrupts
+from ._output import pending_file
+from ._program import PathLike
+from ._scratch import naming, scratch_folder
+from ._sources import choose_counties, find_counties
+
+__all__ = ["Address", "Match", "Reason", "Status", "geocode"]
+
+COMMAND = "geocode"
+# So many addresses have their readings and hits in memory. Each time the counties are loaded again.
+ADDRESSES_AT_ONCE = 20_000
+OUTPUT_COLUMNS = ("id", "address", "match", "exact", "matched_address", "coordinates", "tlid", "side")
+_ZIP = re.compile(r"([0-9]{3,5})(?:[- ]?[0-9]{4})?")
+
+
+class Status(StrEnum):
+    """What came of an address, in the words of the Census Bureau's batch geocoder."""
+
+    MATCH = "Match"
+    TIE = "Tie"
+    NO_MATCH = "No_Match"
+
+
+@dataclass(frozen=True, slots=True)
+class Match:
+    """What came of an address.
+
+    For a match, `matched` is the address as the data has it, and the place is in degrees (NAD 83). `reasons` says why there
+    is none, or what a match that isn't exact lacks.
+    """
+
+    address: Address
+    status: Status
+    reasons: tuple[Reason, ...] = ()
+    matched: str | None = None
+    longitude: float | None = None
+    latitude: float | None = None
+    tlid: int | None = None
+    side: str | None = None
+    county: str | None = None
+
+    @property
+    def is_exact(self) -> bool:
+        """Says whether the address states the same direction, name, type and ZIP Code as the data."""
+        return self.status is Status.MATCH and not self.reasons
+
+
+def geocode(
+    addresses: Iterable[Sequence[str]],
+    data: PathLike,
+    counties: str | Iterable[str] | None = None,
+    *,
+    extractd: PathLike | None = None,
+) -> Iterator[Match]:
+    """Yields a match for each address, in their order. It needs the standard library alone.
+
+    An address is an `Address`, or its id, street, city, state and zip as strings; the last three may be missing. `data`,
+    `counties` and `extractd` are those of `select`. Many addresses are looked up at once, so the first match comes late.
+    """
+    return _geocode(map(_checked, addresses), data, counties, extractd, None)
+
+
+def _checked(address: Sequence[str]) -> Address:
+    if isinstance(address, str) or not 2 <= len(address) <= len(COLUMNS):
+        raise ValueError(f"an address has {', '.join(COLUMNS[:-1])} and {COLUMNS[-1]}, and {address!r} hasn't")
+    return Address(*address)
+
+
+def _geocode(
+    addresses: Iterable[Address],
+    data: PathLike,
+    counties: str | Iterable[str] | None,
+    extractd: PathLike | None,
+    interrupts: Interrupts | None,
+) -> Iterator[Match]:
+    """Yields the matches. Without `interrupts` each part of the addresses holds signals back for itself."""
+
+    folder = Path(data)
+    with active_interrupts(interrupts) as held:
+        program = _program.find_program(extractd, held)
+        chosen = choose_counties(find_counties(folder), counties, folder)
+    remaining = iter(addresses)
+    is_first = True
+    while part := list(islice(remaining, ADDRESSES_AT_ONCE)):
+        taken = [(take_apart(address.street), Answer(zip_of(address.zip))) for address in part]
+        asked = [(street, answer) for street, answer in taken if isinstance(street, Street)]
+        with active_interrupts(interrupts) as held:
+            held.check()
+            ask(asked, program, chosen, held, warns=is_first)
+        is_first = False
+        yield from map(_match, part, *zip(*taken))
+
+
+def zip_of(cell: str) -> str:
+    """Returns the five digits of a ZIP Code, empty if there is none. Spreadsheets drop leading zeros."""
+    found = _ZIP.fullmatch(cell.strip())
+    return found[1].zfill(5) if found and found[1].isascii() else ""
+
+
+def _match(address: Address, street: Street | Reason, answer: Answer) -> Match:
+    """Returns what came of an address."""
+    if isinstance(street, Reason):
+        return Match(address, Status.NO_MATCH, (street,))
+    if answer.best is None:
+        reason = Reason.NO_SUCH_NUMBER_ON_STREET if answer.street_exists else Reason.NO_SUCH_STREET
+        return Match(address, Status.NO_MATCH, (reason,))
+    if len(answer.places) > 1:
+        return Match(address, Status.TIE, (Reason.TIE,))
+    if answer.best.place is None:
+        return Match(address, Status.NO_MATCH, (Reason.NO_COORDINATES,))
+    hit = answer.best
+    return Match(
+        address,
+        Status.MATCH,
+        answer.lacks,
+        _matched(address, street.number, hit),
+        float(hit.longitude),
+        float(hit.latitude),
+        int(hit.tlid),
+        hit.side,
+        hit.county,
+    )
+
+
+def _matched(address: Address, number: int, hit: Hit) -> str:
+    street = " ".join(part for part in (str(number), hit.fedirp, hit.fename, hit.fetype, hit.fedirs) if part)
+    return ", ".join((street, address.city.strip(), address.state.strip(), hit.zip)).upper()
+
+
+def parsed(words: Sequence[str]) -> argparse.Namespace:
+    """Returns the options of a command line. OUT may come after other options."""
+    return parser().parse_intermixed_args(words)
+
+
+def parser() -> argparse.ArgumentParser:
+    """Returns the parser of the command line."""
+    result = argparse.ArgumentParser(
+        prog=f"tigerline {COMMAND}",
+        description="Writes where the addresses of a CSV file are, as the Census Bureau's batch geocoder does.",
+        epilog="Exit status: 0 written, 1 refused by extractd, 2 usage, 3 files, 4 out of memory.",
+    )
+    add = result.add_argument
+    add("addresses", metavar="IN", help=f"a CSV file of {', '.join(COLUMNS)} without a head line; - is standard input")
+    add("out", metavar="OUT", nargs="?", type=Path, help="the file to write (default: standard output)")
+    add(
+        "--data",
+        metavar="DIR",
+        required=True,
+        help="a folder with counties, searched with its subfolders, or a zip file",
+    )
+    counties = "01001 is a county, 01 or AL all of a state (default: all in DIR)"
+    add("--counties", metavar="CODE", nargs="+", help=counties)
+    add("--reasons", action="store_true", help="add a column with the reason for no match, or for one that isn't exact")
+    add("--header", action="store_true", help="IN has a head line, which names the columns; write one, too")
+    add("--encoding", default="utf-8", help="the encoding of IN, such as cp1252 (default: utf-8)")
+    add("--overwrite", action="store_true", help="replace OUT if it exists")
+    add("--extractd", metavar="FILE", help="the program (default: the variable EXTRACTD, or extractd in PATH)")
+    return result
+
+
+def main(words: Sequence[str]) -> int:
+    """Runs the command `tigerline geocode`, and returns its exit status."""
+    options = parsed(words)
+    return exit_status(lambda: run_command(options))
+
+
+def run_command(options: argparse.Namespace) -> bytes:
+    """Writes the matches, and returns a message if they are in a file and not on standard output."""
+    with Interrupts(signal.SIGINT, signal.SIGTERM, signal.SIGHUP) as interrupts, ExitStack() as files:
+        out = files.enter_context(pending_file(options.out, options.overwrite)) if options.out else None
+        path = out.path if out else files.enter_context(scratch_folder()) / "matches.csv"
+        name = "standard input" if options.addresses == STANDARD_INPUT else options.addresses
+        source = files.enter_context(opened_input(options.addresses, interrupts))
+        addresses = AddressFile(source, name, options.encoding, options.header)
+        for _ in addresses.addresses(interrupts):
+            pass  # A faulty line is found before the first address is looked up.
+        matches = _geocode(
+            addresses.addresses(interrupts), options.data, options.counties, options.extractd, interrupts
+        )
+        with naming(out.final if out else path):
+            counts = _write(path, matches, options, interrupts)
+        interrupts.check()
+        if not out:
+            _copy_to_output(path, interrupts)
+            return b""
+        out.publish()
+    return os.fsencode(f"{options.out}: {_summary(counts)}\n")
+
+
+def _write(path: Path, matches: Iterable[Match], options: argparse.Namespace, interrupts: Interrupts) -> Counter[str]:
+    """Writes the matches to a file, and returns how many there are of each kind."""
+    counts: Counter[str] = Counter()
+    with open(path, "w", encoding="utf-8", errors="replace", newline="") as file:
+        writer = csv.writer(file, quoting=csv.QUOTE_ALL, lineterminator="\n")
+        if options.header:
+            writer.writerow((*OUTPUT_COLUMNS, "reason") if options.reasons else OUTPUT_COLUMNS)
+        for match in matches:
+            interrupts.check()
+            writer.writerow(row_of(match, options.reasons))
+            counts["exact" if match.is_exact else match.status] += 1
+    return counts
+
+
+def row_of(match: Match, has_reason: bool) -> list[str]:
+    """Returns the columns of the Census Bureau's batch geocoder, which has three if there is no match."""
+    row = [match.address.id, ", ".join(cell.strip() for cell in match.address[1:]), match.status]
+    if match.status is Status.MATCH:
+        row += [
+            "Exact" if match.is_exact else "Non_Exact",
+            match.matched or "",
+            f"{match.longitude:.6f},{match.latitude:.6f}",
+            str(match.tlid),
+            match.side or "",
+        ]
+    if has_reason:
+        row += [""] * (len(OUTPUT_COLUMNS) - len(row)) + [" ".join(match.reasons)]
+    return row
+
+
+def _summary(counts: Counter[str]) -> str:
+    matched = counts["exact"] + counts[Status.MATCH]
+    return (
+        f"{counts.total()} address{'' if counts.total() == 1 else 'es'}: {matched} matched, {counts['exact']} of them exactly; "
+        f"{counts[Status.TIE]} tied, {counts[Status.NO_MATCH]} not matched"
+    )
+
+
+def _copy_to_output(path: Path, interrupts: Interrupts) -> None:
+    """Copies a file to standard output, which may be a pipe that is closed, or one that nobody reads for a long time."""
+    if sys.stdout is None:
+        raise OSError("the output can't be written: standard output is closed")
+    output = sys.stdout.fileno()
+    try:
+        with open(path, "rb") as file:
+            while chunk := file.read(PIPE_BUF):
+                while chunk:
+                    interrupts.check()
+                    # A pipe that is ready takes so much at once. More would wait, and Ctrl-C with it.
+                    if select([], [output], [], POLL)[1]:
+                        chunk = chunk[os.write(output, chunk) :]
+    except OSError as error:
+        raise OSError(f"the output can't be written: {error.strerror}") from None
