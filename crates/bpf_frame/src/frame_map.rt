@@ -202,6 +202,10 @@ fn join_each(kinds: &mut [Kind; SLOTS], others: &[Kind; SLOTS])
     ensures { kinds.new ≡ meaning.join_kinds kinds.old others.now }
 {
     for slot in 0..SLOTS {
+        // Most slots are unknown, and stay so.
+        if let Kind::Nothing = kinds[slot] {
+            continue;
+        }
         kinds[slot] = kinds[slot].join(&others[slot]);
     }
 }

@@ -27,7 +27,7 @@ pub fn step<A: Allocator, B: Allocator>(
     // Not read: that the segment is whole is what a safe code needs.
     let _bytes = segment.bytes();
     let at = bare.at;
-    match execute(bare, segment, flat_forms[at], at + 1) {
+    match execute(bare, segment, &flat_forms[at], at + 1) {
         Some(next) => {
             bare.at = next;
             None

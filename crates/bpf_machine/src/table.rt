@@ -24,37 +24,37 @@ macro_rules! dispatch {
     ) => {
         match $flat {
             $(
-                FlatInsn::$ai32(o) => Some($bare.alu_immediate(Operation::$operation, Bits32, o, $next)),
-                FlatInsn::$ar32(o) => Some($bare.alu_register(Operation::$operation, Bits32, o, $next)),
-                FlatInsn::$ai64(o) => Some($bare.alu_immediate(Operation::$operation, Bits64, o, $next)),
-                FlatInsn::$ar64(o) => Some($bare.alu_register(Operation::$operation, Bits64, o, $next)),
+                FlatInsn::$ai32(o) => Some($bare.alu_immediate(Operation::$operation, Bits32, *o, $next)),
+                FlatInsn::$ar32(o) => Some($bare.alu_register(Operation::$operation, Bits32, *o, $next)),
+                FlatInsn::$ai64(o) => Some($bare.alu_immediate(Operation::$operation, Bits64, *o, $next)),
+                FlatInsn::$ar64(o) => Some($bare.alu_register(Operation::$operation, Bits64, *o, $next)),
             )*
-            $(FlatInsn::$extend(o) => Some($bare.extend(SignExtension::$extension, o, $next)),)*
-            $(FlatInsn::$negate(o) => Some($bare.negate($width, o, $next)),)*
+            $(FlatInsn::$extend(o) => Some($bare.extend(SignExtension::$extension, *o, $next)),)*
+            $(FlatInsn::$negate(o) => Some($bare.negate($width, *o, $next)),)*
             $(
-                FlatInsn::$s16(o) => Some($bare.byte_swap(ByteOrder::$order, SwapWidth::Bits16, o, $next)),
-                FlatInsn::$s32(o) => Some($bare.byte_swap(ByteOrder::$order, SwapWidth::Bits32, o, $next)),
-                FlatInsn::$s64(o) => Some($bare.byte_swap(ByteOrder::$order, SwapWidth::Bits64, o, $next)),
-            )*
-            $(
-                FlatInsn::$ji32(o) => Some($bare.jump_immediate(Condition::$condition, Bits32, o, $next)),
-                FlatInsn::$jr32(o) => Some($bare.jump_register(Condition::$condition, Bits32, o, $next)),
-                FlatInsn::$ji64(o) => Some($bare.jump_immediate(Condition::$condition, Bits64, o, $next)),
-                FlatInsn::$jr64(o) => Some($bare.jump_register(Condition::$condition, Bits64, o, $next)),
+                FlatInsn::$s16(o) => Some($bare.byte_swap(ByteOrder::$order, SwapWidth::Bits16, *o, $next)),
+                FlatInsn::$s32(o) => Some($bare.byte_swap(ByteOrder::$order, SwapWidth::Bits32, *o, $next)),
+                FlatInsn::$s64(o) => Some($bare.byte_swap(ByteOrder::$order, SwapWidth::Bits64, *o, $next)),
             )*
             $(
-                FlatInsn::$record(o) => Some($bare.load_record($segment, LoadFormat::$format, o, $next)),
-                FlatInsn::$frame(o) => Some($bare.load_frame($segment, LoadFormat::$format, o, $next)),
+                FlatInsn::$ji32(o) => Some($bare.jump_immediate(Condition::$condition, Bits32, *o, $next)),
+                FlatInsn::$jr32(o) => Some($bare.jump_register(Condition::$condition, Bits32, *o, $next)),
+                FlatInsn::$ji64(o) => Some($bare.jump_immediate(Condition::$condition, Bits64, *o, $next)),
+                FlatInsn::$jr64(o) => Some($bare.jump_register(Condition::$condition, Bits64, *o, $next)),
             )*
             $(
-                FlatInsn::$si(o) => Some($bare.store_immediate($segment, StoreSize::$size, o, $next)),
-                FlatInsn::$sr(o) => Some($bare.store_register($segment, StoreSize::$size, o, $next)),
+                FlatInsn::$record(o) => Some($bare.load_record($segment, LoadFormat::$format, *o, $next)),
+                FlatInsn::$frame(o) => Some($bare.load_frame($segment, LoadFormat::$format, *o, $next)),
             )*
-            FlatInsn::Jump { target } => Some(target as usize),
-            FlatInsn::Call { immediate } => Some($bare.call_number($segment, immediate, $next)),
+            $(
+                FlatInsn::$si(o) => Some($bare.store_immediate($segment, StoreSize::$size, *o, $next)),
+                FlatInsn::$sr(o) => Some($bare.store_register($segment, StoreSize::$size, *o, $next)),
+            )*
+            FlatInsn::Jump { target } => Some(*target as usize),
+            FlatInsn::Call { immediate } => Some($bare.call_number($segment, *immediate, $next)),
             FlatInsn::Exit => None,
             FlatInsn::WideLoad { destination, immediate, next_immediate } => {
-                Some($bare.wide_load(destination, immediate, next_immediate, $next))
+                Some($bare.wide_load(*destination, *immediate, *next_immediate, $next))
             }
         }
     };
@@ -67,12 +67,12 @@ macro_rules! dispatch {
 pub(crate) fn execute<A: Allocator>(
     bare: &mut Bare,
     segment: &Segment<A>,
-    flat: FlatInsn,
+    flat: &FlatInsn,
     next: usize,
 ) -> Option<usize>
-    requires possible { IsOk (next_words segment.now (λ register. area_of flat) (words_of bare.old) next (target_of flat) (insn_of flat)) }
-    requires meets { MeetsCall (words_of bare.old) (insn_of flat) }
-    ensures value { next_words segment.now (λ register. area_of flat) (words_of bare.old) next (target_of flat) (insn_of flat)
+    requires possible { IsOk (next_words segment.now (λ register. area_of flat.now) (words_of bare.old) next (target_of flat.now) (insn_of flat.now)) }
+    requires meets { MeetsCall (words_of bare.old) (insn_of flat.now) }
+    ensures value { next_words segment.now (λ register. area_of flat.now) (words_of bare.old) next (target_of flat.now) (insn_of flat.now)
         ≡ Ok (next_of result (words_of bare.new)) }
     ensures kept { result ≡ None → bare.new ≡ bare.old }
 {

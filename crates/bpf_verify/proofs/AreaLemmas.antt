@@ -5,7 +5,7 @@ use Rattle.std.proofs.Common.{inl, inr}
 use Rattle.std.specs.Prelude.{slice_get}
 use Rattle.std.proofs.lemmas.Bool.{cases_lt}
 use Rattle.std.proofs.lemmas.Bool.Decides.{nat_tests}
-use Rattle.std.proofs.lemmas.Option.{none-some}
+use Rattle.std.proofs.lemmas.Option.{get_or_from_slice_get, none-some}
 use Rattle.bpf_insn.proofs.PlaceLemmas.{index_within, instruction_at-index, instruction_at-inside, instruction_at-behind}
 use Rattle.bpf_insn.proofs.PlaceLemmas.{instruction_within, word_count-cons}
 use Rattle.bpf_insn.specs.Code.{index_at, instruction_at, spelling, word_count}
@@ -172,7 +172,7 @@ areas_hold code areas forward immediates accepted = record {
       subst (IsPointerInto (register_value state base)) (sym place) (state_points verified run is_run end stands is);
 }
 
--- The immediates of a code whose flat forms are known.
+-- The immediates of a code.
 
 element_at : {X : Type 0} (xs : List X) (index : ℕ) → index < length xs → (x : X) × (x ≡ get_or xs index x)
 element_at [] index within = absurd (omega arith)
@@ -184,17 +184,35 @@ element_found [] index x found = absurd (let no : ⊥ = cc in no)
 element_found (y ∷ xs) zero x found = let same : y ≡ x = cc in sym same
 element_found (y ∷ xs) (suc index) x found = element_found xs index x found
 
-pub immediates_of_forms : (code : List Insn) (areas : List (Option Area)) (flats : List FlatInsn)
-    → AreFlatForms code areas (length code) flats → HaveImmediates code
-immediates_of_forms code areas flats forms place insn stands =
+-- those of the instructions before an index
+abbrev pub HaveImmediatesBefore : List Insn → ℕ → Type 0
+HaveImmediatesBefore code count = (index : ℕ) (insn : Insn) → index < count → slice_get code index ≡ Some insn → HasImmediates insn
+
+pub all_have_immediates : (code : List Insn) → HaveImmediatesBefore code (length code) → HaveImmediates code
+all_have_immediates code have place insn stands =
     by_index (index_at code place) (index_within code place) (sym (instruction_at-index code place) ∙ stands)
   where
     by_index : (found : Option ℕ) → IfSome found (λ index. index < length code) → option_and_then (slice_get code) found ≡ Some insn
         → HasImmediates insn
     by_index None within is = absurd (let no : ⊥ = cc in no)
-    by_index (Some index) within is =
-        let flat = element_at flats index (let count = forms.count_is in omega arith) in
-        (forms.each index insn flat.0 within (element_found code index insn is) flat.1).immediates
+    by_index (Some index) within is = have index insn within is
+
+pub one_more_has_immediates : (code : List Insn) (count : ℕ) (next : Insn) → next ≡ get_or code count next → HasImmediates next
+    → HaveImmediatesBefore code count → HaveImmediatesBefore code (count + 1)
+one_more_has_immediates code count next is has have index insn below found = by_place (cases_lt index count)
+  where
+    by_place : (index < count) ⊎ (count ≤ index) → HasImmediates insn
+    by_place (inl before) = have index insn before found
+    by_place (inr not_before) =
+        let here : count ≡ index = omega arith in
+        let at_index = subst (λ (at : ℕ). next ≡ get_or code at next) here is in
+        subst HasImmediates (at_index ∙ get_or_from_slice_get code index insn next found) has
+
+pub immediates_of_forms : (code : List Insn) (areas : List (Option Area)) (flats : List FlatInsn)
+    → AreFlatForms code areas (length code) flats → HaveImmediates code
+immediates_of_forms code areas flats forms = all_have_immediates code (λ index insn below found.
+    let flat = element_at flats index (let count = forms.count_is in omega arith) in
+    (forms.each index insn flat.0 below (element_found code index insn found) flat.1).immediates)
 
 -- Entries.
 

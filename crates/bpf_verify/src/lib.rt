@@ -17,6 +17,6 @@ mod visitor;
 
 pub use fault::VerifyFault;
 pub use known::Known;
-pub use pass::{verify, verify_with};
+pub use pass::{check, verify, verify_with};
 pub use verified::{Entry, Verified};
 pub use visitor::Visitor;

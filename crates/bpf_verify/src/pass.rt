@@ -1,6 +1,7 @@
 //! The one pass over a code.
 ghost use Rattle.std.specs.Prelude.{◌≡◌, IfOk, IfErr, OnOk, Some};
 ghost use Rattle.bpf_insn.specs.Code.{HasProgramSize, instruction_at, word_count};
+ghost use Rattle.bpf_insn.specs.Immediates.{HasImmediates};
 ghost use Rattle.bpf_meaning.specs.Run.{IsSafe};
 ghost use Rattle.bpf_verify.specs.Annotation.{HasGoodAnnotation, IsAccepted, IsVerifyFault, area_of};
 ghost use Rattle.bpf_verify.specs.Pass.{AreProper, IsRefusedVisit, IsVisitFault, Visits, edges_of, kept, state_of, visit_of};
@@ -55,6 +56,17 @@ pub fn verify_with<A: Allocator + Copy, V: Visitor>(
     Ok(Verified::of(alloc, flow, &areas)?)
 }
 
+/// Returns the verdict that [`verify`] has, and keeps nothing of the code: for a caller that doesn't run it.
+pub fn check<A: Allocator + Copy>(alloc: A, flow: &Flow<A>) -> Result<(), VerifyFault>
+    ensures ok { OnOk result (HasGoodAnnotation flow.now.code) }
+    ensures safe { OnOk result (IsSafe flow.now.code) }
+    ensures err { IfErr result (IsVerifyFault flow.now.code) }
+    ensures only { HasGoodAnnotation flow.now.code → IfErr result (λ fault. fault ≡ Memory) }
+{
+    pass(alloc, flow, &mut ())?;
+    Ok(())
+}
+
 /// Visits each instruction in order. The answer is what each one's base points into.
 fn pass<A: Allocator + Copy, V: Visitor>(
     alloc: A,
@@ -62,6 +74,7 @@ fn pass<A: Allocator + Copy, V: Visitor>(
     visitor: &mut V,
 ) -> Result<Vec<Option<Area>, A>, VerifyFault>
     ensures ok { IfOk result (λ areas. IsAccepted flow.now.code areas.items) }
+    ensures safe { OnOk result (IsSafe flow.now.code) }
     ensures err { IfErr result (IsVerifyFault flow.now.code) }
     ensures shown { OnOk result (IsShown V.visited flow.now.code visitor.old visitor.new) }
     ensures shown_refusal { IfErr result (λ fault. IsShownRefusal V.visited flow.now.code fault visitor.old visitor.new) }
@@ -88,6 +101,7 @@ fn visit<A: Allocator + Copy, V: Visitor>(
     ensures area { IfOk result (λ area. area ≡ area_of (kept ahead.old ahead.old.place) insn) }
     ensures ok { OnOk result (Visits insn ahead.old ahead.new) }
     ensures proper { OnOk result (AreProper (kept ahead.new)) }
+    ensures immediates { HasImmediates insn }
     ensures err { IfErr result (IsVisitFault ahead.old insn) }
     ensures shown { OnOk result (visitor.new ≡ V.visited visitor.old (visit_of ahead.old insn)) }
     ensures shown_refusal { IfErr result (λ fault. IsRefusedVisit V.visited ahead.old insn fault visitor.old visitor.new) }

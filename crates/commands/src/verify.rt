@@ -4,14 +4,14 @@ ghost use Rattle.commands.specs.Command.{CarriesOut};
 ghost use Rattle.commands.specs.Failure.{status};
 ghost use Rattle.commands.specs.Files.{disk};
 ghost use Rattle.commands.specs.declared.request.Request.{Request};
-ghost use Rattle.std.specs.Prelude.{◌≢◌, IfOk, IfErr};
+ghost use Rattle.bpf_insn.specs.declared.instruction.Insn.{Insn};
 ghost use Rattle.extract.specs.Program.{IsSafeProgram, IsProgramFault};
+ghost use Rattle.std.specs.Prelude.{◌≢◌, List, OnOk, IfErr};
 
 use crate::failure::{Failure, write};
 use crate::files::{Files, read_program_file};
 use bpf_insn::decode;
-use bpf_verify::Verified;
-use extract::{ProgramFault, accept_code};
+use extract::{ProgramFault, check_code};
 use refusals::Fault;
 use std::alloc::Allocator;
 use tl_fields::CountedWrite;
@@ -40,22 +40,19 @@ impl<'a> Verify<'a> {
             Ok(program) => program,
             Err(fault) => return Err(Failure::of_program(self.program, fault)),
         };
-        match accept_owned(alloc, program) {
-            Ok(_verified) => write(out, b"accepted\n"),
+        match check_owned(alloc, program) {
+            Ok(()) => write(out, b"accepted\n"),
             Err(fault) => Err(Failure::Refusal(fault.refusal())),
         }
     }
 }
 
-/// Accepts a program, or refuses it. Its bytes are freed before the verifier takes memory.
-fn accept_owned<A: Allocator + Copy>(
-    alloc: A,
-    program: Vec<u8, A>,
-) -> Result<Verified<A>, ProgramFault>
-    ensures ok { IfOk result (λ verified. IsSafeProgram program.items verified.code) }
+/// Returns the verdict on a program. Its bytes are freed before the verifier takes memory.
+fn check_owned<A: Allocator + Copy>(alloc: A, program: Vec<u8, A>) -> Result<(), ProgramFault>
+    ensures ok { OnOk result ((code : List Insn) × IsSafeProgram program.items code) }
     ensures err { IfErr result (IsProgramFault program.items) }
 {
     let code = decode(alloc, program.as_slice())?;
     drop(program);
-    accept_code(alloc, code)
+    check_code(alloc, code)
 }

@@ -1,18 +1,19 @@
--- How the rows of segments join, that they are alike where the answers are, and how a row is written part by part.
-use Rattle.std.proofs.Common.{◌≡◌, ℕ, zero, suc, Ok, Err, ◌≤◌, List, [], ◌∷◌, ◌++◌, length, take, refl, sym, ap, subst, ◌∙◌, append_assoc}
+-- How the rows of segments join, that they are alike where the answers are, and how a row is put over another one.
+use Rattle.std.proofs.Common.{◌≡◌, ◌+◌, ℕ, Err, ◌≤◌, List, [], ◌∷◌, ◌++◌, length, take, ap, ◌∙◌, append_assoc}
 use Rattle.std.proofs.Common.{arith}
-use Rattle.std.specs.Io.KnownBytes.{Appends}
-use Rattle.std.specs.Prelude.{Result, decimal}
+use Rattle.std.specs.List.{refill}
+use Rattle.std.specs.Prelude.{drop, slice_set}
+use Rattle.std.proofs.Math.Seq.{take-append_seam}
+use Rattle.std.proofs.lemmas.Grind.{take-set_at}
+use Rattle.std.proofs.lemmas.List.{length-append, length-drop, length-set, length-take-le, take-append-le}
+use Rattle.std.proofs.lemmas.Slice.{take-put_mid}
+use borrow.Rule.Slice.PartMut.{put_mid}
 use Rattle.std.proofs.lemmas.Bool.Decides.{nat_tests}
 use Rattle.bpf_insn.specs.declared.instruction.Insn.{Insn}
-use Rattle.tl_fields.specs.Counted.{CountsFault}
-use Rattle.tl_fields.specs.Device.{WriteCounts, Writer}
-use Rattle.tl_fields.specs.Writing.{WritesText}
+use Rattle.tl_fields.specs.Device.{Writer}
 use Rattle.tl_fields.specs.declared.writing.WriteFault.{WriteFault}
-use Rattle.tl_fields.proofs.KnownBytesLemmas.{Appends-append, AppendsBeginning-further}
 use Rattle.tl_segments.specs.Joining.{JoinedLines, segment_of, segments_of}
-use Rattle.tl_segments.specs.Segment.{Contents}
-use Rattle.bpf_meaning.specs.Extract.{IsExtract, row_of, chosen_count}
+use Rattle.bpf_meaning.specs.Extract.{IsExtract, chosen_count}
 use Rattle.extract.specs.Extracting.{AnswersAlike}
 use Rattle.extract.specs.Rows.{WritesRow}
 
@@ -33,60 +34,50 @@ pub row_alike : {code : List Insn} {own joined : JoinedLines} (line : List ℕ) 
     → WritesRow code (segment_of joined line) (Err fault) out out'
 row_alike line fault out out' alike row = (row.0, row.1, alike.same line row.0 row.1 row.2, row.3, row.4, row.5)
 
--- what parts of a text that are written one after the other do to a writer
+-- a row that is put over a text of the same length: the digits, the tab, the record from `start` on, and the line feed at `end`
+module _ (old digits bytes : List ℕ) (start k end : ℕ) (start_is : start ≡ length digits + 1) (k_is : k ≡ length bytes) (end_is : end ≡ start + k)
+    (long : length old ≡ end + 1) where
+  abbrev with_digits : List ℕ
+  with_digits = digits ++ drop (length digits) old
 
-take-within : (count : ℕ) (text more : List ℕ) → take (length (take count text)) (text ++ more) ≡ take count text
-take-within zero text more = refl
-take-within (suc count) [] more = refl
-take-within (suc count) (byte ∷ text) more = ap (λ (rest : List ℕ). byte ∷ rest) (take-within count text more)
+  abbrev with_tab : List ℕ
+  with_tab = slice_set with_digits (length digits) 9
 
--- a part whose writing failed was the first one
-pub first_failed : (part more : List ℕ) (fault : WriteFault) (old new : Writer) → WritesText part (Err fault) old new
-    → WritesText (part ++ more) (Err fault) old new
-first_failed part more fault old new (beginning, counts) = (
-  record {
-    count = length (take beginning.count part);
-    appends = subst (λ text. Appends old.held new.held text) (sym (take-within beginning.count part more)) beginning.appends;
-  },
-  counts,
-)
+  abbrev with_bytes : List ℕ
+  with_bytes = put_mid start k with_tab bytes
 
--- a part was written whole, and then others up to the end or to a fault
-pub then_written : (part more : List ℕ) (result : Result (Unit {0}) WriteFault) (old now new : Writer) → WritesText part (Ok tt) old now
-    → WritesText more result now new → WritesText (part ++ more) result old new
-then_written part more (Ok done) old now new first next =
-    (Appends-append old.held now.held new.held part more first.0 next.0, next.1 ∙ first.1)
-then_written part more (Err fault) old now new first next = (
-  AppendsBeginning-further old.held now.held new.held part more first.0 next.0,
-  subst (λ (counts : WriteCounts). CountsFault fault counts new.counts) first.1 next.1,
-)
+  length-with_digits : length with_digits ≡ end + 1
+  length-with_digits =
+      let all = length-append digits (drop (length digits) old) in
+      let rest = length-drop (length digits) old in
+      omega arith
 
--- a row is written in three parts: the score and the tab, the record, the line feed
-pub record IsRow (score : ℕ) (segment : Contents) (start bytes : List ℕ) : Type 0 where
-  pub begins : start ≡ decimal score ++ 9 ∷ []
-  pub is : bytes ≡ segment.bytes
+  length-with_tab : length with_tab ≡ end + 1
+  length-with_tab = length-set with_digits (length digits) 9 ∙ length-with_digits
 
-module _ {score : ℕ} {segment : Contents} {start bytes : List ℕ} (row : IsRow score segment start bytes) (old : Writer) where
-  row_is : start ++ bytes ++ 10 ∷ [] ≡ row_of score segment
-  row_is =
-      ap (λ (front : List ℕ). front ++ 10 ∷ [])
-      (ap (λ (start : List ℕ). start ++ bytes) row.begins ∙ append_assoc (decimal score) (9 ∷ []) bytes
-      ∙ ap (λ (bytes : List ℕ). decimal score ++ 9 ∷ bytes) row.is)
+  length-with_bytes : length with_bytes ≡ end + 1
+  length-with_bytes =
+      let all = length-append (take start with_tab) (bytes ++ drop k (drop start with_tab)) in
+      let back = length-append bytes (drop k (drop start with_tab)) in
+      let front = length-take-le start with_tab (omega (arith, length-with_tab)) in
+      let rest = length-drop k (drop start with_tab) in
+      let after = length-drop start with_tab in
+      omega (arith, length-with_tab)
 
-  pub start_failed : (fault : WriteFault) (new : Writer) → WritesText start (Err fault) old new
-      → WritesText (row_of score segment) (Err fault) old new
-  start_failed fault new failed =
-      subst (λ text. WritesText text (Err fault) old new) row_is
-      (first_failed (start ++ bytes) (10 ∷ []) fault old new (first_failed start bytes fault old new failed))
+  taken-with_tab : take start with_tab ≡ digits ++ 9 ∷ []
+  taken-with_tab =
+      take-set_at with_digits (length digits) start 9 start_is (omega (arith, length-with_digits))
+      ∙ ap (λ (front : List ℕ). front ++ 9 ∷ []) (take-append_seam digits (drop (length digits) old))
 
-  pub record_failed : (fault : WriteFault) (now new : Writer) → WritesText start (Ok tt) old now → WritesText bytes (Err fault) now new
-      → WritesText (row_of score segment) (Err fault) old new
-  record_failed fault now new first failed =
-      subst (λ text. WritesText text (Err fault) old new) row_is
-      (first_failed (start ++ bytes) (10 ∷ []) fault old new (then_written start bytes (Err fault) old now new first failed))
+  taken-with_bytes : take end with_bytes ≡ (digits ++ 9 ∷ []) ++ bytes
+  taken-with_bytes =
+      take-put_mid start k with_tab bytes end (omega arith) (omega (arith, length-with_tab))
+      ∙ ap (λ (front : List ℕ). front ++ bytes) taken-with_tab
 
-  -- the score, the tab and the record were written
-  pub end_written : (result : Result (Unit {0}) WriteFault) (now new : Writer) → WritesText (start ++ bytes) (Ok tt) old now
-      → WritesText (10 ∷ []) result now new → WritesText (row_of score segment) result old new
-  end_written result now new front last =
-      subst (λ text. WritesText text result old new) row_is (then_written (start ++ bytes) (10 ∷ []) result old now new front last)
+  pub row_put : refill (length old) old (slice_set with_bytes end 10) ≡ digits ++ 9 ∷ bytes ++ 10 ∷ []
+  row_put =
+      let whole = slice_set with_bytes end 10 in
+      let size = length-set with_bytes end 10 ∙ length-with_bytes in
+      take-append-le (length old) whole (drop (length whole) old) (omega (arith, size, long))
+      ∙ take-set_at with_bytes end (length old) 10 long (omega (arith, length-with_bytes))
+      ∙ ap (λ (front : List ℕ). front ++ 10 ∷ []) (taken-with_bytes ∙ append_assoc digits (9 ∷ []) bytes)

@@ -9,6 +9,7 @@ ghost use Rattle.extract.specs.declared.program.ProgramFault.{ProgramFault};
 use crate::fault::ExtractFault;
 use crate::program::accept;
 use crate::rows::write_row_if_chosen;
+use arrayvec::ArrayVec;
 use bpf_machine::Bare;
 use bpf_verify::Verified;
 use std::alloc::Allocator;
@@ -83,9 +84,10 @@ fn write_rows<A: Allocator + Copy, R: CountedRead, W: CountedWrite>(
     let mut number = 0;
     let mut segment = index.blank_segment();
     let mut bare = Bare::start();
+    let mut text = ArrayVec::new();
     let mut rows = 0;
     while let Some(()) = index.next_segment(rt1, &mut number, &mut segment)? {
-        rows += write_row_if_chosen(verified, &segment, &mut bare, out)?;
+        rows += write_row_if_chosen(verified, &segment, &mut bare, &mut text, out)?;
     }
     Ok(rows)
 }

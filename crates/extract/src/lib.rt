@@ -9,5 +9,5 @@ mod rows;
 
 pub use extractor::extract;
 pub use fault::ExtractFault;
-pub use program::{ProgramFault, accept, accept_code};
+pub use program::{ProgramFault, accept, accept_code, check_code, check_program};
 pub use rows::{LONGEST_ROW, push_row_if_chosen, row, row_text, score_if_chosen};

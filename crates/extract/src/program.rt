@@ -1,5 +1,5 @@
 //! Programs that are accepted: their bytes are a code that is safe to run.
-ghost use Rattle.std.specs.Prelude.{◌≡◌, List, IfOk, IfErr};
+ghost use Rattle.std.specs.Prelude.{◌≡◌, List, IfOk, IfErr, OnOk};
 ghost use Rattle.bpf_insn.specs.declared.instruction.Insn.{Insn};
 ghost use Rattle.extract.specs.Program.{IsSafeProgram, IsProgramFault, IsSafeCode, IsFaultOfCode};
 ghost use Rattle.extract.specs.ProgramFault.{of_code, of_flow, of_verify};
@@ -9,7 +9,7 @@ ghost use Rattle.refusals.specs.Refusal.{line as refusal_line};
 use arrayvec::ArrayString;
 use bpf_flow::{Flow, FlowFault};
 use bpf_insn::{Code, CodeFault, decode};
-use bpf_verify::{Verified, VerifyFault, verify};
+use bpf_verify::{Verified, VerifyFault, check, verify};
 use refusals::{Fault, Refusal};
 use std::alloc::Allocator;
 use thiserror::Error;
@@ -95,6 +95,28 @@ pub fn accept<A: Allocator + Copy>(alloc: A, program: &[u8]) -> Result<Verified<
 {
     let code = decode(alloc, program)?;
     accept_code(alloc, code)
+}
+
+/// Returns the verdict that [`accept_code`] has, and keeps nothing of the code: for a caller that doesn't run it.
+pub fn check_code<A: Allocator + Copy>(alloc: A, code: Code<A>) -> Result<(), ProgramFault>
+    ensures ok { OnOk result (IsSafeCode code) }
+    ensures err { IfErr result (IsFaultOfCode code) }
+    ensures only { IsSafeCode code → IfErr result (λ fault. fault ≡ ProgramFault.Memory) }
+{
+    let flow = Flow::of(code)?;
+    check(alloc, &flow)?;
+    Ok(())
+}
+
+/// Returns the verdict that [`accept`] has, and keeps nothing of the program: for a caller that doesn't run it.
+#[tactic(auto, using(crate::proofs::VerdictLemmas::refused_by_code, crate::proofs::VerdictLemmas::refused_for_memory))]
+pub fn check_program<A: Allocator + Copy>(alloc: A, program: &[u8]) -> Result<(), ProgramFault>
+    ensures ok { OnOk result ((code : List Insn) × IsSafeProgram program.now code) }
+    ensures err { IfErr result (IsProgramFault program.now) }
+    ensures only { (code : List Insn) → IsSafeProgram program.now code → IfErr result (λ fault. fault ≡ ProgramFault.Memory) }
+{
+    let code = decode(alloc, program)?;
+    check_code(alloc, code)
 }
 
 /// Accepts a code, or refuses it: where its jumps lead and how it ends is looked at first, and then what its instructions do. Who decodes a

@@ -1,5 +1,5 @@
 //! Rows, and how they are written.
-ghost use Rattle.std.specs.Prelude.{◌≡◌, [], ◌∷◌, ◌++◌, decimal, OnErr, OnOk};
+ghost use Rattle.std.specs.Prelude.{◌≡◌, OnErr, OnOk};
 ghost use Rattle.tl_fields.specs.Device.{writer};
 ghost use Rattle.tl_fields.specs.Writing.{WritesText};
 ghost use Rattle.bpf_meaning.specs.Extract.{row_of};
@@ -16,24 +16,21 @@ use tl_segments::Segment;
 /// How many bytes a row has at most: a score of 20 digits, a tab, the record, a line feed.
 pub const LONGEST_ROW: usize = 250;
 
-// The score and the tab.
-const LONGEST_START: usize = 21;
-
 /// The row of a segment with a score: the score in decimal, a tab, the type 1 record, a line feed.
 pub fn row_text<A: Allocator>(score: u64, segment: &Segment<A>) -> ArrayVec<u8, LONGEST_ROW>
     ensures { result.items ≡ row_of score segment.now }
 {
+    let mut digits = Buffer::new();
     let mut text = ArrayVec::new();
-    text.try_extend_from_slice(row_start(score).as_slice())
+    text.try_extend_from_slice(digits.format(score).as_bytes())
         .unwrap();
+    text.push(b'\t');
     text.try_extend_from_slice(segment.bytes()).unwrap();
     text.push(b'\n');
     text
 }
 
-/// Writes the row of a segment with a score in three parts: the score and the tab, the record, the line feed. Nothing is tried again, and nothing
-/// is flushed.
-#[inline]
+/// Writes the row of a segment with a score. Nothing is tried again, and nothing is flushed.
 pub fn row<A: Allocator, W: CountedWrite>(
     score: u64,
     segment: &Segment<A>,
@@ -42,9 +39,7 @@ pub fn row<A: Allocator, W: CountedWrite>(
     ensures { WritesText (row_of score segment.now) result
         (writer W.contents W.counts out.old) (writer W.contents W.counts out.new) }
 {
-    write_whole(out, row_start(score).as_slice())?;
-    write_whole(out, segment.bytes())?;
-    write_whole(out, b"\n")
+    write_whole(out, row_text(score, segment).as_slice())
 }
 
 /// The score with which a code chooses a segment, `None` where it doesn't choose it. The code runs in the machine, whatever it holds. It takes
@@ -82,12 +77,47 @@ pub fn push_row_if_chosen<A: Allocator, B: Allocator, C: Allocator>(
     }
 }
 
-/// Writes the row of a segment if the code chooses it, and answers how many rows that were. The code runs in the machine, whatever it holds.
+/// Puts the row of a segment with a score in place of another one. Nothing is cleared if both have the same length, as most rows have.
+#[inline]
+fn put_row<A: Allocator>(text: &mut ArrayVec<u8, LONGEST_ROW>, score: u64, segment: &Segment<A>)
+    ensures { text.new.items ≡ row_of score segment.now }
+{
+    let mut buffer = Buffer::new();
+    let digits = buffer.format(score).as_bytes();
+    let record = segment.bytes();
+    let start = digits.len() + 1;
+    let end = start + record.len();
+    if text.len() != end + 1 {
+        return replace_row(text, score, segment);
+    }
+    let row = text.as_mut_slice();
+    row[..digits.len()].copy_from_slice(digits);
+    row[digits.len()] = b'\t';
+    row[start..end].copy_from_slice(record);
+    row[end] = b'\n';
+}
+
+/// The same for a row of another length. It is apart since a new text is cleared.
+#[cold]
+#[inline(never)]
+fn replace_row<A: Allocator>(
+    text: &mut ArrayVec<u8, LONGEST_ROW>,
+    score: u64,
+    segment: &Segment<A>,
+)
+    ensures { text.new.items ≡ row_of score segment.now }
+{
+    *text = row_text(score, segment);
+}
+
+/// Writes the row of a segment in one call if the code chooses it, and answers how many rows that were. The code runs in the machine, and the row
+/// takes its place in the text, whatever they hold.
 #[inline]
 pub(crate) fn write_row_if_chosen<A: Allocator, B: Allocator, W: CountedWrite>(
     verified: &Verified<A>,
     segment: &Segment<B>,
     bare: &mut Bare,
+    text: &mut ArrayVec<u8, LONGEST_ROW>,
     out: &mut W,
 ) -> Result<u64, WriteFault>
     ensures { WritesRow verified.now.code segment.now result
@@ -96,22 +126,9 @@ pub(crate) fn write_row_if_chosen<A: Allocator, B: Allocator, W: CountedWrite>(
     let Some(score) = score_if_chosen(verified, segment, bare) else {
         return Ok(0);
     };
-    match row(score, segment, out) {
+    put_row(text, score, segment);
+    match write_whole(out, text.as_slice()) {
         Ok(()) => Ok(1),
         Err(fault) => Err(fault),
     }
-}
-
-// What stands before the record in a row.
-#[inline]
-fn row_start(score: u64) -> ArrayVec<u8, LONGEST_START>
-    ensures { result.items ≡ decimal score ++ 9 ∷ [] }
-{
-    let mut digits = Buffer::new();
-    let mut start = ArrayVec::new();
-    start
-        .try_extend_from_slice(digits.format(score).as_bytes())
-        .unwrap();
-    start.push(b'\t');
-    start
 }

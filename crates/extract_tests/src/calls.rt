@@ -5,7 +5,8 @@ use extract::{accept, row, row_text, score_if_chosen};
 use fixtures::{RT1, Refusing, bytes, cell, is_refusal, program};
 use refusals::Fault;
 use std::alloc::Global;
-use tl_fields::Counting;
+use std::io::ErrorKind;
+use tl_fields::{Burst, Counting, Fuse, WriteFault};
 use tl_segments::Segment;
 
 // Programs, the refusals of those that aren't accepted, and the rows of those that choose the record.
@@ -62,7 +63,14 @@ fn is_row(alloc: Global, score: u64, segment: &Segment<&Heap>, text: &str) -> Op
     let mut out = Counting::new(Vec::new(alloc));
     let is_written = row(score, segment, &mut out).is_ok();
     let is_text = row_text(score, segment).as_slice() == text.as_slice();
-    Some(is_written && is_text && *out.get_ref() == text)
+    Some(is_written && is_text && *out.get_ref() == text && is_write_reported(alloc, score, segment))
+}
+
+/// Tells whether a row reports that its write failed.
+fn is_write_reported(alloc: Global, score: u64, segment: &Segment<&Heap>) -> bool {
+    let out = Counting::new(Vec::new(alloc));
+    let fuse = Fuse::after_calls(out, 0, Burst::Fails(ErrorKind::Other));
+    row(score, segment, &mut Counting::new(fuse)) == Err(WriteFault::Write)
 }
 
 #[test]

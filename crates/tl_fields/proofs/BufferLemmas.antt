@@ -52,6 +52,14 @@ pub whole_taken : (old new : Option (List ℕ)) (front : List ℕ) (count : ℕ)
 whole_taken old new front count within taken =
     subst (λ n. Consumes old new (take n front)) (length-take-le count front within) taken
 
+-- a part after what is kept of the content is short where both together are
+pub grown_short : (kept : ℕ) (content part new : List ℕ) → kept ≤ length content → kept + length part ≤ 230
+    → new ≡ take kept content ++ part → length new ≤ 230
+grown_short kept content part new within room is =
+    let all = ap length is ∙ length-append (take kept content) part in
+    let long = length-take-le kept content within in
+    omega arith
+
 -- The content of a line as IsContentRead has it, but that the input has ended is said where its bytes are known.
 abbrev pub IsStopped : List ℕ → Reader → Reader → Stop → Type 0
 IsStopped content old new EndOfInput =

@@ -1,5 +1,5 @@
 //! A reader over one with a buffer.
-ghost use Rattle.std.specs.Prelude.{◌≡◌, ◌∷◌, [], None, IfSome, OnSome};
+ghost use Rattle.std.specs.Prelude.{◌≡◌, ◌≤◌, ◌+◌, ◌++◌, ◌∷◌, [], None, IfSome, OnSome, length, take};
 ghost use Rattle.std.specs.Io.{ReadsAtMost};
 ghost use Rattle.std.specs.Io.KnownBytes.{ReadConsumes};
 ghost use Rattle.tl_fields.specs.Buffered.{IsFrontRead};
@@ -54,10 +54,16 @@ impl<B: BufRead> Buffered<B> {
         self.failed_reads
     }
 
-    // Takes what the buffer shows of a line, and tells why the line stops there, or that it goes on.
+    // Takes what the buffer shows of a line, and tells why the line stops there, or that it goes on. Of the content so many bytes are of this line.
     #[inline]
-    fn read_front(&mut self, content: &mut ArrayVec<u8, LONGEST_CONTENT>) -> Option<Stop>
-        ensures front { IsFrontRead content.old.items content.new.items
+    fn read_front(
+        &mut self,
+        content: &mut ArrayVec<u8, LONGEST_CONTENT>,
+        kept: usize,
+    ) -> Option<Stop>
+        requires within { kept ≤ length content.old.items }
+        requires short { kept ≤ LONGEST_CONTENT }
+        ensures front { IsFrontRead (take kept content.old.items) content.new.items
             (record { left = B.remaining self.old.reader; failed = self.old.failed_reads })
             (record { left = B.remaining self.new.reader; failed = self.new.failed_reads }) result }
         ensures exact { IfSome result (λ stop. AddsStop stop self.old.failed_reads self.new.failed_reads) }
@@ -66,13 +72,15 @@ impl<B: BufRead> Buffered<B> {
             Ok(front) => front,
             Err(_) => {
                 count_one(&mut self.failed_reads);
+                content.truncate(kept);
                 return Some(Stop::ReadFailed);
             }
         };
-        let room = LONGEST_CONTENT - content.len();
+        let room = LONGEST_CONTENT - kept;
         let shown = &front[..front.len().min(room + 1)];
         let Some(length) = memchr(LINE_FEED, shown) else {
             if shown.is_empty() {
+                content.truncate(kept);
                 return Some(Stop::EndOfInput);
             }
             let count = shown.len();
@@ -80,11 +88,11 @@ impl<B: BufRead> Buffered<B> {
                 self.reader.consume(count);
                 return Some(Stop::TooLong);
             }
-            content.try_extend_from_slice(shown).unwrap();
+            put_after(content, kept, shown);
             self.reader.consume(count);
             return None;
         };
-        content.try_extend_from_slice(&shown[..length]).unwrap();
+        put_after(content, kept, &shown[..length]);
         self.reader.consume(length + 1);
         Some(Stop::LineFeed)
     }
@@ -165,11 +173,27 @@ impl<B: BufRead> CountedRead for Buffered<B> {
             (record { left = B.remaining self.new.reader; failed = self.new.failed_reads }) result) }
         ensures exact { AddsStop result self.old.failed_reads self.new.failed_reads }
     {
-        content.clear();
+        let mut kept = 0;
         loop {
-            if let Some(stop) = self.read_front(content) {
+            if let Some(stop) = self.read_front(content, kept) {
                 return stop;
             }
+            kept = content.len();
         }
     }
+}
+
+/// Puts bytes after those that are kept. Nothing is cleared if the content is to have the length that it has, as record after record does.
+#[inline]
+fn put_after(content: &mut ArrayVec<u8, LONGEST_CONTENT>, kept: usize, bytes: &[u8])
+    requires within { kept ≤ length content.old.items }
+    requires room { kept + length bytes.now ≤ LONGEST_CONTENT }
+    ensures { content.new.items ≡ take kept content.old.items ++ bytes.now }
+{
+    if kept == 0 && content.len() == bytes.len() {
+        content.as_mut_slice().copy_from_slice(bytes);
+        return;
+    }
+    content.truncate(kept);
+    content.try_extend_from_slice(bytes).unwrap();
 }

@@ -9,7 +9,7 @@ ghost use Rattle.wire.specs.Reply.{reply_of};
 use crate::answer::Answer;
 use bpf_text::{SourceFault, assemble_source, disassemble_program};
 use bpf_verify::Verified;
-use extract::accept;
+use extract::{accept, check_program};
 use http_reply::{MediaType, Status};
 use jobs::{SEGMENTS_PER_TURN, advance};
 use refusals::{Fault, Refusal};
@@ -20,8 +20,8 @@ use tl_segments::County;
 pub(crate) fn verify<A: Allocator + Copy>(alloc: A, program: &[u8]) -> Answer<'static, A>
     ensures { IsVerified program.now (reply_of result) }
 {
-    match accept(alloc, program) {
-        Ok(_verified) => Answer::Text("accepted\n"),
+    match check_program(alloc, program) {
+        Ok(()) => Answer::Text("accepted\n"),
         Err(fault) => Answer::Refused(fault.refusal()),
     }
 }

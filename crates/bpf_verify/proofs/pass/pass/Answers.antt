@@ -8,6 +8,8 @@ use Rattle.bpf_flow.specs.Flow.{IsForward}
 use Rattle.bpf_verify.specs.Annotation.{area_of}
 use Rattle.bpf_verify.specs.Pass.{Ahead, AreProper, Visits, kept, visit_of}
 use Rattle.bpf_verify.specs.Visit.{Visit}
+use Rattle.bpf_verify.proofs.AreaLemmas.{all_have_immediates, one_more_has_immediates}
+use Rattle.bpf_verify.proofs.SoundRuns.{good_is_safe}
 use Rattle.bpf_verify.proofs.PassLemmas.{IsOnItsWay, length-found, starts, goes_on, refuses, accepts, shows, shows_refusal}
 use Rattle.bpf_verify.proofs.VisitLemmas.{visited_all-more}
 use Rattle.bpf_verify.proofs.pass.pass.Goals as goal
@@ -41,6 +43,7 @@ loop-insn-init g c = record {
   way = subst (λ areas. IsOnItsWay c.args.flow.now.code [] c.in_ok-ahead.ahead areas []) (sym c.in_ok-areas.ensures.items)
       (starts c.args.flow.now.code c.in_ok-ahead.ahead c.in_ok-ahead.ensures);
   shown = refl;
+  immediates = λ index insn below found. absurd (omega arith);
   room = omega (arith, c.in_ok-areas.ensures.capacity, ap length (c.instructions-instructions.ensures.value ∙ c.code.ensures.value));
 }
 
@@ -84,6 +87,9 @@ loop-insn-preserved g c =
           c.push_reserved.ensures.items;
       shown = c.in_ok-visit.ensures.shown ∙ ap (λ visitor. g.V.Visitor.visited visitor (visit_of c.loop-insn.ahead c.insn-item.result)) invariant.shown
           ∙ visited_all-more g.V.Visitor.visited c.args.visitor.now invariant.visits (visit_of c.loop-insn.ahead c.insn-item.result);
+      immediates = one_more_has_immediates c.args.flow.now.code c.loop-insn.insn-index c.insn-item.result
+          (c.insn-item.is ∙ ap (λ (code : List Insn). get_or code c.loop-insn.insn-index c.insn-item.result)
+          (c.instructions-instructions.ensures.value ∙ c.code.ensures.value)) c.visit.ensures.immediates invariant.immediates;
       room = omega (arith, c.loop-insn.invariant.room, c.push_reserved.ensures.capacity);
     }
 
@@ -107,3 +113,12 @@ returns-in_err-visit-clause-shown_refusal g c =
     c.loop-insn.visitor c.visit.new.visitor (passed_more c.loop-insn.insn-index same c.loop-insn-test.true c.insn-item.is)
     invariant.way invariant.shown c.in_err-visit.ensures.err c.in_err-visit.ensures.shown_refusal in
     search rules
+
+pub returns-clause-safe : goal.returns-clause-safe
+returns-clause-safe g c =
+    let same = c.instructions-instructions.ensures.value ∙ c.code.ensures.value in
+    let long = ap length same in
+    let accepted = accepts _ _ c.loop-insn.ahead _ (take_all c.loop-insn.insn-index c.args.flow.now.code (omega (arith, c.loop-insn-test.false)))
+    c.loop-insn.invariant.way in
+    good_is_safe c.args.flow.now.code c.code.ensures.forward (all_have_immediates c.args.flow.now.code (λ index insn below.
+    c.loop-insn.invariant.immediates index insn (omega (arith, c.loop-insn-test.false)))) (accepted.annotation, accepted.is_least.good)

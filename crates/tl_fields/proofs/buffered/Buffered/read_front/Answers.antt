@@ -3,7 +3,7 @@ use Rattle.std.proofs.BufReadLemmas.{Consumes_shown}
 use Rattle.std.proofs.lemmas.Bool.Decides.{nat_tests}
 use Rattle.std.specs.Io.BufRead.{FillKeeps}
 use Rattle.std.specs.Io.KnownBytes.{Consumes}
-use Rattle.tl_fields.proofs.BufferLemmas.{at_line_feed, without_line_feed, whole_taken}
+use Rattle.tl_fields.proofs.BufferLemmas.{at_line_feed, grown_short, without_line_feed, whole_taken}
 use Rattle.tl_fields.proofs.buffered.Buffered.read_front.Goals as goal
 
 pub returns-then-count-room-clause-front : goal.returns-then-count-room-clause-front
@@ -20,7 +20,7 @@ returns-then-count-room-clause-front g c =
       refl,
       take count front,
       without_line_feed (take count front) c.in_default.ensures,
-      omega (arith, c.min.ensures),
+      omega (arith, c.min.ensures, length-take-le c.args.kept c.args.content.now.items c.requires.within),
       whole_taken _ _ front count within taken.0,
     )
 
@@ -35,12 +35,15 @@ returns-in_default-clause-front g c =
     let long = length-take-le count front within in
     let taken = Consumes_shown _ _ _ _ front (length (take count front))
     (omega arith) c.in-Ok.ensures.front c.in-Ok.ensures.end filled.0 filled.1 c.consume-in_default.ensures.bytes in
-    let items = rw c.unwrap.ensures at c.try_extend_from_slice.ensures.ok in
-    let len = rw c.unwrap.ensures at c.try_extend_from_slice.ensures.len in
     let some : 0 < length (take count front) = grind (arith, nat_tests) in (
       refl,
       take count front,
-      (items, without_line_feed (take count front) c.in_default.ensures, omega (arith, len)),
+      (
+        c.put_after.ensures,
+        without_line_feed (take count front) c.in_default.ensures,
+        grown_short c.args.kept c.args.content.now.items _ _ c.requires.within (omega (arith, c.min.ensures, c.requires.short))
+        c.put_after.ensures,
+      ),
       some,
       whole_taken _ _ front count within taken.0,
     )
@@ -58,7 +61,7 @@ returns-clause-front g c =
     let found = at_line_feed front count place within c.in-Some.ensures in
     let taken = Consumes_shown _ _ _ _ front (place + 1) (omega arith) c.in-Ok.ensures.front c.in-Ok.ensures.end filled.0 filled.1
     c.consume-2.ensures.bytes in
-    let items = rw c.unwrap-2.ensures at c.try_extend_from_slice-2.ensures.ok in
-    let len = rw c.unwrap-2.ensures at c.try_extend_from_slice-2.ensures.len in
     let part = length-take-le place (take count front) (omega arith) in
-    (refl, take place (take count front), (items, found.before, omega (arith, len)), subst (Consumes _ _) found.taken taken.0)
+    let short = grown_short c.args.kept c.args.content.now.items _ _ c.requires.within (omega (arith, c.min.ensures, c.requires.short))
+    c.put_after-2.ensures in
+    (refl, take place (take count front), (c.put_after-2.ensures, found.before, short), subst (Consumes _ _) found.taken taken.0)

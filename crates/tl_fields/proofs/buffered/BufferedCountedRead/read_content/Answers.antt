@@ -3,10 +3,10 @@ use Rattle.tl_fields.proofs.buffered.BufferedCountedRead.read_content.Goals as g
 
 pub returns-in-Some-clause-content : goal.returns-in-Some-clause-content
 returns-in-Some-clause-content g c =
-    stopped_unknown c.loop-stop.content.items c.read_front.new.content.items _ _ _ c.in-Some.stop c.loop-stop.invariant
+    stopped_unknown _ c.read_front.new.content.items _ _ _ c.in-Some.stop c.loop-stop.invariant.so_far
     c.in-Some.ensures.front
 
 pub returns-in-Some-clause-known : goal.returns-in-Some-clause-known
 returns-in-Some-clause-known g c =
-    stopped_known c.loop-stop.content.items c.read_front.new.content.items _ _ _ c.in-Some.stop c.loop-stop.invariant
+    stopped_known _ c.read_front.new.content.items _ _ _ c.in-Some.stop c.loop-stop.invariant.so_far
     c.in-Some.ensures.front
