@@ -22,6 +22,6 @@ mov r1, 3
 mov r2, r10
 add r2, -4
 mov r3, 4
-call 7                    ; 0 where none of the four is it
+call 7                    ; 0 if none of the four is it
 out:
 exit

@@ -1,5 +1,5 @@
 ; segments with the name Gristmill: their own, or one of their first eight alternate names
-; a segment with more of them may have it as its ninth: it is chosen, too, with the score 1
+; a segment with more of them may have it as its ninth: it is selected too, with the score 1
 lddw r2, 0x6c696d7473697267   ; gristmil, the last letter first
 stxdw [r10-9], r2
 stb [r10-1], 0x6c             ; l
@@ -57,6 +57,6 @@ exit
 more:
 mov r1, 1
 call 8                        ; emit: the score
-mov r0, 1                     ; chosen
+mov r0, 1                     ; selected
 out:
 exit

@@ -7,8 +7,8 @@ mov r1, 0                   ; FRLONG
 call 9
 jslt r0, -86700000, no
 jsgt r0, -86600000, no
-mov r0, 1                   ; chosen
+mov r0, 1                   ; selected
 exit
 no:
-mov r0, 0                   ; not chosen
+mov r0, 0                   ; not selected
 exit

@@ -13,6 +13,6 @@ call 5
 jne r0, 0, out
 mov r1, 3
 mov r2, 1785
-call 5            ; 0 where none of the four has it
+call 5            ; 0 if none of the four has it
 out:
 exit

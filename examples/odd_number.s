@@ -1,5 +1,5 @@
 ; an odd house number at the start of the left side
-mov r0, 0           ; not chosen
+mov r0, 0           ; not selected
 ldxb r2, [r1+68]    ; FRADDL, its last byte: place 69
 jne r2, 32, last    ; 32 is a blank
 ldxb r2, [r1+67]    ; the byte before it
@@ -23,8 +23,8 @@ jne r2, 32, last
 ldxb r2, [r1+58]    ; its first byte: place 59
 last:
 jlt r2, 48, out     ; before the digit 0
-jgt r2, 57, out     ; behind the digit 9
+jgt r2, 57, out     ; after the digit 9
 mov r0, r2
-and r0, 1           ; 1, chosen, where it's odd; else 0
+and r0, 1           ; 1 if it's odd, which selects; else 0
 out:
 exit

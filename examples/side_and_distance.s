@@ -3,11 +3,11 @@
 mov r1, 0           ; range 0
 mov r2, 1785
 call 5              ; in_range
-jeq r0, 0, out      ; not there: not chosen
+jeq r0, 0, out      ; not there: not selected
 mov r6, r0          ; the side, for later
 mov r1, 1           ; FRADDL
 jne r6, 2, start
-mov r1, 3           ; FRADDR, where it's on the right alone
+mov r1, 3           ; FRADDR, if it's on the right alone
 start:
 call 1              ; field: the number that the side begins with
 mov r7, 1785
@@ -22,6 +22,6 @@ mul r6, 10000
 add r6, r7
 mov r1, r6
 call 8              ; emit: the score
-mov r0, 1           ; chosen
+mov r0, 1           ; selected
 out:
 exit
