@@ -5,7 +5,7 @@
 [ $# = 3 ] || { echo "usage: ${0##*/} PROGRAM DATA OUT" >&2; exit 2; }
 program=$1 data=$2 out=$3 ended=0
 mkdir -p "$out" || exit 3
-part=$(mktemp "$out/.part.XXXXXX") || exit 3
+part=$out/.part.$$
 trap 'rm -f "$part"' EXIT
 trap 'exit 130' INT TERM HUP
 for file in "$data"/TGR*.RT1; do
