@@ -1,4 +1,4 @@
-; segments named Main and nothing more, in capital or small letters
+; segments named Main and nothing more, in uppercase or lowercase
 stw [r10-4], 0x6e69616d   ; main, the last letter first
 mov r1, 0                 ; name 0: the segment's own
 mov r2, r10
