@@ -1,18 +1,19 @@
 #!/usr/bin/env bash
-# Tries what lies beside it with a built program: examples/server/try.sh PATH_TO_extractd
+# Tries the files next to it with a built program: examples/server/try.sh PATH_TO_extractd
 #
-# It needs bash, coreutils and curl. What else it tries needs, and is left out where that isn't there:
-# - nginx.conf: nginx (1.19.5 or later) and openssl, which makes a certificate that is good for a day;
+# It needs bash, coreutils and curl. What else it tries is left out if a command is missing:
+# - site.conf, through nginx.conf: nginx (1.19.5 or later) and openssl, which makes a certificate that is good for a day;
 # - extractd.service: systemd-analyze, of systemd 249 or later;
 # - ../job.py: python3 (3.8 or later).
-# With REQUIRE_ALL set, as .ci/run sets it, what isn't there is installed by apt-get, and what is left out all the same is a failure.
+# With REQUIRE_ALL set, as .ci/run sets it, missing commands are installed by apt-get, and anything left out is a failure.
 #
-# The server may listen at 127.0.0.1 alone. A client whose request was refused before its end may go on sending for a while, and gets its reply.
-# It serves the example county at a free port, and asks each route, with status and body compared: directly, and through nginx where it's there. Then what
-# nginx is there for: a body in chunks, many header lines, a client that sends slowly, several clients at once. What it started it ends, and its
-# folder, in that of temporary files, is removed.
+# It serves the example county at a free port and requests each route, directly and through nginx, comparing status and body. The server may listen at
+# 127.0.0.1 alone. A client whose request is refused before its end may go on sending for a while, and gets its reply.
+# Then it tries what nginx is there for: a chunked body, many header lines, a client that sends slowly, several clients at once, users, and two clients of which
+# one is hostile. The hostile client has an address of its own, 127.0.0.2.
+# It ends what it started and removes its folder of temporary files.
 #
-# Prints what failed, then how much was tried, and ends with 0 where nothing failed, else with 1. It takes less than a minute.
+# Prints the failures, then the counts. Exit status 0 means that nothing failed, else it is 1. It takes about a minute.
 
 set -u
 export LC_ALL=C
@@ -129,12 +130,12 @@ try_routes() {
     fi
     says "$1: no length" 411 'length required' -X POST "$url/verify"
     says "$1: a body too long" 413 'too large' -H 'Expect:' --data-binary @long "$url/verify"
-    says "$1: a body as long as may be" 422 'refused 12 TooLong' -H 'Expect:' --data-binary @longest "$url/verify"
+    says "$1: the longest body" 422 'refused 12 TooLong' -H 'Expect:' --data-binary @longest "$url/verify"
 
     says "$1: a refused job" 422 'refused 40 place 0 ReadsNothing(0)' --data-binary @bare.bpf "$url/jobs"
     id=$(curl -k -s -m 60 --data-binary @all.bpf "$url/jobs")
     if [[ $id =~ ^[0-9]+$ ]]; then pass; else fail "$1: a job's id is $id"; fi
-    # A turn behind each request, and two are needed.
+    # A turn follows each request, and two are needed.
     says "$1: no job" 404 'not found' "$url/jobs/0"
     says "$1: no job" 404 'not found' "$url/jobs/x"
     { echo 400 400; cat rows; } > whole
@@ -201,6 +202,153 @@ try_refused_client() {
     fi
 }
 
+# now: milliseconds.
+now() { echo $(($(date +%s%N) / 1000000)); }
+
+# The hostile client has another address. It prints the status after the reply.
+hostile=(curl -k -s --interface 127.0.0.2 -w '%{http_code}')
+
+# costly: writes costly.bpf, which chooses all segments of the county in `large` and takes a second or more for it, but has no more words than nginx
+# lets through to /extract. The rows are in `large.rows`.
+costly() {
+    local words=100 copies=1 time
+    mkdir large
+    cp "$examples"/TGR01001.RT[1456] large
+    while true; do
+        { echo 'mov r0, 0'; yes 'add r0, 1' | head -n $words; printf 'mov r0, 1\nexit\n'; } > costly.s
+        "$program" asm --source costly.s > costly.bpf
+        time=$(now)
+        "$program" run --program costly.bpf --data large 01001 > large.rows || return
+        [ $(($(now) - time)) -lt 1500 ] && [ $copies -lt 1000 ] || return 0
+        if [ $words -lt 6400 ]; then words=$((words * 2)); else
+            copies=$((copies * 2))
+            cat large/TGR01001.RT1 large/TGR01001.RT1 > twice
+            mv twice large/TGR01001.RT1
+        fi
+    done
+}
+
+# try_slow_extracts: 12 requests of the hostile client whose bodies don't end. nginx takes 8 of one client, and none of them holds the place for /extract.
+try_slow_extracts() {
+    local client sent=()
+    for client in {1..12}; do
+        mkfifo "stuck.$client"
+        "${hostile[@]}" -m 60 -o "stuck.reply.$client" -X POST -T - "$url/extract" < "stuck.$client" > "stuck.status.$client" &
+        started+=("$!")
+        exec {sent[client]}> "stuck.$client"
+        head -c 8 all.bpf >&"${sent[client]}"
+    done
+    sleep 1
+    ask 'an extract while another client sends 12 slowly' 200 large.rows -m 20 --data-binary @all.bpf "$url/extract"
+    if [ "$(cat stuck.status.* | grep -o 503 | wc -l)" = 4 ]; then pass; else fail '8 requests of one client at once' "$(cat stuck.status.*)"; fi
+    for client in {1..12}; do end; done
+    for client in {1..12}; do exec {sent[client]}>&-; done
+}
+
+# try_left_extracts: the hostile client requests costly extracts and leaves at once. The server still makes them, so another client may have to wait for
+# one of them, but not for all.
+try_left_extracts() {
+    local time one
+    time=$(now)
+    ask 'a costly extract' 200 large.rows --data-binary @costly.bpf "$url/extract"
+    one=$(($(now) - time))
+    for _ in {1..8}; do "${hostile[@]}" -m 0.3 -o /dev/null --data-binary @costly.bpf "$url/extract"; done > /dev/null
+    time=$(now)
+    says 'a request after 8 extracts whose client has left' 200 accepted --data-binary @all.bpf "$url/verify"
+    time=$(($(now) - time))
+    if [ $time -lt $((one * 3 + 1000)) ]; then pass; else fail "it took $time ms, and one extract takes $one ms"; fi
+    # From then on one extract at a time: one of these is made and the other is refused.
+    "${hostile[@]}" -m 60 -o first --data-binary @costly.bpf "$url/extract" > first.status &
+    started+=("$!")
+    "${hostile[@]}" -m 60 -o second --data-binary @costly.bpf "$url/extract" > second.status
+    wait "${started[-1]}"
+    end
+    cat first{,.status} second{,.status} > both
+    { cat large.rows; printf '200another extract is under way\n503'; } > wanted
+    { printf 'another extract is under way\n503'; cat large.rows; printf 200; } > wanted.other
+    if cmp -s wanted both || cmp -s wanted.other both; then pass; else fail 'two extracts at once' "$(cat first.status) $(cat second.status)"; fi
+    says 'an extract of more words than nginx lets through' 413 'too large' --data-binary @wordy "$url/extract"
+    ask 'an extract when the others are done' 200 large.rows --data-binary @all.bpf "$url/extract"
+}
+
+# try_job_loop: the hostile client opens and removes jobs in a loop. nginx stops it after some 20, and another client's job is finished meanwhile.
+try_job_loop() {
+    local id looped status
+    id=$(curl -k -s -m 60 --data-binary @all.bpf "$url/jobs")
+    for _ in {1..40}; do
+        looped=$("${hostile[@]}" -m 60 --data-binary @all.bpf "$url/jobs")
+        status=${looped: -3}
+        echo "$status"
+        [ "$status" != 200 ] || "${hostile[@]}" -m 60 -o /dev/null -X DELETE "$url/jobs/${looped%%[!0-9]*}" > /dev/null
+    done > loop
+    if [ "$(grep -c 200 loop)" -ge 20 ] && [ "$(grep -c 503 loop)" -ge 15 ]; then pass; else fail 'jobs in a loop' "$(sort loop | uniq -c)"; fi
+    for _ in {1..2000}; do
+        [ "$(curl -k -s -m 60 "$url/jobs/$id" 2> /dev/null | head -n 1)" != "$segments $segments" ] || break
+        curl -k -s -m 60 -o /dev/null "$url/jobs/0?[1-50]"
+    done
+    { echo "$segments $segments"; cat large.rows; } > whole
+    ask 'a job while another client opens them in a loop' 200 whole "$url/jobs/$id"
+    says 'its job is removed' 200 dropped -X DELETE "$url/jobs/$id"
+}
+
+# try_log: a line for each request, with its client, without its query.
+try_log() {
+    if grep -q ' 127\.0\.0\.2 - POST /extract 503 ' "$1" && grep -q ' 127\.0\.0\.1 - GET /geocode 200 ' "$1" && ! grep -q 'name=' "$1"; then pass; else
+        fail 'the log of requests' "$(tail -n 5 "$1")"
+    fi
+}
+
+# try_hostile: two clients, one of them hostile, at a server whose extracts take a second.
+try_hostile() {
+    if ! costly || ! start "$PWD/large"; then fail "no large county: $(cat said.err)"; return; fi
+    segments=$(wc -l < large.rows)
+    start_nginx
+    try_slow_extracts
+    try_left_extracts
+    try_job_loop
+    try_log proxy/extractd.log
+}
+
+# try_users: nginx asks for a user if the two lines of site.conf say so.
+try_users() {
+    printf 'alice:%s\n' "$(openssl passwd -6 'a secret')" > proxy/extractd.users
+    start_nginx 's/# \(auth_basic\)/\1/'
+    if [ "$(curl -k -s -o /dev/null -w '%{http_code}' "$url/jobs/0")" = 401 ]; then pass; else fail 'a client without a name'; fi
+    if [ "$(curl -k -s -o /dev/null -w '%{http_code}' -u 'alice:another' "$url/jobs/0")" = 401 ]; then pass; else fail 'a wrong password'; fi
+    says 'a user' 200 accepted -u 'alice:a secret' --data-binary @all.bpf "$url/verify"
+}
+
+# try_down: without a server nginx says so. Nothing listens at port 1.
+try_down() {
+    local port=1
+    start_nginx
+    says 'no server' 502 'no server' "$url/jobs/0"
+    says 'no server for an extract' 502 'no server' --data-binary @all.bpf "$url/extract"
+}
+
+# start_nginx [EDIT]: runs site.conf, changed by a further edit for sed, before the server at `port`, and sets `url`.
+start_nginx() {
+    local tls nginx
+    cp "$here/nginx.conf" proxy
+    for _ in {1..20}; do
+        tls=$((30000 + RANDOM % 2000))
+        sed -e "s/127\.0\.0\.1:8080/127.0.0.1:$port/" -e "s/listen 443 /listen 127.0.0.1:$tls /" -e 's|/var/log/nginx/||' -e "${1-}" \
+            "$here/site.conf" > proxy/site.conf
+        if nginx -t -q -e stderr -p "$PWD/proxy" -c nginx.conf 2> nginx.err && [ ! -s nginx.err ]; then pass; else fail "nginx -t: $(cat nginx.err)"; fi
+        nginx -e stderr -p "$PWD/proxy" -c nginx.conf -g 'daemon off;' 2> nginx.err < /dev/null &
+        nginx=$!
+        started+=("$nginx")
+        for _ in {1..100}; do
+            kill -0 "$nginx" 2> /dev/null || break
+            if curl -k -s -o /dev/null "https://127.0.0.1:$tls/"; then url=https://127.0.0.1:$tls; return; fi
+            sleep 0.1
+        done
+        end
+    done
+    fail "nginx doesn't start: $(cat nginx.err proxy/error.log 2> /dev/null)"
+    finish
+}
+
 # try_proxy: what nginx is there for.
 try_proxy() {
     local client lines=()
@@ -221,7 +369,7 @@ try_proxy() {
     end
     if [ "$(cat slow)" = accepted ]; then pass; else fail 'a slow client is served' "$(cat slow)"; fi
     for client in {1..8}; do
-        curl -k -s -m 60 --data-binary @all.bpf -o "rows.$client" "$url/extract" &
+        curl -k -s -m 60 --data-binary @not_water.bpf -o "text.$client" "$url/disassemble" &
         started+=("$!")
     done
     for client in {1..8}; do
@@ -229,10 +377,11 @@ try_proxy() {
         end
     done
     for client in {1..8}; do
-        if cmp -s rows "rows.$client"; then pass; else fail "client $client of 8 at once"; fi
+        if cmp -s not_water.dis "text.$client"; then pass; else fail "client $client of 8 at once"; fi
     done
 }
 
+head -c 65544 /dev/zero > wordy
 cp "$examples/all.bpf" "$examples/not_water.bpf" "$examples/not_water.s" .
 tail -c 8 all.bpf > bare.bpf
 head -c 1048577 /dev/zero > long
@@ -260,33 +409,23 @@ elif ! has openssl openssl; then
 else
     mkdir proxy
     chmod 755 proxy
-    openssl req -x509 -newkey ec -pkeyopt ec_paramgen_curve:prime256v1 -nodes -keyout proxy/server.key -out proxy/server.crt -days 1 \
-        -subj /CN=localhost -addext 'subjectAltName=DNS:localhost,IP:127.0.0.1' 2> openssl.err || fail "openssl: $(cat openssl.err)"
-    cp "$here/nginx.conf" proxy
-    if nginx -t -q -e stderr -p "$PWD/proxy" -c nginx.conf 2> nginx.err && [ ! -s nginx.err ]; then pass; else fail "nginx -t: $(cat nginx.err)"; fi
-    for _ in {1..20}; do
-        tls=$((30000 + RANDOM % 2000))
-        sed -e "s/127\.0\.0\.1:8080/127.0.0.1:$port/" -e "s/listen 8443 /listen 127.0.0.1:$tls /" "$here/nginx.conf" > proxy/nginx.conf
-        nginx -e stderr -p "$PWD/proxy" -c nginx.conf -g 'daemon off;' 2> nginx.err < /dev/null &
-        nginx=$!
-        started+=("$nginx")
-        url=
-        for _ in {1..100}; do
-            kill -0 "$nginx" 2> /dev/null || break
-            if curl -k -s -o /dev/null "https://127.0.0.1:$tls/"; then url=https://127.0.0.1:$tls; break 2; fi
-            sleep 0.1
-        done
-        end
-    done
-    if [ -z "$url" ]; then fail "nginx doesn't start: $(cat nginx.err proxy/error.log 2> /dev/null)"; finish; fi
+    openssl req -x509 -newkey ec -pkeyopt ec_paramgen_curve:prime256v1 -nodes -keyout proxy/extractd.key -out proxy/extractd.crt \
+        -days 1 -subj /CN=localhost -addext 'subjectAltName=DNS:localhost,IP:127.0.0.1' 2> openssl.err || fail "openssl: $(cat openssl.err)"
+    start_nginx
     try_routes "$url"
     try_proxy
     if has python3 python3; then
         try_job "$url" --server "$url" --insecure
-        try_job "$url" --server "$url" --ca proxy/server.crt
+        try_job "$url" --server "$url" --ca proxy/extractd.crt
         python3 "$examples/job.py" --server "$url" all.bpf > job.rows 2> job.err
         if [ $? = 3 ] && [ ! -s job.rows ]; then pass; else fail "job.py trusts a certificate that nobody vouches for"; fi
     fi
+    end
+    try_hostile
+    end
+    try_users
+    end
+    try_down
 fi
 
 if ! has systemd-analyze systemd; then
