@@ -708,6 +708,14 @@ try_calls() {
     fi
 }
 
+# The links of the documents.
+try_links() {
+    command -v python3 > /dev/null || { skip "examples/links.py (there is no python3 here)"; return; }
+    if python3 examples/links.py > "$scratch/links"; then pass; else
+        fail "the documents have links that lead nowhere" "$(head -n 20 "$scratch/links")"
+    fi
+}
+
 # The tables of rows.
 try_rows() {
     local said
@@ -762,6 +770,7 @@ cd "$top" || exit 1
 try_table
 try_town
 try_calls
+try_links
 for document in README.md docs/*.md examples/README.md; do
     try_document "$document"
 done
