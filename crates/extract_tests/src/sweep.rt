@@ -20,29 +20,25 @@ rt4; pipe, interrupted, blocked, late; 1 1; refused 5 rt4 line 1 Read; 0; +0; 0
 rt5; pipe, interrupted, blocked, late; 1 1; refused 5 rt5 line 1 Read; 0; +1; 0
 rt6; pipe, interrupted, blocked, late; 1 1; refused 5 rt6 line 1 Read; 0; +2; 0
 rt1; pipe, interrupted, blocked, late; 1 229; refused 5 rt1 line 1 Read; 0; +3; 0
-rt1; pipe, interrupted, blocked, late; 230 458; refused 5 rt1 line 2 Read; 231; +3; 3
-rt1; pipe, interrupted, blocked, late; 459 459; refused 5 rt1 line 3 Read; 462; +3; 6
-rt4; pipe; 2 3; ok 2; 462; 462; 6
-rt5; pipe; 2 3; ok 2; 462; 462; 6
-rt6; pipe; 2 3; ok 2; 462; 462; 6
-rt1; pipe; 460 461; ok 2; 462; 462; 6
+rt1; pipe, interrupted, blocked, late; 230 458; refused 5 rt1 line 2 Read; 231; +3; 1
+rt1; pipe, interrupted, blocked, late; 459 459; refused 5 rt1 line 3 Read; 462; +3; 2
+rt4; pipe; 2 3; ok 2; 462; 462; 2
+rt5; pipe; 2 3; ok 2; 462; 462; 2
+rt6; pipe; 2 3; ok 2; 462; 462; 2
+rt1; pipe; 460 461; ok 2; 462; 462; 2
 rows; pipe, interrupted, blocked, full; 0 0; refused 60 Write; +0; 232; 1
-rows; pipe, interrupted, blocked, full; 1 2; refused 60 Write; +0; 232; 2
-rows; pipe, interrupted, blocked, full; 3 230; refused 60 Write; +0; 232; 3
-rows; pipe, interrupted, blocked, full; 231 231; refused 60 Write; +0; 461; 4
-rows; pipe, interrupted, blocked, full; 232 233; refused 60 Write; +0; 461; 5
-rows; pipe, interrupted, blocked, full; 234 461; refused 60 Write; +0; 461; 6
+rows; pipe, interrupted, blocked, full; 1 230; refused 60 Write; +0; 232; 2
+rows; pipe, interrupted, blocked, full; 231 231; refused 60 Write; +0; 461; 2
+rows; pipe, interrupted, blocked, full; 232 461; refused 60 Write; +0; 461; 3
 rows; by 1 pipe, by 1 interrupted, by 1 blocked; 0 230; refused 60 Write; +0; 232; +1
 rows; by 1 pipe, by 1 interrupted, by 1 blocked; 231 461; refused 60 Write; +0; 461; +1
 rows; nothing; 0 0; refused 61 WriteZero; +0; 232; 1
-rows; nothing; 1 2; refused 61 WriteZero; +0; 232; 2
-rows; nothing; 3 230; refused 61 WriteZero; +0; 232; 3
-rows; nothing; 231 231; refused 61 WriteZero; +0; 461; 4
-rows; nothing; 232 233; refused 61 WriteZero; +0; 461; 5
-rows; nothing; 234 461; refused 61 WriteZero; +0; 461; 6
+rows; nothing; 1 230; refused 61 WriteZero; +0; 232; 2
+rows; nothing; 231 231; refused 61 WriteZero; +0; 461; 2
+rows; nothing; 232 461; refused 61 WriteZero; +0; 461; 3
 rows; by 1 nothing; 0 230; refused 61 WriteZero; +0; 232; +1
 rows; by 1 nothing; 231 461; refused 61 WriteZero; +0; 461; +1
-rows; pipe, nothing; 462 463; ok 2; 462; 462; 6
+rows; pipe, nothing; 462 463; ok 2; 462; 462; 2
 rows; by 1 pipe, by 1 nothing; 462 463; ok 2; 462; 462; 462";
 
 const JOINED_FAILURES: &str = "\
@@ -56,12 +52,12 @@ rt6; pipe, interrupted, blocked, late; 1 77; refused 5 rt6 line 1 Read; 0; +234;
 rt6; pipe, interrupted, blocked, late; 78 154; refused 5 rt6 line 2 Read; 0; +234; 0
 rt6; pipe, interrupted, blocked, late; 155 155; refused 5 rt6 line 3 Read; 0; +234; 0
 rt1; pipe, interrupted, blocked, late; 1 229; refused 5 rt1 line 1 Read; 0; +389; 0
-rt1; pipe, interrupted, blocked, late; 230 458; refused 5 rt1 line 2 Read; 231; +389; 3
-rt1; pipe, interrupted, blocked, late; 459 459; refused 5 rt1 line 3 Read; 462; +389; 6
-rt4; pipe; 120 121; ok 2; 462; 848; 6
-rt5; pipe; 116 117; ok 2; 462; 848; 6
-rt6; pipe; 156 157; ok 2; 462; 848; 6
-rt1; pipe; 460 461; ok 2; 462; 848; 6";
+rt1; pipe, interrupted, blocked, late; 230 458; refused 5 rt1 line 2 Read; 231; +389; 1
+rt1; pipe, interrupted, blocked, late; 459 459; refused 5 rt1 line 3 Read; 462; +389; 2
+rt4; pipe; 120 121; ok 2; 462; 848; 2
+rt5; pipe; 116 117; ok 2; 462; 848; 2
+rt6; pipe; 156 157; ok 2; 462; 848; 2
+rt1; pipe; 460 461; ok 2; 462; 848; 2";
 
 fn file_named(name: &str) -> CountyFile {
     match name {
