@@ -1,9 +1,9 @@
 #!/bin/sh
 # Tests the Python package with a built program: python/try.sh PATH_TO_extractd, or with its path in EXTRACTD.
 #
-# It needs Python 3.11 with pytest. Some tests need geopandas, GDAL's tools, hypothesis, mypy or chromium, and are skipped if these are
-# missing. As root it installs what is missing by apt-get: on a bare Debian 12 that is 300 MB to download, and 1.1 GB on the disk.
-# With REQUIRE_ALL=1, as in CI, a skipped test is a failure.
+# It needs Python 3.11 with pytest. Some tests need geopandas, GDAL's tools, hypothesis, mypy, owslib, chromium, dask.distributed or GNU
+# parallel, and are skipped if these are missing. As root it installs what is missing by apt-get: on a bare Debian 12 that is 300 MB to
+# download, and 1.1 GB on the disk. With REQUIRE_ALL=1, as in CI, a skipped test is a failure.
 #
 # Prints what failed. The last line says how many tests passed, failed and were skipped, and why. Exit status 0 means that no test failed.
 
@@ -24,8 +24,10 @@ has_module pytest || missing="$missing python3-pytest"
 has_module hypothesis || missing="$missing python3-hypothesis"
 has_module mypy || missing="$missing python3-mypy"
 has_module owslib || missing="$missing python3-owslib"
+has_module distributed || missing="$missing python3-distributed"
 command -v ogr2ogr > /dev/null || missing="$missing gdal-bin"
 command -v chromium > /dev/null || missing="$missing chromium"
+command -v parallel > /dev/null || missing="$missing parallel"
 if [ -n "$missing" ] && [ "$(id -u)" = 0 ] && command -v apt-get > /dev/null; then
     log=$(mktemp)
     # shellcheck disable=SC2086 # The names of packages are words.

@@ -3,6 +3,7 @@
 import contextlib
 import os
 import shutil
+import signal
 from collections import Counter
 from collections.abc import Iterator
 from pathlib import Path
@@ -41,6 +42,20 @@ def gdal() -> None:
     """Skips a test if GDAL's tools aren't installed."""
     if not shutil.which("ogr2ogr"):
         pytest.skip("no ogr2ogr")
+
+
+@pytest.fixture(autouse=True)
+def signals() -> Iterator[None]:
+    """Handles signals as in a terminal. A run in the background ignores Ctrl-C, and so would all that it starts."""
+    handlers = {
+        signal.SIGINT: signal.default_int_handler,
+        signal.SIGTERM: signal.SIG_DFL,
+        signal.SIGHUP: signal.SIG_DFL,
+    }
+    previous = {number: signal.signal(number, handler) for number, handler in handlers.items()}
+    yield
+    for number, handler in previous.items():
+        signal.signal(number, handler)
 
 
 @pytest.fixture

@@ -36,7 +36,7 @@ def blocks(page: str, kind: str) -> list[Block]:
     return [Block(page, content.count("\n", 0, match.start()) + 1, match[1]) for match in found]
 
 
-CONSOLES = [block for page in PAGES for block in blocks(page, r"console\b.* tigerline(?![\w-]).*")]
+CONSOLES = [block for page in PAGES for block in blocks(page, r"console(?: \S+)* tigerline(?: .*)?")]
 
 
 @pytest.fixture

@@ -9,17 +9,18 @@ import argparse
 import os
 import signal
 import sys
-from collections.abc import Callable, Iterator, Sequence
+from collections.abc import Callable, Sequence
 from contextlib import ExitStack
+from dataclasses import replace
+from functools import partial
 from pathlib import Path
 
 from . import __version__, geocoding
 from ._commands import exit_status
-from ._extract import CountyRows, Request, extract
+from ._extract import Request, extract
 from ._interrupts import Interrupts
 from ._layout import chosen_names
-from ._map_rows import Surroundings, box_around, map_segment
-from ._map_view import MapSegment
+from ._map_rows import MapContent, box_around
 from ._output import PendingFile, pending_file
 from ._scratch import naming
 from ._tables import SUFFIXES, Selection, write_by_gdal, write_csv
@@ -43,6 +44,7 @@ def parser() -> argparse.ArgumentParser:
     add("--map", metavar="FILE", type=path_with(MAP_SUFFIXES), help="also draw a map: .svg or .html")
     add("--map-by", choices=("class", "score"), default="class", help="what the map shows (default: class)")
     add("--no-background", action="store_true", help="leave other segments out of the map")
+    _add_engines(result)
     add("--progress", action="store_true", help="show on standard error how many counties are done")
     add("--extractd", metavar="FILE", help="the program (default: the variable EXTRACTD, or extractd in PATH)")
     add("--version", action="version", version=f"tigerline {__version__}")
@@ -60,6 +62,22 @@ def _add_selection(result: argparse.ArgumentParser) -> None:
     geometry = "line: the two ends; shape: also the shape points of record type 2, which are not proved; none"
     result.add_argument("--geometry", choices=("line", "shape", "none"), default="line", help=geometry)
     result.add_argument("--score", metavar="COLUMN", help="the column that becomes the score of a filter")
+
+
+def _add_engines(result: argparse.ArgumentParser) -> None:
+    engines = result.add_mutually_exclusive_group()
+    engines.add_argument("--workers", metavar="N", type=positive, help="run N counties at once on this machine")
+    scheduler = "run the counties on the workers of a dask.distributed scheduler, such as tcp://host:8786"
+    engines.add_argument("--scheduler", metavar="ADDRESS", help=scheduler)
+    resume = "keep finished counties in OUT.parts until OUT is written, and start with those that are there"
+    result.add_argument("--resume", action="store_true", help=resume)
+
+
+def positive(text: str) -> int:
+    """Returns a number of at least 1."""
+    if not text.isdecimal() or int(text) < 1:
+        raise argparse.ArgumentTypeError(f"{text!r} is no number of at least 1")
+    return int(text)
 
 
 def path_with(suffixes: Sequence[str]) -> Callable[[str], Path]:
@@ -82,19 +100,15 @@ def write(options: argparse.Namespace) -> int:
     with Interrupts(signal.SIGINT, signal.SIGTERM, signal.SIGHUP) as interrupts, ExitStack() as files:
         table = files.enter_context(pending_file(options.out, options.overwrite))
         picture = files.enter_context(pending_file(options.map, options.overwrite)) if options.map else None
-        segments: list[MapSegment] = []
-        surroundings = Surroundings()
-        selection = Selection(
-            counties=surroundings.of(selected_counties(request, options, interrupts)),
-            names=names,
-            has_lines=options.geometry != "none",
-            signed=options.signed,
-            watcher=(lambda row, line: segments.append(map_segment(row, line))) if picture else None,
-        )
-        write_table = write_csv if table.path.suffix == ".csv" else write_by_gdal
-        count = write_table(table, selection, interrupts)
-        if picture:
-            draw(picture, segments, surroundings, options, interrupts)
+        content = MapContent() if picture else None
+        watcher = content.add_selected if content else None
+        selection = Selection((), names, options.geometry != "none", options.signed, watcher)
+        if options.workers or options.scheduler is not None or options.resume:
+            count = _write_in_parts(table, request, selection, content, options, interrupts, files)
+        else:
+            count = _write(table, request, selection, content, options, interrupts)
+        if picture and content:
+            draw(picture, content, options, interrupts)
         interrupts.check()
         for file in (table, picture):
             if file is not None:
@@ -102,37 +116,72 @@ def write(options: argparse.Namespace) -> int:
     return count
 
 
-def selected_counties(request: Request, options: argparse.Namespace, interrupts: Interrupts) -> Iterator[CountyRows]:
-    """Yields the rows of the counties, with those of their other segments if the map shows these."""
-    return extract(
+def shows_background(options: argparse.Namespace) -> bool:
+    """Whether the map shows segments that aren't selected."""
+    return options.map is not None and not options.no_background
+
+
+def _write(
+    table: PendingFile,
+    request: Request,
+    selection: Selection,
+    content: MapContent | None,
+    options: argparse.Namespace,
+    interrupts: Interrupts,
+) -> int:
+    counties = extract(
         request,
         options.data,
         options.counties,
         shapes=options.geometry == "shape",
-        all_rows=options.map is not None and not options.no_background,
+        all_rows=shows_background(options),
         progress=options.progress,
         interrupts=interrupts,
     )
+    selection = replace(selection, counties=content.of(counties) if content else counties)
+    if table.path.suffix == ".csv":
+        return write_csv(table, selection, interrupts)
+    return write_by_gdal(table, selection, interrupts)
 
 
-def draw(
-    file: PendingFile,
-    segments: list[MapSegment],
-    surroundings: Surroundings,
+def _write_in_parts(
+    table: PendingFile,
+    request: Request,
+    selection: Selection,
+    content: MapContent | None,
     options: argparse.Namespace,
     interrupts: Interrupts,
-) -> None:
+    files: ExitStack,
+) -> int:
+    """Has worker processes or a scheduler select the counties. The parts stay until all files are published."""
+    from . import _batch, _cluster, _workers
+
+    engine: _batch.Engine = partial(_workers.run_here, options.workers or 1)
+    if options.scheduler is not None:
+        engine = partial(_cluster.run_there, options.scheduler)
+    shapes, all_rows = options.geometry == "shape", shows_background(options)
+    sources = _batch.county_tasks(request, options.data, options.counties, shapes, all_rows, interrupts)
+    for_gdal = table.path.suffix != ".csv"
+    form = _batch.Form(selection.names, selection.has_lines, selection.signed, for_gdal, content is not None)
+    store = files.enter_context(_batch.part_store(table.final, options.resume))
+    tasks = [_batch.part_task(source, form, store) for source in sources]
+    with naming(table.final):
+        parts = _batch.run_tasks(tasks, store, engine, options.progress, interrupts)
+    return _batch.join_parts(table, parts, selection, content, interrupts)
+
+
+def draw(file: PendingFile, content: MapContent, options: argparse.Namespace, interrupts: Interrupts) -> None:
     """Draws the map."""
     from . import maps
 
     selected_by = os.path.basename(options.program) if options.where is None else options.where
-    box = box_around(segments)
+    box = box_around(content.selected)
     drawn = maps.draw_svg if file.path.suffix == ".svg" else maps.draw_html
     picture = drawn(
-        segments,
-        caption=f"{selected_by}: {counted(len(segments))}",
+        content.selected,
+        caption=f"{selected_by}: {counted(len(content.selected))}",
         by=options.map_by,
-        background=surroundings.within(box, interrupts),
+        background=content.background(box, interrupts),
         box=box,
     )
     with naming(file.final):

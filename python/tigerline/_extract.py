@@ -3,8 +3,9 @@
 import os
 from collections.abc import Iterable, Iterator
 from contextlib import AbstractContextManager, nullcontext
-from dataclasses import dataclass, field
+from dataclasses import dataclass, field, replace
 from pathlib import Path
+from typing import Any
 
 from . import _program
 from ._interrupts import Interrupts
@@ -13,7 +14,7 @@ from ._program import PathLike
 from ._progress import counted
 from ._scratch import scratch_folder
 from ._shapes import Shapes, shape_points
-from ._sources import County, choose_counties, find_counties, opened_county
+from ._sources import County, choose_counties, find_counties, missing_names, opened_county
 
 # The system takes arguments of up to 131,072 bytes.
 LONGEST_ARGUMENT = 100_000
@@ -43,13 +44,14 @@ class CountyRows:
     """The rows of a county as `extractd` wrote them.
 
     If they were requested, the shape points of the segments, and the rows of all segments of a county of which some are
-    selected.
+    selected. `warning` says which files are missing.
     """
 
     county: str
     rows: bytes
     shapes: Shapes = field(default_factory=dict)
     all_rows: bytes = b""
+    warning: str | None = None
 
 
 def extract(
@@ -61,18 +63,25 @@ def extract(
     all_rows: bool = False,
     progress: bool = False,
     interrupts: Interrupts | None = None,
+    client: Any = None,
 ) -> Iterator[CountyRows]:
     """Yields the rows of each county after `extractd` has ended for it with status 0.
 
-    When it yields, its temporary files and its processes are gone.
+    When it yields, its temporary files and its processes are gone. With a client of dask.distributed its workers run
+    the counties.
     """
+    if client is not None:
+        from . import _cluster
+
+        yield from _cluster.extract(client, request, data, counties, shapes, all_rows, progress)
+        return
     folder = Path(data)
     with active_interrupts(interrupts) as active:
         program = _program.find_program(request.extractd, active)
         chosen = choose_counties(find_counties(folder), counties, folder)
     for county in counted(chosen, progress):
         with active_interrupts(interrupts) as active:
-            rows = _county_rows(program, request, county, shapes, all_rows, active)
+            rows = county_rows(program, request, county, shapes, all_rows, active)
         yield rows
 
 
@@ -82,9 +91,10 @@ def active_interrupts(interrupts: Interrupts | None) -> AbstractContextManager[I
     return nullcontext(interrupts)
 
 
-def _county_rows(
+def county_rows(
     program: str, request: Request, county: County, shapes: bool, all_rows: bool, interrupts: Interrupts
 ) -> CountyRows:
+    """Has `extractd` select the segments of one county."""
     types = "12456" if shapes else "1456"
     with opened_county(county, types, interrupts) as files, scratch_folder() as scratch:
         folder = files["1"].parent
@@ -97,11 +107,11 @@ def _county_rows(
                 everything = _program.run(command, interrupts, county=county.code)
         except OSError as error:
             raise with_own_paths(error, county, files) from None
+        found = CountyRows(county.code, rows, all_rows=everything, warning=missing_names(county, files))
         if not shapes:
-            return CountyRows(county.code, rows, all_rows=everything)
+            return found
         name = str(county.files.get("2") or county.archive)
-        points = shape_points(files["2"], set(segments(everything or rows)), name)
-        return CountyRows(county.code, rows, points, everything)
+        return replace(found, shapes=shape_points(files["2"], set(segments(everything or rows)), name))
 
 
 def _command(

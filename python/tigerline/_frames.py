@@ -13,6 +13,7 @@ from ._program import PathLike
 from ._shapes import Shapes
 
 if TYPE_CHECKING:
+    import distributed
     import geopandas
 
 CRS = "EPSG:4269"  # NAD 83
@@ -32,6 +33,7 @@ def select(
     score: str | None = None,
     signed: bool = False,
     progress: bool = False,
+    client: "distributed.Client | None" = None,
     extractd: PathLike | None = None,
 ) -> "geopandas.GeoDataFrame":
     ...
@@ -49,6 +51,7 @@ def select(
     score: str | None = None,
     signed: bool = False,
     progress: bool = False,
+    client: "distributed.Client | None" = None,
     extractd: PathLike | None = None,
 ) -> pd.DataFrame:
     ...
@@ -65,6 +68,7 @@ def select(
     score: str | None = None,
     signed: bool = False,
     progress: bool = False,
+    client: "distributed.Client | None" = None,
     extractd: PathLike | None = None,
 ) -> Any:
     """Returns the segments that a filter or a program selects, by county and in the order of the files.
@@ -80,11 +84,13 @@ def select(
     `geometry` is "line", a line between the two ends of each segment, in NAD 83 (EPSG:4269). "shape" adds the shape
     points of record type 2. They are not proved, since `extractd` doesn't read this type. False returns a DataFrame.
 
+    `client` is a dask.distributed client, whose workers then select the counties (docs/scale.md).
+
     Raises Refused if `extractd` refuses the filter, the program or a county's file, ValueError for arguments that can't
     be used, OSError for files, and MemoryError. Then no row is returned.
     """
     request = Request(where, program, score, extractd)
-    return _select(request, data, counties, columns, geometry, signed, progress)
+    return _select(request, data, counties, columns, geometry, signed, progress, client)
 
 
 @overload
@@ -132,11 +138,12 @@ def _select(
     geometry: Geometry,
     signed: bool = False,
     progress: bool = False,
+    client: "distributed.Client | None" = None,
 ) -> Any:
     if geometry not in ("line", "shape", False):
         raise ValueError(f'geometry is "line", "shape" or False, and {geometry!r} isn\'t')
     names = chosen_names(None if columns is None else list(columns))
-    found = extract(request, data, counties, shapes=geometry == "shape", progress=progress)
+    found = extract(request, data, counties, shapes=geometry == "shape", progress=progress, client=client)
     return _joined([_frame(county, names, geometry, signed) for county in found])
 
 

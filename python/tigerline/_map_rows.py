@@ -1,8 +1,9 @@
 """The segments of a map: the selected ones, and those around them."""
 
 import warnings
-from collections.abc import Iterable, Iterator
+from collections.abc import Callable, Iterable, Iterator
 from dataclasses import replace
+from functools import partial
 
 from ._extract import CountyRows
 from ._interrupts import Interrupts
@@ -12,6 +13,8 @@ from ._rows import Row, read_rows, without
 
 AROUND = 0.15  # how far around the selection the map goes, as a part of its larger extent
 MOST_SEGMENTS = 500_000  # about a small state; drawing more takes long, and so does opening the map
+
+Reader = Callable[[], Iterator[MapSegment]]
 
 
 def map_segment(row: Row, line: Line) -> MapSegment:
@@ -30,38 +33,57 @@ def box_around(segments: Iterable[MapSegment]) -> Box | None:
     return Box(west - margin, south - margin, east + margin, north + margin)
 
 
-class Surroundings:
-    """Keeps the segments that aren't selected, of counties with selected ones, until it is known where these are."""
+class MapContent:
+    """Collects the segments that a map shows: the selected ones, and the others of counties with selected ones.
+
+    How to read the others is kept until it is known where the selected ones are.
+    """
 
     def __init__(self) -> None:
-        self._counties: list[CountyRows] = []
-        self._number = 0
+        self.selected: list[MapSegment] = []
+        self.others_count = 0
+        self._others: list[Reader] = []
+
+    def add_selected(self, row: Row, line: Line) -> None:
+        """Adds the segment of a row."""
+        self.selected.append(map_segment(row, line))
+
+    def add_others(self, count: int, read: Reader) -> None:
+        """Adds the other segments of a county. If there are too many in all, none is kept."""
+        self.others_count += count
+        if self.others_count <= MOST_SEGMENTS:
+            self._others.append(read)
+        else:
+            self._others.clear()
 
     def of(self, counties: Iterable[CountyRows]) -> Iterator[CountyRows]:
-        """Yields the counties, and keeps the other segments of each."""
+        """Yields the counties, and adds the other segments of each."""
         for county in counties:
-            rest = without(county.all_rows, county.rows)
-            self._number += rest.count(b"\n")
-            if self._number <= MOST_SEGMENTS:
-                self._counties.append(CountyRows(county.county, rest, county.shapes))
-            else:
-                self._counties.clear()
+            if county.all_rows:
+                rest = CountyRows(county.county, without(county.all_rows, county.rows), county.shapes)
+                self.add_others(rest.rows.count(b"\n"), partial(_segments, rest))
             yield replace(county, all_rows=b"")
 
-    def within(self, box: Box | None, interrupts: Interrupts) -> list[MapSegment]:
-        """Returns the kept segments that are near the box. If there were too many to keep, a warning says so."""
-        if self._number > MOST_SEGMENTS:
+    def others(self, interrupts: Interrupts) -> Iterator[MapSegment]:
+        """Yields the other segments that are kept."""
+        for read in self._others:
+            for segment in read():
+                interrupts.check()
+                yield segment
+
+    def background(self, box: Box | None, interrupts: Interrupts) -> list[MapSegment]:
+        """Returns the other segments that are near the box. If there were too many to keep, a warning says so."""
+        if self.others_count > MOST_SEGMENTS:
             warnings.warn(
                 f"the map shows the selection alone: its counties have more than {MOST_SEGMENTS:,} other segments",
                 stacklevel=2,
             )
         if box is None:
             return []
-        segments = (segment for segment in self._segments(interrupts) if segment.points)
+        segments = (segment for segment in self.others(interrupts) if segment.points)
         return [segment for segment in segments if box.touches(extent_of(segment.points))]
 
-    def _segments(self, interrupts: Interrupts) -> Iterator[MapSegment]:
-        for county in self._counties:
-            for row in read_rows(county, signed=False):
-                interrupts.check()
-                yield map_segment(row, line_of(row, county.shapes))
+
+def _segments(county: CountyRows) -> Iterator[MapSegment]:
+    for row in read_rows(county, signed=False):
+        yield map_segment(row, line_of(row, county.shapes))

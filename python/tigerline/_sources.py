@@ -7,7 +7,7 @@ import struct
 import warnings
 import zipfile
 import zlib
-from collections.abc import Iterable, Iterator
+from collections.abc import Container, Iterable, Iterator
 from contextlib import contextmanager
 from dataclasses import dataclass
 from pathlib import Path, PurePosixPath
@@ -159,12 +159,17 @@ def _require(county: County, types: str, present: dict[str, Path]) -> None:
     for record_type in "12":
         if record_type in types and record_type not in present:
             raise FileNotFoundError(f"{county.archive or county.folder} has no TGR{county.code}.RT{record_type}")
+    missing = missing_names(county, present)
+    if missing is not None:
+        warnings.warn(missing, stacklevel=2)
+
+
+def missing_names(county: County, present: Container[str]) -> str | None:
+    """Says which files of type 4, 5 and 6 are missing, or returns None if all are there."""
     missing = [f"TGR{county.code}.RT{record_type}" for record_type in "456" if record_type not in present]
-    if missing:
-        warnings.warn(
-            f"{county.archive or county.folder} has no {', '.join(missing)}: names or address ranges may be missing",
-            stacklevel=2,
-        )
+    if not missing:
+        return None
+    return f"{county.archive or county.folder} has no {', '.join(missing)}: names or address ranges may be missing"
 
 
 @contextmanager

@@ -77,32 +77,7 @@ def write_csv(file: PendingFile, selection: Selection, interrupts: Interrupts) -
     return count
 
 
-def write_by_gdal(file: PendingFile, selection: Selection, interrupts: Interrupts) -> int:
-    """Has ogr2ogr write a file, and returns the number of segments. Raises OSError if the file lacks some."""
-    suffix = file.path.suffix
-    if suffix == ".fgb" and not selection.has_lines:
-        raise ValueError("FlatGeobuf has no segments without geometry: use .gpkg, .geojson or .csv")
-    ogr2ogr, ogrinfo = _tool("ogr2ogr"), _tool("ogrinfo")
-    with scratch_folder() as scratch:
-        source = scratch / "segments.csv"
-        with naming(source):
-            count, without_line = _write_source(source, selection, interrupts)
-            source.with_suffix(".csvt").write_text(",".join(_types(selection)) + "\n")
-        if suffix == ".fgb" and without_line:
-            raise ValueError(
-                f"FlatGeobuf has no segments without geometry, and {without_line} have no coordinates: "
-                "use .gpkg, .geojson or .csv"
-            )
-        _convert(ogr2ogr, source, file, selection.has_lines, interrupts)
-    written = _features_of_geojson(file.path) if suffix == ".geojson" else None
-    if written != count:
-        written = _count(ogrinfo, file.path, interrupts)
-    if written != count:
-        raise OSError(f"{file.final}: ogr2ogr wrote {written or 'none'} of {count} segments; the disk may be full")
-    return count
-
-
-def _write_source(path: Path, selection: Selection, interrupts: Interrupts) -> tuple[int, int]:
+def write_source(path: Path, selection: Selection, interrupts: Interrupts) -> tuple[int, int]:
     """Writes CSV for ogr2ogr, with lines as WKB. Returns how many segments there are, and how many have no line."""
     values_of = selection.values_of()
     count = without_line = 0
@@ -119,6 +94,36 @@ def _write_source(path: Path, selection: Selection, interrupts: Interrupts) -> t
             count += 1
             without_line += line is None
     return count, without_line
+
+
+SourceWriter = Callable[[Path, Selection, Interrupts], tuple[int, int]]
+
+
+def write_by_gdal(
+    file: PendingFile, selection: Selection, interrupts: Interrupts, write_source: SourceWriter = write_source
+) -> int:
+    """Has ogr2ogr write a file, and returns the number of segments. Raises OSError if the file lacks some."""
+    suffix = file.path.suffix
+    if suffix == ".fgb" and not selection.has_lines:
+        raise ValueError("FlatGeobuf has no segments without geometry: use .gpkg, .geojson or .csv")
+    ogr2ogr, ogrinfo = _tool("ogr2ogr"), _tool("ogrinfo")
+    with scratch_folder() as scratch:
+        source = scratch / "segments.csv"
+        with naming(source):
+            count, without_line = write_source(source, selection, interrupts)
+            source.with_suffix(".csvt").write_text(",".join(_types(selection)) + "\n")
+        if suffix == ".fgb" and without_line:
+            raise ValueError(
+                f"FlatGeobuf has no segments without geometry, and {without_line} have no coordinates: "
+                "use .gpkg, .geojson or .csv"
+            )
+        _convert(ogr2ogr, source, file, selection.has_lines, interrupts)
+    written = _features_of_geojson(file.path) if suffix == ".geojson" else None
+    if written != count:
+        written = _count(ogrinfo, file.path, interrupts)
+    if written != count:
+        raise OSError(f"{file.final}: ogr2ogr wrote {written or 'none'} of {count} segments; the disk may be full")
+    return count
 
 
 def _types(selection: Selection) -> list[str]:

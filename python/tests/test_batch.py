@@ -1,0 +1,334 @@
+"""Counties in several processes: the bytes of one process, also after a worker was killed or a run was cut off."""
+
+import os
+import random
+import shutil
+import signal
+import time
+import zipfile
+from collections.abc import Callable, Iterator
+from dataclasses import replace
+from pathlib import Path
+
+import pytest
+from batches import (
+    CODES,
+    FIRST_IS_LAST,
+    KILL_ALWAYS,
+    KILL_ONCE,
+    ROAD_COUNT,
+    ROADS,
+    SEGMENTS,
+    WAIT,
+    counties_run,
+    disturbed,
+    run,
+    start,
+    wait_for,
+    write_counties,
+)
+from counties import write_shapes
+from test_interrupts import processes_with
+from tigerline import __main__ as command
+from tigerline import _batch, _map_rows
+from tigerline._extract import Request
+from tigerline._interrupts import Interrupts
+
+SEED = 20062
+FORM = _batch.Form(("TLID",), has_lines=False, signed=False, for_gdal=False, has_map=False)
+
+pytestmark = pytest.mark.usefixtures("extractd", "scratch")
+
+
+@pytest.fixture
+def data(tmp_path: Path) -> Path:
+    return write_counties(tmp_path / "data")
+
+
+@pytest.fixture
+def out(tmp_path: Path) -> Iterator[Path]:
+    """A folder for output, in which no temporary file may be left."""
+    folder = tmp_path / "out"
+    folder.mkdir()
+    yield folder
+    assert not [path.name for path in folder.iterdir() if path.name.startswith(".")]
+    # The program of a killed worker ends when it writes.
+    wait_for(lambda: not processes_with(str(tmp_path)))
+
+
+def plain(data: Path, path: Path, *options: object) -> bytes:
+    """The bytes that a run in one process writes."""
+    status, _, said = run(data, path, *options)
+    assert (status, said) == (0, "")
+    return path.read_bytes()
+
+
+def write_archives(data: Path, folder: Path) -> Path:
+    """Packs each county into a zip file."""
+    folder.mkdir()
+    for code in CODES:
+        with zipfile.ZipFile(folder / f"TGR{code}.ZIP", "w") as archive:
+            for path in data.glob(f"TGR{code}.*"):
+                archive.write(path, path.name)
+    return folder
+
+
+@pytest.mark.parametrize("suffix", ["csv", "gpkg"])
+def test_same_bytes(data: Path, out: Path, suffix: str, gdal: None) -> None:
+    options = ("--where", ROADS, "--counties", "02", "01005", "AL")
+    expected = plain(data, out / f"a.{suffix}", *options, "--map", out / "a.svg")
+    for engine in (["--workers", "1"], ["--workers", "9", "--resume"]):
+        status, output, said = run(data, out / f"b.{suffix}", *options, *engine, "--map", out / "b.svg", "--overwrite")
+        assert (status, output, said) == (0, f"{out}/b.{suffix}: {ROAD_COUNT} segments\n", "")
+        assert (out / f"b.{suffix}").read_bytes() == expected
+        assert (out / "b.svg").read_bytes() == (out / "a.svg").read_bytes()
+    assert len(list(out.iterdir())) == 4
+
+
+@pytest.mark.parametrize(
+    ("name", "options"),
+    [
+        ("a.svg", ()),
+        ("a.svg", ("--no-background",)),
+        ("a.html", ("--geometry", "shape", "--score", "FRLONG", "--signed", "--map-by", "score")),
+    ],
+)
+def test_same_map(data: Path, out: Path, name: str, options: tuple[str, ...]) -> None:
+    """With the segments around the selection, and without them."""
+    for code in CODES:
+        write_shapes(data, code)
+    selection = ("--where", "FENAME LIKE 'C%' OR CFCC = 'A21'", *options)
+    expected = plain(data, out / "a.csv", *selection, "--map", out / name)
+    drawn = (out / name).read_bytes()
+    assert (b">Not selected<" in drawn) == ("--no-background" not in options)
+    options = (*selection, "--workers", "2", "--map", out / name, "--overwrite")
+    assert plain(data, out / "a.csv", *options) == expected and (out / name).read_bytes() == drawn
+
+
+def test_too_much_background(
+    data: Path, out: Path, monkeypatch: pytest.MonkeyPatch, capsys: pytest.CaptureFixture[str]
+) -> None:
+    monkeypatch.setattr(_map_rows, "MOST_SEGMENTS", SEGMENTS)
+    options = ("--where", ROADS, "--workers", "2", "--map", str(out / "a.svg"))
+    assert command.main([str(data), str(out / "a.csv"), *options]) == 0
+    said = "warning: the map shows the selection alone: its counties have more than 60 other segments\n"
+    assert capsys.readouterr().err == said and "Not selected" not in (out / "a.svg").read_text()
+
+
+def test_order_of_counties(data: Path, out: Path) -> None:
+    """The first county ends after the others, and its lines come first."""
+    program = disturbed(out.parent / "slow", os.environ["EXTRACTD"], FIRST_IS_LAST)
+    options = ("--where", "TRUE", "--counties", "02013", *CODES[:4])
+    assert run(data, out / "a.csv", *options, "--workers", "5", "--extractd", program)[0] == 0
+    lines = (out / "a.csv").read_text().splitlines()[1:]
+    assert list(dict.fromkeys(line[:5] for line in lines)) == ["02013", *CODES[:4]]
+
+
+@pytest.mark.parametrize(
+    "options",
+    [
+        ("--where", "TRUE", "--geometry", "shape", "--columns", "TLID", "FENAME"),
+        ("--where", "TRUE", "--geometry", "none", "--score", "FRLONG", "--signed", "--counties", "01005", "01001"),
+        ("--program", "all.bpf"),
+    ],
+)
+def test_same_bytes_of_options(
+    data: Path, out: Path, options: tuple[str, ...], monkeypatch: pytest.MonkeyPatch
+) -> None:
+    """Also if counties are zip files, and if the program is named by a relative path."""
+    (out.parent / "all.bpf").write_bytes(bytes.fromhex("b700000001000000 9500000000000000"))
+    monkeypatch.chdir(out.parent)
+    for code in CODES:
+        write_shapes(data, code)
+    expected = plain(data, out / "a.csv", *options)
+    source = write_archives(data, out.parent / "zip") if "--program" in options else data
+    assert plain(source, out / "b.csv", *options, "--workers", "2") == expected
+
+
+def test_warnings(data: Path, out: Path) -> None:
+    """A warning of a county is that of one process, also if its part was there already."""
+    (data / "TGR01003.RT4").unlink()
+    options = ("--where", "TRUE", "--extractd", disturbed(out.parent / "stop", os.environ["EXTRACTD"], WAIT))
+    warning = f"warning: {data} has no TGR01003.RT4: names or address ranges may be missing\n"
+    process = start(data, out / "a.csv", *options, "--resume")
+    wait_for(lambda: (out.parent / "stop.state/waits").exists())
+    process.send_signal(signal.SIGINT)
+    process.communicate(timeout=30)
+    (out.parent / "stop.state/go").touch()
+    assert run(data, out / "a.csv", *options, "--resume") == (0, f"{out}/a.csv: 300 segments\n", warning)
+
+
+class TestResume:
+    """A run that was cut off goes on with the parts that are there."""
+
+    @pytest.mark.parametrize("number", [signal.SIGKILL, signal.SIGINT])
+    def test_cut_off(self, data: Path, out: Path, number: signal.Signals, scratch: Path) -> None:
+        program = disturbed(out.parent / "stop", os.environ["EXTRACTD"], WAIT)
+        options = (data, out / "a.csv", "--where", ROADS, "--extractd", program)
+        process = start(*options, "--workers", "2", "--resume")
+        parts = out / "a.csv.parts"
+        wait_for(lambda: len(list(parts.glob("*.part"))) == 4)
+        os.kill(process.pid, number)
+        process.communicate(timeout=30)
+        assert process.returncode == -number
+        wait_for(lambda: not processes_with(str(out.parent)))
+        assert [path.name for path in out.iterdir() if path.name[0] != "."] == ["a.csv.parts"]
+        (out.parent / "stop.state/go").touch()
+        assert run(*options, "--workers", "2", "--resume") == (0, f"{out}/a.csv: {ROAD_COUNT} segments\n", "")
+        assert sorted(counties_run(program)) == sorted([*CODES, "01005"])
+        assert (out / "a.csv").read_bytes() == plain(data, out / "b.csv", "--where", ROADS)
+        assert not parts.exists()
+        for folder in (*out.glob(".tigerline-*"), *scratch.glob("tigerline-*")):
+            assert number == signal.SIGKILL
+            shutil.rmtree(folder)
+
+    def test_folder_of_others(self, data: Path, out: Path) -> None:
+        """Files that aren't ours stay, and a second run at once is an error."""
+        program = disturbed(out.parent / "stop", os.environ["EXTRACTD"], WAIT)
+        (out / "a.csv.parts").mkdir()
+        (out / "a.csv.parts/notes.txt").write_text("mine")
+        options = (data, out / "a.csv", "--where", "TRUE", "--extractd", program, "--resume")
+        process = start(*options)
+        wait_for(lambda: (out.parent / "stop.state/waits").exists())
+        assert run(*options) == (3, "", f"error: {out}/a.csv.parts is in use by another run\n")
+        (out.parent / "stop.state/go").touch()
+        process.communicate(timeout=30)
+        assert process.returncode == 0 and [path.name for path in (out / "a.csv.parts").iterdir()] == ["notes.txt"]
+        (out / "b.csv.parts").touch()
+        status, _, said = run(data, out / "b.csv", "--where", "TRUE", "--resume")
+        assert status == 3 and said == f"error: {out}/b.csv.parts: File exists\n"
+
+
+def test_worker_killed(data: Path, out: Path) -> None:
+    program = disturbed(out.parent / "killing", os.environ["EXTRACTD"], KILL_ONCE)
+    options = ("--where", ROADS, "--extractd", program, "--workers", "2")
+    assert run(data, out / "a.csv", *options) == (0, f"{out}/a.csv: {ROAD_COUNT} segments\n", "")
+    assert counties_run(program).count("01005") == 2
+    assert (out / "a.csv").read_bytes() == plain(data, out / "b.csv", "--where", ROADS)
+
+
+def test_worker_killed_each_time(data: Path, out: Path) -> None:
+    program = disturbed(out.parent / "killing", os.environ["EXTRACTD"], KILL_ALWAYS)
+    status, output, said = run(data, out / "a.csv", "--where", ROADS, "--extractd", program, "--workers", "2")
+    assert (status, output) == (3, "") and said == "error: county 01005: 3 processes that ran it were killed\n"
+    assert not list(out.iterdir())
+
+
+class TestFaults:
+    """One error, and nothing is left."""
+
+    def test_refused_county(self, data: Path, out: Path) -> None:
+        with open(data / "TGR01005.RT1", "ab") as file:
+            file.write(b"short\r\n")
+        status, output, said = run(data, out / "a.csv", "--where", "TRUE", "--workers", "3")
+        assert (status, output, said) == (1, "", "refused 1 rt1 line 61 WrongLength\ncounty 01005\n")
+        assert not list(out.iterdir())
+
+    @pytest.mark.parametrize(
+        ("status", "said", "options"),
+        [
+            (1, "refused 91 line 1 column 1 UnknownColumn\n", ("--where", "ZIP = 1", "--workers", "2")),
+            (3, "nowhere.bpf: No such file or directory\n", ("--program", "nowhere.bpf", "--workers", "2")),
+            (3, "has no TGR05???.RT1", ("--where", "TRUE", "--workers", "2", "--counties", "AR")),
+            (2, "'0' is no number of at least 1", ("--where", "TRUE", "--workers", "0")),
+            (2, "'-1' is no number of at least 1", ("--where", "TRUE", "--workers=-1")),
+            (2, "not allowed with argument", ("--where", "TRUE", "--workers", "2", "--scheduler", "a:1")),
+        ],
+    )
+    def test_statuses(self, data: Path, out: Path, status: int, said: str, options: tuple[str, ...]) -> None:
+        done = run(data, out / "a.csv", *options)
+        assert done[:2] == (status, "") and said in done[2] and "Traceback" not in done[2]
+        assert not list(out.iterdir())
+
+    def test_ctrl_c(self, data: Path, out: Path, scratch: Path) -> None:
+        randoms = random.Random(SEED)
+        program = disturbed(out.parent / "slow", os.environ["EXTRACTD"], "sleep 0.1")
+        options = (data, out / "a.csv", "--where", "TRUE", "--extractd", program, "--workers", "3")
+        for number in [signal.SIGINT, signal.SIGTERM, signal.SIGHUP, signal.SIGINT]:
+            process = start(*options)
+            wait_for(lambda: list(out.iterdir()) or process.poll() is not None)
+            time.sleep(randoms.random() * 0.6)
+            os.killpg(process.pid, number)
+            assert process.communicate(timeout=20)[1] == ""
+            assert process.returncode in (-number, 0)
+            assert not processes_with(str(out.parent)) and not list(scratch.iterdir())
+            assert not list(out.glob(".*"))
+            (out / "a.csv").unlink(missing_ok=True)
+
+
+class TestTasks:
+    """What a worker on another machine sees is what the task was made for."""
+
+    def task(
+        self,
+        data: Path,
+        store: Path,
+        request: Request = Request("TRUE"),
+        form: _batch.Form = FORM,
+        all_rows: bool = False,
+    ) -> _batch.PartTask:
+        with Interrupts() as interrupts:
+            source = _batch.county_tasks(request, data, "01001", False, all_rows, interrupts)[0]
+        store.mkdir(exist_ok=True)
+        return _batch.part_task(source, form, store)
+
+    def refused(self, task: _batch.PartTask, text: str) -> None:
+        with pytest.raises(OSError, match=text):
+            _batch.run_part(task)
+
+    def test_part_of_another_selection(self, data: Path, tmp_path: Path, extractd: str) -> None:
+        """A part has another name if anything that it depends on is different."""
+        program = disturbed(tmp_path / "program", extractd, ":")
+        seen = {self.task(data, tmp_path).path, self.task(data, tmp_path).path}
+        assert len(seen) == 1
+        first = data / "TGR01001.RT1"
+        changes: list[Callable[[], _batch.PartTask]] = [
+            lambda: self.task(data, tmp_path, Request("NOT FALSE")),
+            lambda: self.task(data, tmp_path, Request("TRUE", score="TLID")),
+            lambda: self.task(data, tmp_path, Request(program=b"words")),
+            lambda: self.task(data, tmp_path, Request("TRUE", extractd=program)),
+            lambda: self.task(data, tmp_path, all_rows=True),
+            *[
+                lambda form=form: self.task(data, tmp_path, form=form)
+                for form in (
+                    replace(FORM, names=("CFCC",)),
+                    replace(FORM, has_lines=True),
+                    replace(FORM, signed=True),
+                    replace(FORM, for_gdal=True),
+                    replace(FORM, has_map=True),
+                )
+            ],
+            lambda: os.utime(data / "TGR01001.RT6", (0, 0)) or self.task(data, tmp_path),
+            lambda: first.write_bytes(first.read_bytes() * 2) and self.task(data, tmp_path),
+            lambda: (data / "TGR01001.RT4").unlink() or self.task(data, tmp_path),
+            lambda: os.utime(program, (0, 0)) or self.task(data, tmp_path, Request("TRUE", extractd=program)),
+        ]
+        for change in changes:
+            path = change().path
+            assert path not in seen
+            seen.add(path)
+
+    def test_spoilt_parts(self, data: Path, tmp_path: Path) -> None:
+        """No part counts as whole that lacks an end, or has another byte, at any place."""
+        task = self.task(data, tmp_path)
+        _batch.run_part(task)
+        content = task.path.read_bytes()
+        assert _batch.is_whole(task.path)
+        for place in range(0, len(content), 7):
+            task.path.write_bytes(content[:place])
+            assert not _batch.is_whole(task.path)
+            task.path.write_bytes(content[:place] + bytes([content[place] ^ 4]) + content[place + 1 :])
+            assert not _batch.is_whole(task.path)
+
+    def test_other_files(self, data: Path, tmp_path: Path) -> None:
+        task = self.task(data, tmp_path / "store")
+        assert _batch.run_part(task) == _batch.host() and _batch.is_whole(task.path)
+        os.utime(data / "TGR01001.RT4", (0, 0))
+        self.refused(task, "county 01001: .*/TGR01001.RT4 isn't the same file on .*: its size or time differs")
+        (data / "TGR01001.RT1").unlink()
+        self.refused(task, "TGR01001.RT1: No such file or directory on .*: DATA has to be in a file system that all")
+
+    def test_no_folder_for_output(self, data: Path, tmp_path: Path) -> None:
+        task = self.task(data, tmp_path / "store")
+        (tmp_path / "store").rmdir()
+        self.refused(task, "county 01001: .*/store: No such file or directory on .*: OUT has to be in a file system")
