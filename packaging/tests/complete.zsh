@@ -1,0 +1,44 @@
+# Prints what zsh offers at the end of each line of standard input, after the line and a colon: zsh -f complete.zsh FOLDER SCRATCH
+# It is part of the tests. FOLDER has the file _extractd, and SCRATCH is an empty folder. An interactive shell on a pseudo-terminal completes.
+zmodload zsh/zpty
+zmodload zsh/zselect
+integer waited
+answer=$2/answer
+: > $answer
+cat > $2/.zshrc <<END
+PROMPT= RPROMPT= LISTMAX=100000
+setopt no_auto_list no_beep no_list_ambiguous
+fpath=(${(q)1} \$fpath)
+autoload -Uz compinit
+compinit -u -d ${(q)2}/dump
+zstyle ':completion:*' completer _complete
+compadd() {
+    local -a found=()
+    if [[ " \${@[1,(i)(-|--)]} " != *" -"[OAD]" "* ]]; then
+        builtin compadd -O found "\$@"
+        (( ! \$#found )) || print -rl -- \$found >> ${(q)answer}
+    fi
+    builtin compadd "\$@"
+}
+END
+export ZDOTDIR=$2 TERM=dumb
+zpty -b shell zsh -d -i
+# type TEXT: types it, and waits until the shell has done what it says.
+type() {
+    : > $answer
+    zpty -w -n shell $1$'\025'" print -- :end >> ${(q)answer}"$'\n'
+    for ((waited = 0; waited < 1000; waited++)); do
+        [[ $(< $answer) != *:end ]] || return 0
+        zselect -t 1
+        zpty -r -t shell said
+    done
+    print -u 2 "zsh doesn't answer: $1"
+    exit 1
+}
+# The shell has no completion before its first prompt.
+type ''
+while IFS= read -r line; do
+    type $line$'\t'
+    print -r -- "$line:" ${(ou)${(f)"$(< $answer)"}:#:end}
+done
+zpty -d shell

@@ -1,0 +1,108 @@
+#!/usr/bin/env bash
+# Compares the manual pages and the completions with a built program: packaging/tests/options.sh PATH_TO_extractd
+#
+# Each command and each option of its --help has to be in its manual page and in both completions, and no other. Each page has to render
+# without a warning and to name the program's version. Each column that is offered has to be accepted, and be in docs/filters.md, as all of its numeric columns.
+#
+# It needs bash and coreutils. Without zsh or groff it leaves out what needs them; with REQUIRE_ALL set that is a failure.
+# Prints what failed, then how much was tried. Exit status 0 means that nothing failed.
+
+set -u
+export LC_ALL=C.UTF-8
+
+if [ $# -ne 1 ] || [ ! -x "$1" ] || [ -d "$1" ]; then
+    echo "usage: ${0##*/} PATH_TO_extractd" >&2
+    exit 1
+fi
+program=$(realpath "$1")
+here=$(realpath "$(dirname "$0")")
+packaging=$(dirname "$here")
+examples=$(dirname "$packaging")/examples
+tried=0 failed=0
+scratch=$(mktemp -d) || exit 1
+trap 'rm -rf "$scratch"' EXIT
+trap 'exit 1' INT TERM HUP
+
+# same NAME EXPECTED ACTUAL: whether two lists of words are equal, in any order.
+same() {
+    local expected actual
+    # shellcheck disable=SC2086 # They are words.
+    expected=$(printf '%s\n' $2 | sort) actual=$(printf '%s\n' $3 | sort)
+    tried=$((tried + 1))
+    [ "$expected" = "$actual" ] && return
+    failed=$((failed + 1))
+    printf 'FAILED: %s\n' "$1" "should be: ${expected//$'\n'/ }" "and is: ${actual//$'\n'/ }"
+}
+leave_out() {
+    if [ -n "${REQUIRE_ALL-}" ]; then same "left out: $1" '' missing; else echo "left out: $1"; fi
+}
+
+help_of() { "$program" "$@" --help 2>&1; }
+# long_options COMMAND..: the long options in its help.
+long_options() { help_of "$@" | sed -n 's/^ \{2,6\}\(-., \)\?\(--[a-z-]*\).*/\2/p'; }
+# page_options FILE: the options that a manual page describes.
+page_options() { sed -n '/^\.It Fl/s/.*Fl Fl \([a-z-]*\).*/--\1/p' "$1"; }
+# bash_offers WORD..: what bash offers for the last word.
+bash_offers() { bash "$here/complete.bash" "$packaging/completions/extractd.bash" "$@" | tr '\n' ' '; }
+# zsh_offers LINE: what zsh offers at its end, of all lines that were completed at once.
+zsh_offers() { grep -F -- "$1: " "$scratch/zsh" | sed "s/^$1: //; s/ -[a-zA-Z] / /g"; }
+
+
+commands=$(help_of | sed -n '/^Commands:$/,/^$/s/^  \([a-z-]*\) .*/\1/p')
+mkdir "$scratch/zdot"
+cd "$examples" || exit
+{
+    printf '%s\n' 'extractd ' 'extractd --' 'extractd run --data . ' 'extractd select --data=. 0' 'extractd verify --program all.' 'extractd run --data to' 'extractd select --score '
+    for command in $commands; do echo "extractd $command --"; done
+} > "$scratch/lines"
+zsh=
+if command -v zsh > /dev/null; then
+    zsh=yes
+    zsh -f "$here/complete.zsh" "$packaging/completions" "$scratch/zdot" < "$scratch/lines" > "$scratch/zsh"
+else
+    leave_out 'completions in zsh (there is no zsh here)'
+fi
+# offers NAME EXPECTED WORD..: what both shells offer for a command line.
+offers() {
+    local name=$1 expected=$2
+    shift 2
+    same "bash: $name" "$expected" "$(bash_offers "$@")"
+    [ -z "$zsh" ] || same "zsh: $name" "$expected" "$(zsh_offers "$*")"
+}
+
+case $commands in *run*serve) ;; *) same 'the help' 'a list of commands' "$commands" ;; esac
+offers 'the commands' "$commands" extractd ''
+offers 'the options of extractd' "$(long_options)" extractd --
+for command in $commands; do
+    offers "the options of $command" "$(long_options "$command")" extractd "$command" --
+    same "the options in the page of $command" "$(long_options "$command")" "$(page_options "$packaging/man/extractd-$command.1")"
+done
+same 'the options in the page of extractd' "$(long_options)" "$(page_options "$packaging/man/extractd.1")"
+# shellcheck disable=SC2086 # They are words.
+same 'the pages' "$(printf 'extractd-%s.1 ' $commands) extractd.1" "$(ls "$packaging/man")"
+same 'the commands in the page of extractd' "$commands" "$(sed -n 's/^\.It Xr extractd-\([a-z-]*\) 1/\1/p' "$packaging/man/extractd.1")"
+offers 'counties' 01001 extractd run --data . ''
+same 'bash: counties after --data=' 01001 "$(bash_offers extractd select --data = . 0)"
+[ -z "$zsh" ] || same 'zsh: counties after --data=' 01001 "$(zsh_offers 'extractd select --data=. 0')"
+offers 'files' all.bpf extractd verify --program all.
+offers 'folders' town extractd run --data to
+
+columns=$(sed -n -E 's/^\| (number|coordinate) \| ([A-Z, ]*) \|.*/\2/p' "$examples/../docs/filters.md" | tr -d ,)
+offers 'columns' "$columns" extractd select --score ''
+for column in $columns; do
+    same "$column is accepted" '' "$(echo TRUE | "$program" compile --filter - --score "$column" 2>&1 > "$scratch/bpf")"
+done
+
+version=$("$program" --version 2>&1)
+groff=$(command -v groff) || leave_out 'how the pages render (there is no groff here)'
+for page in "$packaging"/man/*.1; do
+    same "the version in ${page##*/}" "$version" "$(sed -n 's/^\.Os "\(.*\)"$/\1/p' "$page")"
+    [ "${page##*/}" != extractd.1 ] || continue
+    command=$(basename "$page" .1)
+    same "the synopsis of ${page##*/}" "$(long_options "${command#extractd-}" | grep -v -x -e --help)" \
+        "$(sed -n '/^\.Sh SYNOPSIS/,/^\.Sh DESCRIPTION/s/^\.\(Op \)\?Fl Fl \([a-z-]*\) .*/--\2/p' "$page")"
+    [ -z "$groff" ] || same "the warnings of ${page##*/}" '' "$(groff -mdoc -Tutf8 -ww -z "$page" 2>&1)"
+done
+
+echo "$((tried - failed)) passed, $failed failed"
+[ $failed -eq 0 ]
