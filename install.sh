@@ -1,0 +1,149 @@
+#!/bin/sh
+# Installs extractd below a folder, and removes it again. `install.sh --help` says how.
+
+set -eu
+umask 022
+
+usage() {
+    cat << 'END'
+usage: install.sh [--program FILE] PREFIX
+       install.sh --uninstall PREFIX
+
+Installs the program, its manual pages, completions for bash and zsh, the header
+for programs in C, a systemd unit, documents and examples below PREFIX, such as
+/usr/local or ~/.local. A version that is installed there is replaced.
+--uninstall removes these files, and the folders that were made for them.
+
+  --program FILE  the built program; without it, the one that `rt ci` and `rt run`
+                  leave at crates/extractd/out/extractd
+
+DESTDIR in the environment is put before PREFIX, but not into installed files.
+END
+}
+
+misused() {
+    usage >&2
+    exit 2
+}
+
+fail() {
+    echo "install.sh: $*" >&2
+    exit 1
+}
+
+here=$(cd "$(dirname "$0")" && pwd)
+program=$here/crates/extractd/out/extractd
+action=install_all prefix=''
+while [ $# -gt 0 ]; do
+    case $1 in
+    --help | -h)
+        usage
+        exit
+        ;;
+    --uninstall) action=uninstall ;;
+    --program)
+        [ $# -ge 2 ] || misused
+        program=$2
+        shift
+        ;;
+    -* | '') misused ;;
+    *)
+        [ -z "$prefix" ] || misused
+        prefix=$1
+        ;;
+    esac
+    shift
+done
+[ -n "$prefix" ] || misused
+case $prefix in
+/*) ;;
+*) prefix=$PWD/$prefix ;;
+esac
+case $prefix in
+*[!A-Za-z0-9/._+-]*) fail "PREFIX has a character that a unit's path can't have" ;;
+esac
+prefix=${prefix%/}
+root=${DESTDIR-}$prefix
+# What was installed, a path below PREFIX in each line. Folders end with a slash.
+list=$root/share/extractd/installed
+
+# Prints what to install: the mode, the source, and the path below PREFIX, separated by tabs.
+files() {
+    row 755 "$program" bin/extractd
+    for page in "$here"/packaging/man/*.1; do
+        row 644 "$page" "share/man/man1/${page##*/}"
+    done
+    row 644 "$here/packaging/completions/extractd.bash" share/bash-completion/completions/extractd
+    row 644 "$here/packaging/completions/_extractd" share/zsh/site-functions/_extractd
+    row 644 "$here/examples/c/extractd.h" include/extractd.h
+    row 644 "$here/examples/server/extractd.service" lib/systemd/system/extractd.service
+    documents | while IFS= read -r file; do
+        row 644 "$here/$file" "share/doc/extractd/$file"
+    done
+}
+
+row() { printf '%s\t%s\t%s\n' "$@"; }
+
+# Prints the documents, and of the examples what they name and users need: counties, programs, addresses, the server's surroundings.
+documents() {
+    (
+        cd "$here"
+        printf '%s\n' README.md CHANGELOG.md CONTRIBUTING.md SECURITY.md LICENSE examples/README.md examples/job.py
+        find docs examples/one examples/town -type f
+        for file in examples/*.RT? examples/*.s examples/*.bpf examples/*.csv examples/c/*.c examples/c/*.h examples/server/*.conf \
+            examples/server/*.service; do
+            echo "$file"
+        done
+    )
+}
+
+# Makes the folders of a path that aren't there, and notes them.
+make_folders() {
+    case $1 in
+    */*) make_folders "${1%/*}" ;;
+    esac
+    [ -d "$root/$1" ] || { mkdir "$root/$1" && made="$made$1/
+"; }
+}
+
+# put MODE SOURCE TARGET: installs a file; a unit gets the path of the program.
+put() {
+    case $3 in
+    *.service) sed "s|/usr/local/bin/extractd|$prefix/bin/extractd|" "$2" > "$3" && chmod "$1" "$3" ;;
+    *) install -m "$1" "$2" "$3" ;;
+    esac
+}
+
+install_all() {
+    if [ ! -f "$program" ] || [ ! -x "$program" ]; then
+        fail "$program: no program is there; build it, or name it by --program"
+    fi
+    [ ! -f "$list" ] || uninstall
+    mkdir -p "$root"
+    made=''
+    make_folders share/extractd
+    # The list comes first: an installation that fails half-way can be removed.
+    {
+        printf '%s' "$made"
+        files | cut -f 3
+    } > "$list"
+    files | while IFS="$(printf '\t')" read -r mode source target; do
+        made=''
+        make_folders "${target%/*}" && printf '%s' "$made" >> "$list" && put "$mode" "$source" "$root/$target" || exit
+    done || fail 'not everything is installed; --uninstall removes what is'
+}
+
+uninstall() {
+    [ -f "$list" ] || fail "$list: not found, so nothing is installed there"
+    grep -v '/$' "$list" | while IFS= read -r file; do
+        rm -f "$root/$file"
+    done
+    folders=$(grep '/$' "$list" | LC_ALL=C sort -r)
+    rm -f "$list"
+    # A folder stays if it has other files.
+    echo "$folders" | while IFS= read -r folder; do
+        [ -z "$folder" ] || rmdir "$root/$folder" 2> /dev/null || :
+    done
+}
+
+$action
