@@ -127,9 +127,9 @@ END
 }
 
 stage
+mkdir "$root/DEBIAN"
 depends=$(depends)
 [ -n "$depends" ] || fail "$program: the packages of its libraries can't be found"
-mkdir "$root/DEBIAN"
 scripts
 control > "$root/DEBIAN/control"
 (cd "$root" && find usr -type f -print0 | sort -z | xargs -0 md5sum) > "$root/DEBIAN/md5sums"
