@@ -3,7 +3,7 @@
 #
 # PROGRAM is an x86-64 ELF file. The package has what install.sh installs, at Debian's places, and the program without debugging symbols.
 # It needs dpkg-dev and binutils, and no root. MAINTAINER is the package's maintainer, as in `Name <address>`. Two builds of the same commit
-# and program are equal, byte for byte; outside a repository SOURCE_DATE_EPOCH has to be set for that.
+# and program are equal, byte for byte. Dates are that of the commit, unless SOURCE_DATE_EPOCH gives another.
 
 set -euo pipefail
 export LC_ALL=C
@@ -31,7 +31,7 @@ version=$("$program" --version 2>&1 < /dev/null || :)
 [[ $version =~ ^extractd\ ([0-9]+\.[0-9]+\.[0-9]+)$ ]] || fail "$program: --version isn't that of extractd"
 version=${BASH_REMATCH[1]}-1
 maintainer=${MAINTAINER:-The maintainers of extractd <maintainers@extractd.invalid>}
-SOURCE_DATE_EPOCH=${SOURCE_DATE_EPOCH:-$(git -C "$top" log -1 --format=%ct 2> /dev/null || date +%s)}
+SOURCE_DATE_EPOCH=${SOURCE_DATE_EPOCH:-$(git -C "$top" log -1 --format=%ct 2> /dev/null || stat -c %Y "$top/CHANGELOG.md")}
 export SOURCE_DATE_EPOCH
 
 scratch=$(mktemp -d)

@@ -4,13 +4,13 @@
 # 1. The manual pages and completions fit the program: tests/options.sh.
 # 2. deb.sh builds the same package twice, and lintian has nothing to say.
 # 3. In a clean root, which debootstrap makes, the package is installed. The first command of README.md runs. The server runs under what its unit
-#    allows: its limits, no capabilities, a system that can't be written. It does so behind its nginx site, in a network of its own at the real ports, and makes no
-#    system call that the unit forbids. The package is purged, and each other file is as it was.
+#    allows: its limits, no capabilities, a system that can't be written. nginx with its site is in front of it, at the real ports of a network
+#    of their own. The server makes no system call that the unit forbids. The package is purged, and each other file is as it was.
 # 4. install.sh does the same below /usr/local.
 #
-# The steps need root on Debian 12 and a mirror, which MIRROR names if it isn't debootstrap's own. Without them the root has nothing but the package, by
-# dpkg --root, and the server isn't tried. With REQUIRE_ALL set, commands that are missing are installed by apt-get, and what is left out is a failure.
-# What needs systemd as the first process isn't tried: that it starts and stops the unit, and its namespaces.
+# The steps need root on Debian 12 and a mirror, which MIRROR names if it isn't debootstrap's own. Without them the root has nothing but the
+# package, by dpkg --root, and the server isn't tried. With REQUIRE_ALL set, commands that are missing are installed by apt-get, and what is left
+# out is a failure. What needs systemd as the first process isn't tried: that it starts and stops the unit, and its namespaces.
 #
 # Prints what failed, then how much was tried and how long it took. Exit status 0 means that nothing failed. It takes two to three minutes.
 
@@ -38,7 +38,11 @@ same() {
 does() {
     local name=$1
     shift
-    if "$@" > "$scratch/said" 2> "$scratch/error" && [ ! -s "$scratch/error" ]; then tried=$((tried + 1)); else fail "$name" "$(tail -n 5 "$scratch/error" "$scratch/said")"; fi
+    if "$@" > "$scratch/said" 2> "$scratch/error" && [ ! -s "$scratch/error" ]; then
+        tried=$((tried + 1))
+    else
+        fail "$name" "$(tail -n 5 "$scratch/error" "$scratch/said")"
+    fi
 }
 leave_out() {
     if [ -n "${REQUIRE_ALL-}" ]; then fail "left out: $1"; else echo "left out: $1"; fi
@@ -47,8 +51,8 @@ leave_out() {
 has() {
     command -v "$1" > /dev/null && return
     [ -n "${REQUIRE_ALL-}" ] || return
-    { apt-get update && DEBIAN_FRONTEND=noninteractive apt-get -o DPkg::Lock::Timeout=300 install -y --no-install-recommends "$2"; } > "$scratch/apt" 2>&1 ||
-        tail -n 3 "$scratch/apt"
+    { apt-get update && DEBIAN_FRONTEND=noninteractive apt-get -o DPkg::Lock::Timeout=300 install -y --no-install-recommends "$2"; } \
+        > "$scratch/apt" 2>&1 || tail -n 3 "$scratch/apt"
     command -v "$1" > /dev/null
 }
 
@@ -88,7 +92,11 @@ try_building() {
 # snapshot: each file of the root, but for dpkg's own and those of /run, with its mode, its owner and its bytes.
 snapshot() {
     local pruned=(\( -path ./var/lib/dpkg -o -path ./var/log/dpkg.log -o -path ./run \) -prune)
-    (cd "$root" && find . "${pruned[@]}" -o -printf '%p %y %m %u %g %l\n' | sort && find . "${pruned[@]}" -o -type f -print0 | sort -z | xargs -0 -r sha256sum)
+    (
+        cd "$root" || exit
+        find . "${pruned[@]}" -o -printf '%p %y %m %u %g %l\n' | sort
+        find . "${pruned[@]}" -o -type f -print0 | sort -z | xargs -0 -r sha256sum
+    )
 }
 # unchanged NAME: whether the root is as it was when `before` was written.
 unchanged() {
@@ -103,7 +111,8 @@ inside() { nsenter --net="/proc/$holder/ns/net" chroot "$root" "$@"; }
 make_root() {
     local waited
     [ "$(id -u)" = 0 ] && has debootstrap debootstrap && has nsenter util-linux || return
-    if ! debootstrap --variant=minbase --include=nginx-light,openssl,curl,systemd,iproute2 bookworm "$root" ${MIRROR:+"$MIRROR"} > "$scratch/debootstrap" 2>&1; then
+    if ! debootstrap --variant=minbase --include=nginx-light,openssl,curl,systemd,iproute2 bookworm "$root" ${MIRROR:+"$MIRROR"} \
+        > "$scratch/debootstrap" 2>&1; then
         tail -n 3 "$scratch/debootstrap"
         return 1
     fi
@@ -122,15 +131,17 @@ setting() { sed -n "s/^$1=//p" "$root/usr/lib/systemd/system/extractd.service" |
 
 # start_server: runs what the unit runs, by a user without rights and under its limits, where nothing can be written, and traces its system calls.
 start_server() {
-    local user=61234 command limits trace=() waited
+    local command limits rights trace=() waited
     read -r -a command <<< "$(setting ExecStart)"
-    limits=(--as="$(setting LimitAS | numfmt --from=iec)" --nofile="$(setting LimitNOFILE)" --core="$(setting LimitCORE)" --nproc="$(setting TasksMax)")
+    limits=(--nofile="$(setting LimitNOFILE)" --core="$(setting LimitCORE)" --nproc="$(setting TasksMax)")
+    limits+=(--as="$(setting LimitAS | numfmt --from=iec)")
+    rights=(--reuid 61234 --regid 61234 --clear-groups --no-new-privs --bounding-set=-all --inh-caps=-all)
     has strace strace && trace=(strace -D -f -qq -o "$scratch/trace")
     : > "$scratch/serving"
     # shellcheck disable=SC2016 # The inner shell expands them.
-    nsenter --net="/proc/$holder/ns/net" unshare --mount --ipc --uts sh -c 'mount --bind "$0" "$0" && mount -o remount,bind,ro "$0" && cd / && exec "$@"' "$root" \
-        "${trace[@]}" chroot "$root" prlimit "${limits[@]}" -- setpriv --reuid $user --regid $user --clear-groups --no-new-privs --bounding-set=-all --inh-caps=-all -- \
-        "${command[@]}" > "$scratch/serving" 2>&1 < /dev/null &
+    nsenter --net="/proc/$holder/ns/net" unshare --mount --ipc --uts \
+        sh -c 'mount --bind "$0" "$0" && mount -o remount,bind,ro "$0" && cd / && exec "$@"' "$root" \
+        "${trace[@]}" chroot "$root" prlimit "${limits[@]}" -- setpriv "${rights[@]}" -- "${command[@]}" > "$scratch/serving" 2>&1 < /dev/null &
     started+=($!)
     for ((waited = 0; waited < 300; waited++)); do
         [ ! -s "$scratch/serving" ] || break
@@ -141,17 +152,17 @@ start_server() {
 
 # start_nginx: nginx with the packaged site as its only one, or with the packaged configuration if there is no site, and a certificate. Sets `url`.
 start_nginx() {
-    local folder=$root/etc/nginx name=extractd waited
+    local folder=$root/etc/nginx name=extractd arguments=() waited
     if [ -e "$root/$documents/examples/server/site.conf" ]; then
         rm -f "$folder/sites-enabled/default"
         cp "$root/$documents/examples/server/site.conf" "$folder/conf.d/extractd.conf"
         url=https://127.0.0.1
     else
         cp "$root/$documents/examples/server/nginx.conf" "$folder/nginx.conf"
-        name=server url=https://127.0.0.1:8443
+        name=server url=https://127.0.0.1:8443 arguments=(-p /etc/nginx -c nginx.conf)
     fi
     inside openssl req -x509 -newkey rsa:2048 -nodes -days 1 -subj /CN=extractd -keyout "/etc/nginx/$name.key" -out "/etc/nginx/$name.crt" 2> /dev/null
-    inside nginx -p /etc/nginx -c /etc/nginx/nginx.conf -g 'daemon off;' > "$scratch/nginx" 2>&1 &
+    inside nginx "${arguments[@]}" -g 'daemon off;' > "$scratch/nginx" 2>&1 &
     started+=($!)
     for ((waited = 0; waited < 100; waited++)); do
         inside curl -k -s -o /dev/null "$url/" && break
@@ -167,7 +178,8 @@ try_routes() {
     same "$1: a verdict" accepted "$(ask --data-binary "@$examples/all.bpf" "$1/verify")"
     same "$1: rows" "$(inside extractd run --program "$examples/not_water.bpf" --data "$examples" 01001 | sha256sum)" \
         "$(ask --data-binary "@$examples/not_water.bpf" "$1/extract" | sha256sum)"
-    same "$1: a house number" "$(inside extractd geocode --data "$examples" --number 1785 --name persimmon 01001)" "$(ask "$1/geocode?number=1785&name=persimmon")"
+    same "$1: a house number" "$(inside extractd geocode --data "$examples" --number 1785 --name persimmon 01001)" \
+        "$(ask "$1/geocode?number=1785&name=persimmon")"
     same "$1: a job" 1 "$(ask --data-binary "@$examples/all.bpf" "$1/jobs")"
     same "$1: a job is removed" dropped "$(ask -X DELETE "$1/jobs/1")"
 }
@@ -277,13 +289,16 @@ if [ -e "$package" ] && make_root; then
 elif [ -e "$package" ]; then
     leave_out 'a clean Debian, and the server in it (there is no debootstrap, no mirror, or no root here)'
     rm -rf "$root"
-    mkdir -p "$root/var/lib/dpkg"/{info,updates,triggers}
+    mkdir -p "$root/var/lib/dpkg"/{info,updates,triggers} "$root/usr/local"
+    # Where dpkg looks for what it may call.
+    PATH=$PATH:/usr/sbin:/sbin
     touch "$root/var/lib/dpkg"/{status,available}
     forced=(dpkg --root="$root" --log=/dev/null --force-not-root --force-depends --force-script-chrootless)
     snapshot > "$scratch/before"
     "${forced[@]}" --install "$package" > "$scratch/said" 2>&1 || fail 'it is unpacked' "$(cat "$scratch/said")"
     same 'the first command' 110 "$("$root/usr/bin/extractd" select --where "CFCC = 'A41'" --data "$root/$documents/examples" 01001 | wc -l)"
-    does 'it is purged' "${forced[@]}" --purge extractd
+    # It warns of the folders that belong to no other package.
+    "${forced[@]}" --purge extractd > "$scratch/said" 2>&1 || fail 'it is purged' "$(cat "$scratch/said")"
     unchanged 'the package leaves something'
     try_install "$root/usr/local/bin/extractd" select --where "CFCC = 'A41'" --data "$root/usr/local/share/doc/extractd/examples" 01001
 fi
