@@ -1,5 +1,5 @@
 # Prints what zsh offers at the end of each line of standard input, after the line and a colon: zsh -f complete.zsh FOLDER SCRATCH
-# It is part of the tests. FOLDER has the file _extractd, and SCRATCH is an empty folder. An interactive shell on a pseudo-terminal completes.
+# It is part of the tests. FOLDER has the file _extractd, SCRATCH is an empty folder. An interactive shell on a pseudo-terminal completes.
 zmodload zsh/zpty
 zmodload zsh/zselect
 integer waited
@@ -20,14 +20,17 @@ compadd() {
     fi
     builtin compadd "\$@"
 }
+# Both tell that the shell is there for more: the first at its prompt, the other where ^G comes after a completion. The line editor stays, so
+# the terminal takes no key for itself.
+zle-line-init() { print -- :end >> ${(q)answer} }
+zle -N zle-line-init
+report() { BUFFER=; print -- :end >> ${(q)answer} }
+zle -N report
+bindkey '^G' report
 END
-export ZDOTDIR=$2 TERM=dumb
-zpty -b shell zsh -d -i
-# type TEXT: types it, and waits until the shell has done what it says.
-type() {
-    : > $answer
-    zpty -w -n shell $1$'\025'" print -- :end >> ${(q)answer}"$'\n'
-    for ((waited = 0; waited < 1000; waited++)); do
+# ready TEXT: waits until the shell has done what was typed.
+ready() {
+    for ((waited = 0; waited < 3000; waited++)); do
         [[ $(< $answer) != *:end ]] || return 0
         zselect -t 1
         zpty -r -t shell said
@@ -35,10 +38,13 @@ type() {
     print -u 2 "zsh doesn't answer: $1"
     exit 1
 }
-# The shell has no completion before its first prompt.
-type ''
+export ZDOTDIR=$2 TERM=dumb
+zpty -b shell zsh -d -i
+ready 'its prompt'
 while IFS= read -r line; do
-    type $line$'\t'
+    : > $answer
+    zpty -w -n shell $line$'\t\a'
+    ready $line
     print -r -- "$line:" ${(ou)${(f)"$(< $answer)"}:#:end}
 done
 zpty -d shell
