@@ -162,7 +162,8 @@ start_nginx() {
         name=server url=https://127.0.0.1:8443 arguments=(-p /etc/nginx -c nginx.conf)
     fi
     inside openssl req -x509 -newkey rsa:2048 -nodes -days 1 -subj /CN=extractd -keyout "/etc/nginx/$name.key" -out "/etc/nginx/$name.crt" 2> /dev/null
-    inside nginx "${arguments[@]}" -g 'daemon off;' > "$scratch/nginx" 2>&1 &
+    # As `inside` does, but by a process that becomes nginx, so that `end` ends it.
+    nsenter --net="/proc/$holder/ns/net" chroot "$root" nginx "${arguments[@]}" -g 'daemon off;' > "$scratch/nginx" 2>&1 &
     started+=($!)
     for ((waited = 0; waited < 100; waited++)); do
         inside curl -k -s -o /dev/null "$url/" && break
