@@ -131,8 +131,10 @@ setting() { sed -n "s/^$1=//p" "$root/usr/lib/systemd/system/extractd.service" |
 
 # start_server: runs what the unit runs, by a user without rights and under its limits, where nothing can be written, and traces its system calls.
 start_server() {
-    local command limits rights trace=() waited
-    read -r -a command <<< "$(setting ExecStart)"
+    local command counties limits rights trace=() waited
+    counties=$(setting Environment)
+    # systemd splits the variable at blanks.
+    read -r -a command <<< "$(setting ExecStart | sed "s/\$COUNTIES/${counties#COUNTIES=}/")"
     limits=(--nofile="$(setting LimitNOFILE)" --core="$(setting LimitCORE)" --nproc="$(setting TasksMax)")
     limits+=(--as="$(setting LimitAS | numfmt --from=iec)")
     rights=(--reuid 61234 --regid 61234 --clear-groups --no-new-privs --bounding-set=-all --inh-caps=-all)
