@@ -90,8 +90,8 @@ documents() {
         cd "$here"
         printf '%s\n' README.md CHANGELOG.md CONTRIBUTING.md SECURITY.md LICENSE examples/README.md examples/job.py
         find docs examples/one examples/town -type f
-        for file in examples/*.RT? examples/*.s examples/*.bpf examples/*.csv examples/c/*.c examples/c/*.h examples/server/*.conf \
-            examples/server/*.service; do
+        for file in examples/*.RT? examples/*.s examples/*.bpf examples/*.csv examples/c/*.c examples/c/*.h examples/c/*.sh \
+            examples/c/forward.py examples/c/*flags* examples/server/*.conf examples/server/*.service; do
             echo "$file"
         done
     )
