@@ -97,7 +97,7 @@ pub fn accept<A: Allocator + Copy>(alloc: A, program: &[u8]) -> Result<Verified<
     accept_code(alloc, code)
 }
 
-/// Returns the verdict that [`accept_code`] has, and keeps nothing of the code: for a caller that doesn't run it.
+/// Returns the verdict of [`accept_code`] without keeping anything of the code, for a caller that doesn't run it.
 pub fn check_code<A: Allocator + Copy>(alloc: A, code: Code<A>) -> Result<(), ProgramFault>
     ensures ok { OnOk result (IsSafeCode code) }
     ensures err { IfErr result (IsFaultOfCode code) }
@@ -108,7 +108,7 @@ pub fn check_code<A: Allocator + Copy>(alloc: A, code: Code<A>) -> Result<(), Pr
     Ok(())
 }
 
-/// Returns the verdict that [`accept`] has, and keeps nothing of the program: for a caller that doesn't run it.
+/// Returns the verdict of [`accept`] without keeping anything of the program, for a caller that doesn't run it.
 #[tactic(auto, using(crate::proofs::VerdictLemmas::refused_by_code, crate::proofs::VerdictLemmas::refused_for_memory))]
 pub fn check_program<A: Allocator + Copy>(alloc: A, program: &[u8]) -> Result<(), ProgramFault>
     ensures ok { OnOk result ((code : List Insn) × IsSafeProgram program.now code) }

@@ -77,7 +77,7 @@ pub fn push_row_if_chosen<A: Allocator, B: Allocator, C: Allocator>(
     }
 }
 
-/// Puts the row of a segment with a score in place of another one. Nothing is cleared if both have the same length, as most rows have.
+/// Puts the row of a segment with a score in place of another row. Nothing is cleared if both have the same length, as most rows have.
 #[inline]
 fn put_row<A: Allocator>(text: &mut ArrayVec<u8, LONGEST_ROW>, score: u64, segment: &Segment<A>)
     ensures { text.new.items ≡ row_of score segment.now }
@@ -97,21 +97,17 @@ fn put_row<A: Allocator>(text: &mut ArrayVec<u8, LONGEST_ROW>, score: u64, segme
     row[end] = b'\n';
 }
 
-/// The same for a row of another length. It is apart since a new text is cleared.
+/// Puts a row of another length in place. It is a function of its own since a new text is cleared, which most rows do without.
 #[cold]
 #[inline(never)]
-fn replace_row<A: Allocator>(
-    text: &mut ArrayVec<u8, LONGEST_ROW>,
-    score: u64,
-    segment: &Segment<A>,
-)
+fn replace_row<A: Allocator>(text: &mut ArrayVec<u8, LONGEST_ROW>, score: u64, segment: &Segment<A>)
     ensures { text.new.items ≡ row_of score segment.now }
 {
     *text = row_text(score, segment);
 }
 
-/// Writes the row of a segment in one call if the code chooses it, and answers how many rows that were. The code runs in the machine, and the row
-/// takes its place in the text, whatever they hold.
+/// Writes the row of a segment if the code chooses it, and returns how many rows that were. Reuses the machine and the text; their previous
+/// contents don't matter.
 #[inline]
 pub(crate) fn write_row_if_chosen<A: Allocator, B: Allocator, W: CountedWrite>(
     verified: &Verified<A>,

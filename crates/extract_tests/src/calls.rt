@@ -63,7 +63,9 @@ fn is_row(alloc: Global, score: u64, segment: &Segment<&Heap>, text: &str) -> Op
     let mut out = Counting::new(Vec::new(alloc));
     let is_written = row(score, segment, &mut out).is_ok();
     let is_text = row_text(score, segment).as_slice() == text.as_slice();
-    Some(is_written && is_text && *out.get_ref() == text && is_write_reported(alloc, score, segment))
+    Some(
+        is_written && is_text && *out.get_ref() == text && is_write_reported(alloc, score, segment),
+    )
 }
 
 /// Tells whether a row reports that its write failed.

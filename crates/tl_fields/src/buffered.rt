@@ -54,7 +54,8 @@ impl<B: BufRead> Buffered<B> {
         self.failed_reads
     }
 
-    // Takes what the buffer shows of a line, and tells why the line stops there, or that it goes on. Of the content so many bytes are of this line.
+    // Takes what the buffer shows of a line, and returns why the line stops there, or `None` if it goes on. The content's first `kept` bytes are
+    // this line's; the rest is of an earlier one.
     #[inline]
     fn read_front(
         &mut self,
@@ -183,7 +184,7 @@ impl<B: BufRead> CountedRead for Buffered<B> {
     }
 }
 
-/// Puts bytes after those that are kept. Nothing is cleared if the content is to have the length that it has, as record after record does.
+/// Replaces what follows the kept bytes. If a whole line is replaced by one of the same length, as record after record is, nothing is cleared.
 #[inline]
 fn put_after(content: &mut ArrayVec<u8, LONGEST_CONTENT>, kept: usize, bytes: &[u8])
     requires within { kept ≤ length content.old.items }

@@ -42,7 +42,7 @@ returns-in_default-clause-front g c =
         c.put_after.ensures,
         without_line_feed (take count front) c.in_default.ensures,
         grown_short c.args.kept c.args.content.now.items _ _ c.requires.within (omega (arith, c.min.ensures, c.requires.short))
-        c.put_after.ensures,
+            c.put_after.ensures,
       ),
       some,
       whole_taken _ _ front count within taken.0,
