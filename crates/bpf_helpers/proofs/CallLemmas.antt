@@ -1,4 +1,4 @@
--- What calls of the helper functions answer, write and set.
+-- What calls of the helper functions return, write and set.
 use Rattle.std.proofs.Common.{◌≡◌, ◌≢◌, ℕ, pos, option_map, ◌==◌, if◌then◌else◌, Bool, true, false, cond, ◌^◌, ◌<◌, ◌≤◌, zero, suc, List}
 use Rattle.std.proofs.Common.{[], ◌∷◌, All, length, get_or, drop, replicate, slice_index, slice_get, Option, Some, None, IfSome}
 use Rattle.std.proofs.Common.{is_some, refl, ap, sym, ◌∙◌, subst, arith}
@@ -30,25 +30,25 @@ use Rattle.bpf_helpers.specs.declared.signature.Argument.TheVariants.{Unused, Nu
 use Rattle.bpf_helpers.specs.declared.signature.FrameUse.TheVariants.{Nothing, Writes}
 use Rattle.bpf_helpers.specs.declared.signature.Shape.{Shape}
 
--- what is found is the first element or passes the test further on
+-- `find` returns the first element or one of the rest that passes the test
 found-by : {X : Type 0} (p : X → Bool) (y : X) (ys : List X) (x : X) (b : Bool) → p y ≡ b → (find p ys ≡ Some x → p x ≡ true)
     → cond b (Some y) (find p ys) ≡ Some x → p x ≡ true
 found-by p y ys x true is later found = cc
 found-by p y ys x false is later found = later found
 
--- what is found passes the test
+-- an element that `find` returns passes the test
 found-passes : {X : Type 0} (p : X → Bool) (xs : List X) (x : X) → find p xs ≡ Some x → p x ≡ true
 found-passes p [] x e = cc
 found-passes p (y ∷ ys) x e = found-by p y ys x (p y) refl (found-passes p ys x) e
 
--- a number that finds a helper function is the table's number of it
+-- a helper function that a number finds has this number in the table
 pub by_number_own : (number : ℕ) (helper : Helper) → by_number number ≡ Some helper → (signature helper).number ≡ number
 by_number_own number helper found =
     eqb-true (signature helper).number number (found-passes (λ helper. (signature helper).number == number) HELPERS helper found)
 
--- What holds of each row of the table: a clause for all others is checked of each of them.
+-- Properties of each row of the table: the clause for all others is checked for each of them.
 
--- a call that reads or writes the frame wants a pointer into it as its second argument, and as its third how many bytes
+-- a call that reads or writes the frame takes a pointer into it as its second argument, and a byte count as its third
 
 pub frame_pointer : (helper : Helper) → frame_use (signature helper).shape ≢ Nothing → get_or (signature helper).arguments 1 Unused ≡ Frame
 frame_pointer Field uses = absurd (uses refl)
@@ -65,7 +65,7 @@ pub three-wanted : (helper : Helper) → get_or (signature helper).arguments 0 U
 three-wanted Field = refl
 three-wanted otherwise = refl
 
--- the shape is that of what the helper function does
+-- the shape in the table is that of the helper function's meaning
 pub shape-is : (helper : Helper) → shape_of (meaning helper) ≡ (signature helper).shape
 shape-is Field = refl
 shape-is otherwise = refl
@@ -141,7 +141,7 @@ AreBytes-first count None are few = record { length = length-replicate count 32;
 AreBytes-first count (Some name) are few = let long = are.length in
     record { length = grind (arith, common_steps); bytes = below-take count name are.bytes }
 
--- What a helper function does keeps within bounds: its answer, what it copies, and the score that it sets.
+-- What a helper function does stays within bounds: its answer, what it copies, and the score that it sets.
 
 abbrev IsBounded : Meaning → Interval → List ℕ → Type 0
 IsBounded (TellsRecord told) answer arguments = (segment : Contents) → IsSegment segment → Admits answer (told segment.bytes arguments)
@@ -168,7 +168,7 @@ is-bounded NameIs arguments meets = refl
 is-bounded Emit arguments meets = record { 0 = refl; 1 = omega (arith, (meets.each 0).below) }
 is-bounded Coord arguments meets = λ segment is. coordinate-fits (bytes_at segment.bytes (slice_get COORDINATES (first arguments)))
 
--- what a call answers is a number of the interval that the table has
+-- the answer of a call is a number of the table's interval
 
 does-admits : (m : Meaning) (answer : Interval) (segment : Contents) (arguments bytes : List ℕ) (score : ℕ) → IsSegment segment
     → IsBounded m answer arguments → Admits answer (does m segment arguments bytes score).answer
@@ -185,14 +185,14 @@ pub answer-admits : (helper : Helper) (segment : Contents) (arguments bytes : Li
 answer-admits helper segment arguments bytes score is meets =
     does-admits (meaning helper) (signature helper).answer segment arguments bytes score is (is-bounded helper arguments meets)
 
--- and a word
+-- the answer is a word
 pub answer-fits : (helper : Helper) (segment : Contents) (arguments bytes : List ℕ) (score : ℕ) → IsSegment segment
     → MeetsSignature helper arguments → (call helper segment arguments bytes score).answer < 2 ^ 64
 answer-fits helper segment arguments bytes score is meets =
     let admits = answer-admits helper segment arguments bytes score is meets in
     omega (arith, admits.below, below-any helper)
 
--- what a call writes are bytes, as many as its third argument says where it writes at all
+-- a call that writes to the frame writes the number of bytes given by its third argument
 
 does-bytes : (m : Meaning) (answer : Interval) (segment : Contents) (arguments bytes : List ℕ) (score : ℕ) → IsSegment segment
     → IsBounded m answer arguments → AreBytes (written_length (frame_use (shape_of m)) arguments)
@@ -214,7 +214,7 @@ pub written-length : (helper : Helper) (segment : Contents) (arguments bytes : L
     (frame_use (signature helper).shape) arguments
 written-length helper segment arguments bytes score is meets = (written-bytes helper segment arguments bytes score is meets).length
 
--- and else nothing
+-- other calls write nothing
 
 does-write-nothing : (m : Meaning) (segment : Contents) (arguments bytes : List ℕ) (score : ℕ) → frame_use (shape_of m) ≢ Writes
     → (does m segment arguments bytes score).written ≡ []

@@ -1,4 +1,4 @@
--- Calls that read nothing of a segment but its type 1 record.
+-- Calls that read nothing of a segment except its type 1 record.
 use Rattle.std.proofs.Common.{◌≡◌, ℕ, List, IsTrue, refl, ap, ◌∙◌}
 use Rattle.std.proofs.lemmas.Bool.{false≢true}
 use Rattle.tl_segments.specs.Segment.{Contents}

@@ -1,4 +1,4 @@
--- Bytes of memory over which others are written.
+-- Memory over which bytes are written.
 use Rattle.std.proofs.Common.{◌≡◌, ℕ, ◌+◌, ◌-◌, ◌<◌, ◌≤◌, List, [], ◌++◌, length, get_or, take, drop, Option, take_all, ap, sym, ◌∙◌, refl}
 use Rattle.std.proofs.Common.{arith}
 use Rattle.std.proofs.lemmas.Grind.{common_steps}
@@ -7,7 +7,7 @@ use borrow.Rule.Slice.PartMut.{put_mid, mid_of}
 use Rattle.bpf_helpers.specs.Call.{write}
 use Rattle.bpf_helpers.specs.Meaning.{first_bytes}
 
--- where nothing is written, all stays
+-- writing no bytes changes nothing
 pub write-nothing : {A : Type 0} (memory : List A) (at : ℕ) → write memory at [] ≡ memory
 write-nothing memory at = grind (arith, common_steps)
 
@@ -24,12 +24,12 @@ pub get_or-write : {A : Type 0} (memory bytes : List A) (at index : ℕ) (d : A)
     → get_or (write memory at bytes) (at + index) d ≡ get_or bytes index d
 get_or-write memory bytes at index d within inside = grind (arith, common_steps)
 
--- those before them
+-- the bytes before them
 pub get_or-write_before : {A : Type 0} (memory bytes : List A) (at index : ℕ) (d : A) → at + length bytes ≤ length memory → index < at
     → get_or (write memory at bytes) index d ≡ get_or memory index d
 get_or-write_before memory bytes at index d within before = grind (arith, common_steps)
 
--- and those after them
+-- the bytes after them
 pub get_or-write_behind : {A : Type 0} (memory bytes : List A) (at index : ℕ) (d : A) → at + length bytes ≤ length memory
     → at + length bytes ≤ index → get_or (write memory at bytes) index d ≡ get_or memory index d
 get_or-write_behind memory bytes at index d within behind = grind (arith, common_steps)

@@ -1,5 +1,5 @@
--- Calls of helper functions: what their arguments must be, and what they leave. Arguments are words; a pointer into the frame is its
--- offset.
+-- Calls of helper functions: what their arguments must be, and what they return, write and set. Arguments are words; a pointer into the frame is
+-- its offset.
 use Rattle.std.specs.Prelude.{◌≡◌, ℕ, ◌+◌, ◌≤◌, Bool, List, [], ◌++◌, Option, length, take, drop, slice_get, get_or, is_some}
 use Rattle.tl_segments.specs.Segment.{Contents, names_of, ranges_of}
 use Rattle.bpf_insn.specs.declared.memory.TheConstants.{FRAME_LENGTH}
@@ -16,7 +16,7 @@ use Rattle.bpf_helpers.specs.declared.signature.FrameUse.TheVariants.{Nothing, W
 use Rattle.bpf_helpers.specs.declared.signature.Shape.{Shape}
 use Rattle.bpf_helpers.specs.declared.signature.Shape.TheVariants as shape
 
--- the arguments by their order, in registers 1 to 3
+-- the first, second and third argument, in registers 1 to 3
 abbrev pub first : List ℕ → ℕ
 first arguments = get_or arguments 0 0
 
@@ -26,7 +26,7 @@ second arguments = get_or arguments 1 0
 abbrev pub third : List ℕ → ℕ
 third arguments = get_or arguments 2 0
 
--- a word is what an argument must be
+-- a word that is valid as an argument
 abbrev pub Meets : Argument → ℕ → Type 0
 Meets Unused word = Unit {0}
 Meets (Number numbers) word = Admits numbers word
@@ -38,7 +38,7 @@ LieWithin Nothing arguments = Unit {0}
 LieWithin Writes arguments = second arguments + third arguments ≤ FRAME_LENGTH
 LieWithin Reads arguments = second arguments + third arguments ≤ FRAME_LENGTH
 
--- the arguments are what a signature wants
+-- the arguments meet the helper function's signature
 pub record MeetsSignature (helper : Helper) (arguments : List ℕ) : Type 0 where
   pub count : length arguments ≡ 3
   pub each : (at : ℕ) → Meets (get_or (signature helper).arguments at Unused) (get_or arguments at 0)
@@ -49,27 +49,27 @@ abbrev pub bytes_read : {A : Type 0} → FrameUse → List ℕ → List A → Li
 bytes_read Reads arguments frame = take (third arguments) (drop (second arguments) frame)
 bytes_read otherwise arguments frame = []
 
--- how many bytes a call writes
+-- the number of bytes that a call writes
 abbrev pub written_length : FrameUse → List ℕ → ℕ
 written_length Writes arguments = third arguments
 written_length otherwise arguments = 0
 
--- bytes with others written over them, from a place on
+-- memory with bytes written over it, starting at a place
 abbrev pub write : {A : Type 0} → List A → ℕ → List A → List A
 write memory at bytes = take at memory ++ bytes ++ drop (at + length bytes) memory
 
--- what a call leaves: its answer, the bytes that it writes into the frame from where its second argument points, and the score
+-- the effect of a call: its answer, the bytes that it writes into the frame where its second argument points, and the score
 pub record Called : Type 0 where
   pub answer : ℕ
   pub written : List ℕ
   pub score : ℕ
 
--- a call that only answers
+-- a call that only returns an answer
 abbrev pub answers : ℕ → ℕ → Called
 answers score answer = record { answer = answer; written = []; score = score }
 
--- What a helper function does, by its shape: what it tells of the record's bytes or of the segment, with its arguments; whether what it compares
--- equals bytes of the frame; what it copies, if that is there; the score that it sets.
+-- The meaning of a helper function, by its shape: a number computed from the record's bytes or from the segment, and the arguments; whether a part
+-- of the segment equals bytes of the frame; what is copied into the frame, if the segment has it; the new score.
 pub data Meaning : Type 0 where
   TellsRecord : (told : List ℕ → List ℕ → ℕ) → Meaning
   TellsSegment : (told : Contents → List ℕ → ℕ) → Meaning
@@ -84,7 +84,7 @@ shape_of (ComparesFrame equal) = shape.ComparesFrame
 shape_of (CopiesIntoFrame copied) = shape.CopiesIntoFrame
 shape_of (SetsScore set) = shape.SetsScore
 
--- what each of them does
+-- the meaning of each helper function
 abbrev pub meaning : Helper → Meaning
 meaning Field = TellsRecord (λ line arguments. or_zero (field_number line (first arguments)))
 meaning Has = TellsRecord (λ line arguments. truth (is_some (field_number line (first arguments))))
@@ -96,7 +96,7 @@ meaning NameIs = ComparesFrame (λ segment arguments bytes. is_name bytes (slice
 meaning Emit = SetsScore (λ arguments. first arguments)
 meaning Coord = TellsRecord (λ line arguments. coordinate line (first arguments))
 
--- what a call leaves, by what the helper function does
+-- the effect of a call of a helper function with this meaning
 abbrev pub does : Meaning → Contents → List ℕ → List ℕ → ℕ → Called
 does (TellsRecord told) segment arguments bytes score = answers score (told segment.bytes arguments)
 does (TellsSegment told) segment arguments bytes score = answers score (told segment arguments)
@@ -108,6 +108,6 @@ does (CopiesIntoFrame copied) segment arguments bytes score = record {
 }
 does (SetsScore set) segment arguments bytes score = answers (set arguments) 0
 
--- what a call with these arguments leaves on a segment, where it reads these bytes of the frame and the score is this one
+-- the effect of a call with these arguments on a segment, given the bytes of the frame that it reads and the score before it
 abbrev pub call : Helper → Contents → List ℕ → List ℕ → ℕ → Called
 call helper segment arguments bytes score = does (meaning helper) segment arguments bytes score

@@ -1,4 +1,4 @@
--- The helper functions' table of prototypes: which there are is this project's own (RFC 9669, section 4.3.1, leaves it to the platform).
+-- The helper functions and their table of prototypes. The set of helpers is this project's own: RFC 9669, section 4.3.1, leaves it to the platform.
 use Rattle.std.specs.Prelude.{ℕ, ◌-◌, ◌^◌, ◌==◌, Bool, List, [], ◌∷◌, Option, codes}
 use Rattle.std.specs.List.{find}
 use Rattle.bpf_kinds.specs.Interval.{between, single}
@@ -12,11 +12,11 @@ use Rattle.bpf_helpers.specs.declared.signature.Argument.TheVariants.{Unused, Nu
 use Rattle.bpf_helpers.specs.declared.signature.Shape.TheVariants.{TellsRecord, TellsSegment, ComparesFrame, CopiesIntoFrame, SetsScore}
 use Rattle.bpf_helpers.specs.declared.signature.Signature.{Signature}
 
--- any number of 64 bits
+-- any 64-bit number
 abbrev pub any : Interval
 any = between 0 (2 ^ 64 - 1)
 
--- no argument, one, and two, each a number of an interval
+-- no arguments, one, and two, each a number of an interval
 abbrev pub none : List Argument
 none = Unused ∷ Unused ∷ Unused ∷ []
 
@@ -26,7 +26,7 @@ one x = Number x ∷ Unused ∷ Unused ∷ []
 abbrev pub two : Interval → Interval → List Argument
 two x y = Number x ∷ Number y ∷ Unused ∷ []
 
--- a name's number, bytes of the frame, and how many of them: as many as a name has at most
+-- a name's number, a pointer into the frame, and a byte count of at most the length of a name
 abbrev pub name_and_bytes : List Argument
 name_and_bytes = Number any ∷ Frame ∷ Number (between 1 30) ∷ []
 
@@ -42,15 +42,15 @@ signature NameIs = record { number = 7; arguments = name_and_bytes; shape = Comp
 signature Emit = record { number = 8; arguments = one any; shape = SetsScore; answer = single 0 }
 signature Coord = record { number = 9; arguments = one (between 0 3); shape = TellsRecord; answer = any }
 
--- the helper function that a number stands for, if there is one
+-- the helper function with a number, if there is one
 abbrev pub by_number : ℕ → Option Helper
 by_number number = find (λ helper. (signature helper).number == number) HELPERS
 
--- whether a call reads nothing of a segment but its type 1 record
+-- a call reads nothing of the segment except its type 1 record
 abbrev pub reads_record_alone : Helper → Bool
 reads_record_alone helper = shape.reads_record_alone (signature helper).shape
 
--- its name, as the documents give it
+-- the helper's name in the documentation
 abbrev pub name : Helper → List ℕ
 name Field = codes "field"
 name Has = codes "has"

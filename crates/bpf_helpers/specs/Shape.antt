@@ -1,4 +1,4 @@
--- What follows from a helper function's shape.
+-- Properties of a helper function that follow from its shape.
 use Rattle.std.specs.Prelude.{Bool, true, false}
 use Rattle.bpf_helpers.specs.declared.signature.FrameUse.{FrameUse}
 use Rattle.bpf_helpers.specs.declared.signature.FrameUse.TheVariants.{Nothing, Writes, Reads}
@@ -13,7 +13,7 @@ frame_use ComparesFrame = Reads
 frame_use CopiesIntoFrame = Writes
 frame_use SetsScore = Nothing
 
--- whether a call reads nothing of a segment but its type 1 record
+-- a call reads nothing of the segment except its type 1 record
 abbrev pub reads_record_alone : Shape → Bool
 reads_record_alone TellsRecord = true
 reads_record_alone TellsSegment = false

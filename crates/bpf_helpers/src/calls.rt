@@ -13,9 +13,8 @@ use bpf_insn::FRAME_LENGTH;
 use std::alloc::Allocator;
 use tl_segments::{NAME_LENGTH, Segment, lies_on, name_equals};
 
-/// What a helper function makes of its arguments, which a caller has checked by its signature. The arguments are words: a pointer into the
-/// frame is its offset. A call that copies a name writes the frame, and one that sets the score writes that; all others leave both as they
-/// were.
+/// Calls a helper function with arguments that the caller has checked against its signature, and returns its answer. The arguments are words; a
+/// pointer into the frame is its offset. Only a call that copies a name writes to the frame, and only one that sets the score changes it.
 #[tactic(auto, using(crate::proofs::WriteLemmas::none_written))]
 pub fn call<A: Allocator>(
     helper: Helper,
@@ -56,7 +55,7 @@ pub fn call<A: Allocator>(
     }
 }
 
-/// On which sides of a range a house number lies: 1 for the left one, 2 for the right one, 3 for both.
+/// Returns the sides of a range on which a house number lies: 0 for none, 1 for the left, 2 for the right, 3 for both.
 fn sides<A: Allocator>(segment: &Segment<A>, number: u64, house: u64) -> u64
     ensures value { result ≡ sides house (slice_get (ranges_of segment.now) number) }
     ensures two_bits { result ≤ 3 }
@@ -69,7 +68,7 @@ fn sides<A: Allocator>(segment: &Segment<A>, number: u64, house: u64) -> u64
     left + 2 * right
 }
 
-/// Copies the first bytes of a name, or blanks where the segment has no such name, and tells whether it has.
+/// Copies the first bytes of a name, or blanks if the segment has no such name, and returns whether it has one.
 fn name_copy<A: Allocator>(segment: &Segment<A>, number: u64, bytes: &mut [u8]) -> bool
     requires { length bytes.old ≤ NAME_LENGTH }
     ensures answer { result ≡ is_some (slice_get (names_of segment.now) number) }
@@ -87,7 +86,7 @@ fn name_copy<A: Allocator>(segment: &Segment<A>, number: u64, bytes: &mut [u8]) 
     }
 }
 
-/// Whether a name equals some bytes; one that isn't there equals none.
+/// Returns whether a name equals some bytes; a missing name equals none.
 fn is_name<A: Allocator>(segment: &Segment<A>, number: u64, wanted: &[u8]) -> bool
     requires some { 1 ≤ length wanted.now }
     requires few { length wanted.now ≤ NAME_LENGTH }

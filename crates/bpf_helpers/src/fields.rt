@@ -1,4 +1,4 @@
-//! Which fields of a record of type 1 the helper functions know, by their places.
+//! The fields of a type 1 record that the helper functions know, by their places.
 ghost use Rattle.std.specs.Prelude.{◌≡◌, ◌<◌, ◌^◌, IfSome};
 ghost use Rattle.bpf_helpers.specs.Meaning.{bytes_at, coordinate, field_number};
 ghost use Rattle.tl_records.specs.Layout.{IsWithin};
@@ -30,7 +30,7 @@ pub(crate) const FIELDS: [Places; 17] = [
     Type1::BLOCKR,
 ];
 
-/// The coordinates of the segment's ends: the longitude and the latitude of where it begins, and of where it ends.
+/// The coordinates of the segment's ends: longitude and latitude of its start, then those of its end.
 pub(crate) const COORDINATES: [Places; 4] = [
     Type1::FRLONG,
     Type1::FRLAT,
@@ -38,7 +38,7 @@ pub(crate) const COORDINATES: [Places; 4] = [
     Type1::TOLAT,
 ];
 
-/// The number of the field with an id, if it has one.
+/// Returns the number in the field with an id, if the field has one.
 #[inline]
 pub(crate) fn field_number<A: Allocator>(segment: &Segment<A>, id: u64) -> Option<u64>
     ensures value { result ≡ field_number segment.now.bytes id }
@@ -47,7 +47,7 @@ pub(crate) fn field_number<A: Allocator>(segment: &Segment<A>, id: u64) -> Optio
     number(bytes_at(segment, FIELDS.get(id as usize).copied()))
 }
 
-/// A coordinate of the segment's ends in two's complement, 0 where there is none.
+/// Returns a coordinate of the segment's ends in two's complement, or 0 if it's missing.
 #[inline]
 pub(crate) fn coordinate<A: Allocator>(segment: &Segment<A>, which: u64) -> u64
     ensures { result ≡ coordinate segment.now.bytes which }
@@ -59,7 +59,7 @@ pub(crate) fn coordinate<A: Allocator>(segment: &Segment<A>, which: u64) -> u64
     }
 }
 
-/// The bytes of the segment's record at some places; where there are none, no bytes.
+/// Returns the bytes of the segment's record at the given places, or no bytes if there are no places.
 #[inline]
 fn bytes_at<A: Allocator>(segment: &Segment<A>, places: Option<Places>) -> &[u8]
     requires { IfSome places (λ p. IsWithin p RECORD_LENGTH) }

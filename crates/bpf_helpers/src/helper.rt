@@ -1,4 +1,4 @@
-//! The helper functions by their numbers: the table of prototypes.
+//! The helper functions by number: the table of prototypes.
 ghost use Rattle.std.specs.Prelude.{◌≡◌};
 ghost use Rattle.bpf_helpers.specs.Helper.{by_number, name, one, reads_record_alone, signature, two};
 ghost use Rattle.bpf_kinds.specs.Interval.{between};
@@ -9,23 +9,23 @@ use bpf_kinds::Interval;
 /// A helper function.
 #[derive(Clone, Copy, PartialEq, Eq)]
 pub enum Helper {
-    /// The number of a field of the segment's type 1 record.
+    /// Returns the number in a field of the segment's type 1 record.
     Field,
-    /// Whether a field has a number.
+    /// Returns whether a field holds a number.
     Has,
-    /// How many alternate names the segment has.
+    /// Returns the number of alternate names of the segment.
     Names,
-    /// How many address ranges it has.
+    /// Returns the number of address ranges of the segment.
     Ranges,
-    /// On which sides of a range a house number lies.
+    /// Returns the sides of a range on which a house number lies.
     InRange,
     /// Copies a name's first bytes into the frame.
     NameCopy,
-    /// Whether a name equals bytes of the frame.
+    /// Returns whether a name equals bytes of the frame.
     NameIs,
     /// Sets the score.
     Emit,
-    /// A coordinate of the segment's ends.
+    /// Returns a coordinate of the segment's ends.
     Coord,
 }
 
@@ -42,22 +42,22 @@ pub const HELPERS: [Helper; 9] = [
     Helper::Coord,
 ];
 
-/// No argument.
+/// No arguments.
 const NONE: [Argument; 3] = [Argument::Unused; 3];
 
-/// The numbers of fields.
+/// The ids of fields.
 const IDS: Interval = Interval { low: 0, high: 16 };
 
 /// The numbers of coordinates.
 const ENDS: Interval = Interval { low: 0, high: 3 };
 
-/// Any number.
+/// Any 64-bit number.
 const ANY: Interval = Interval {
     low: 0,
     high: u64::MAX,
 };
 
-/// A name's number, bytes of the frame, and how many of them.
+/// A name's number, a pointer into the frame, and a byte count.
 const NAME_AND_BYTES: [Argument; 3] = [
     Argument::Number(ANY),
     Argument::Frame,
@@ -65,7 +65,7 @@ const NAME_AND_BYTES: [Argument; 3] = [
 ];
 
 impl Helper {
-    /// The helper function that programs call by a number, if there is one.
+    /// Returns the helper function that programs call by a number, if there is one.
     pub fn by_number(number: u32) -> Option<Helper>
         ensures { result ≡ by_number number }
     {
@@ -75,7 +75,7 @@ impl Helper {
             .find(|helper| helper.signature().number == number)
     }
 
-    /// Its name, as the documents give it.
+    /// Returns the helper's name in the documentation.
     pub fn name(self) -> &'static str
         ensures { result.now ≡ name self }
     {
@@ -92,14 +92,14 @@ impl Helper {
         }
     }
 
-    /// Whether a call reads nothing of a segment but its type 1 record.
+    /// Returns whether a call reads nothing of the segment except its type 1 record.
     pub fn reads_record_alone(self) -> bool
         ensures { result ≡ reads_record_alone self }
     {
         self.signature().shape.reads_record_alone()
     }
 
-    /// Its row of the table of prototypes.
+    /// Returns the helper's row in the table of prototypes.
     pub fn signature(self) -> Signature
         ensures { result ≡ signature self }
     {

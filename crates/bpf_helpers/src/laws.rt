@@ -15,7 +15,7 @@ ghost use Rattle.tl_segments.specs.Segment.{Contents, IsSegment};
 use crate::fields::{COORDINATES, FIELDS};
 use tl_segments::{NAME_LENGTH, NAME_LIMIT, RANGE_LIMIT};
 
-/// Each helper function is found by its own number, and by no other; any other number finds none.
+/// Each helper function is found by its own number and by no other; any other number finds none.
 #[tactic(auto, using(crate::proofs::CallLemmas::by_number_own))]
 pub fn numbers()
     ensures own { (helper : Helper) → by_number (signature helper).number ≡ Some helper }
@@ -35,7 +35,7 @@ pub fn numbers()
     ensures greatest { by_number (2 ^ 32 - 1) ≡ None }
 {}
 
-/// The fields that have an id stand in a record at these places, and no other id has a field.
+/// The fields that have an id are at these places in a record, and no other id has a field.
 pub fn fields()
     ensures tlid { slice_get FIELDS 0 ≡ Some (places 6 15) }
     ensures fraddl { slice_get FIELDS 1 ≡ Some (places 59 69) }
@@ -57,7 +57,7 @@ pub fn fields()
     ensures no_more { length FIELDS ≡ 17 }
 {}
 
-/// The coordinates stand in a record at these places.
+/// The coordinates are at these places in a record.
 pub fn coordinates()
     ensures frlong { slice_get COORDINATES 0 ≡ Some (places 191 200) }
     ensures frlat { slice_get COORDINATES 1 ≡ Some (places 201 209) }
@@ -80,12 +80,12 @@ pub fn bounds()
     ensures greatest_number { number_of (codes "99999999999") ≡ Some (signature Field).answer.high }
 {}
 
-/// The shape in the table of prototypes is that of what the helper function does.
+/// The shape in the table of prototypes is the shape of the helper function's meaning.
 pub fn shapes()
     ensures { (helper : Helper) → (signature helper).shape ≡ shape_of (meaning helper) }
 {}
 
-/// A call that does something with the frame wants, as its second and third argument, a pointer into the frame and a length of 1 to 30 bytes.
+/// The second argument of a call that reads or writes the frame is a pointer into it, and the third a length of 1 to 30 bytes.
 #[tactic(auto, using(crate::proofs::CallLemmas::frame_pointer, crate::proofs::CallLemmas::frame_length))]
 pub fn frame_uses()
     ensures pointer { (helper : Helper) → frame_use (signature helper).shape ≢ Nothing
@@ -94,7 +94,7 @@ pub fn frame_uses()
         → get_or (signature helper).arguments 2 Unused ≡ Number (between 1 NAME_LENGTH) }
 {}
 
-/// A call with arguments that meet the signature answers a number of the interval that the table has, which is a word.
+/// A call whose arguments meet the signature returns a number within the table's interval, and this number is a word.
 pub fn answers()
     ensures interval { (helper : Helper) (segment : Contents) (arguments bytes : List ℕ) (score : ℕ) → IsSegment segment
         → MeetsSignature helper arguments → Admits (signature helper).answer (call helper segment arguments bytes score).answer }
@@ -102,7 +102,7 @@ pub fn answers()
         → MeetsSignature helper arguments → (call helper segment arguments bytes score).answer < 2 ^ 64 }
 {}
 
-/// What such a call writes are bytes, as many as its third argument says; one that doesn't write the frame writes none.
+/// Such a call writes the number of bytes given by its third argument; a call that doesn't write the frame writes none.
 pub fn written_bytes()
     ensures length { (helper : Helper) (segment : Contents) (arguments bytes : List ℕ) (score : ℕ) → IsSegment segment
         → MeetsSignature helper arguments
@@ -113,7 +113,7 @@ pub fn written_bytes()
         → (call helper segment arguments bytes score).written ≡ [] }
 {}
 
-/// One helper function sets the score, and the others leave it.
+/// One helper function sets the score; the others leave it unchanged.
 pub fn scores()
     ensures set { (segment : Contents) (arguments bytes : List ℕ) (score : ℕ)
         → (call Emit segment arguments bytes score).score ≡ first arguments }
@@ -123,14 +123,14 @@ pub fn scores()
         → score < 2 ^ 64 → (call helper segment arguments bytes score).score < 2 ^ 64 }
 {}
 
-/// A helper function that reads the record alone answers alike on segments of the same record.
+/// A helper function that reads only the record has the same effect on all segments with the same record.
 #[tactic(auto, using(crate::proofs::RecordLemmas::calls_alike))]
 pub fn record_alone()
     ensures { (helper : Helper) (segment other : Contents) (arguments bytes : List ℕ) (score : ℕ) → IsTrue (reads_record_alone helper)
         → segment.bytes ≡ other.bytes → call helper segment arguments bytes score ≡ call helper other arguments bytes score }
 {}
 
-/// Bytes written over a part of memory stand there, and all else stays.
+/// Bytes written over a part of memory are there afterwards, and the rest of memory is unchanged.
 pub fn writes<T>()
     ensures length { (memory bytes : List T) (at : ℕ) → at + length bytes ≤ length memory
         → length (write memory at bytes) ≡ length memory }

@@ -1,4 +1,4 @@
-//! The helper functions that a program may call: their table of prototypes, and what each of them does on a street segment.
+//! The helper functions that a program may call: their table of prototypes, and the effect of each on a street segment.
 #![tactic(auto)]
 
 mod calls;

@@ -1,4 +1,4 @@
-//! What calls of a helper function want, and what they answer.
+//! The signatures of helper functions: their arguments, their answers, and what they read and change.
 ghost use Rattle.std.specs.Prelude.{◌≡◌};
 ghost use Rattle.bpf_helpers.specs.Shape.{frame_use, reads_record_alone};
 
@@ -11,16 +11,16 @@ pub struct Signature {
     pub number: u32,
     /// What registers 1 to 3 must hold.
     pub arguments: [Argument; 3],
-    /// What a call reads, and what it changes.
+    /// What a call reads and changes.
     pub shape: Shape,
-    /// The numbers that register 0 may hold afterwards.
+    /// The numbers that register 0 may hold after the call.
     pub answer: Interval,
 }
 
-/// What an argument must be.
+/// The requirement on an argument.
 #[derive(Clone, Copy, PartialEq, Eq)]
 pub enum Argument {
-    /// Anything: it isn't looked at.
+    /// Anything: the helper ignores it.
     Unused,
     /// A number of the interval.
     Number(Interval),
@@ -28,23 +28,23 @@ pub enum Argument {
     Frame,
 }
 
-/// What a call reads beside its arguments, and what it changes beside its answer.
+/// What a call reads besides its arguments, and what it changes besides its answer.
 #[derive(Clone, Copy, PartialEq, Eq)]
 pub enum Shape {
-    /// Tells of the segment's type 1 record.
+    /// Returns a number read from the segment's type 1 record.
     TellsRecord,
-    /// Tells of the segment.
+    /// Returns a number read from the segment.
     TellsSegment,
-    /// Compares bytes of the frame with something of the segment.
+    /// Compares bytes of the frame with a part of the segment.
     ComparesFrame,
-    /// Copies something of the segment into the frame.
+    /// Copies a part of the segment into the frame.
     CopiesIntoFrame,
     /// Sets the score.
     SetsScore,
 }
 
 impl Shape {
-    /// What a call does with the frame.
+    /// Returns how a call uses the frame.
     pub fn frame_use(self) -> FrameUse
         ensures { result ≡ frame_use self }
     {
@@ -55,7 +55,7 @@ impl Shape {
         }
     }
 
-    /// Whether a call reads nothing of a segment but its type 1 record.
+    /// Returns whether a call reads nothing of the segment except its type 1 record.
     pub fn reads_record_alone(self) -> bool
         ensures { result ≡ reads_record_alone self }
     {
@@ -66,7 +66,7 @@ impl Shape {
     }
 }
 
-/// What a call does with the frame's bytes from where its second argument points, as many as its third one says.
+/// How a call uses the frame's bytes. Its second argument points to the first of them, and its third is their number.
 #[derive(Clone, Copy, PartialEq, Eq)]
 pub enum FrameUse {
     Nothing,

@@ -1,4 +1,4 @@
--- What a call answers.
+-- The answer of a call.
 use Rattle.bpf_helpers.proofs.CallLemmas.{answer-admits, answer-fits}
 use Rattle.bpf_helpers.proofs.laws.answers.Goals as goal
 
