@@ -1,4 +1,4 @@
--- Where jumps lead, by the index of an instruction; and flat forms that grow by one.
+-- Jump targets as indices of instructions, and lists of flat forms that grow by one.
 use Rattle.std.proofs.Common.{◌≡◌, ℕ, zero, suc, ◌+◌, ◌-◌, ◌<◌, ◌≤◌, ◌==◌, ◌⊎◌, inl, inr, nat_lt, Bool, true, false, if◌then◌else◌, pos}
 use Rattle.std.proofs.Common.{IfSome, IsSome, List, [], ◌∷◌, ◌++◌, length, take, get_or, Option, Some, None, option_map, refl, sym, ap, ◌∙◌}
 use Rattle.std.proofs.Common.{subst, arith, length-append, is_some}
@@ -18,7 +18,7 @@ use Rattle.bpf_flow.specs.Flow.{target_of}
 use Rattle.bpf_flat.specs.Flat.{AreFlatForms, IsFlatForm, JumpsTo, Keeps, insn_of, without_distance}
 use Rattle.bpf_flat.specs.declared.flat.FlatInsn.{FlatInsn}
 
--- an index that is found at a place is that of the instruction there
+-- the index found at a place is the index of the instruction there
 
 mapped : (o : Option ℕ) (index : ℕ) → option_map (λ (i : ℕ). suc i) o ≡ Some index → (before : ℕ) × (o ≡ Some before) × (index ≡ suc before)
 mapped None index is = absurd (let no : ⊥ = cc in no)
@@ -55,7 +55,7 @@ found_place (insn ∷ code) (suc place) index is =
         let whole : place_of (insn ∷ code) (suc behind.0) ≡ suc place = omega arith in
         ap (place_of (insn ∷ code)) behind.2 ∙ whole
 
--- where the instruction at a place jumps
+-- the target of the jump at a place
 
 pub jumps_to : (code : List Insn) (place target index : ℕ) (found : Option Insn)
     → IfSome found (λ insn. option_map pos (Some target) ≡ option_map (target_of place) (jump_distance insn))
@@ -70,7 +70,7 @@ pub nothing_found : (code : List Insn) (place : ℕ) → index_at code place ≡
 nothing_found code place none some =
     let is = instruction_at-index code place in let nothing : instruction_at code place ≡ None = cc in absurd (let no : ⊥ = cc in no)
 
--- one flat form more
+-- the list with one more flat form
 
 pub forms_grow : {code : List Insn} {areas : List (Option Area)} {count : ℕ} {flats more : List FlatInsn} {insn : Insn} (flat : FlatInsn)
     → AreFlatForms code areas count flats → more ≡ flats ++ flat ∷ [] → insn ≡ get_or code count insn → count < length code
@@ -114,7 +114,7 @@ form_at {code} {place} index target {insn} at stands jumps is immediates keeps =
   keeps = keeps;
 }
 
--- the index of the instruction with a place
+-- the index found at the place of an instruction
 
 index_more : (first : Insn) (code : List Insn) (place : ℕ) (index : ℕ) → index_at code place ≡ Some index
     → index_at (first ∷ code) (length (spelling first) + place) ≡ Some (suc index)

@@ -1,5 +1,5 @@
--- Instructions in flat form: which instruction each stands for. It keeps where a jump leads and not how far, so it stands for one with a
--- distance of 0; and it keeps the area that the base of a load points into.
+-- Instructions in flat form, and the instruction that each stands for. A flat form keeps a jump's target instead of its distance, so it stands for
+-- a jump with distance 0. It also keeps the area that the base of a load points into.
 use Rattle.std.specs.Prelude.{◌≡◌, ℕ, ◌+◌, ◌<◌, ℤ, pos, ◌+ℤ◌, List, length, get_or, Option, Some, None}
 use Rattle.bpf_insn.specs.Code.{place_of}
 use Rattle.bpf_insn.specs.Immediates.{HasImmediates}
@@ -35,7 +35,7 @@ use Rattle.bpf_flat.specs.declared.operands.LoadOperands.{LoadOperands}
 use Rattle.bpf_flat.specs.declared.operands.StoreImmediateOperands.{StoreImmediateOperands}
 use Rattle.bpf_flat.specs.declared.operands.StoreRegisterOperands.{StoreRegisterOperands}
 
--- an operation, and a conditional jump, with either source
+-- ALU operations and conditional jumps, with either source
 abbrev pub alu_immediate : Operation → Width → WithImmediate → Insn
 alu_immediate operation width operands = Alu operation width operands.destination (Immediate operands.immediate)
 
@@ -61,14 +61,13 @@ store_immediate size operands = insn.StoreImmediate size operands.base operands.
 abbrev pub store_register : StoreSize → StoreRegisterOperands → Insn
 store_register size operands = Store size operands.base operands.offset operands.source
 
--- what a flat form stands for: an instruction, the area that the base of a load points into, and the index of the instruction to which a jump
--- leads
+-- what a flat form stands for: an instruction, the area that the base of a load points into, and the index of the instruction that a jump leads to
 pub record Parts : Type 0 where
   pub insn : Insn
   pub area : Area
   pub target : ℕ
 
--- an instruction that is no load and no jump: stores write the frame
+-- an instruction that is neither a load nor a jump; the area of a store is the frame
 abbrev pub plain : Insn → Parts
 plain insn = record { insn = insn; area = Frame; target = 0 }
 
@@ -78,7 +77,7 @@ leads target insn = record { insn = insn; area = Frame; target = target }
 abbrev pub from : Area → Insn → Parts
 from area insn = record { insn = insn; area = area; target = 0 }
 
--- the table of flat forms, one row each
+-- the table of flat forms, one row per form
 unfoldable pub parts_of : FlatInsn → Parts
 parts_of (flat.Add32Immediate operands) = plain (alu_immediate Add Bits32 operands)
 parts_of (flat.Add32Register operands) = plain (alu_register Add Bits32 operands)
@@ -227,7 +226,7 @@ parts_of (flat.WideLoad destination immediate next_immediate) = plain (insn.Wide
 abbrev pub insn_of : FlatInsn → Insn
 insn_of flat = (parts_of flat).insn
 
--- the index of the instruction where a jump leads; of any other instruction it's 0
+-- the index of the instruction that a jump leads to; 0 for any other instruction
 abbrev pub target_of : FlatInsn → ℕ
 target_of flat = (parts_of flat).target
 
@@ -235,24 +234,24 @@ target_of flat = (parts_of flat).target
 abbrev pub area_of : FlatInsn → Area
 area_of flat = (parts_of flat).area
 
--- an instruction, but for how far it jumps
+-- an instruction with its jump distance set to 0
 abbrev pub without_distance : Insn → Insn
 without_distance (JumpIf condition width left right distance) = JumpIf condition width left right (pos 0)
 without_distance (insn.Jump distance) = insn.Jump (Short (pos 0))
 without_distance other = other
 
--- what a flat form keeps of an instruction whose base points into an area, if it's known which, and that jumps to the instruction with an index
+-- what a flat form keeps of an instruction: the area that its base points into, if that's known, and the index of the instruction that it jumps to
 abbrev pub Keeps : Insn → Option Area → ℕ → FlatInsn → Type 0
 Keeps (Load format destination base offset) (Some area) target flat = area_of flat ≡ area
 Keeps (JumpIf condition width left right distance) area target flat = target_of flat ≡ target
 Keeps (insn.Jump distance) area target flat = target_of flat ≡ target
 Keeps insn area target flat = Unit {0}
 
--- an instruction at a place jumps to the one with an index, if it jumps: its distance counts words from the word after it (section 4.3)
+-- if the instruction at a place jumps, it jumps to the one with an index: the distance counts words from the next word (section 4.3)
 abbrev pub JumpsTo : List Insn → ℕ → Insn → ℕ → Type 0
 JumpsTo code place insn target = (distance : ℤ) → jump_distance insn ≡ Some distance → pos (place + 1) +ℤ distance ≡ pos (place_of code target)
 
--- the flat form of an instruction at a place of a code, whose base points into an area, if it's known which
+-- the flat form of the instruction at a place of a code; `area` is the one that its base points into, if that's known
 pub record IsFlatForm (code : List Insn) (place : ℕ) (insn : Insn) (area : Option Area) (flat : FlatInsn) : Type 0 where
   pub stands_for : insn_of flat ≡ without_distance insn
   pub immediates : HasImmediates insn
@@ -260,7 +259,7 @@ pub record IsFlatForm (code : List Insn) (place : ℕ) (insn : Insn) (area : Opt
   pub jumps : JumpsTo code place insn target
   pub keeps : Keeps insn area target flat
 
--- the flat forms of a code's first instructions, so many, one by one
+-- the flat forms of the first `count` instructions of a code, in order
 pub record AreFlatForms (code : List Insn) (areas : List (Option Area)) (count : ℕ) (flats : List FlatInsn) : Type 0 where
   pub count_is : length flats ≡ count
   pub each : (index : ℕ) (insn : Insn) (flat : FlatInsn) → index < count → insn ≡ get_or code index insn → flat ≡ get_or flats index flat

@@ -5,11 +5,11 @@ use crate::operands::{
 };
 use bpf_insn::WritableRegister;
 
-/// An instruction as a machine takes it: one variant for each operation with its width and its source, a jump by the index of the instruction
-/// that it leads to, and a load by the area that its base points into. The sections are those of RFC 9669.
+/// An instruction in the form that a machine executes. There is one variant for each operation with its width and its source; a jump names the
+/// index of its target instruction, and a load the area that its base points into. The section numbers below refer to RFC 9669.
 #[derive(Clone, Copy)]
 pub enum FlatInsn {
-    // Section 4.1: ALU and ALU64, with 32 and with 64 bits.
+    // Section 4.1: ALU and ALU64, on 32 and 64 bits.
     Add32Immediate(WithImmediate),
     Add32Register(WithRegister),
     Add64Immediate(WithImmediate),

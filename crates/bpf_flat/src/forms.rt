@@ -1,4 +1,4 @@
-//! The flat forms of a whole code.
+//! The flat forms of a complete code.
 ghost use Rattle.std.specs.Prelude.{◌≡◌, ◌≤◌, length, IsSome, IfOk, IfSome};
 ghost use Rattle.bpf_insn.specs.Code.{HasProgramSize, instruction_at, word_count};
 ghost use Rattle.bpf_flat.specs.Flat.{AreFlatForms, JumpsTo};
@@ -9,7 +9,7 @@ use bpf_flow::Flow;
 use bpf_insn::Area;
 use std::alloc::{AllocError, Allocator};
 
-/// The flat forms of the instructions in order, one each, where the bases of loads and stores point into these areas.
+/// Returns the flat forms of the instructions, in order. `areas` holds, for each instruction, the area that its base points into, if that's known.
 pub fn flat_forms<A: Allocator + Copy>(
     alloc: A,
     flow: &Flow<A>,
@@ -29,7 +29,7 @@ pub fn flat_forms<A: Allocator + Copy>(
     Ok(flats)
 }
 
-/// The index of the instruction to which the one at a place jumps; 0 if it doesn't.
+/// Returns the index of the instruction that the one at a place jumps to, or 0 if it doesn't jump.
 fn target_index<A: Allocator>(flow: &Flow<A>, place: usize) -> u32
     requires sized { HasProgramSize (word_count flow.now.code) }
     requires begins { IsSome (instruction_at flow.now.code place) }

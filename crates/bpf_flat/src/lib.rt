@@ -1,5 +1,5 @@
-//! BPF instructions (RFC 9669) in one flat form: a variant for each operation with its width and its source, so that a machine finds what to
-//! do by one jump.
+//! BPF instructions (RFC 9669) in a flat form: one variant for each operation with its width and its source, so that a machine dispatches with a
+//! single jump.
 #![tactic(auto)]
 
 mod flat;

@@ -1,14 +1,14 @@
-//! What the variants of the flat form carry.
+//! The operands that the variants of the flat form carry.
 use bpf_insn::{Register, WritableRegister};
 
-/// A register that gets a result, with an immediate as the second operand.
+/// A destination register, with an immediate as the second operand.
 #[derive(Clone, Copy)]
 pub struct WithImmediate {
     pub destination: WritableRegister,
     pub immediate: i32,
 }
 
-/// A register that gets a result, with another register as the second operand.
+/// A destination register, with another register as the second operand.
 #[derive(Clone, Copy)]
 pub struct WithRegister {
     pub destination: WritableRegister,
@@ -20,7 +20,7 @@ pub struct WithRegister {
 pub struct JumpWithImmediate {
     pub left: Register,
     pub immediate: i32,
-    /// Where it leads if it's taken: an instruction's index, from 0.
+    /// The jump's target if it's taken: an instruction's index, from 0.
     pub target: u32,
 }
 
@@ -29,7 +29,7 @@ pub struct JumpWithImmediate {
 pub struct JumpWithRegister {
     pub left: Register,
     pub right: Register,
-    /// Where it leads if it's taken: an instruction's index, from 0.
+    /// The jump's target if it's taken: an instruction's index, from 0.
     pub target: u32,
 }
 

@@ -1,13 +1,13 @@
-//! The rows of the flat forms, from which each table over them is written.
+//! The rows of the flat forms, from which every table over them is generated.
 
-/// Passes the given tokens and the rows of the flat forms to a macro, which writes a table from them. A row names what its variants share, then
+/// Passes the given tokens and the rows of the flat forms to a macro, which generates a table from them. A row names what its variants share, then
 /// the variants.
 #[macro_export]
 macro_rules! flat_rows {
     ($table:ident!($($given:tt)*)) => {
         $table! {
             ($($given)*)
-            // Two operands: with an immediate and with a register, of 32 bits and then of 64.
+            // With an immediate and with a register, on 32 bits and then on 64.
             alu {
                 Add: Add32Immediate Add32Register Add64Immediate Add64Register;
                 Subtract: Subtract32Immediate Subtract32Register Subtract64Immediate Subtract64Register;
@@ -35,13 +35,13 @@ macro_rules! flat_rows {
                 Bits32: Negate32;
                 Bits64: Negate64;
             }
-            // Of 16, 32 and 64 bits.
+            // On 16, 32 and 64 bits.
             swap {
                 LittleEndian: LittleEndian16 LittleEndian32 LittleEndian64;
                 BigEndian: BigEndian16 BigEndian32 BigEndian64;
                 Swapped: Swapped16 Swapped32 Swapped64;
             }
-            // As the operations.
+            // In the order of the ALU rows.
             jump {
                 Equal: JumpIfEqual32Immediate JumpIfEqual32Register JumpIfEqual64Immediate JumpIfEqual64Register;
                 Greater: JumpIfGreater32Immediate JumpIfGreater32Register JumpIfGreater64Immediate JumpIfGreater64Register;

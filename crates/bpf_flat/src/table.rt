@@ -1,4 +1,4 @@
-//! From instructions to their flat form.
+//! The conversion of instructions to their flat form.
 ghost use Rattle.std.specs.Prelude.{◌≡◌};
 ghost use Rattle.bpf_insn.specs.Immediates.{HasImmediates};
 ghost use Rattle.bpf_flat.specs.Flat.{Keeps, insn_of, without_distance};
@@ -14,7 +14,7 @@ use bpf_insn::{
     SwapWidth, Width,
 };
 
-/// Writes the match over the instructions.
+/// Generates the match over the instructions.
 macro_rules! flat_form {
     (
         ($insn:expr, $area:expr, $target:expr)
@@ -84,8 +84,8 @@ macro_rules! flat_form {
     };
 }
 
-/// The flat form of an instruction whose base points into `area`, where that is known, and that jumps to the instruction with the index
-/// `target`, if it jumps. Of a load of which the area isn't known it is that from the record.
+/// Returns the flat form of an instruction. `area` is the area that its base points into, if that's known, and `target` the index of the
+/// instruction that it jumps to, if it jumps. A load whose area isn't known becomes a load from the record.
 #[tactic(auto, unfolding(crate::specs::Flat::parts_of))]
 pub fn flatten(insn: Insn, area: Option<Area>, target: u32) -> FlatInsn
     ensures insn { insn_of result ≡ without_distance insn }
