@@ -24,7 +24,7 @@ use Rattle.bpf_explain.specs.Listing.{ListingParts, accepted_text, first, known_
 use Rattle.bpf_explain.specs.SourceLines.{SourceLine, line_of}
 use Rattle.bpf_explain.specs.declared.source_lines.Line.{Line}
 
--- how many lines there are up to a place
+-- the number of lines up to a place
 pub count-found : {X : Type 0} (p : X → Bool) (xs : List X) (count : ℕ) → Some count ≡ position p xs → count ≡ position_or_len p xs
 count-found p xs count is = by-test (nat_lt (position_or_len p xs) (length xs)) refl
   where
@@ -48,13 +48,13 @@ count-missing p xs is = by-test (nat_lt (position_or_len p xs) (length xs)) refl
         let least : length xs ≤ position_or_len p xs = grind (arith, nat_tests) in
         omega arith
 
--- a listing is told by its parts
+-- two listings are equal if their parts are
 pub same-parts : (text other : List ℕ) (known now : Known) (insn : Option Insn) (left more : List SourceLine) → text ≡ other → known ≡ now → left ≡ more
     → ◌≡◌ {A = ListingParts} (record { text = text; known = known; insn = insn; left = left })
     (record { text = other; known = now; insn = insn; left = more })
 same-parts text other known now insn left more texts knowns lefts = cc
 
--- lines of the program's and the definitions' own
+-- lines of the program, and lines of the definitions
 pub position-map : (p : SourceLine → Bool) (lines : List Line) → position_or_len (λ line. p (line_of line)) lines ≡ position_or_len p (map line_of lines)
 position-map p [] = refl
 position-map p (line ∷ lines) = ap (λ (n : ℕ). cond (not (p (line_of line))) (1 + n) 0) (position-map p lines)
@@ -92,7 +92,7 @@ lines-left lines left count place lefts counted =
     ∙ ap (λ (n : ℕ). drop n (map line_of lines)) counted
     ∙ ap (λ (ls : List SourceLine). drop (position_or_len (λ line. nat_lt place line.place) ls) ls) lefts
 
--- what pushing a visit makes of a listing
+-- the listing with one more visit
 abbrev pub pushed : ListingParts → ℕ → Insn → List ℕ → ListingParts
 pushed old place insn note = record {
   text = old.text ++ (sources_text (lines_until place old.left) ++ (noted (prefix_text place insn) note ++ codes "\n"));
@@ -113,7 +113,7 @@ reached-is old new place insn known copy note pushes is same =
     with-known new (pushed old place insn note) copy known pushes same
     ∙ ap (λ (text : List ℕ). record (pushed old place insn text) { known = known }) is
 
--- the visits of instructions that follow each other, and of one more
+-- the visits of consecutive instructions, and of one more
 visits-more : (annotation : Annotation) (place : ℕ) (code : List Insn) (insn : Insn)
     → visits_from annotation place (code ++ insn ∷ []) ≡ visits_from annotation place code ++ visit_at annotation (place + word_count code) insn ∷ []
 visits-more annotation place [] insn = ap (λ (p : ℕ). visit_at annotation p insn ∷ []) (omega arith)
@@ -128,7 +128,7 @@ visited-more : (before : ListingParts) (visits : List Visit) (visit : Visit)
 visited-more before [] visit = refl
 visited-more before (next ∷ visits) visit = visited-more (visited before next) visits visit
 
--- the instruction at a place is the one after those before it
+-- the instruction at a place comes right after those before the place
 take-one : (code : List Insn) (index place : ℕ) (insn : Insn) → place ≡ word_count (take index code) → instruction_at code place ≡ Some insn
     → take (index + 1) code ≡ take index code ++ insn ∷ []
 take-one code index place insn at stands =
@@ -148,13 +148,13 @@ take-one code index place insn at stands =
     inside (inr beyond) below =
         let whole : word_count (take index code) ≡ word_count code = ap word_count (take_all index code beyond) in absurd (omega arith)
 
--- the least annotation is one
+-- the least annotation is unique
 one-least : (code : List Insn) (end : ℕ) (x y : Annotation) → IsLeastUpTo code end x → IsLeastUpTo code end y → x end ≡ y end
 one-least code end x y least other =
     laws.antisymmetric (x end) (y end) (least.good.proper end) (other.good.proper end) (least.least y other.good end (omega arith))
     (other.least x least.good end (omega arith))
 
--- what fails is reached
+-- an instruction whose check fails is reached
 reached-state : (state : AbstractState) (insn : Insn) (cause : Cause) → transfer state insn ≡ Err cause → (known : Known) × (state ≡ Reached known)
 reached-state Unreached insn cause fails = absurd (search rules)
 reached-state (Reached known) insn cause fails = (known, refl)

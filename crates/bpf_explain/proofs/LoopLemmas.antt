@@ -1,4 +1,4 @@
--- One more step of a loop that writes.
+-- One more iteration of a loop that writes.
 use Rattle.std.proofs.Common.{◌≡◌, ℕ, ◌+◌, ◌<◌, Bool, true, false, List, [], ◌∷◌, ◌++◌, map, take, length, get_or, refl, sym, ap, ◌∙◌, append_assoc, subst, arith, rules}
 use Rattle.std.proofs.lemmas.List.{append-nil}
 use Rattle.std.proofs.lemmas.List.Elements.{All-append}
@@ -20,7 +20,7 @@ map-next f old before new text n so_far adds is =
     adds ∙ ap (λ xs. before ++ xs) is ∙ ap (λ xs. xs ++ (f n ∷ [])) so_far ∙ append_assoc old (map f (range_with_len 0 n)) (f n ∷ [])
     ∙ ap (λ xs. old ++ xs) (sym (map-range_with_len_more f 0 n n (omega arith)))
 
--- one more element is kept, or isn't
+-- one more element is kept or dropped
 pub filter-next : {X : Type 0} (p : X → Bool) (f : ℕ → X) (first n at : ℕ) (x : X) (chosen : Bool) (before new : List X) → first + n ≡ at
     → before ≡ filter p (map f (range_with_len first n)) → x ≡ f at → chosen ≡ p x → new ≡ before ++ cond chosen (x ∷ []) []
     → new ≡ filter p (map f (range_with_len first (n + 1)))
@@ -29,7 +29,7 @@ filter-next p f first n at x chosen before new place so_far is test adds =
     ∙ ap (λ xs. xs ++ cond (p (f at)) (f at ∷ []) []) so_far
     ∙ sym (filter_of_map_range_with_len_more p f first n at place)
 
--- the same of parts
+-- one more part is kept or dropped
 pub parts-next : (p : Part → Bool) (first n at : ℕ) (x : Part) (chosen : Bool) (before new : List Part) → first + n ≡ at
     → before ≡ filter p (parts_from first n) → x ≡ part_at at → chosen ≡ p x → new ≡ before ++ cond chosen (x ∷ []) []
     → new ≡ filter p (parts_from first (n + 1))
@@ -41,7 +41,7 @@ pub no-parts : (p : Part → Bool) (first : ℕ) → filter p (parts_from first 
 unfolding parts_from
 no-parts p first = refl
 
--- and so each is what the others are
+-- a property of all elements, with one more
 pub All-next : {X : Type 0} (P : X → Type 0) (before new : List X) (x : X) (chosen : Bool) → All P before → P x
     → new ≡ before ++ cond chosen (x ∷ []) [] → All P new
 All-next P before new x true are is adds = subst (All P) (sym adds) (All-append P before (x ∷ []) are (search rules))
@@ -55,7 +55,7 @@ list-next f xs i d old before new text inside so_far adds one =
     ∙ append_assoc old (map f (take i xs)) (f (get_or xs i d) ∷ [])
     ∙ ap (λ ys. old ++ ys) (sym (map-append f (take i xs) (get_or xs i d ∷ [])) ∙ ap (map f) (sym (take_more xs i d inside)))
 
--- the comma after texts, if there are any
+-- the comma that follows texts, if there are any
 abbrev pub comma_after : {X : Type 0} → List X → List ℕ
 comma_after [] = []
 comma_after (x ∷ xs) = codes ", "

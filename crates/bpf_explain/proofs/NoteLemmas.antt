@@ -1,4 +1,4 @@
--- Notes tell what is known, beside what was known last: two states with the same note are the same.
+-- A note determines what is known, given what was known last: two states with the same note are equal.
 use Rattle.std.proofs.Common.{◌≡◌, ◌≢◌, ◌⊎◌, inl, inr, ℕ, zero, suc, ◌+◌, ◌-◌, ◌*◌, ◌^◌, ◌<◌, ◌≤◌, ℤ, pos, negsuc, Bool, true, false, List, [], ◌∷◌, ◌++◌, length, map, refl, sym, ap, subst, ◌∙◌, append_assoc, arith}
 use Rattle.std.specs.Prelude.{codes, decimal, not, ◌==◌, ◌&&◌, ◌||◌, nat_lt, cond, if◌then◌else◌, FitsSigned}
 use Rattle.std.specs.Fmt.{signed_decimal}
@@ -32,7 +32,7 @@ use Rattle.bpf_explain.specs.Reads.{part_at, parts_from, reads}
 use Rattle.bpf_explain.specs.declared.notation.Part.{Part}
 use Rattle.bpf_explain.specs.declared.notation.Part.TheVariants.{Register, Slot}
 
--- a text lacks a byte
+-- a text doesn't have a byte
 abbrev lacks : ℕ → List ℕ → Bool
 lacks byte text = list_all (λ x. not (x == byte)) text
 
@@ -50,7 +50,7 @@ digits-lack byte (x ∷ xs) small digits =
 decimal-lacks : (byte n : ℕ) → byte < 48 → n < 2 ^ 64 → lacks byte (decimal n) ≡ true
 decimal-lacks byte n small fits = digits-lack byte (decimal n) small (decimal-digits n fits)
 
--- what stands before a byte
+-- the text before a byte
 abbrev IsTail : ℕ → List ℕ → Type 0
 IsTail byte [] = Unit {0}
 IsTail byte (x ∷ xs) = x ≡ byte
@@ -72,7 +72,7 @@ lead byte (x ∷ a) (y ∷ c) s t none other tail end same =
     tail end (ap rest same) in
     cc
 
--- joined texts tell the texts, if none is empty or has a comma
+-- a joined text determines its texts, if none of them is empty or has a comma
 abbrev AreTexts : List (List ℕ) → Type 0
 AreTexts [] = Unit {0}
 AreTexts (text ∷ texts) = (0 < length text) × (lacks 44 text ≡ true) × AreTexts texts
@@ -107,7 +107,7 @@ joined-tell (x ∷ xs) (y ∷ ys) are others same =
     let more : xs ≡ ys = commas-tell xs ys are.2 others.2 tails in
     cc
 
--- no fact has a comma
+-- no fact contains a comma
 end-lacks : (negative : Bool) (n : ℕ) → n < 2 ^ 64 → (negative ≡ true → 0 < n) → lacks 44 (end_text negative n) ≡ true
 end-lacks false n fits some = decimal-lacks 44 n (omega arith) fits
 end-lacks true n fits some = let above = some refl in decimal-lacks 44 (2 ^ 64 - n) (omega arith) (omega arith)
@@ -158,7 +158,7 @@ part-lacks : (known : Known) (part : Part) → IsProperKnown known → lacks 44 
 part-lacks known (Register register) proper = kind-lacks (kind_of known register) (proper.kinds register)
 part-lacks known (Slot slot) proper = held-lacks (slot_kind known.frame slot) (slot_marks known.frame.marks slot) (proper.frame.kinds slot)
 
--- a name has neither a comma nor a blank
+-- a name contains neither a comma nor a blank
 name-plain : (byte : ℕ) (part : Part) → (lacks byte (codes "r") && lacks byte (codes "[r10-") && lacks byte (codes "]")) ≡ true → byte < 48 → IsPart part
     → lacks byte (part_name part) ≡ true
 name-plain byte (Register register) tests small within =
@@ -184,7 +184,7 @@ fact-some : (known : Known) (part : Part) → 0 < length (fact_text known part)
 fact-some known (Register register) = omega arith
 fact-some known (Slot slot) = omega arith
 
--- a fact tells its part and what is known of it
+-- a fact determines its part and what is known about it
 fact-tells : (known other : Known) (part there : Part) → IsPart part → IsPart there → fact_text known part ≡ fact_text other there
     → (part ≡ there) × (part_text known part ≡ part_text other there)
 fact-tells known other part there is other_is same =
@@ -285,7 +285,7 @@ all-parts : (part : Part) → IsIn part (parts_from 0 (REGISTERS + SLOTS)) → I
 unfolding parts_from
 all-parts part there = are-parts 0 (REGISTERS + SLOTS) part (omega arith) there
 
--- facts are texts that can be told from each other
+-- the facts are texts that can be distinguished
 facts-next : (known : Known) (next : Part) (parts : List Part) (kept : Bool) → IsProperKnown known → IsPart next
     → AreTexts (map (fact_text known) parts) → AreTexts (map (fact_text known) (cond kept (next ∷ parts) parts))
 facts-next known next parts true proper is more = (fact-some known next, fact-lacks known next proper is, more)
@@ -298,7 +298,7 @@ facts-are known shown (next ∷ parts) proper are =
     facts-next known next (filter shown parts) (shown next) proper (are next (inl refl))
     (facts-are known shown parts proper (λ part there. are part (inr there)))
 
--- what isn't shown stayed
+-- a part that isn't shown is unchanged
 stayed : (last known : Known) (insn : Insn) (part : Part) → is_shown last known insn part ≡ false → part_text last part ≡ part_text known part
 stayed last known insn part hidden = by-test (reads known insn part) hidden
   where
@@ -310,7 +310,7 @@ stayed last known insn part hidden = by-test (reads known insn part) hidden
     by-test true test = absurd (true≢false test)
     by-test false test = same (bytes_eq (part_text last part) (part_text known part)) test refl
 
--- what is shown in one of two states with the same note is shown in the other, with the same text
+-- a part shown in one of two states with the same note is shown in the other, with the same text
 abbrev shown_facts : Known → Known → Insn → List (List ℕ)
 shown_facts last known insn = map (fact_text known) (filter (is_shown last known insn) (parts_from 0 (REGISTERS + SLOTS)))
 
@@ -343,7 +343,7 @@ known-told last known other insn proper proper_other same =
     (facts-are other (is_shown last other insn) (parts_from 0 (REGISTERS + SLOTS)) proper_other all-parts) same in
     states-equal known other proper proper_other (λ part is. texts-same last known other insn part facts is)
 
--- no facts read as the note of what isn't reached
+-- no list of facts reads like the note of an instruction that isn't reached
 reached-note : (known : Known) (parts : List Part) → facts_text known parts ≢ codes "unreached"
 reached-note known [] same = absurd (differs 0 9 refl (ap length same))
 reached-note known (Register register ∷ parts) same = absurd (differs 114 117 refl (ap first same))

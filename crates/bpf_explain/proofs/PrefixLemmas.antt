@@ -1,4 +1,4 @@
--- An instruction's line is shorter than the column in which notes begin.
+-- An instruction's line is shorter than the column at which notes begin.
 use Rattle.std.proofs.Common.{◌≡◌, ℕ, zero, suc, ◌+◌, ◌≤◌, ℤ, pos, negsuc, true, List, [], ◌∷◌, ◌++◌, length, get_or, refl, ap, arith, length-append}
 use Rattle.std.specs.Prelude.{codes, decimal, nat_le}
 use Rattle.std.specs.Fmt.{signed_decimal}

@@ -1,4 +1,4 @@
--- Which slots have one of some bytes.
+-- The slots that have one of some bytes.
 use Rattle.std.proofs.Common.{◌≡◌, ◌⊎◌, ◌↔◌, inl, inr, ℕ, ◌+◌, ◌*◌, ◌<◌, ◌≤◌, ℤ, pos, negsuc, ◌≤ℤ◌, Bool, true, refl, rules, arith}
 use Rattle.std.specs.Prelude.{IsTrue, int_le, ◌&&◌}
 use Rattle.std.proofs.lemmas.Bool.{and_parts, and_from, cases_lt}

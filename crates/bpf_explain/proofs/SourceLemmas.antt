@@ -1,4 +1,4 @@
--- Source lines are read one after the other.
+-- Source lines are read one by one.
 use Rattle.std.proofs.Common.{◌≡◌, ℕ, ◌+◌, ◌<◌, ◌≤◌, true, false, List, [], ◌∷◌, ◌++◌, length, get_or, drop, map, refl, sym, ap, subst, ◌∙◌, append_assoc, arith}
 use Rattle.std.proofs.Common.{add-one, drop-cons}
 use Rattle.std.specs.Prelude.{Option, Some, None, option_and_then, Result, Ok, Err, nat_lt}
@@ -14,12 +14,12 @@ use Rattle.bpf_explain.specs.declared.source_lines.LineFlaw.{LineFlaw}
 use Rattle.bpf_explain.specs.declared.source_lines.LineFlaw.TheVariants.{NotText, WithoutPlace, OutOfOrder}
 use Rattle.bpf_explain.specs.declared.source_lines.Line.{Line}
 
--- the digits that are left, once one more is read
+-- the digits that are left after one more is read
 pub digits-left : (digits : List ℕ) (i place : ℕ) → i < length digits
     → place_from place (drop i digits) ≡ option_and_then (λ next. place_from next (drop (i + 1) digits)) (next_place place (get_or digits i 0))
 digits-left digits i place inside = rw (add-one, drop-cons digits i 0) refl
 
--- lines before lines before others
+-- lines before lines before other lines
 pub preceded-all : (lines more : List SourceLine) (later : Result (List SourceLine) LinesFault) → preceded lines (preceded more later) ≡ preceded (lines ++ more) later
 preceded-all lines more (Ok later) = ap Ok (sym (append_assoc lines more later))
 preceded-all lines more (Err fault) = refl
@@ -42,7 +42,7 @@ pub lines-none : (number last : ℕ) → lines_from number last [] ≡ Ok []
 unfolding lines_from
 lines-none number last = refl
 
--- what a line says
+-- a line's place and text
 pub checked-text : (last : ℕ) (text : List ℕ) → IsUtf8 text → checked last text ≡ in_order last (line_in text)
 unfolding checked
 checked-text last text is = rw (is_utf8-from_IsUtf8 text is) refl
@@ -62,7 +62,7 @@ order-kept last found line is after =
 pub order-missing : (last : ℕ) (found : Option SourceLine) → None ≡ found → in_order last found ≡ Err WithoutPlace
 order-missing last found is = subst (λ o. in_order last o ≡ Err WithoutPlace) is refl
 
--- a line more is read, or is at fault, or there is none
+-- one more line is read, or has a fault, or there is none
 pub lines-kept : (file rest text after : List ℕ) (before : List SourceLine) (number last : ℕ) (read : Line)
     → lines_in file ≡ preceded before (lines_from number last (lines rest)) → lines rest ≡ text ∷ lines after
     → IsChecked number (checked last text) (Ok read)
@@ -96,6 +96,6 @@ lines-read file [] before number last none so_far =
     so_far ∙ ap (preceded before) (lines-none number last) ∙ ap Ok (append-nil before)
 lines-read file (byte ∷ rest) before number last none so_far = absurd (omega arith)
 
--- what a file has
+-- the lines of a file
 pub has-lines : (held : Result (List SourceLine) LinesFault) (lines : List SourceLine) → held ≡ Ok lines → held ≡ Ok (lines_or_none held)
 has-lines held lines is = is ∙ ap Ok (sym (ap lines_or_none is))

@@ -1,4 +1,4 @@
--- Texts of what is known tell it: kinds with the same text are the same.
+-- The text of what is known determines it: kinds with the same text are equal.
 use Rattle.std.proofs.Common.{◌≡◌, ◌≢◌, ℕ, suc, ◌+◌, ◌-◌, ◌*◌, ◌/◌, ◌%◌, ◌^◌, ◌<◌, ◌≤◌, ℤ, pos, negsuc, Bool, true, false, List, [], ◌∷◌, ◌++◌, length, get_or, nat_le, ◌==◌, ◌&&◌, if◌then◌else◌, refl, sym, ap, subst, ◌∙◌, arith}
 use Rattle.std.proofs.Common.{rules, append_assoc, Decides}
 use Rattle.std.proofs.lemmas.Int.{ints}
@@ -34,7 +34,7 @@ use Rattle.bpf_explain.specs.Notation.{IsPart, end_text, held_text, interval_tex
 use Rattle.bpf_explain.specs.declared.notation.Part.{Part}
 use Rattle.bpf_explain.specs.declared.notation.Part.TheVariants.{Register, Slot}
 
--- a digit's code, and texts of digits alone
+-- a digit's code, and texts that consist of digits
 pub record IsDigit (byte : ℕ) : Type 0 where
   pub above : 48 ≤ byte
   pub below : byte ≤ 57
@@ -78,7 +78,7 @@ first-digit (x ∷ xs) some digits = digits.0
 decimal-first : (n : ℕ) → n < 2 ^ 64 → IsDigit (first (decimal n))
 decimal-first n small = first-digit (decimal n) (decimal_nonempty n small) (decimal-digits n small)
 
--- A text up to a point is told from what follows.
+-- the text up to a point is determined
 abbrev pub rest : List ℕ → List ℕ
 rest [] = []
 rest (x ∷ xs) = xs
@@ -125,7 +125,7 @@ range-injective p q a b c d none other same =
     let both = after-same p q b d tails in
     (both.0, leads, both.1)
 
--- the first byte of a number's text is that of no other text
+-- the first byte of a number's text begins no other text
 pub record StartsNumber (byte : ℕ) : Type 0 where
   pub not_unknown : byte ≢ 63
   pub not_frame : byte ≢ 102
@@ -178,7 +178,7 @@ is-end : (p : Bool) (low n : ℕ) → nat_le (2 ^ 63) low ≡ p → low ≤ n �
 is-end false low n test above fits = fits
 is-end true low n test above fits = let begins : 2 ^ 63 ≤ low = grind (arith, nat_tests) in (omega arith, fits)
 
--- intervals, by whether they are all numbers
+-- intervals, by whether they contain all numbers
 abbrev shown : Bool → Bool → ℕ → ℕ → List ℕ
 shown any negative low high =
     if any then codes "any number" else range_text (low == high) (end_text negative low) (end_text negative high)
@@ -296,7 +296,7 @@ kind-injective Nothing (Record y) proper other same = absurd (differs 63 114 ref
 kind-injective Nothing (Frame y) proper other same = absurd (differs 63 102 refl (ap first same))
 kind-injective Nothing Nothing proper other same = refl
 
--- slots: a text of marks is that of no kind
+-- slots: a text of marks isn't the text of any kind
 data IsMarkCode (byte : ℕ) : Type 0 where
   Written : byte ≡ 109 → IsMarkCode byte
   Unknown : byte ≡ 63 → IsMarkCode byte
@@ -391,7 +391,7 @@ same-fit (Record x) a b fit other same = fit ∙ sym other
 same-fit (Frame x) a b fit other same = fit ∙ sym other
 same-fit Nothing a b fit other same = same refl
 
--- a slot's text tells its kind and the marks of its bytes
+-- a slot's text determines its kind and the marks of its bytes
 slot-tells : (x y : Contents) (slot : ℕ) → map.IsProper x → map.IsProper y → slot_text x slot ≡ slot_text y slot
     → (slot_kind x slot ≡ slot_kind y slot) × (slot_kind x slot ≡ Nothing → marks_text (slot_marks x.marks slot) ≡ marks_text (slot_marks y.marks slot))
 slot-tells x y slot proper other same =
@@ -423,7 +423,7 @@ slot-marks x y slot proper other same =
     ∙ mark-at x y (SLOT_LENGTH * slot + byte) proper other (subst (λ (n : ℕ). slot_text x n ≡ slot_text y n) (sym place) same)
     ∙ sym (mark-in-slot y.marks slot byte (omega arith)))
 
--- and the texts of all slots tell the map
+-- the texts of all slots determine the map
 frames-equal : (x y : Contents) → map.IsProper x → map.IsProper y → ((slot : ℕ) → slot < SLOTS → slot_text x slot ≡ slot_text y slot) → x ≡ y
 frames-equal x y proper other same = same_maps x y
     (ext_get_or false x.marks y.marks (proper.count ∙ sym other.count)
@@ -455,7 +455,7 @@ names-differ (Slot x) (Slot y) is other same =
     decimal_injective (FRAME_LENGTH - SLOT_LENGTH * x) (FRAME_LENGTH - SLOT_LENGTH * y) (omega arith) (omega arith) numbers in
     ap Slot (omega arith)
 
--- tests of what is known tell whether the texts are the same
+-- the tests of what is known decide whether the texts are the same
 pub kinds-same : (k l : Kind) (test : Bool) → kind.IsProper k → kind.IsProper l → Decides test (k ≡ l)
     → test ≡ bytes_eq (kind_text k) (kind_text l)
 kinds-same k l test proper other decides = same_tests test (bytes_eq (kind_text k) (kind_text l))

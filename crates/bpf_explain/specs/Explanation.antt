@@ -1,4 +1,4 @@
--- Which text explains a verdict on a code.
+-- The text that explains a verdict on a code.
 use Rattle.std.specs.Prelude.{◌≡◌, ℕ, ◌+◌, List, ◌++◌, take, Some, Result, Ok, Err}
 use Rattle.bpf_insn.specs.Code.{instruction_at, word_count}
 use Rattle.bpf_insn.specs.declared.instruction.Insn.{Insn}
@@ -20,8 +20,8 @@ pub record ExplainsAcceptance (code : List Insn) (lines : List SourceLine) (text
   pub is_least : IsLeastUpTo code (word_count code) annotation
   pub is : text ≡ accepted_text (listing lines (visits_from annotation 0 code))
 
--- A text explains that a code is refused at a place with a cause: it lists the visits of the least annotation that is good up to there, that
--- place included, and says which check of the instruction there fails, by what is known before it.
+-- A text explains that a code is refused at a place with a cause: it lists the visits of the least annotation that is good up to and including that
+-- place. It then says which check of the instruction there fails, given what is known before it.
 pub record ExplainsRefusal (code : List Insn) (lines : List SourceLine) (place : ℕ) (cause : Cause) (text : List ℕ) : Type 0 where
   pub annotation : Annotation
   pub is_least : IsLeastUpTo code place annotation
@@ -34,7 +34,7 @@ pub record ExplainsRefusal (code : List Insn) (lines : List SourceLine) (place :
   pub fails : transfer (annotation place) insn ≡ Err cause
   pub is : text ≡ (listing lines (visits_from annotation 0 (take (index + 1) code))).text ++ refusal_line known cause insn
 
--- A text explains a verdict. An allocation that failed is none.
+-- A text explains a verdict. A failed allocation is not a verdict.
 abbrev pub IsExplained : List Insn → List SourceLine → List ℕ → Result (Unit {0}) VerifyFault → Type 0
 IsExplained code lines text (Ok accepted) = HasGoodAnnotation code × ExplainsAcceptance code lines text
 IsExplained code lines text (Err (Refused place cause)) = IsRefusedAt code place cause × ExplainsRefusal code lines place cause text

@@ -1,4 +1,4 @@
--- An instruction's line: its place, the instruction, and what is known before it, as far as it is shown.
+-- An instruction's line: its place, the instruction, and a note that shows a part of what is known before it.
 use Rattle.std.specs.Prelude.{ℕ, ◌+◌, ◌-◌, Bool, ◌||◌, not, List, [], ◌∷◌, ◌++◌, length, map, filter, replicate, codes, decimal}
 use Rattle.std.specs.List.{flat_map}
 use Rattle.std.specs.Str.{bytes_eq}
@@ -13,16 +13,16 @@ use Rattle.bpf_explain.specs.Reads.{parts_from, reads}
 use Rattle.bpf_explain.specs.declared.notation.Part.{Part}
 use Rattle.bpf_explain.specs.declared.facts.TheConstants.{NOTE_COLUMN}
 
--- texts with commas between them
+-- texts separated by commas
 abbrev pub joined : List (List ℕ) → List ℕ
 joined [] = []
 joined (text ∷ texts) = text ++ flat_map (λ next. codes ", " ++ next) texts
 
--- the facts of parts
+-- the facts about parts
 abbrev pub facts_text : Known → List Part → List ℕ
 facts_text known parts = joined (map (fact_text known) parts)
 
--- another text is known of a part than in the last state
+-- the text of what is known about a part differs from that in the last state
 abbrev pub is_changed : Known → Known → Part → Bool
 is_changed last known part = not (bytes_eq (part_text last part) (part_text known part))
 
@@ -33,7 +33,7 @@ is_shown last known insn part = reads known insn part || is_changed last known p
 abbrev pub shown_parts : Known → Known → Insn → List Part
 shown_parts last known insn = filter (is_shown last known insn) (parts_from 0 (REGISTERS + SLOTS))
 
--- what is known before an instruction, as far as it's shown, by what was known last
+-- the note of what is known before an instruction, given what was known last
 abbrev pub note_text : Known → AbstractState → Insn → List ℕ
 note_text last Unreached insn = codes "unreached"
 note_text last (Reached known) insn = facts_text known (shown_parts last known insn)
@@ -42,7 +42,7 @@ note_text last (Reached known) insn = facts_text known (shown_parts last known i
 abbrev pub prefix_text : ℕ → Insn → List ℕ
 prefix_text place insn = decimal place ++ codes ": " ++ line_text insn
 
--- a text and its note, which begins at a column of its own
+-- a text and its note, which begins at a fixed column
 abbrev pub noted : List ℕ → List ℕ → List ℕ
 noted text [] = text
 noted text (byte ∷ note) = text ++ replicate (NOTE_COLUMN - length text) 32 ++ codes "; " ++ byte ∷ note

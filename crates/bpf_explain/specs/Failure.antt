@@ -1,4 +1,4 @@
--- Why an instruction is refused, in words: the check that fails, and what is known of the parts that it is about.
+-- Why an instruction is refused, in words: the check that fails, and what is known about the parts that it checks.
 use Rattle.std.specs.Prelude.{ℕ, List, [], ◌∷◌, ◌++◌, get_or, codes, decimal, Option, Some, None}
 use Rattle.std.specs.Int.{w32, cast_unsigned}
 use Rattle.std.specs.List.{flat_map}
@@ -33,7 +33,7 @@ unfoldable pub called_number : Insn → List ℕ
 called_number (Call immediate) = decimal (cast_unsigned w32 immediate)
 called_number insn = []
 
--- what a helper function wants of its argument with this number, counted from 1
+-- the helper function's requirement on its argument with this number, counted from 1
 abbrev pub wanted_by : Option Helper → ℕ → Argument
 wanted_by None number = argument.Unused
 wanted_by (Some helper) number = get_or (argument.Unused ∷ (signature helper).arguments) number argument.Unused
@@ -47,13 +47,13 @@ wanted_text argument.Unused = codes "anything"
 wanted_text (argument.Number x) = codes "a number from " ++ decimal x.low ++ codes " to " ++ decimal x.high
 wanted_text argument.Frame = codes "a pointer into the frame"
 
--- an argument that isn't what the helper function wants
+-- an argument that doesn't meet the helper function's signature
 unfoldable pub argument_text : Known → Insn → ℕ → List ℕ
 argument_text known insn number =
     decimal number ++ codes " must be " ++ wanted_text (wanted insn number) ++ codes ": " ++ register_fact known number
 
 -- The words of the check that fails, by its cause. The first two causes occur only in runs: no check of the verifier fails with them. Bytes that
--- are outside of an area, or that aren't written, have words of their own.
+-- are outside an area or aren't written have words of their own.
 abbrev pub failure_words : Cause → List ℕ
 failure_words cause.OutOfProgram = []
 failure_words cause.IntoWide = []
@@ -70,7 +70,7 @@ failure_words cause.UnknownHelper = codes "there is no helper function "
 failure_words (cause.BadArgument number) = codes "argument "
 failure_words cause.ExitNotNumber = codes "exits with a pointer: "
 
--- and what follows them
+-- the facts that follow the words
 abbrev pub failure_facts : Known → Insn → Cause → List ℕ
 failure_facts known insn cause.OutOfProgram = []
 failure_facts known insn cause.IntoWide = []

@@ -1,4 +1,4 @@
--- The refusal of a fault in a file of source lines.
+-- The refusal for a fault in a file of source lines.
 use Rattle.std.specs.Prelude.{codes}
 use Rattle.refusals.specs.Refusal.{RefusalParts, at_line, refused}
 use Rattle.bpf_explain.specs.declared.source_lines.LinesFault.{LinesFault}

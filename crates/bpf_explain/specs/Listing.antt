@@ -1,4 +1,4 @@
--- A program's listing, visit by visit, and how it ends.
+-- A program's listing, visit by visit, and its last line.
 use Rattle.std.specs.Prelude.{ℕ, nat_lt, List, [], ◌++◌, drop, codes, Option, Some, None}
 use Rattle.std.specs.List.{before_first, flat_map, position_or_len}
 use Rattle.bpf_insn.specs.declared.instruction.Insn.{Insn}
@@ -11,7 +11,7 @@ use Rattle.bpf_explain.specs.Access.{text_if}
 use Rattle.bpf_explain.specs.Failure.{failure_text}
 use Rattle.bpf_explain.specs.SourceLines.{SourceLine}
 
--- a listing so far: its text; what was known last, before an instruction that is reached; the last instruction; the source lines that are left
+-- a listing so far: its text, what was known before the last instruction that was reached, the last instruction, and the remaining source lines
 pub record ListingParts : Type 0 where
   pub text : List ℕ
   pub known : Known
@@ -35,7 +35,7 @@ source_text line = codes "; " ++ line.text ++ codes "\n"
 unfoldable pub sources_text : List SourceLine → List ℕ
 sources_text lines = flat_map source_text lines
 
--- what is known last, after a state
+-- what was known last, after a visit in this state
 abbrev pub known_after : Known → AbstractState → Known
 known_after last Unreached = last
 known_after last (Reached known) = known
@@ -45,7 +45,7 @@ unfoldable pub visit_text : ListingParts → Visit → List ℕ
 visit_text listing visit =
     sources_text (lines_until visit.place listing.left) ++ instruction_line listing.known visit.place visit.insn visit.state
 
--- what a visit makes of a listing
+-- the listing with one more visit
 abbrev pub visited : ListingParts → Visit → ListingParts
 visited listing visit = record {
   text = listing.text ++ visit_text listing visit;

@@ -1,4 +1,4 @@
--- How what is known of a state is written: a text for each register and each slot of the frame.
+-- The notation for what is known in a state: a text for each register and each slot of the frame.
 use Rattle.std.specs.Prelude.{ℕ, ◌+◌, ◌-◌, ◌*◌, ◌^◌, ◌<◌, ◌≤◌, ◌==◌, ◌&&◌, nat_le, Bool, true, false, if◌then◌else◌, List, ◌++◌, map, codes, decimal, slice_index_or}
 use Rattle.std.specs.Fmt.{signed_decimal}
 use Rattle.std.specs.List.{range_with_len}
@@ -15,20 +15,20 @@ use Rattle.bpf_verify.specs.declared.known.Known.{Known}
 use Rattle.bpf_explain.specs.declared.notation.Part.{Part}
 use Rattle.bpf_explain.specs.declared.notation.Part.TheVariants.{Register, Slot}
 
--- one end, or both with two points between them
+-- one end, or both separated by two points
 abbrev pub range_text : Bool → List ℕ → List ℕ → List ℕ
 range_text true low high = low
 range_text false low high = low ++ codes ".." ++ high
 
--- an interval that begins with a negative number of two's complement
+-- an interval whose low end is negative in two's complement
 abbrev pub begins_negative : Interval → Bool
 begins_negative x = nat_le (2 ^ 63) x.low
 
--- an interval of all numbers of 64 bits
+-- the interval of all 64-bit numbers
 abbrev pub is_any : Interval → Bool
 is_any x = x.low == 0 && x.high == 2 ^ 64 - 1
 
--- an end of an interval, unsigned or as the negative number that it is in two's complement
+-- an end of an interval, as an unsigned number or as a negative number in two's complement
 abbrev pub end_text : Bool → ℕ → List ℕ
 end_text false number = decimal number
 end_text true number = codes "-" ++ decimal (2 ^ 64 - number)
@@ -49,7 +49,7 @@ kind_text (Record x) = codes "record + " ++ offsets_text x
 kind_text (Frame x) = codes "frame + " ++ offsets_text x
 kind_text Nothing = codes "?"
 
--- `m` for a byte that is known to be written, or else `?`
+-- `m` for a byte that is known to be written, otherwise `?`
 abbrev pub mark_code : Bool → ℕ
 mark_code true = 109
 mark_code false = 63
@@ -61,7 +61,7 @@ slot_marks marks slot = map (λ byte. slice_index_or marks (SLOT_LENGTH * slot +
 abbrev pub marks_text : List Bool → List ℕ
 marks_text marks = map mark_code marks
 
--- a slot by the kind of what it holds, or else by its bytes' marks
+-- a slot as the kind of what it holds, or else as the marks of its bytes
 abbrev pub held_text : Kind → List Bool → List ℕ
 held_text (Number x) marks = kind_text (Number x)
 held_text (Record x) marks = kind_text (Record x)
@@ -71,17 +71,17 @@ held_text Nothing marks = marks_text marks
 abbrev pub slot_text : Contents → ℕ → List ℕ
 slot_text frame slot = held_text (slot_kind frame slot) (slot_marks frame.marks slot)
 
--- a register or a slot that there is
+-- a register or a slot that exists
 abbrev pub IsPart : Part → Type 0
 IsPart (Register register) = register ≤ 10
 IsPart (Slot slot) = slot < SLOTS
 
--- a register's name, and that of a slot, by its distance below register 10
+-- the name of a register, or of a slot by its distance below register 10
 abbrev pub part_name : Part → List ℕ
 part_name (Register register) = codes "r" ++ decimal register
 part_name (Slot slot) = codes "[r10-" ++ decimal (FRAME_LENGTH - SLOT_LENGTH * slot) ++ codes "]"
 
--- what is known of a part
+-- what is known about a part
 abbrev pub part_text : Known → Part → List ℕ
 part_text known (Register register) = kind_text (kind_of known register)
 part_text known (Slot slot) = slot_text known.frame slot

@@ -1,4 +1,4 @@
--- Bytes that an instruction may read or write, some of which are outside of an area, or aren't written.
+-- Accesses to bytes that are outside an area or aren't written.
 use Rattle.std.specs.Prelude.{ℕ, ◌-◌, ℤ, Bool, true, false, List, [], ◌++◌, codes, decimal, Option, Some, None}
 use Rattle.std.specs.Fmt.{signed_decimal}
 use Rattle.bpf_helpers.specs.Helper.{signature}
@@ -32,7 +32,7 @@ area_name area.Frame = codes "frame"
 unfoldable pub ends_text : Bytes → List ℕ
 ends_text bytes = signed_decimal bytes.first ++ codes ".." ++ signed_decimal bytes.last
 
--- the bytes that are read or written, and of what
+-- the bytes that are read or written, and their area
 unfoldable pub bytes_text : Bool → Area → Bytes → List ℕ
 bytes_text writes of_area bytes = verb writes ++ codes " bytes " ++ ends_text bytes ++ codes " of the " ++ area_name of_area
 
@@ -43,19 +43,19 @@ last_of of_area = area_length of_area - 1
 unfoldable pub limit_text : Area → List ℕ
 limit_text of_area = codes ", which has 0.." ++ decimal (last_of of_area) ++ codes ": "
 
--- the same, where some of them are outside
+-- an access to bytes, some of them outside the area
 unfoldable pub outside_text : Bool → Area → Bytes → List ℕ
 outside_text writes of_area bytes = bytes_text writes of_area bytes ++ limit_text of_area
 
--- the same, where some of them aren't written
+-- a read of bytes, some of them not written
 unfoldable pub unwritten_text : Bytes → List ℕ
 unwritten_text bytes = bytes_text false area.Frame bytes ++ codes ", not all of which are written: "
 
--- what is known of the registers that say which bytes of the frame a call reads or writes
+-- what is known about the two registers that give the bytes of the frame that a call reads or writes
 unfoldable pub lent_facts : Known → List ℕ
 lent_facts known = register_fact known 2 ++ codes ", " ++ register_fact known 3
 
--- a load or a store goes outside of its area
+-- a load or a store outside its area
 unfoldable pub outside_from : Known → Access → Area → Offsets → List ℕ
 outside_from known access of_area x =
     outside_text access.writes of_area (bytes_from x access.offset access.count) ++ access_facts known access
@@ -68,7 +68,7 @@ outside_of known access kind = []
 unfoldable pub access_outside : Known → Access → List ℕ
 access_outside known access = outside_of known access (kind_of known access.base.number)
 
--- whether a call writes to the frame
+-- a call writes to the frame
 abbrev pub is_write : FrameUse → Bool
 is_write frame_use.Writes = true
 is_write frame_use.Nothing = false
@@ -78,7 +78,7 @@ unfoldable pub writes_frame : Option Helper → Bool
 writes_frame None = false
 writes_frame (Some helper) = is_write (frame_use (signature helper).shape)
 
--- a call reads or writes outside of the frame
+-- a call that reads or writes outside the frame
 unfoldable pub lent_outside : Known → Bool → Bytes → List ℕ
 lent_outside known writes bytes = outside_text writes area.Frame bytes ++ lent_facts known
 
@@ -90,7 +90,7 @@ unfoldable pub outside : Known → Insn → List ℕ
 outside known (Call immediate) = call_outside known immediate
 outside known insn = text_if (access_outside known) (access_of insn)
 
--- a load reads bytes that aren't written
+-- a load of bytes that aren't written
 unfoldable pub unwritten_from : Known → Access → Offsets → List ℕ
 unwritten_from known access x = unwritten_text (bytes_from x access.offset access.count) ++ access_facts known access
 
@@ -101,7 +101,7 @@ unwritten_of known access kind = []
 unfoldable pub access_unwritten : Known → Access → List ℕ
 access_unwritten known access = unwritten_of known access (kind_of known access.base.number)
 
--- a call does
+-- a call that reads bytes that aren't written
 unfoldable pub lent_unwritten : Known → Bytes → List ℕ
 lent_unwritten known bytes = unwritten_text bytes ++ lent_facts known
 

@@ -1,4 +1,4 @@
--- Which parts of a state an instruction reads.
+-- The parts of a state that an instruction reads.
 use Rattle.std.specs.Prelude.{◌≡◌, ◌≤ℤ◌, ℕ, ◌+◌, ◌-◌, ◌*◌, ◌/◌, ℤ, pos, ◌+ℤ◌, ◌-ℤ◌, int_le, nat_lt, Bool, true, false, ◌&&◌, ◌||◌, ◌==◌, if◌then◌else◌, List, ◌∷◌, get_or, map, filter, Option, Some, None}
 use Rattle.std.specs.Int.{w32, cast_unsigned}
 use Rattle.std.specs.List.{range_with_len}
@@ -26,18 +26,18 @@ use Rattle.bpf_explain.specs.declared.notation.Part.{Part}
 use Rattle.bpf_explain.specs.declared.notation.Part.TheVariants.{Register, Slot}
 use Rattle.bpf_explain.specs.declared.reads.Bytes.{Bytes}
 
--- an argument that a helper function looks at
+-- an argument that a helper function uses
 abbrev pub is_used : Argument → Bool
 is_used argument.Unused = false
 is_used (argument.Number allowed) = true
 is_used argument.Frame = true
 
--- the registers of the arguments that a call uses, from register 1 on
+-- the registers of the arguments that a call uses, starting at register 1
 abbrev pub uses_register : Option Helper → ℕ → Bool
 uses_register None register = false
 uses_register (Some helper) register = is_used (get_or (argument.Unused ∷ (signature helper).arguments) register argument.Unused)
 
--- the helper function that a call is of, by the 32 bits of its immediate
+-- the helper function that a call invokes, by the 32 bits of its immediate
 abbrev pub helper_of : ℤ → Option Helper
 helper_of immediate = by_number (cast_unsigned w32 immediate)
 
@@ -62,7 +62,7 @@ reads_register (StoreImmediate size base offset immediate) register = register =
 reads_register (Store size base offset source) register = (register == base.number) || (register == source.number)
 reads_register (WideLoad destination immediate next_immediate) register = false
 
--- so many bytes from each of the offsets on, with another offset added: from the least one to the last of the greatest
+-- `count` bytes from each of the offsets, plus another offset: from the first byte at the least one to the last byte at the greatest
 abbrev pub bytes_from : Offsets → ℤ → ℕ → Bytes
 bytes_from x offset count = record { first = x.low +ℤ offset; last = ((x.high +ℤ offset) +ℤ pos count) -ℤ pos 1 }
 
@@ -71,12 +71,12 @@ abbrev pub loaded_bytes : Kind → ℤ → ℕ → Option Bytes
 loaded_bytes (Frame x) offset count = Some (bytes_from x offset count)
 loaded_bytes kind offset count = None
 
--- the bytes of the frame that a call may read or write, from its second argument on and as many as its third
+-- the bytes of the frame that a call may read or write: its second argument points to the first, and its third is their number
 abbrev pub lent_bytes : Kind → Kind → Option Bytes
 lent_bytes (Frame x) (Number count) = Some (bytes_from x (pos 0) count.high)
 lent_bytes second third = None
 
--- the same if the call reads them
+-- those bytes, if the call reads them
 abbrev pub read_if : FrameUse → Known → Option Bytes
 read_if frame_use.Nothing known = None
 read_if frame_use.Writes known = None
@@ -92,12 +92,12 @@ read_bytes known (Load format destination base offset) = loaded_bytes (kind_of k
 read_bytes known (Call immediate) = called_bytes (helper_of immediate) known
 read_bytes known insn = None
 
--- a slot has one of the bytes
+-- one of the bytes is in a slot
 abbrev pub has_one_of : Bytes → ℕ → Bool
 has_one_of bytes slot =
     int_le bytes.first bytes.last && int_le bytes.first (pos (SLOT_LENGTH * slot + 7)) && int_le (pos (SLOT_LENGTH * slot)) bytes.last
 
--- the same, in words: a byte of the slot is one of them
+-- one of the bytes is in a slot, stated with a witness
 pub record HasOneOf (bytes : Bytes) (slot : ℕ) : Type 0 where
   pub at : ℕ
   pub in_slot : at / SLOT_LENGTH ≡ slot
@@ -113,11 +113,11 @@ abbrev pub reads : Known → Insn → Part → Bool
 reads known insn (Register register) = reads_register insn register
 reads known insn (Slot slot) = has_one_if (read_bytes known insn) slot
 
--- The parts in their order: the registers, and the slots from the frame's last, which is next to register 10, to its first.
+-- The parts in order: the registers, then the slots from the last of the frame, which is next to register 10, to the first.
 abbrev pub part_at : ℕ → Part
 part_at place = if nat_lt place REGISTERS then Register place else Slot (REGISTERS + SLOTS - 1 - place)
 
--- so many parts from a place on
+-- `count` parts from a place on
 unfoldable pub parts_from : ℕ → ℕ → List Part
 parts_from first count = map part_at (range_with_len first count)
 

@@ -1,4 +1,4 @@
-//! What loads and stores do, and what is known of their bases.
+//! Loads and stores, and what is known about their base registers.
 ghost use Rattle.std.specs.Prelude.{◌≡◌, ◌++◌, true, OnOk, decimal};
 ghost use Rattle.std.specs.Fmt.{signed_decimal};
 ghost use Rattle.std.specs.String.{string_bytes};
@@ -13,13 +13,13 @@ use bpf_verify::Known;
 use itoa::Buffer;
 use std::alloc::{AllocError, Allocator};
 
-/// What a load or a store does.
+/// The access of a load or a store.
 #[derive(Clone, Copy)]
 pub struct Access {
     pub base: Register,
-    /// What is added to the base.
+    /// The offset that is added to the base.
     pub offset: i16,
-    /// How many bytes it reads or writes.
+    /// The number of bytes that it reads or writes.
     pub count: usize,
     pub writes: bool,
 }
@@ -67,7 +67,7 @@ pub(crate) fn push_offset_if<A: Allocator>(
     }
 }
 
-/// Returns what a load or a store does.
+/// Returns the access of a load or a store, or `None` for any other instruction.
 #[tactic(auto, unfolding(crate::specs::Access::access_of))]
 pub(crate) fn access_of(insn: Insn) -> Option<Access>
     ensures { result ≡ access_of insn }
@@ -111,7 +111,7 @@ pub(crate) fn store_access(size: StoreSize, base: Register, offset: i16) -> Acce
     }
 }
 
-/// Pushes what is known of a load's or a store's base, and the offset that is added.
+/// Pushes what is known about the base of a load or a store, and the offset that is added to it.
 #[tactic(auto, unfolding(crate::specs::Access::access_facts))]
 pub(crate) fn push_access<A: Allocator>(
     text: &mut String<A>,
@@ -136,7 +136,7 @@ pub(crate) fn push_offset<A: Allocator>(
     push_signed(text, i128::from(access.offset))
 }
 
-/// Pushes what is known of a register. Of one that there isn't nothing is known.
+/// Pushes what is known about a register. Nothing is known about a register that doesn't exist.
 #[tactic(auto, unfolding(crate::specs::Access::register_fact))]
 pub(crate) fn push_register<A: Allocator>(
     text: &mut String<A>,

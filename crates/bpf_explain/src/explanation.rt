@@ -17,9 +17,8 @@ pub struct Explanation<A: Allocator> {
     pub verdict: Result<(), VerifyFault>,
 }
 
-/// Finds the verdict on a code as `verify` does, and lists its instructions with what is known before each of them: all instructions if the
-/// code is accepted, and otherwise those up to the one that is refused. Source lines come before the instructions that they belong to. A
-/// failed allocation is the only error.
+/// Verifies a code as `verify` does, and lists its instructions, each with what is known before it: all of them if the code is accepted, otherwise
+/// those up to the refused one. Source lines come before the instructions that they belong to. A failed allocation is the only error.
 pub fn explain<A: Allocator + Copy>(
     alloc: A,
     flow: Flow<A>,

@@ -1,4 +1,4 @@
-//! An instruction's line, with the facts that are shown of what is known before it.
+//! An instruction's line, with a note that shows a part of what is known before it.
 ghost use Rattle.std.specs.Prelude.{◌≡◌, ◌++◌, ◌+◌, ◌-◌, replicate, length, IfOk, OnOk, codes};
 ghost use Rattle.std.specs.List.{All};
 ghost use Rattle.std.specs.String.{string_bytes};
@@ -24,7 +24,7 @@ use std::alloc::{AllocError, Allocator};
 /// The column in which notes begin.
 pub const NOTE_COLUMN: usize = 40;
 
-/// Pushes the facts of parts, with commas between them.
+/// Pushes the facts about parts, separated by commas.
 pub(crate) fn push_facts<A: Allocator>(
     text: &mut String<A>,
     known: &Known,
@@ -43,7 +43,7 @@ pub(crate) fn push_facts<A: Allocator>(
     Ok(())
 }
 
-/// Returns the parts that are shown: those that the instruction reads, and those that changed.
+/// Returns the parts that are shown: those that the instruction reads and those that changed.
 fn shown_parts<A: Allocator>(
     alloc: A,
     last: &Known,
@@ -72,7 +72,8 @@ fn is_shown(last: &Known, known: &Known, insn: Insn, part: Part) -> bool
     reads(known, insn, part) || is_changed(last, known, part)
 }
 
-/// Returns whether something else is known of a part than in the last state. Then its text differs too, since texts tell all that is known.
+/// Returns whether something else is known about a part than in the last state. The part's text then differs too, because texts show all that is
+/// known.
 fn is_changed(last: &Known, known: &Known, part: Part) -> bool
     requires last { IsProperKnown last.now }
     requires known { IsProperKnown known.now }
@@ -88,7 +89,7 @@ fn is_changed(last: &Known, known: &Known, part: Part) -> bool
     }
 }
 
-/// Returns whether the same is known of two registers, which is to say, whether their texts are the same.
+/// Returns whether the same is known about two registers, that is, whether their texts are the same.
 fn is_same_kind(kind: Kind, other: Kind) -> bool
     requires kind { kinds.IsProper kind }
     requires other { kinds.IsProper other }
@@ -98,7 +99,7 @@ fn is_same_kind(kind: Kind, other: Kind) -> bool
     kind == other
 }
 
-/// Returns whether the same is known of a slot in two states.
+/// Returns whether the same is known about a slot in two states.
 fn is_same_slot(frame: &FrameMap, other: &FrameMap, slot: usize) -> bool
     requires frame { map.IsProper frame.now }
     requires other { map.IsProper other.now }
@@ -125,7 +126,7 @@ fn are_same_marks(frame: &FrameMap, other: &FrameMap, slot: usize) -> bool
     slot_marks(frame, slot) == slot_marks(other, slot)
 }
 
-/// Pushes what is known before an instruction that is reached, as far as it is shown.
+/// Pushes the note of an instruction that is reached.
 fn push_note<A: Allocator + Copy>(
     alloc: A,
     text: &mut String<A>,
@@ -141,7 +142,7 @@ fn push_note<A: Allocator + Copy>(
     push_facts(text, known, &parts)
 }
 
-/// Returns what is known before an instruction that is reached, as far as it is shown.
+/// Returns the note of an instruction that is reached.
 pub(crate) fn note<A: Allocator + Copy>(
     alloc: A,
     last: &Known,
@@ -184,7 +185,7 @@ pub(crate) fn push_instruction_line<A: Allocator + Copy>(
     text.push_str("\n")
 }
 
-/// Pushes a text and its note, if there is one, in its column.
+/// Pushes a text, and its note, if there is one, at the notes' column.
 fn push_noted<A: Allocator>(
     text: &mut String<A>,
     prefix: &str,

@@ -17,7 +17,7 @@ use bpf_meaning::Cause;
 use bpf_verify::Known;
 use std::alloc::{AllocError, Allocator};
 
-/// Pushes why an instruction is refused, by what is known before it and the check that fails.
+/// Pushes why an instruction is refused, given what is known before it and the check that fails.
 #[tactic(auto, unfolding(crate::specs::Failure::failure_text))]
 pub(crate) fn push_failure<A: Allocator + Copy>(
     alloc: A,
@@ -57,7 +57,7 @@ fn failure_words(cause: Cause) -> &'static str
     }
 }
 
-/// Pushes what follows the words of the check that fails.
+/// Pushes the facts that follow the words of the check that fails.
 fn push_failure_facts<A: Allocator + Copy>(
     alloc: A,
     text: &mut String<A>,
@@ -98,7 +98,7 @@ fn push_nothing<A: Allocator>(text: &mut String<A>, register: u8) -> Result<(), 
     text.push_str(", of which nothing is known")
 }
 
-/// Pushes an argument that isn't what the helper function wants.
+/// Pushes an argument that doesn't meet the helper function's signature.
 #[tactic(auto, unfolding(crate::specs::Failure::argument_text))]
 fn push_argument<A: Allocator>(
     text: &mut String<A>,
@@ -116,7 +116,7 @@ fn push_argument<A: Allocator>(
     push_register(text, known, number)
 }
 
-/// Pushes what is known of the registers that an instruction reads.
+/// Pushes what is known about the registers that an instruction reads.
 #[tactic(auto, unfolding(crate::specs::Failure::registers_text))]
 fn push_registers<A: Allocator + Copy>(
     alloc: A,
@@ -131,7 +131,7 @@ fn push_registers<A: Allocator + Copy>(
     push_facts(text, known, &parts)
 }
 
-/// Pushes what is known of the slots that an instruction may read, each after a comma.
+/// Pushes what is known about the slots that an instruction may read, each after a comma.
 #[tactic(auto, unfolding(crate::specs::Failure::slots_text))]
 fn push_slots<A: Allocator + Copy>(
     alloc: A,
@@ -174,7 +174,7 @@ fn push_called_number<A: Allocator>(text: &mut String<A>, insn: Insn) -> Result<
     }
 }
 
-/// Returns what a call wants of its argument with this number, counted from 1.
+/// Returns a call's requirement on its argument with this number, counted from 1.
 #[tactic(auto, unfolding(crate::specs::Failure::wanted))]
 fn wanted(insn: Insn, number: u8) -> Argument
     ensures { result ≡ wanted insn number }

@@ -1,4 +1,4 @@
-//! What holds of the definitions themselves. The functions do nothing: each one's contract is the law.
+//! Laws over the definitions, as contracts of functions that do nothing.
 ghost use Rattle.std.specs.Prelude.{◌≡◌, ◌↔◌, ◌≤◌, ℕ, IsTrue, length};
 ghost use Rattle.bpf_insn.specs.declared.instruction.Insn.{Insn};
 ghost use Rattle.bpf_text.specs.Spelled.{NumbersFit};
@@ -12,7 +12,7 @@ ghost use Rattle.bpf_explain.specs.declared.notation.Part.{Part};
 ghost use Rattle.bpf_explain.specs.declared.reads.Bytes.{Bytes};
 ghost use Rattle.bpf_explain.specs.declared.source_lines.TheConstants.{GREATEST_PLACE, PLACE_DIGITS};
 
-/// States are equal if each of their parts has the same text in both: the texts tell all that is known.
+/// Two states are equal if each of their parts has the same text in both: the texts show all that is known.
 pub fn texts_tell_states()
     ensures { (known other : Known) → IsProperKnown known → IsProperKnown other
         → ((part : Part) → IsPart part → part_text known part ≡ part_text other part) → known ≡ other }
@@ -23,23 +23,23 @@ pub fn names_tell_parts()
     ensures { (part other : Part) → IsPart part → IsPart other → part_name part ≡ part_name other → part ≡ other }
 {}
 
-/// States are equal if they have the same note for an instruction, after the same last state: what isn't shown stayed as it was.
+/// Two states are equal if they have the same note for an instruction, given the same last state: a part that isn't shown is unchanged.
 pub fn notes_tell_states()
     ensures { (last : Known) (insn : Insn) (state other : AbstractState) → IsProper state → IsProper other
         → note_text last state insn ≡ note_text last other insn → state ≡ other }
 {}
 
-/// An instruction may read a slot if one of the bytes that it may read is in it.
+/// An instruction may read a slot if one of the bytes that it may read is in the slot.
 pub fn slots_with_bytes()
     ensures { (bytes : Bytes) (slot : ℕ) → IsTrue (has_one_of bytes slot) ↔ HasOneOf bytes slot }
 {}
 
-/// A place and its instruction take at most 38 columns, so that a note always begins in its own.
+/// A place and its instruction take at most 38 columns, so a note always begins at its column.
 pub fn prefixes_are_short()
     ensures { (place : ℕ) (insn : Insn) → place ≤ GREATEST_PLACE → NumbersFit insn → length (prefix_text place insn) ≤ 38 }
 {}
 
-/// Notes begin in column 40, and places have up to five digits and go up to 65535.
+/// Notes begin at column 40, and places have up to five digits and go up to 65535.
 pub fn limits()
     ensures note_column { NOTE_COLUMN ≡ 40 }
     ensures greatest_place { GREATEST_PLACE ≡ 65535 }

@@ -1,4 +1,4 @@
-//! Listings of programs that say what the verifier knows before each instruction, and why it refuses one.
+//! Listings of programs that show what the verifier knows before each instruction, and why it refuses one.
 #![tactic(auto)]
 
 mod access;

@@ -1,4 +1,4 @@
-//! A program's listing, as the verifier goes over it.
+//! A program's listing, in the order in which the verifier visits its instructions.
 ghost use Rattle.std.specs.Prelude.{◌≡◌, ◌≤◌, ◌++◌, Some, nat_lt, length, ◌<◌, IfOk, IfSome, OnOk};
 ghost use Rattle.std.specs.List.{position, position_or_len};
 ghost use Rattle.std.specs.String.{string_bytes};
@@ -22,11 +22,11 @@ use std::marker::Model;
 pub(crate) struct Listing<'a, A: Allocator> {
     alloc: A,
     text: String<A>,
-    /// What was known last, before an instruction that is reached.
+    /// What was known before the last instruction that was reached.
     known: Known,
     /// The last instruction.
     insn: Option<Insn>,
-    /// The source lines that are left.
+    /// The remaining source lines.
     left: &'a [Line<'a>],
 }
 
@@ -45,7 +45,7 @@ impl<'a, A: Allocator> Model for Listing<'a, A> {
 }
 
 impl<'a, A: Allocator + Copy> Listing<'a, A> {
-    /// Returns the listing of no instruction.
+    /// Returns an empty listing.
     pub fn first(alloc: A, lines: &'a [Line<'a>]) -> Self
         ensures { result ≡ first (map line_of lines.now) }
     {
@@ -79,7 +79,7 @@ impl<'a, A: Allocator + Copy> Listing<'a, A> {
         Ok(text.into_bytes())
     }
 
-    /// Pushes the source lines up to an instruction's place, and its line.
+    /// Pushes the source lines up to an instruction's place, then the instruction's line.
     fn push_visit(&mut self, place: usize, insn: Insn, note: &str) -> Result<(), AllocError>
         ensures { OnOk result (self.new ≡ record {
           text = self.old.text ++ (sources_text (lines_until place self.old.left) ++ (noted (prefix_text place insn) note.now ++ codes "\n"));
@@ -115,7 +115,7 @@ impl<'a, A: Allocator + Copy> Visitor for Listing<'a, A> {
     }
 }
 
-/// Returns how many source lines there are up to a place.
+/// Returns the number of source lines up to a place.
 fn count_until(lines: &[Line<'_>], place: usize) -> usize
     ensures value { result ≡ position_or_len (λ line. nat_lt place line.place) (map line_of lines.now) }
     ensures within { result ≤ length lines.now }

@@ -1,4 +1,4 @@
-//! How what is known of registers and of the frame is written.
+//! The notation for what is known about registers and the frame.
 ghost use Rattle.std.specs.Prelude.{◌≡◌, ◌≤◌, ◌<◌, ◌++◌, ◌∷◌, [], false, slice_index_or, OnOk};
 ghost use Rattle.std.specs.Fmt.{signed_decimal};
 ghost use Rattle.std.specs.String.{string_bytes};
@@ -14,14 +14,14 @@ use bpf_verify::Known;
 use itoa::Buffer;
 use std::alloc::{AllocError, Allocator};
 
-/// A part of what is known: a register by its number, or a slot of the frame, counted from the frame's first byte.
+/// A part of a state: a register by its number, or a slot of the frame, counted from the frame's first byte.
 #[derive(Clone, Copy, Debug, PartialEq, Eq)]
 pub enum Part {
     Register(u8),
     Slot(usize),
 }
 
-/// Pushes an interval of numbers: one number, its ends, or `any number`.
+/// Pushes an interval of numbers as one number, as its two ends, or as `any number`.
 pub(crate) fn push_interval<A: Allocator>(
     text: &mut String<A>,
     x: Interval,
@@ -40,7 +40,7 @@ pub(crate) fn push_interval<A: Allocator>(
     Ok(())
 }
 
-/// Pushes an end of an interval, as an unsigned number or as a negative one.
+/// Pushes an end of an interval as an unsigned or a negative number.
 fn push_end<A: Allocator>(
     text: &mut String<A>,
     negative: bool,
@@ -75,7 +75,7 @@ fn push_signed<A: Allocator>(text: &mut String<A>, number: i16) -> Result<(), Al
     text.push_str(digits.format(number))
 }
 
-/// Pushes what is known of a register.
+/// Pushes what is known about a register.
 pub(crate) fn push_kind<A: Allocator>(text: &mut String<A>, kind: Kind) -> Result<(), AllocError>
     ensures { OnOk result (string_bytes text.new ≡ string_bytes text.old ++ kind_text kind) }
 {
@@ -93,7 +93,7 @@ pub(crate) fn push_kind<A: Allocator>(text: &mut String<A>, kind: Kind) -> Resul
     }
 }
 
-/// Pushes what is known of a slot: the kind of what it holds, or which of its bytes are written.
+/// Pushes what is known about a slot: the kind of what it holds, or else which of its bytes are written.
 fn push_slot<A: Allocator>(
     text: &mut String<A>,
     frame: &FrameMap,
@@ -172,7 +172,7 @@ pub(crate) fn push_name<A: Allocator>(text: &mut String<A>, part: Part) -> Resul
     }
 }
 
-/// Pushes what is known of a part.
+/// Pushes what is known about a part.
 fn push_part<A: Allocator>(
     text: &mut String<A>,
     known: &Known,
@@ -188,7 +188,7 @@ fn push_part<A: Allocator>(
     }
 }
 
-/// Pushes the name of a part and what is known of it.
+/// Pushes the name of a part and what is known about it.
 pub(crate) fn push_fact<A: Allocator>(
     text: &mut String<A>,
     known: &Known,

@@ -1,4 +1,4 @@
-//! Bytes that an instruction may read or write, some of which are outside of an area, or aren't written.
+//! Accesses to bytes that are outside an area or aren't written.
 ghost use Rattle.std.specs.Prelude.{◌≡◌, ◌++◌, OnOk, decimal};
 ghost use Rattle.std.specs.String.{string_bytes};
 ghost use Rattle.bpf_verify.specs.AbstractState.{IsProperKnown};
@@ -13,7 +13,7 @@ use bpf_verify::Known;
 use std::alloc::{AllocError, Allocator};
 use tl_segments::RECORD_LENGTH;
 
-/// Pushes the bytes that an instruction reads or writes outside of an area.
+/// Pushes the bytes that an instruction reads or writes, some of them outside their area.
 #[tactic(auto, unfolding(crate::specs::Reach::outside))]
 pub(crate) fn push_outside<A: Allocator>(
     text: &mut String<A>,
@@ -94,7 +94,7 @@ fn push_outside_from<A: Allocator>(
     push_access(text, known, access)
 }
 
-/// Pushes the bytes of the frame that an instruction reads and not all of which are written.
+/// Pushes the bytes of the frame that an instruction reads, not all of which are written.
 #[tactic(auto, unfolding(crate::specs::Reach::unwritten))]
 pub(crate) fn push_unwritten<A: Allocator>(
     text: &mut String<A>,
@@ -273,7 +273,7 @@ fn is_write(frame_use: FrameUse) -> bool
     }
 }
 
-/// Pushes what is known of the registers that say which bytes of the frame a call reads or writes.
+/// Pushes what is known about the two registers that give the bytes of the frame that a call reads or writes.
 #[tactic(auto, unfolding(crate::specs::Reach::lent_facts))]
 fn push_lent<A: Allocator>(text: &mut String<A>, known: &Known) -> Result<(), AllocError>
     requires { IsProperKnown known.now }

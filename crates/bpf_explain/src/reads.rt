@@ -1,4 +1,4 @@
-//! Which parts of what is known an instruction reads.
+//! The parts of a state that an instruction reads.
 ghost use Rattle.std.specs.Prelude.{◌≡◌, ◌≤◌, ◌<◌, ◌+◌, pos, ◌+ℤ◌, ◌-ℤ◌, ◌++◌, ◌∷◌, [], cond, filter, IfOk, OnOk};
 ghost use Rattle.std.specs.List.{All};
 ghost use Rattle.bpf_verify.specs.AbstractState.{IsProperKnown, kind_of};
@@ -17,11 +17,11 @@ use bpf_meaning::REGISTERS;
 use bpf_verify::Known;
 use std::alloc::{AllocError, Allocator};
 
-/// How many parts there are.
+/// The number of parts.
 pub(crate) const PARTS: usize = REGISTERS + SLOTS;
 
-/// Bytes of an area, from the first to the last, counted from the area's first. They may lie outside of it, and none does if the last comes
-/// before the first.
+/// Bytes of an area, from the first to the last, counted from the area's first byte. They may lie outside the area, and there are none if the last
+/// comes before the first.
 #[derive(Clone, Copy)]
 pub struct Bytes {
     pub first: i128,
@@ -81,7 +81,7 @@ fn is_register(register: u8, source: Source) -> bool
     }
 }
 
-/// Returns the helper function that a call is of.
+/// Returns the helper function that a call invokes.
 pub(crate) fn helper_of(immediate: i32) -> Option<Helper>
     ensures { result ≡ helper_of immediate }
 {
@@ -162,7 +162,7 @@ pub(crate) fn lent_bytes(known: &Known) -> Option<Bytes>
     }
 }
 
-/// Returns the bytes from each of the offsets on, with another offset added.
+/// Returns the bytes from each of the offsets, plus another offset.
 pub(crate) fn bytes_from(x: Offsets, offset: i16, count: u64) -> Bytes
     ensures { result ≡ bytes_from x offset count }
 {
@@ -172,21 +172,21 @@ pub(crate) fn bytes_from(x: Offsets, offset: i16, count: u64) -> Bytes
     }
 }
 
-/// Returns the byte where a pointer points, with another offset added.
+/// Returns the byte that a pointer points to after another offset is added.
 fn byte_at(pointer: i16, offset: i16) -> i32
     ensures { result ≡ pointer +ℤ offset }
 {
     i32::from(pointer) + i32::from(offset)
 }
 
-/// Returns the last of so many bytes.
+/// Returns the last of `count` bytes.
 fn last_byte(first: i32, count: u64) -> i128
     ensures { result ≡ (first +ℤ pos count) -ℤ pos 1 }
 {
     i128::from(first) + i128::from(count) - 1
 }
 
-/// Returns whether a slot has one of the bytes.
+/// Returns whether one of the bytes is in a slot.
 fn has_one_of(bytes: Bytes, slot: usize) -> bool
     requires { slot < SLOTS }
     ensures { result ≡ has_one_of bytes slot }
@@ -195,7 +195,7 @@ fn has_one_of(bytes: Bytes, slot: usize) -> bool
     bytes.first <= bytes.last && bytes.first <= start + 7 && start <= bytes.last
 }
 
-/// Returns a part by its place in their order.
+/// Returns the part at a place in their order.
 pub(crate) fn part_at(place: usize) -> Part
     requires { place < PARTS }
     ensures value { result ≡ part_at place }
@@ -234,7 +234,7 @@ pub(crate) fn slots_read<A: Allocator>(
     parts_read(alloc, known, insn, REGISTERS, SLOTS)
 }
 
-/// Returns those that an instruction reads of so many parts from a place on.
+/// Returns those of `count` parts, starting at a place, that an instruction reads.
 fn parts_read<A: Allocator>(
     alloc: A,
     known: &Known,
@@ -255,7 +255,7 @@ fn parts_read<A: Allocator>(
     Ok(parts)
 }
 
-/// Pushes a part if it is chosen.
+/// Pushes a part if it's chosen.
 pub(crate) fn push_if<A: Allocator>(
     parts: &mut Vec<Part, A>,
     part: Part,

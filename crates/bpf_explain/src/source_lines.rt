@@ -1,4 +1,4 @@
-//! Lines of source code, each with the place of the program that it belongs to.
+//! Lines of source code, each with the place in the program that it belongs to.
 ghost use Rattle.std.specs.Prelude.{◌≡◌, ◌<◌, ◌≤◌, ◌+◌, ◌==◌, ◌∷◌, ◌++◌, [], IfOk, IfSome, OnOk, MatchResult, Ok, Err, length, map, option_map};
 ghost use Rattle.std.specs.List.{position};
 ghost use Rattle.std.specs.Str.Lines.{lines, strip_carriage_return};
@@ -12,18 +12,18 @@ use thiserror::Error;
 /// The greatest place that a program can have.
 pub const GREATEST_PLACE: usize = 65_535;
 
-/// How many decimal digits a place has at most.
+/// The greatest number of decimal digits of a place.
 pub const PLACE_DIGITS: usize = 5;
 
 /// A line of source code.
 #[derive(Clone, Copy)]
 pub(crate) struct Line<'a> {
-    /// The place that the line belongs to, which counts words from 0.
+    /// The place that the line belongs to, in words from 0.
     pub place: usize,
     pub text: &'a str,
 }
 
-/// What is wrong with a line. The derived text is for people.
+/// The flaw of a line. The derived text is for people.
 #[derive(Clone, Copy, Debug, PartialEq, Eq, Error)]
 pub enum LineFlaw {
     #[error("the line isn't UTF-8")]
@@ -66,15 +66,15 @@ impl Fault for LinesFault {
     }
 }
 
-/// The lines of a file without a fault: a place of up to five decimal digits, a tab and a text each, with places that don't decrease. Lines end
-/// by LF or CR LF, and the last one may lack its end.
+/// The lines of a file without a fault. Each consists of a place of up to five decimal digits, a tab and a text; the places don't decrease. Lines
+/// end in LF or CR LF, which the last line may lack.
 #[derive(Clone, Copy)]
 pub struct SourceLines<'a> {
     file: &'a [u8],
 }
 
 impl<'a> SourceLines<'a> {
-    /// Looks at each line of a file.
+    /// Checks each line of a file.
     pub fn of(file: &'a [u8]) -> Result<SourceLines<'a>, LinesFault>
         ensures { MatchResult result (λ lines. lines_in file.now ≡ Ok (parts_of lines)) (λ fault. lines_in file.now ≡ Err fault) }
     {
@@ -120,7 +120,7 @@ fn keep<'a, A: Allocator>(lines: &mut Vec<Line<'a>, A>, line: Line<'a>) -> Resul
     Ok(())
 }
 
-/// Returns what a line says, after one of a place.
+/// Returns a line's place and text, given the place of the line above it.
 fn checked(number: usize, last: usize, line: &[u8]) -> Result<Line<'_>, LinesFault>
     ensures { IsChecked number (checked last line.now) result }
 {
@@ -154,7 +154,7 @@ fn line_in(text: &str) -> Option<Line<'_>>
     Some(Line { place, text })
 }
 
-/// Returns the place that one to five decimal digits write.
+/// Returns the place written in one to five decimal digits.
 #[tactic(auto, unfolding(crate::specs::SourceLines::place_in))]
 fn place_in(digits: &[u8]) -> Option<usize>
     ensures { result ≡ place_in digits.now }
@@ -195,7 +195,7 @@ fn is_digit(byte: u8) -> bool
     b'0' <= byte && byte <= b'9'
 }
 
-/// Returns the first line of a text that isn't empty, without its end, and what follows it.
+/// Returns the first line of a text that isn't empty, without its line end, and the rest of the text.
 fn first_line(text: &[u8]) -> (&[u8], &[u8])
     requires { 0 < length text.now }
     ensures cut { lines text.now ≡ result.0.now ∷ lines result.1.now }
@@ -214,7 +214,7 @@ fn find_line_feed(text: &[u8]) -> Option<usize>
     text.iter().position(|byte| *byte == b'\n')
 }
 
-/// Returns a line without the carriage return that belongs to its end.
+/// Returns a line without the carriage return of its line end.
 fn without_carriage_return(line: &[u8]) -> &[u8]
     ensures { result.now ≡ strip_carriage_return line.now }
 {
