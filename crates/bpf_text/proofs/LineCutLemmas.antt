@@ -1,4 +1,4 @@
--- How a text is cut into lines.
+-- The lines of a text.
 use Rattle.std.proofs.Common.{◌≡◌, ℕ, ◌+◌, ◌-◌, ◌<◌, ◌≤◌, Bool, false, List, [], ◌∷◌, length, take, drop, Some, None, refl, sym, ap, ◌∙◌}
 use Rattle.std.proofs.Common.{arith}
 use Rattle.std.specs.Prelude.{◌==◌}
@@ -12,7 +12,7 @@ use Rattle.bpf_text.proofs.WordLemmas.{position-found, position-missing, rest-fr
 abbrev is_line_feed : ℕ → Bool
 is_line_feed byte = byte == 10
 
--- a part before others is a line
+-- a part before other parts is a line
 pub lines-more : (part : List ℕ) (parts : List (List ℕ)) → 1 ≤ length parts
     → lines_of_parts (part ∷ parts) ≡ strip_carriage_return part ∷ lines_of_parts parts
 lines-more part [] some = absurd (omega arith)
@@ -37,7 +37,7 @@ last-line : (text : List ℕ) → 0 < length text → lines_of_parts (text ∷ [
 last-line [] some = absurd (omega arith)
 last-line (byte ∷ text) some = let full : (length (byte ∷ text) == 0) ≡ false = grind (arith, nat_tests) in rw full refl
 
--- where there is none, the text is its one line
+-- a text without a line feed is its only line
 pub lines-missing : (text : List ℕ) → 0 < length text → None ≡ position (λ byte. byte == 10) text → lines text ≡ text ∷ lines []
 lines-missing text some missing =
     let past = position-missing is_line_feed text (sym missing) in

@@ -16,19 +16,19 @@ with_two-split left right (Some parts) first second is = let parts_is : (first, 
     ap (λ (p : List ℕ × List ℕ). both (left p.0) (right p.1)) (sym parts_is)
 with_two-split left right None first second is = cc
 
--- operands with a comma between them
+-- operands separated by a comma
 pub two-split : {A B : Type 0} (left : List ℕ → Result A TextFlaw) (right : List ℕ → Result B TextFlaw) (operands first second : List ℕ)
     → Ok (first, second) ≡ or_fault Syntax (split_operand operands) → two left right operands ≡ both (left first) (right second)
 two-split left right operands first second is = with_two-split left right (split_operand operands) first second is
 
--- a target that lends its name
+-- a target that borrows its name
 pub both-view : (source : Result Source TextFlaw) (target : Result (ℤ × Option (Bor (List ℕ))) TextFlaw)
     → comparand_view (both source target) ≡ both source (target_view target)
 both-view (Ok source) (Ok target) = refl
 both-view (Err fault) (Ok target) = refl
 both-view source target = refl
 
--- what isn't empty and doesn't end in a colon
+-- content that isn't empty and doesn't end in a colon
 pub statement-of-instruction : (content : List ℕ) → (length content == 0) ≡ false → (slice_index content (length content - 1) ≡ 58 → ⊥)
     → statement_of content ≡ instruction_of content
 statement-of-instruction content some other =

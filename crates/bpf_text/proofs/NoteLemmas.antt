@@ -1,4 +1,4 @@
--- The notes of one statement more.
+-- The notes of one more statement.
 use Rattle.std.proofs.Common.{◌≡◌, ℕ, suc, ◌+◌, ◌≤◌, List, [], ◌∷◌, ◌++◌, length, map, Option, Some, None, Result, Ok, Err, Bool, true}
 use Rattle.std.proofs.Common.{false, cond, refl, sym, ap, ◌∙◌, subst, is_some, drop, get_or, inl, inr, add-one, drop-cons, ◌<◌, Bor, pos}
 use Rattle.std.proofs.Common.{◌-ℤ◌, arith}
@@ -80,7 +80,7 @@ noted-instruction {items} {words} {before} new insn target notes is = record {
   words_are = omega (arith, notes.words_are, words-snoc before (Instruction insn target));
 }
 
--- a label that no statement has
+-- a label that no statement defines
 absent-by : (place : Option ℕ) → false ≡ is_some place → place ≡ None
 absent-by None test = refl
 absent-by (Some place) test = absurd (false≢true test)
@@ -96,7 +96,7 @@ pub faultless-instruction : (before : List Statement) (insn : Insn) (target : Op
     → words_of before + length (spelling insn) ≤ WORD_LIMIT → fault_after before (Instruction insn target) ≡ None
 faultless-instruction before insn target fits = rw (le-ltb _ _ fits) refl
 
--- one line more
+-- one more line
 pub read-counted : (text rest : List ℕ) (number : ℕ) (items : List Item) (labels : List ℕ → Option ℕ) (words : ℕ)
     (read : HasRead text rest number items labels words) → number + 1 ≡ suc (length read.statements)
 read-counted text rest number items labels words read = omega (arith, read.counted, length-meant read.front read.statements read.meant)
@@ -183,7 +183,7 @@ reads-fault {text} after read cut refusal = elim refusal [
   | inr why ↦ subst (ReadsNotes text) (sym why.2) (read-fault after read cut why.1)
 ]
 
--- instructions before a code
+-- instructions put before a code
 abbrev pub with_front : List Insn → Result (List Insn) TextFault → Result (List Insn) TextFault
 with_front front (Ok code) = Ok (front ++ code)
 with_front front (Err fault) = Err fault

@@ -1,4 +1,4 @@
--- What follows from the digits of a number.
+-- Properties of a number's digits.
 use Rattle.std.proofs.Common.{◌≡◌, ℕ, ◌+◌, ◌*◌, ◌^◌, ◌<◌, ◌≤◌, true, List, [], ◌∷◌, length, get_or, take, refl, arith}
 use Rattle.std.specs.List.{list_all}
 use Rattle.std.specs.Char.{digit_value}
@@ -15,13 +15,13 @@ all_digits radix (d ∷ ds) all =
     let parts = and_parts (is_digit radix d) (list_all (is_digit radix) ds) all in
     (ltb-true _ _ parts.0, all_digits radix ds parts.1)
 
--- so many digits write a number below this power of the radix
+-- a bounded number of digits denotes a number below that power of the radix
 pub digits-lt : (radix most : ℕ) (ds : List ℕ) → 2 ≤ radix → length ds ≤ most → list_all (is_digit radix) ds ≡ true
     → digits_value radix ds < radix ^ most
 digits-lt radix most ds some few all =
     lt_of_lt_of_le (digits_value-lt radix ds (all_digits radix ds all)) (pow-le-pow_right (omega arith) few)
 
--- twenty digits, up to hexadecimal ones
+-- up to twenty digits in a radix of at most 16
 pub digits-small : (radix : ℕ) (ds : List ℕ) → 2 ≤ radix → radix ≤ 16 → length ds ≤ 20 → list_all (is_digit radix) ds ≡ true
     → digits_value radix ds < 2 ^ 80
 digits-small radix ds some few short all =

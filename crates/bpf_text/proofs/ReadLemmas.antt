@@ -1,4 +1,4 @@
--- Words that are written side by side are read one by one.
+-- Words written side by side are read one by one.
 use Rattle.std.proofs.Common.{◌≡◌, ℕ, ◌+◌, ◌≤◌, Bool, true, false, List, [], ◌∷◌, ◌++◌, length, take, drop, reverse, refl, sym, ap, ◌∙◌}
 use Rattle.std.proofs.Common.{subst, arith}
 use Rattle.std.specs.Prelude.{not}
@@ -9,7 +9,7 @@ use Rattle.std.proofs.lemmas.List.Folds.{list_all-append}
 use Rattle.std.proofs.Math.Seq.{take-append_seam, drop-append-add}
 use Rattle.bpf_text.specs.Words.{is_blank, trim_start, trim}
 
--- what holds of each byte
+-- a property of each byte
 pub all-by : (p q : ℕ → Bool) → ((byte : ℕ) → p byte ≡ true → q byte ≡ true) → (xs : List ℕ) → list_all p xs ≡ true → list_all q xs ≡ true
 all-by p q implies [] all = refl
 all-by p q implies (x ∷ xs) all =
@@ -25,7 +25,7 @@ all-reverse p (x ∷ xs) all =
     let parts = and_parts (p x) (list_all p xs) all in
     ap (list_all p) (reverse-append (x ∷ []) xs) ∙ all-append p (reverse xs) (x ∷ []) (all-reverse p xs parts.1) (and_from _ _ parts.0 refl)
 
--- where the first byte of a kind stands
+-- the index of the first byte of a kind
 pub place-at : (p : ℕ → Bool) (xs ys : List ℕ) (c : ℕ) → list_all (λ byte. not (p byte)) xs ≡ true → p c ≡ true
     → position_or_len p (xs ++ c ∷ ys) ≡ length xs
 place-at p [] ys c none is = rw is refl

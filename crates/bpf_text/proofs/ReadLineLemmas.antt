@@ -1,4 +1,4 @@
--- A mnemonic with its operands is read as it's written.
+-- A mnemonic with its operands is read as it was written.
 use Rattle.std.proofs.Common.{◌≡◌, ℕ, ◌-◌, ◌<◌, ◌≤◌, Bool, true, false, ◌&&◌, cond, nat_le, List, [], ◌∷◌, ◌++◌, length, Some, None, Result}
 use Rattle.std.proofs.Common.{Ok, Err, refl, ap, ◌∙◌, subst, arith}
 use Rattle.std.specs.Prelude.{◌==◌, not, codes, slice_index}
@@ -100,7 +100,7 @@ instruction-by content name ops first rest mnemonic =
     ∙ ap (λ (test : Bool). cond test (instruction_with (form_named name) (after_word content)) (Err Syntax)) mnemonic
     ∙ ap (instruction_with (form_named name)) rest
 
--- a line of a mnemonic and operands
+-- a line with a mnemonic and operands
 pub read-line : (name ops : List ℕ) → 1 ≤ length name → list_all is_mnemonic_byte name ≡ true → AreOperands ops
     → statement_in (name ++ 32 ∷ ops) ≡ instruction_with (form_named name) ops
 read-line name ops some mnemonic operands =

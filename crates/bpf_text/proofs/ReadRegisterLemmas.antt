@@ -1,4 +1,4 @@
--- Registers and numbers are read as they're written.
+-- Registers and numbers are read as they were written.
 use Rattle.std.proofs.Common.{◌≡◌, ℕ, suc, zero, ℤ, pos, negsuc, neg_ℤ, ◌≤ℤ◌, ◌<ℤ◌, ◌^◌, ◌<◌, ◌≤◌, ◌++◌, Bool, true, ◌&&◌, cond, nat_le}
 use Rattle.std.proofs.Common.{List, [], ◌∷◌, length, Option, Some, Result, Ok, Err, decimal, refl, ap, ◌∙◌, arith}
 use Rattle.std.specs.Prelude.{codes}

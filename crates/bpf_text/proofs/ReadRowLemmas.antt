@@ -1,4 +1,4 @@
--- Each instruction's line is read back, one row of the table after the other.
+-- Each instruction's line is read back, row by row of the table.
 use Rattle.std.proofs.Common.{◌≡◌, ℕ, ℤ, ◌≤◌, ◌<◌, ◌^◌, nat_le, true, ◌&&◌, not, List, ◌∷◌, ◌++◌, length, Option, None, Result, Ok, refl}
 use Rattle.std.proofs.Common.{ap, ◌∙◌, arith}
 use Rattle.std.specs.Prelude.{◌==◌, codes}

@@ -1,4 +1,4 @@
--- Immediates, targets and places in memory are read as they're written.
+-- Immediates, targets and memory operands are read as they were written.
 use Rattle.std.proofs.Common.{◌≡◌, ℕ, suc, ℤ, pos, negsuc, neg_ℤ, ◌≤ℤ◌, ◌<ℤ◌, ◌+◌, ◌-◌, ◌^◌, ◌<◌, ◌≤◌, Bool, true, false, ◌&&◌, cond}
 use Rattle.std.proofs.Common.{List, [], ◌∷◌, ◌++◌, length, take, drop, Option, Some, None, Result, Ok, decimal, refl, ap, ◌∙◌, arith}
 use Rattle.std.specs.Prelude.{◌==◌, not, slice_index, slice_range}
@@ -27,7 +27,7 @@ and-false : (test : Bool) → (test && false) ≡ false
 and-false true = refl
 and-false false = refl
 
--- digits are no register
+-- digits aren't a register
 no-register : (ds : List ℕ) → 1 ≤ length ds → list_all (is_digit 10) ds ≡ true → register_number ds ≡ None
 no-register [] some all = absurd (omega arith)
 no-register (d ∷ ds) some all =
@@ -35,7 +35,7 @@ no-register (d ∷ ds) some all =
     let other : (114 == d) ≡ false = (let low = range.0 in let high = range.1 in grind (arith, nat_tests)) in
     rw other refl
 
--- and begin with no `0x` and no minus
+-- digits don't begin with `0x` or a minus
 second-digit : (ds : List ℕ) → list_all (is_digit 10) ds ≡ true → (slice_index ds 1 == 120) ≡ false
 second-digit [] all = refl
 second-digit (a ∷ []) all = refl
@@ -105,7 +105,7 @@ target-back limit value bound low high =
     ∙ ap (λ (r : Result ℤ TextFlaw). and_then r (λ distance. let o : Result (ℤ × Option (List ℕ)) TextFlaw = Ok (distance, None) in o))
     (signed-back limit value bound low high)
 
--- a place in memory
+-- a memory operand
 register-unsigned : (number : ℕ) → number ≤ 10 → list_all (λ byte. not (is_sign byte)) (register_name number) ≡ true
 register-unsigned (suc (suc (suc (suc (suc (suc (suc (suc (suc (suc (suc n))))))))))) within = absurd (omega arith)
 register-unsigned number within = refl

@@ -1,4 +1,4 @@
--- The text of a code means that code, where each of its lines is read back.
+-- The text of a code means that code if each of its lines is read back.
 use Rattle.std.proofs.Common.{◌≡◌, ℕ, suc, ◌+◌, ◌-◌, ◌<◌, ◌≤◌, Bool, true, false, nat_le, List, [], ◌∷◌, ◌++◌, length, get_or, take, map}
 use Rattle.std.proofs.Common.{subst, None, Result, Ok, refl, sym, ap, ◌∙◌, arith}
 use Rattle.std.specs.Prelude.{◌==◌, codes}
@@ -22,7 +22,7 @@ use Rattle.bpf_text.proofs.LineCutLemmas.{lines-more}
 use Rattle.bpf_text.proofs.StatementLemmas.{words-snoc}
 use Rattle.bpf_text.proofs.NoteLemmas.{faultless-instruction}
 
--- a byte that no line end begins with
+-- a byte that doesn't begin a line end
 abbrev pub is_printed : ℕ → Bool
 is_printed byte = nat_le 32 byte
 
@@ -107,7 +107,7 @@ text-means code all sized = record {
   some = some-back code sized.0;
 }
 
--- one instruction more
+-- one more instruction
 pub read-back-next : (code : List Insn) (i : ℕ) (insn : Insn) → i < length code → insn ≡ get_or code i insn → AreReadBack (take i code)
     → IsReadBack insn → AreReadBack (take (i + 1) code)
 read-back-next code i insn inside is all one =

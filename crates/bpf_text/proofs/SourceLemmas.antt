@@ -1,4 +1,4 @@
--- Faults of a source that is UTF-8.
+-- Faults of a source in UTF-8.
 use Rattle.std.proofs.Common.{◌≢◌, ℕ, List, refl}
 use Rattle.std.specs.Prelude.{IsUtf8}
 use Rattle.bpf_text.specs.SourceFault.{IsSourceFault}
@@ -8,7 +8,7 @@ use Rattle.bpf_text.specs.declared.fault.SourceFault.TheVariants.{NotUtf8, Text}
 use Rattle.bpf_text.specs.declared.fault.TextFault.{TextFault}
 use Rattle.bpf_text.specs.declared.fault.TextFault.TheVariants.{InLine, Memory}
 
--- out of memory aside, such a source is refused for the first fault of its text
+-- unless an allocation fails, such a source is refused for the first fault of its text
 pub of_its_text : (P : SourceFault → Type 0) (source : List ℕ) (fault : SourceFault) → IsUtf8 source → IsSourceFault source fault
     → fault ≢ Text Memory
     → ((flaw : TextFault) → IsFirstFault source flaw → flaw ≢ Memory → P (Text flaw)) → P fault

@@ -1,4 +1,4 @@
--- Hexadecimal digits, one after the other.
+-- Hexadecimal digits, one by one.
 use Rattle.std.proofs.Common.{◌≡◌, ℕ, suc, zero, ◌-◌, ◌*◌, ◌/◌, ◌%◌, ◌^◌, ◌<◌, List, [], ◌∷◌, ◌++◌, refl, sym, ap, ◌∙◌, arith}
 use Rattle.std.proofs.lemmas.List.{append_assoc, append-nil}
 use Rattle.std.specs.Char.{digit_char}
@@ -25,7 +25,7 @@ written-more old left number some adds is so_far =
     ∙ append_assoc old (digit_char (number / 2 ^ (4 * (left - 1)) % 16) ∷ []) rest
     ∙ ap (λ (xs : List ℕ). old ++ xs) (sym (hexadecimal-step left number some)) ∙ so_far
 
--- all are written
+-- all digits are written
 pub written-all : (new all : List ℕ) (left number : ℕ) → left ≡ 0 → new ++ hexadecimal left number ≡ all → new ≡ all
 written-all new all left number none so_far = sym (append-nil new)
     ∙ ap (λ (xs : List ℕ). new ++ xs) (sym (hexadecimal-none left number none)) ∙ so_far

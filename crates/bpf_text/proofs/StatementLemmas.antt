@@ -1,4 +1,4 @@
--- One more statement, and what a text's statements determine.
+-- One more statement, and what the statements of a text determine.
 use Rattle.std.proofs.Common.{◌≡◌, ◌≢◌, ◌⊎◌, ℕ, suc, ◌+◌, ◌≤◌, List, [], ◌∷◌, ◌++◌, length, map, Option, Some, None, Result, Ok, Err}
 use Rattle.std.proofs.Common.{MatchResult, Bool, true, false, cond, if◌then◌else◌, inl, inr, refl, sym, ap, ◌∙◌, subst, add-zero, arith}
 use Rattle.std.proofs.lemmas.Option.{none-some}
@@ -96,7 +96,7 @@ same-statements (s ∷ a) (t ∷ b) e =
     let same = same-statements a b rest in
     cc
 
--- the first refusal of lines, each after statements: by the number of its line, where the first line's is given
+-- the first refusal of lines, each following statements, with its line number, given the number of the first line
 abbrev unless : Option TextFlaw → ℕ → Option TextFault → Option TextFault
 unless (Some flaw) line later = Some (InLine line flaw)
 unless None line later = later
@@ -150,13 +150,13 @@ refused-line text line flaw f =
 refused-nowhere : (text : List ℕ) (all : List Statement) → HasStatements text all → first_refusal_of text ≡ None
 refused-nowhere text all has = ap (first_refusal 1 []) has.meant ∙ refused-none 1 [] all has.faultless
 
--- so a text with statements has no fault in a line
+-- a text with statements has no fault in a line
 no-fault-in-line : (text : List ℕ) (all : List Statement) (line : ℕ) (flaw : TextFlaw) → HasStatements text all
     → HasFirstFaultAt text line flaw → ⊥
 no-fault-in-line text all line flaw has fault = none-some (InLine line flaw)
     (sym (refused-nowhere text all has) ∙ refused-line text line flaw fault)
 
--- and its statements give one code, or one fault
+-- its statements yield one code, or one fault
 same-code : {text : List ℕ} {x y : List Statement} {a b : Result (List Insn) TextFault} → HasStatements text x → HasStatements text y
     → code_of x ≡ a → code_of y ≡ b → a ≡ b
 same-code {x} {y} has also gives yields = sym gives ∙ ap code_of (same-statements x y (sym has.meant ∙ also.meant)) ∙ yields
@@ -208,14 +208,14 @@ means-by text statements built code has meant same some = record {
   some = some-instructions code some;
 }
 
--- what a text that means a code gives
+-- the result for a text that means a code
 pub only-code : (text : List ℕ) (result : Result (List Insn) TextFault) → MatchResult result (Means text) (IsFirstFault text)
     → (code : List Insn) → Means text code → MatchResult result (λ given. given ≡ code) (λ fault. fault ≡ Memory)
 only-code text (Ok given) means code other = one-code text given code means other
 only-code text (Err (InLine line flaw)) first code means = absurd (no-fault text code line flaw means first)
 only-code text (Err Memory) first code means = refl
 
--- what a text that has a first fault gives
+-- the result for a text that has a first fault
 pub names-the-fault : (text : List ℕ) (result : Result (List Insn) TextFault) → MatchResult result (Means text) (IsFirstFault text)
     → (fault : TextFault) → IsFirstFault text fault → fault ≢ Memory → IsErrAnd result (λ given. (given ≡ fault) ⊎ (given ≡ Memory))
 names-the-fault text (Ok code) means (InLine line flaw) first other = absurd (no-fault text code line flaw means first)

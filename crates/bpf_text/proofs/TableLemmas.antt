@@ -1,4 +1,4 @@
--- The table of mnemonics: each name is a mnemonic, and names its form alone.
+-- The table of mnemonics: each name is a mnemonic, and names only its own form.
 use Rattle.std.proofs.Common.{◌≡◌, ◌&&◌, Bool, true, false, nat_le, cond, List, [], ◌∷◌, length, Option, Some, refl, subst}
 use Rattle.std.specs.List.{list_all, find}
 use Rattle.std.specs.Str.{bytes_eq}
@@ -36,7 +36,7 @@ named (StoreImmediate store.Byte) = refl
 named (Store store.Byte) = refl
 named form = refl
 
--- what holds of all elements holds of the one that is found
+-- a property of all elements holds for the one that is found
 found-by : {A : Type 0} (q : A → Bool) (first x : A) (rest : Option A) (test : Bool) → q first ≡ true → (rest ≡ Some x → q x ≡ true)
     → cond test (Some first) rest ≡ Some x → q x ≡ true
 found-by q first x rest true here later found = let same : first ≡ x = cc in subst (λ y. q y ≡ true) same here

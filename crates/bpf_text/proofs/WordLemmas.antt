@@ -1,4 +1,4 @@
--- What `position` finds.
+-- The index that `position` finds.
 use Rattle.std.proofs.Common.{◌≡◌, ℕ, ◌<◌, ◌≤◌, nat_lt, Bool, true, false, List, [], length, cond, Some, None, ◌+◌, ◌-◌, take, drop, refl}
 use Rattle.std.proofs.Common.{sym, ap, ◌∙◌, arith}
 use Rattle.std.proofs.lemmas.List.{take_all, drop_all, length-drop}
@@ -25,7 +25,7 @@ missing-by p xs false is missing = ltb-false _ _ is
 pub position-missing : {X : Type 0} (p : X → Bool) (xs : List X) → position p xs ≡ None → length xs ≤ position_or_len p xs
 position-missing p xs missing = missing-by p xs _ refl missing
 
--- the two parts of a list at the place that `position` finds
+-- the two parts of a list at the index that `position` finds
 pub before-found : {X : Type 0} (p : X → Bool) (xs : List X) (i : ℕ) → Some i ≡ position p xs → take i xs ≡ before_first p xs
 before-found p xs i found = ap (λ (n : ℕ). take n xs) (position-found p xs i (sym found)).0
 
@@ -52,7 +52,7 @@ from-found p xs i found = rest-from i xs ∙ ap (λ (n : ℕ). drop n xs) (posit
 pub from-missing : {X : Type 0} (p : X → Bool) (xs : List X) → None ≡ position p xs → [] ≡ drop (position_or_len p xs) xs
 from-missing p xs missing = sym (drop_all (position_or_len p xs) xs (position-missing p xs (sym missing)))
 
--- operands with a comma, and those with none
+-- operands with and without a comma
 pub cut-found : (xs : List ℕ) (i : ℕ) → Some i ≡ position is_comma xs
     → split_operand xs ≡ Some (trim (take i xs), trim (take (length xs - (i + 1)) (drop (i + 1) xs)))
 cut-found xs i found =

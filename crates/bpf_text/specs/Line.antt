@@ -1,4 +1,4 @@
--- What one line of program text means.
+-- The meaning of a line of program text.
 use Rattle.std.specs.Prelude.{ℕ, ℤ, ◌-◌, ◌/◌, ◌%◌, ◌^◌, ◌==◌, if◌then◌else◌, List, length, take, slice_index, Option, Some, None, Result, Ok, Err}
 use Rattle.std.specs.List.{list_all}
 use Rattle.std.specs.Int.{cast_signed, w32}
@@ -17,7 +17,7 @@ use Rattle.bpf_text.specs.Number.{and_then, immediate_in, wide_in, limit_of_16_b
 use Rattle.bpf_text.specs.Mnemonic.{form_named}
 use Rattle.bpf_text.specs.Operand.{both, register_in, destination_of, source_in, memory_in, target_in}
 
--- What a line means: nothing, a label, or an instruction. A jump to a label has the distance 0 for the time being.
+-- The meaning of a line: nothing, a label, or an instruction. A jump to a label has distance 0 until the label is resolved.
 pub data Statement : Type 0 where
   Blank : Statement
   Label : (name : List ℕ) → Statement
@@ -31,7 +31,7 @@ plain insn = Ok (Instruction insn None)
 abbrev pub writing : Register → (WritableRegister → Insn) → Result Statement TextFlaw
 writing register insn = and_then (destination_of register) (λ destination. plain (insn destination))
 
--- two operands, or three
+-- two or three operands
 abbrev pub with_two : {A B : Type 0} → (List ℕ → Result A TextFlaw) → (List ℕ → Result B TextFlaw) → Option (List ℕ × List ℕ) → Result (A × B) TextFlaw
 with_two left right (Some parts) = both (left parts.0) (right parts.1)
 with_two left right None = Err Syntax
@@ -53,7 +53,7 @@ low_half number = cast_signed w32 (number % 2 ^ 32)
 abbrev pub high_half : ℕ → ℤ
 high_half number = cast_signed w32 (number / 2 ^ 32)
 
--- What a form and its operands mean: one line for each row of the instruction table.
+-- The meaning of a form with its operands: one line for each row of the instruction table.
 abbrev pub instruction_in : MnemonicForm → List ℕ → Result Statement TextFlaw
 instruction_in (Alu operation width) operands =
     and_then (register_and_source operands) (λ read. writing read.0 (λ destination. insn.Alu operation width destination read.1))
@@ -81,7 +81,7 @@ instruction_in (Store size) operands =
 instruction_in WideLoad operands =
     and_then (two register_in wide_in operands) (λ read. writing read.0 (λ destination. insn.WideLoad destination (low_half read.1) (high_half read.1)))
 
--- a mnemonic with its operands
+-- the meaning of a mnemonic with its operands
 abbrev pub instruction_with : Option MnemonicForm → List ℕ → Result Statement TextFlaw
 instruction_with (Some form) operands = instruction_in form operands
 instruction_with None operands = Err UnknownMnemonic
@@ -93,12 +93,12 @@ instruction_of content =
 abbrev pub label_of : List ℕ → Result Statement TextFlaw
 label_of name = if is_label name then Ok (Label name) else Err Syntax
 
--- what ends in a colon is a label, or else an error
+-- content that ends in a colon is a label or an error
 abbrev pub statement_of : List ℕ → Result Statement TextFlaw
 statement_of content =
     if length content == 0 then Ok Blank
     else (if slice_index content (length content - 1) == 58 then label_of (take (length content - 1) content) else instruction_of content)
 
--- a line, without its end
+-- the meaning of a line, given without its line end
 abbrev pub statement_in : List ℕ → Result Statement TextFlaw
 statement_in line = statement_of (content_of line)

@@ -1,4 +1,4 @@
--- The table of mnemonics. Both directions use it: a line's first word is looked up in it, and an instruction's name is written from it.
+-- The table of mnemonics, used in both directions: to look up a line's first word, and to write an instruction's name.
 use Rattle.std.specs.Prelude.{ℕ, List, [], ◌++◌, find, codes, Option}
 use Rattle.std.specs.Str.{bytes_eq}
 use Rattle.bpf_insn.specs.declared.instruction.Operation.{Operation}
@@ -38,12 +38,12 @@ operation_name ExclusiveOr = codes "xor"
 operation_name Move = codes "mov"
 operation_name ArithmeticShiftRight = codes "arsh"
 
--- operands of 32 bits are named after the operation
+-- only operations on 32 bits name their width
 abbrev pub width_name : Width → List ℕ
 width_name Bits64 = []
 width_name Bits32 = codes "32"
 
--- moves with sign extension (section 4.1), by the bits that they take; those to 32 bits say so
+-- moves with sign extension (section 4.1), by the number of bits that they extend; those that extend to 32 bits say so
 abbrev pub extension_name : SignExtension → List ℕ
 extension_name Bits8To64 = codes "movsx8"
 extension_name Bits16To64 = codes "movsx16"
@@ -51,7 +51,7 @@ extension_name Bits32To64 = codes "movsx32"
 extension_name Bits8To32 = codes "movsx8_32"
 extension_name Bits16To32 = codes "movsx16_32"
 
--- byte swaps (section 4.2), and how many bits they keep
+-- byte swaps (section 4.2), and the number of bits that they keep
 abbrev pub order_name : ByteOrder → List ℕ
 order_name LittleEndian = codes "le"
 order_name BigEndian = codes "be"
@@ -86,7 +86,7 @@ load_name load.SignedByte = codes "ldxsb"
 load_name load.SignedHalfWord = codes "ldxsh"
 load_name load.SignedWord = codes "ldxsw"
 
--- what stores write (section 5.1)
+-- the sizes that stores write (section 5.1)
 abbrev pub size_name : StoreSize → List ℕ
 size_name store.Byte = codes "b"
 size_name store.HalfWord = codes "h"

@@ -1,4 +1,4 @@
--- What the assembler notes of the lines that it has read.
+-- The assembler's notes on the lines that it has read.
 use Rattle.std.specs.Prelude.{◌≡◌, ℕ, ◌⊎◌, List, [], ◌∷◌, ◌++◌, length, map, Option, Some, None, Result, Ok, Err, MatchResult}
 use denote.Ref.{Bor}
 use Rattle.std.specs.BTreeMap.{BTreeMap, get_by}
@@ -18,13 +18,13 @@ use Rattle.bpf_text.specs.Text.{words_of, label_place, items_from, fault_after, 
 abbrev pub item_view : Item → text.Item
 item_view item = text.item item.line item.place item.insn (name_view item.target)
 
--- these items, these places of labels and this many words are those of the statements
+-- these items, places of labels and number of words are those of the statements
 pub record AreNotesOf (items : List Item) (labels : List ℕ → Option ℕ) (words : ℕ) (statements : List Statement) : Type 0 where
   pub items_are : map item_view items ≡ items_from 1 0 statements
   pub labels_are : (name : List ℕ) → labels name ≡ label_place name statements
   pub words_are : words ≡ words_of statements
 
--- a fault of a line after statements, or want of memory
+-- a fault in the line that follows the statements, or a failed allocation
 abbrev pub IsRefusal : ℕ → Option TextFlaw → TextFault → Type 0
 IsRefusal line refused fault = (fault ≡ Memory) ⊎ ((why : TextFlaw) × (refused ≡ Some why) × (fault ≡ InLine line why))
 
@@ -38,13 +38,13 @@ PushesItem statements item old new result = MatchResult result
 abbrev pub places_in : BTreeMap (Bor (List ℕ)) ℕ → List ℕ → Option ℕ
 places_in labels name = get_by (λ key. slice_cmp nat_cmp name key.now) labels
 
--- One line more: its statement is noted behind those before it, or it's refused.
+-- One more line: its statement is noted after those before it, or it's refused.
 abbrev pub NotesLine : List Statement → Result Statement TextFlaw → ℕ → List Item → (List ℕ → Option ℕ) → ℕ → Result (Unit {0}) TextFault → Type 0
 NotesLine before meaning line items labels words result = MatchResult result
     (λ _. (statement : Statement) × (meaning ≡ Ok statement) × (fault_after before statement ≡ None) × AreNotesOf items labels words (before ++ statement ∷ []))
     (λ fault. IsRefusal line (refusal_after before meaning) fault)
 
--- The notes of a text whose lines were read up to the rest, so many of them.
+-- The notes after the first `lines_read` lines; `rest` is what is left of the text.
 pub record HasRead (text rest : List ℕ) (lines_read : ℕ) (items : List Item) (labels : List ℕ → Option ℕ) (words : ℕ) : Type 0 where
   pub statements : List Statement
   pub front : List (List ℕ)
@@ -59,7 +59,7 @@ abbrev pub ReadsNotes : List ℕ → TextFault → Type 0
 ReadsNotes text (InLine line fault) = HasFirstFaultAt text line fault
 ReadsNotes text Memory = Unit {0}
 
--- the notes of a whole text
+-- the notes of a complete text
 pub record HasNotes (text : List ℕ) (items : List Item) (labels : List ℕ → Option ℕ) (words : ℕ) : Type 0 where
   pub statements : List Statement
   pub has_statements : HasStatements text statements

@@ -7,20 +7,20 @@ use Rattle.std.specs.Str.Parse.{digits_value}
 use Rattle.bpf_text.specs.declared.fault.TextFlaw.{TextFlaw}
 use Rattle.bpf_text.specs.declared.fault.TextFlaw.TheVariants.{Syntax, NumberRange}
 
--- a value goes on where there is one
+-- the next step's result if there is a value, otherwise the fault
 abbrev pub and_then : {A B : Type 0} → Result A TextFlaw → (A → Result B TextFlaw) → Result B TextFlaw
 and_then (Ok value) next = next value
 and_then (Err fault) next = Err fault
 
--- a digit in the radix
+-- a digit in a radix
 abbrev pub is_digit : ℕ → ℕ → Bool
 is_digit radix byte = nat_lt (digit_value byte) radix
 
--- one digit or more, up to a number of them
+-- at least one digit, and at most a given number of digits
 abbrev pub is_number : ℕ → ℕ → List ℕ → Bool
 is_number radix most digits = nat_le 1 (length digits) && nat_le (length digits) most && list_all (is_digit radix) digits
 
--- the number that digits write
+-- the number that digits denote
 abbrev pub number_in : ℕ → ℕ → List ℕ → Result ℕ TextFlaw
 number_in radix most digits = if is_number radix most digits then Ok (digits_value radix digits) else Err Syntax
 
@@ -28,21 +28,22 @@ number_in radix most digits = if is_number radix most digits then Ok (digits_val
 abbrev pub decimal_in : List ℕ → Result ℕ TextFlaw
 decimal_in digits = number_in 10 20 digits
 
--- in two's complement of so many bits: 2^(bits-1), the limit, is past the greatest number, and the least one's amount
+-- numbers in two's complement with a given number of bits; the limit, 2^(bits-1), is one past the greatest number and the magnitude of the least
+-- one
 abbrev pub positive : ℕ → ℕ → Result ℤ TextFlaw
 positive limit amount = if nat_lt amount limit then Ok (pos amount) else Err NumberRange
 
 abbrev pub negative : ℕ → ℕ → Result ℤ TextFlaw
 negative limit amount = if nat_le amount limit then Ok (neg_ℤ (pos amount)) else Err NumberRange
 
--- the limits of 16 bits and of 32
+-- the limits for 16 and for 32 bits
 abbrev pub limit_of_16_bits : ℕ
 limit_of_16_bits = 2 ^ 15
 
 abbrev pub limit_of_32_bits : ℕ
 limit_of_32_bits = 2 ^ 31
 
--- at least the limit's negative, and below the limit
+-- at least the negated limit, and below the limit
 abbrev pub IsWithin : ℕ → ℤ → Type 0
 IsWithin limit value = (neg_ℤ (pos limit) ≤ℤ value) × (value <ℤ pos limit)
 
@@ -56,14 +57,14 @@ signed_in limit text =
 abbrev pub is_hexadecimal : List ℕ → Bool
 is_hexadecimal text = slice_index text 0 == 48 && slice_index text 1 == 120
 
--- an immediate: a decimal number with or without a minus, or the 32 bits in up to 8 hexadecimal digits
+-- an immediate: a decimal number with an optional minus sign, or 32 bits as up to 8 hexadecimal digits
 abbrev pub immediate_in : List ℕ → Result ℤ TextFlaw
 immediate_in text =
     if is_hexadecimal text then and_then (number_in 16 8 (drop 2 text)) (λ bits. Ok (cast_signed w32 bits))
     else (if slice_index text 0 == 45 then and_then (decimal_in (drop 1 text)) (negative limit_of_32_bits)
     else and_then (decimal_in text) (positive limit_of_32_bits))
 
--- the number of a wide load, without a sign: decimal below 2^64, or up to 16 hexadecimal digits
+-- the number of a wide load, without a sign: a decimal number below 2^64, or up to 16 hexadecimal digits
 abbrev pub below_64_bits : ℕ → Result ℕ TextFlaw
 below_64_bits number = if nat_lt number (2 ^ 64) then Ok number else Err NumberRange
 

@@ -13,7 +13,7 @@ use Rattle.bpf_text.specs.declared.operand.TheConstants.{REGISTER_NAMES}
 use Rattle.bpf_text.specs.Words.{is_sign, is_label}
 use Rattle.bpf_text.specs.Number.{and_then, signed_in, immediate_in, limit_of_16_bits}
 
--- two operands: a fault of either one's form comes before a fault of a number's range
+-- two operands: a syntax fault in either one takes precedence over a number out of range
 abbrev pub form_first : TextFlaw → TextFlaw → TextFlaw
 form_first NumberRange other = other
 form_first fault other = fault
@@ -34,7 +34,7 @@ register_name number = slice_index_or register_names number []
 abbrev pub register_number : List ℕ → Option ℕ
 register_number word = position (λ name. bytes_eq name.now word) REGISTER_NAMES
 
--- the register with a number, if there is one, and the writable one
+-- the register with a number, if there is one, and the writable register
 abbrev pub register_if : (number : ℕ) (test : Bool) → nat_le number 10 ≡ test → Option Register
 register_if number true within = Some (record { number = number; in_range = leb-true number 10 within })
 register_if number false beyond = None
@@ -49,12 +49,12 @@ writable_if number false beyond = None
 abbrev pub writable_at : ℕ → Option WritableRegister
 writable_at number = writable_if number (nat_le number 9) refl
 
--- what a function gives of a value, where there is one
+-- the next step's result if there is a value
 abbrev pub option_and_then : {A B : Type 0} → (A → Option B) → Option A → Option B
 option_and_then next (Some value) = next value
 option_and_then next None = None
 
--- a value, or else this fault
+-- a value, or this fault if there is none
 abbrev pub or_fault : {A : Type 0} → TextFlaw → Option A → Result A TextFlaw
 or_fault fault (Some value) = Ok value
 or_fault fault None = Err fault
@@ -84,13 +84,13 @@ offset_in text = if length text == 0 then Ok (pos 0) else signed_in limit_of_16_
 abbrev pub address_in : List ℕ → Result (Register × ℤ) TextFlaw
 address_in text = both (register_in (before_first is_sign text)) (offset_in (drop (position_or_len is_sign text) text))
 
--- it stands in brackets
+-- an operand in brackets
 abbrev pub is_bracketed : List ℕ → Bool
 is_bracketed word = nat_le 2 (length word) && slice_index word 0 == 91 && slice_index word (length word - 1) == 93
 
 abbrev pub memory_in : List ℕ → Result (Register × ℤ) TextFlaw
 memory_in word = if is_bracketed word then address_in (slice_range word 1 (length word - 1)) else Err Syntax
 
--- where a jump goes: a distance, or 0 and the label that will say it
+-- a jump's target: a distance, or a label, with distance 0 until the label is resolved
 abbrev pub target_in : ℕ → List ℕ → Result (ℤ × Option (List ℕ)) TextFlaw
 target_in limit word = if is_label word then Ok (pos 0, Some word) else and_then (signed_in limit word) (λ distance. Ok (distance, None))

@@ -1,4 +1,4 @@
--- The text that a code is written as.
+-- The text of a code.
 use Rattle.std.specs.Prelude.{ℕ, zero, suc, ℤ, pos, negsuc, ◌*◌, ◌/◌, ◌%◌, ◌^◌, List, [], ◌∷◌, ◌++◌, codes, decimal, ◌≡◌, true, nat_le, None, Ok}
 use Rattle.std.specs.Fmt.{signed_decimal}
 use Rattle.std.specs.List.{flat_map, list_all}
@@ -30,7 +30,7 @@ source_text (source.Immediate value) = signed_decimal value
 abbrev pub memory_text : Register → ℤ → List ℕ
 memory_text base offset = 91 ∷ register_name base.number ++ signed_text offset ++ codes "]"
 
--- so many hexadecimal digits, the highest first
+-- a given number of hexadecimal digits, the most significant first
 unfoldable pub hexadecimal : ℕ → ℕ → List ℕ
 hexadecimal zero number = []
 hexadecimal (suc more) number = digit_char (number / 2 ^ (4 * more) % 16) ∷ hexadecimal more number
@@ -54,7 +54,7 @@ form_of (insn.StoreImmediate size base offset value) = StoreImmediate size
 form_of (insn.Store size base offset source) = Store size
 form_of (insn.WideLoad destination value next) = WideLoad
 
--- operands, with a comma and a blank between them
+-- operands, separated by a comma and a blank
 abbrev pub one : List ℕ → List ℕ
 one first = 32 ∷ first
 
@@ -79,15 +79,15 @@ operands_text (insn.StoreImmediate size base offset value) = two (memory_text ba
 operands_text (insn.Store size base offset source) = two (memory_text base offset) (register_name source.number)
 operands_text (insn.WideLoad destination value next) = two (register_name destination.number) (wide_text (wide_number value next))
 
--- an instruction's line, without its end
+-- an instruction's line, without its line end
 abbrev pub line_text : Insn → List ℕ
 line_text insn = name_of (form_of insn) ++ operands_text insn
 
--- a line for each instruction, each ended by LF
+-- one line for each instruction, each ended by LF
 abbrev pub text_of : List Insn → List ℕ
 text_of code = flat_map (λ insn. line_text insn ++ codes "\n") code
 
--- the numbers of an instruction fit their fields (RFC 9669, section 3.1), as those of every code do
+-- an instruction's numbers fit their fields (RFC 9669, section 3.1), as those of every code do
 abbrev pub SourceFits : Source → Type 0
 SourceFits (source.Register register) = Unit {0}
 SourceFits (source.Immediate value) = IsWithin limit_of_32_bits value
@@ -104,7 +104,7 @@ NumbersFit (insn.Store size base offset source) = IsWithin limit_of_16_bits offs
 NumbersFit (insn.WideLoad destination value next) = IsWithin limit_of_32_bits value × IsWithin limit_of_32_bits next
 NumbersFit insn = Unit {0}
 
--- a line that is read back as its instruction, and whose bytes are none of a line's end
+-- an instruction whose line means the instruction, and contains no byte of a line end
 pub record IsReadBack (insn : Insn) : Type 0 where
   pub printed : list_all (λ byte. nat_le 32 byte) (line_text insn) ≡ true
   pub means : statement_in (line_text insn) ≡ Ok (Instruction insn None)

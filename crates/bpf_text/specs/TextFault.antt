@@ -1,4 +1,4 @@
--- The refusal of a text's fault.
+-- The refusal for a fault in a text.
 use Rattle.refusals.specs.Refusal.{RefusalParts, at_line, memory}
 use Rattle.bpf_text.specs.TextFlaw as text_flaw
 use Rattle.bpf_text.specs.declared.fault.TextFault.{TextFault}

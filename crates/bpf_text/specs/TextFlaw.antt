@@ -1,4 +1,4 @@
--- The refusal of a flaw in a line of program text, without its line.
+-- The refusal for a flaw in a line of program text, without the line number.
 use Rattle.std.specs.Prelude.{codes}
 use Rattle.refusals.specs.Refusal.{RefusalParts, detailed, refused}
 use Rattle.bpf_insn.specs.CodeFault as code_fault
@@ -8,7 +8,7 @@ use Rattle.bpf_insn.specs.declared.fault.WordFault.TheVariants as word
 use Rattle.bpf_text.specs.declared.fault.TextFlaw.{TextFlaw}
 use Rattle.bpf_text.specs.declared.fault.TextFlaw.TheVariants.{Syntax, UnknownMnemonic, NumberRange, UnknownLabel, DoubleLabel, LabelTooFar, NoInstruction, TooLong, WritesFramePointer}
 
--- a flaw of the code that the text means names that refusal by its own number
+-- a flaw in the code that the text means: its refusal's number is the detail
 abbrev pub of_code : RefusalParts → RefusalParts
 of_code code = detailed 26 (codes "CodeFault") code.number
 

@@ -1,4 +1,4 @@
--- What the assembler's values stand for: a name that they lend is its bytes.
+-- The values that the assembler's values stand for: a borrowed name stands for its bytes.
 use Rattle.std.specs.Prelude.{ℕ, ℤ, List, option_map, Option, Result, Ok, Err}
 use denote.Ref.{Bor}
 use Rattle.bpf_insn.specs.declared.instruction.Source.{Source}
@@ -7,7 +7,7 @@ use Rattle.bpf_text.specs.declared.line.Statement.{Statement}
 use Rattle.bpf_text.specs.declared.line.Statement.TheVariants.{Blank, Label, Instruction}
 use Rattle.bpf_text.specs.Line as line
 
--- a lent name, if there is one
+-- a borrowed name, if there is one
 abbrev pub name_view : Option (Bor (List ℕ)) → Option (List ℕ)
 name_view target = option_map (λ name. name.now) target
 

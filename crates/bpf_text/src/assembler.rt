@@ -1,4 +1,4 @@
-//! Text to code, in two passes: the first one finds the places of labels.
+//! The assembler: text to code in two passes, the first of which finds the places of labels.
 ghost use Rattle.std.specs.Prelude.{◌≡◌, ◌≢◌, IsErrAnd, ◌<◌, ◌≤◌, ◌+◌, ◌-ℤ◌, ◌⊎◌, ℕ, pos, suc, List, [], ◌∷◌, ◌==◌, length, Ok, Err, IfOk, IfErr, IfSome, MatchResult};
 ghost use Rattle.std.specs.List.{position};
 ghost use Rattle.std.specs.Str.Lines.{lines, strip_carriage_return};
@@ -19,32 +19,31 @@ use std::collections::BTreeMap;
 pub(crate) struct Item<'a> {
     /// The line, counted from 1.
     pub line: usize,
-    /// The place, which counts words from 0.
+    /// The place, in words from 0.
     pub place: u32,
     pub insn: Insn,
     pub target: Option<&'a [u8]>,
 }
 
-/// What the first pass notes of the lines so far.
+/// The first pass's notes on the lines so far.
 #[derive(Drop)]
 struct Notes<'a, A: Allocator> {
     items: Vec<Item<'a>, A>,
     /// The place of each label.
     labels: BTreeMap<&'a [u8], u32, A>,
-    /// How many words the instructions take.
+    /// The number of words that the instructions take.
     words: usize,
 }
 
-/// The code that a program text means. Lines end with LF or CR LF, a semicolon begins a comment, and
-/// a name with a colon is a label.
+/// Returns the code that a program text means. Lines end with LF or CR LF, a semicolon begins a comment, and a name with a colon is a label.
 pub fn assemble<A: Allocator + Copy>(alloc: A, text: &str) -> Result<Code<A>, TextFault>
     ensures ok { IfOk result (λ code. Means text.now code) }
     ensures err { IfErr result (IsFirstFault text.now) }
 
-    // A text that means a code is refused for memory alone, and means no other code.
+    // A text that means a code is refused only if an allocation fails, and means no other code.
     ensures only { (code : List Insn) → Means text.now code → MatchResult result (λ given. given ≡ code) (λ fault. fault ≡ TextFault.Memory) }
 
-    // A text that has a first fault is refused, with it or for memory.
+    // A text that has a first fault is refused with this fault, or because an allocation fails.
     ensures refused { (fault : TextFault) → IsFirstFault text.now fault → fault ≢ TextFault.Memory
         → IsErrAnd result (λ given. (given ≡ fault) ⊎ (given ≡ TextFault.Memory)) }
 {
@@ -65,7 +64,7 @@ fn assemble_bytes<A: Allocator + Copy>(alloc: A, text: &[u8]) -> Result<Code<A>,
     }
 }
 
-/// The first line of a text that isn't empty, without its end, and what follows it.
+/// Returns the first line of a text that isn't empty, without its line end, and the rest of the text.
 fn first_line(text: &[u8]) -> (&[u8], &[u8])
     requires { 0 < length text.now }
     ensures cut { lines text.now ≡ result.0.now ∷ lines result.1.now }
@@ -84,7 +83,7 @@ fn find_line_feed(text: &[u8]) -> Option<usize>
     text.iter().position(|byte| *byte == b'\n')
 }
 
-/// A carriage return before the line feed belongs to the line's end.
+/// Returns a line without the carriage return of its line end.
 fn without_carriage_return(line: &[u8]) -> &[u8]
     ensures { result.now ≡ strip_carriage_return line.now }
 {
@@ -95,7 +94,7 @@ fn without_carriage_return(line: &[u8]) -> &[u8]
 }
 
 impl<'a, A: Allocator + Copy> Notes<'a, A> {
-    /// The first pass.
+    /// Runs the first pass.
     fn read(alloc: A, text: &'a [u8]) -> Result<Notes<'a, A>, TextFault>
         ensures notes { IfOk result (λ notes. HasNotes text.now notes.items.items (places_in notes.labels) notes.words) }
         ensures err { IfErr result (ReadsNotes text.now) }
@@ -178,7 +177,7 @@ impl<'a, A: Allocator + Copy> Notes<'a, A> {
         Ok(())
     }
 
-    /// The second pass.
+    /// Runs the second pass.
     fn code(&self, alloc: A) -> Result<CodeBuilder<A>, TextFault>
         ensures { (statements : List Meaning) → AreNotesOf self.now.items.items (places_in self.now.labels) self.now.words statements
             → MatchResult result (λ builder. code_of statements ≡ Ok builder) (λ fault. (fault ≡ TextFault.Memory) ⊎ (code_of statements ≡ Err fault)) }
@@ -190,13 +189,13 @@ impl<'a, A: Allocator + Copy> Notes<'a, A> {
         Ok(builder)
     }
 
-    /// Adds an item's instruction.
+    /// Adds an item's instruction to the code.
     fn push(&self, builder: &mut CodeBuilder<A>, item: Item<'a>) -> Result<(), TextFault>
         ensures { (statements : List Meaning) → ((name : List ℕ) → places_in self.now.labels name ≡ label_place name statements)
             → PushesItem statements item.entry builder.old builder.new result }
     {
         match self.resolve(item) {
-            // The first pass has seen that the words are few enough, so only memory can be wanting.
+            // The first pass has checked the number of words, so only an allocation can fail.
             Ok(insn) => match builder.push(insn) {
                 Ok(()) => Ok(()),
                 Err(_) => Err(TextFault::Memory),
@@ -208,7 +207,7 @@ impl<'a, A: Allocator + Copy> Notes<'a, A> {
         }
     }
 
-    /// An item's instruction, with its distance.
+    /// Returns an item's instruction, with its jump distance resolved.
     fn resolve(&self, item: Item<'a>) -> Result<Insn, TextFlaw>
         ensures { (statements : List Meaning) → ((name : List ℕ) → places_in self.now.labels name ≡ label_place name statements)
             → result ≡ resolve statements (item_view item.entry) }
@@ -226,14 +225,14 @@ impl<'a, A: Allocator + Copy> Notes<'a, A> {
     }
 }
 
-/// The distance of a jump at a place, which counts from the word after it.
+/// Returns the distance of a jump at a place, counted from the word after the jump.
 fn distance(place: u32, target: u32) -> i64
     ensures { result ≡ pos target -ℤ pos (place + 1) }
 {
     i64::from(target) - (i64::from(place) + 1)
 }
 
-/// A jump with another distance, if that fits its field.
+/// Returns a jump with another distance, if the distance fits its field.
 fn at_distance(distance: i64, insn: Insn) -> Option<Insn>
     ensures { result ≡ at_distance distance insn }
 {

@@ -1,4 +1,4 @@
-//! Program text and program bytes, each made of the other.
+//! The conversions between program text and program bytes.
 ghost use Rattle.std.specs.Prelude.{◌≡◌, ◌≢◌, ◌<◌, ◌⊎◌, ℕ, List, All, IfErr, IfOk, IsErrAnd, MatchResult};
 ghost use Rattle.std.specs.String.{string_bytes};
 ghost use Rattle.bpf_insn.specs.Code.{IsFirstFault};
@@ -14,7 +14,7 @@ use crate::fault::SourceFault;
 use bpf_insn::{CodeFault, decode, encode};
 use std::alloc::Allocator;
 
-/// The instruction words, little-endian, of the code that a source means: program text in UTF-8.
+/// Returns the instruction words, little-endian, of the code that a source means. The source is program text in UTF-8.
 pub fn assemble_source<A: Allocator + Copy>(
     alloc: A,
     source: &[u8],
@@ -22,11 +22,11 @@ pub fn assemble_source<A: Allocator + Copy>(
     ensures ok { IfOk result (λ words. IsAssembled source.now words.items) }
     ensures err { IfErr result (IsSourceFault source.now) }
 
-    // A source that is assembled to some words is refused for memory alone, and gives no other words.
+    // A source that can be assembled is refused only if an allocation fails, and yields no other words.
     ensures only { (words : List ℕ) → All (λ byte. byte < 256) words → IsAssembled source.now words
         → MatchResult result (λ given. given.items ≡ words) (λ fault. fault ≡ Text Memory) }
 
-    // A source that has a fault is refused, with it or for memory.
+    // A source that has a fault is refused with this fault, or because an allocation fails.
     ensures refused { (fault : SourceFault) → IsSourceFault source.now fault → fault ≢ Text Memory
         → IsErrAnd result (λ given. (given ≡ fault) ⊎ (given ≡ Text Memory)) }
 {
@@ -38,7 +38,7 @@ pub fn assemble_source<A: Allocator + Copy>(
     Ok(words)
 }
 
-/// The text of the code that a program's bytes have. It is assembled to these bytes again.
+/// Returns the text of a program's code. Assembling it yields the program's bytes again.
 pub fn disassemble_program<A: Allocator + Copy>(
     alloc: A,
     program: &[u8],

@@ -1,4 +1,4 @@
-//! Code to text.
+//! The disassembler: code to text.
 ghost use Rattle.std.specs.Prelude.{◌≡◌, ◌<◌, [], ◌∷◌, ◌++◌, OnOk, IfOk, codes};
 ghost use Rattle.std.specs.Char.{digit_char};
 ghost use Rattle.std.specs.Fmt.{signed_decimal};
@@ -15,8 +15,7 @@ use bpf_insn::{Code, Insn, JumpDistance, Register, Source, WritableRegister, wid
 use itoa::Buffer;
 use std::alloc::{AllocError, Allocator};
 
-/// A program text that means the code: each instruction on a line of its own, with its distances and
-/// offsets as numbers.
+/// Returns a program text that means the code: one line per instruction, with distances and offsets as numbers.
 pub fn disassemble<A: Allocator + Copy, B: Allocator>(
     alloc: A,
     code: &Code<B>,
@@ -24,7 +23,7 @@ pub fn disassemble<A: Allocator + Copy, B: Allocator>(
     ensures exact { IfOk result (λ text. string_bytes text ≡ text_of code.now) }
     ensures means { IfOk result (λ text. Means (string_bytes text) code.now) }
 {
-    // A line takes some twenty bytes.
+    // A line takes about twenty bytes.
     let mut text = String::with_capacity(alloc, code.words() * 20)?;
     let instructions = code.instructions();
     for insn in instructions {
@@ -41,7 +40,7 @@ fn push_line<A: Allocator>(text: &mut String<A>, insn: Insn) -> Result<(), Alloc
     text.push_str("\n")
 }
 
-/// Pushes an instruction as `disassemble` writes it, without an end of line.
+/// Pushes an instruction as `disassemble` writes it, without a line end.
 pub fn push_instruction<A: Allocator>(text: &mut String<A>, insn: Insn) -> Result<(), AllocError>
     ensures text { OnOk result (string_bytes text.new ≡ string_bytes text.old ++ line_text insn) }
     ensures fits { OnOk result (NumbersFit insn) }
@@ -50,7 +49,7 @@ pub fn push_instruction<A: Allocator>(text: &mut String<A>, insn: Insn) -> Resul
     push_operands(text, insn)
 }
 
-/// The form of an instruction.
+/// Returns the form of an instruction.
 fn form_of(insn: Insn) -> MnemonicForm
     ensures { result ≡ form_of insn }
 {
@@ -230,7 +229,7 @@ fn push_wide_load<A: Allocator>(
     push_hexadecimal(text, wide_number(immediate, next_immediate))
 }
 
-/// A blank and the register that an instruction writes.
+/// Pushes a blank and the register that an instruction writes.
 fn push_destination<A: Allocator>(
     text: &mut String<A>,
     destination: WritableRegister,
@@ -274,7 +273,7 @@ fn push_decimal<A: Allocator>(text: &mut String<A>, number: i32) -> Result<(), A
     text.push_str(digits.format(number))
 }
 
-/// A number with its sign.
+/// Pushes a number with its sign.
 fn push_signed<A: Allocator>(text: &mut String<A>, number: i32) -> Result<(), AllocError>
     ensures { OnOk result (string_bytes text.new ≡ string_bytes text.old ++ signed_text number) }
 {
@@ -284,7 +283,7 @@ fn push_signed<A: Allocator>(text: &mut String<A>, number: i32) -> Result<(), Al
     push_decimal(text, number)
 }
 
-/// Sixteen hexadecimal digits.
+/// Pushes sixteen hexadecimal digits.
 fn push_hexadecimal<A: Allocator>(text: &mut String<A>, number: u64) -> Result<(), AllocError>
     ensures { OnOk result (string_bytes text.new ≡ string_bytes text.old ++ hexadecimal 16 number) }
 {
@@ -296,7 +295,7 @@ fn push_hexadecimal<A: Allocator>(text: &mut String<A>, number: u64) -> Result<(
     Ok(())
 }
 
-/// A hexadecimal digit.
+/// Returns a hexadecimal digit.
 fn digit(value: u64) -> &'static str
     requires { value < 16 }
     ensures { result.now ≡ digit_char value ∷ [] }

@@ -1,4 +1,4 @@
-//! Why program text, or a source that should hold one, is refused.
+//! Why program text, or a source of program text, is refused.
 ghost use Rattle.std.specs.Prelude.{◌≡◌};
 ghost use Rattle.bpf_text.specs.declared.fault.SourceFault.TheVariants.{Text};
 ghost use Rattle.bpf_text.specs.declared.fault.TextFault.TheVariants.{Memory};
@@ -13,7 +13,7 @@ use refusals::{Fault, Refusal};
 use std::alloc::{AllocError, AllocFailed};
 use thiserror::Error;
 
-/// What is wrong with a line of program text. The derived text is for people.
+/// The flaw of a line of program text. The derived text is for people.
 #[derive(Clone, Copy, Debug, PartialEq, Eq, Error)]
 pub enum TextFlaw {
     #[error("no label, and no mnemonic with its operands")]
@@ -36,7 +36,7 @@ pub enum TextFlaw {
     WritesFramePointer,
 }
 
-/// Why text is no program, or that memory was wanting.
+/// Why a text isn't a program, or that an allocation failed.
 #[derive(Clone, Copy, Debug, PartialEq, Eq, Error)]
 pub enum TextFault {
     #[error("line {line}: {flaw}")]
@@ -91,7 +91,7 @@ impl From<AllocError> for SourceFault {
 }
 
 impl TextFlaw {
-    /// Returns the flaw as a refusal, without its line. A flaw of the code that the text means has the number of the code's refusal as its detail.
+    /// Returns the flaw as a refusal, without its line. For a flaw of the code that the text means, the detail is the number of the code's refusal.
     pub fn refusal(self) -> Refusal
         ensures { result ≡ text_flaw.refusal self }
     {
@@ -116,7 +116,7 @@ fn of_code(code: &Refusal) -> Refusal
 }
 
 impl TextFault {
-    /// Returns the refusal's line of text, as `refused 21 line 3 UnknownMnemonic`, without an end of line. It takes no memory.
+    /// Returns the refusal's line of text, like `refused 21 line 3 UnknownMnemonic`, without a line end. It doesn't allocate.
     pub fn line(&self) -> ArrayString<64>
         ensures { result.bytes ≡ refusal_line (text_fault.refusal self.now) }
     {

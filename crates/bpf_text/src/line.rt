@@ -1,4 +1,4 @@
-//! What a line means.
+//! The meaning of a line of program text.
 ghost use Rattle.std.specs.Prelude.{◌≡◌};
 ghost use Rattle.bpf_text.specs.Words.{split_operand};
 ghost use Rattle.bpf_text.specs.Operand.{or_fault, register_in, memory_in, source_in, target_in};
@@ -18,7 +18,7 @@ use bpf_insn::{
     Source, StoreSize, SwapWidth, Width,
 };
 
-/// What a line means. A jump to a label has the distance 0 for the time being.
+/// The meaning of a line. A jump to a label has distance 0 until the label is resolved.
 #[derive(Clone, Copy)]
 pub(crate) enum Statement<'a> {
     Blank,
@@ -30,7 +30,7 @@ pub(crate) enum Statement<'a> {
 }
 
 impl<'a> Statement<'a> {
-    /// What a line means, without its end.
+    /// Reads a line, given without its line end.
     pub(crate) fn read(line: &'a [u8]) -> Result<Statement<'a>, TextFlaw>
         ensures { statement_view result ≡ statement_in line.now }
     {
@@ -89,14 +89,14 @@ fn instruction_in(form: MnemonicForm, operands: &[u8]) -> Result<Statement<'_>, 
     }
 }
 
-/// An instruction that names no label.
+/// Returns an instruction that names no label.
 fn plain<'a>(insn: Insn) -> Result<Statement<'a>, TextFlaw>
     ensures { statement_view result ≡ plain insn }
 {
     Ok(Statement::Instruction { insn, target: None })
 }
 
-/// The operands on both sides of the first comma.
+/// Returns the operands on both sides of the first comma.
 fn split(operands: &[u8]) -> Result<(&[u8], &[u8]), TextFlaw>
     ensures { parts_view result ≡ or_fault TextFlaw.Syntax (split_operand operands.now) }
 {
@@ -165,7 +165,7 @@ fn byte_swap(order: ByteOrder, width: SwapWidth, operands: &[u8]) -> Result<Stat
     })
 }
 
-/// The second operand of a comparison, and the target.
+/// Reads the second operand of a comparison, and the target.
 fn source_and_target(operands: &[u8]) -> Result<(Source, (i16, Option<&[u8]>)), TextFlaw>
     ensures { comparand_view result ≡ two source_in (target_in limit_of_16_bits) operands.now }
 {

@@ -6,7 +6,7 @@ use bpf_insn::{
     ByteOrder, Condition, LoadFormat, Operation, SignExtension, StoreSize, SwapWidth, Width,
 };
 
-/// What a mnemonic says of an instruction: all but the operands.
+/// What a mnemonic says about an instruction: everything except the operands.
 #[derive(Clone, Copy)]
 pub(crate) enum MnemonicForm {
     Alu(Operation, Width),
@@ -31,7 +31,7 @@ macro_rules! mnemonics {
     ($write:ident!($($given:tt)*)) => {
         each_form! {
             $write ($($given)*)
-            // With 64 bits and with 32.
+            // On 64 bits and on 32.
             alu {
                 Add: "add" "add32";
                 Subtract: "sub" "sub32";
@@ -59,13 +59,13 @@ macro_rules! mnemonics {
                 Bits64: "neg";
                 Bits32: "neg32";
             }
-            // Of 16, 32 and 64 bits.
+            // On 16, 32 and 64 bits.
             swap {
                 LittleEndian: "le16" "le32" "le64";
                 BigEndian: "be16" "be32" "be64";
                 Swapped: "swap16" "swap32" "swap64";
             }
-            // With 64 bits and with 32.
+            // On 64 bits and on 32.
             jump {
                 Equal: "jeq" "jeq32";
                 Greater: "jgt" "jgt32";
@@ -88,7 +88,7 @@ macro_rules! mnemonics {
                 SignedHalfWord: "ldxsh";
                 SignedWord: "ldxsw";
             }
-            // Of an immediate and of a register.
+            // Stores of an immediate and of a register.
             store {
                 Byte: "stb" "stxb";
                 HalfWord: "sth" "stxh";
@@ -106,7 +106,7 @@ macro_rules! mnemonics {
     };
 }
 
-/// Writes out the rows of the table. A row names what its forms share, then their mnemonics.
+/// Expands the rows of the table. A row names what its forms share, then their mnemonics.
 macro_rules! each_form {
     (
         $write:ident $given:tt
@@ -140,12 +140,12 @@ macro_rules! each_form {
     };
 }
 
-/// Writes the list of the forms.
+/// Expands to the list of the forms.
 macro_rules! forms {
     (() $($form:tt $name:literal;)*) => { [$($form),*] };
 }
 
-/// Writes the match from a form to its mnemonic.
+/// Expands to the match from a form to its mnemonic.
 macro_rules! name {
     (($of:expr) $($form:tt $name:literal;)*) => { match $of { $($form => $name,)* } };
 }
@@ -154,7 +154,7 @@ macro_rules! name {
 pub(crate) const FORMS: [MnemonicForm; 86] = mnemonics!(forms!());
 
 impl MnemonicForm {
-    /// The form that a mnemonic names.
+    /// Returns the form that a mnemonic names.
     pub(crate) fn named(word: &[u8]) -> Option<MnemonicForm>
         ensures { result ≡ form_named word.now }
     {
@@ -164,7 +164,7 @@ impl MnemonicForm {
             .find(|form| form.name().as_bytes() == word)
     }
 
-    /// The form's mnemonic.
+    /// Returns the form's mnemonic.
     pub(crate) fn name(self) -> &'static str
         ensures { result.now ≡ name_of self }
     {

@@ -1,15 +1,15 @@
-//! Numbers.
+//! Numbers in program text.
 ghost use Rattle.std.specs.Prelude.{◌≡◌, ◌≤◌, ◌<◌, ◌^◌, true, false, drop, IfOk, MatchOption};
 ghost use Rattle.bpf_text.specs.Number.{IsWithin, number_in, decimal_in, positive, negative, signed_in, is_hexadecimal, immediate_in, wide_in, limit_of_16_bits, limit_of_32_bits};
 
 use crate::fault::TextFlaw;
 
-/// The least number that 16 bits in two's complement don't have.
+/// The number just past the greatest one in 16 bits of two's complement.
 pub(crate) const LIMIT_OF_16_BITS: u64 = 1 << 15;
-/// The least number that 32 bits in two's complement don't have.
+/// The number just past the greatest one in 32 bits of two's complement.
 pub(crate) const LIMIT_OF_32_BITS: u64 = 1 << 31;
 
-/// The number that digits write, of which there are one or more, up to a number of them.
+/// Returns the number that digits denote: at least one digit, and at most `most`.
 fn number_in(digits: &[u8], radix: u32, most: usize) -> Result<u128, TextFlaw>
     requires radixes { (2 ≤ radix) × (radix ≤ 16) }
     requires few { most ≤ 20 }
@@ -59,7 +59,7 @@ fn negative(amount: u128, limit: u64) -> Result<i32, TextFlaw>
     }
 }
 
-/// A decimal number with its sign, as two's complement below the limit has it.
+/// Reads a decimal number with its sign, within the limit in two's complement.
 fn signed_in(text: &[u8], limit: u64) -> Result<i32, TextFlaw>
     requires { (0 < limit) × (limit ≤ 2 ^ 31) }
     ensures value { result ≡ signed_in limit text.now }
@@ -72,21 +72,21 @@ fn signed_in(text: &[u8], limit: u64) -> Result<i32, TextFlaw>
     }
 }
 
-/// A decimal number of 16 bits with its sign.
+/// Reads a decimal number of 16 bits with its sign.
 pub(crate) fn signed_16(text: &[u8]) -> Result<i16, TextFlaw>
     ensures { result ≡ signed_in limit_of_16_bits text.now }
 {
     Ok(signed_in(text, LIMIT_OF_16_BITS)? as i16)
 }
 
-/// A decimal number of 32 bits with its sign.
+/// Reads a decimal number of 32 bits with its sign.
 pub(crate) fn signed_32(text: &[u8]) -> Result<i32, TextFlaw>
     ensures { result ≡ signed_in limit_of_32_bits text.now }
 {
     signed_in(text, LIMIT_OF_32_BITS)
 }
 
-/// The digits of a hexadecimal number, which begins with `0x`.
+/// Returns the digits of a hexadecimal number, which begins with `0x`.
 fn hexadecimal_digits(text: &[u8]) -> Option<&[u8]>
     ensures { MatchOption result (is_hexadecimal text.now ≡ false) (λ digits. (is_hexadecimal text.now ≡ true) × (digits.now ≡ drop 2 text.now)) }
 {
@@ -96,7 +96,7 @@ fn hexadecimal_digits(text: &[u8]) -> Option<&[u8]>
     }
 }
 
-/// The 32 bits of an immediate.
+/// Reads the 32 bits of an immediate.
 pub(crate) fn immediate_in(text: &[u8]) -> Result<i32, TextFlaw>
     ensures { result ≡ immediate_in text.now }
 {
@@ -109,7 +109,7 @@ pub(crate) fn immediate_in(text: &[u8]) -> Result<i32, TextFlaw>
     }
 }
 
-/// The number of a wide load.
+/// Reads the number of a wide load.
 pub(crate) fn wide_in(text: &[u8]) -> Result<u64, TextFlaw>
     ensures { result ≡ wide_in text.now }
 {

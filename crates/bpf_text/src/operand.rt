@@ -1,4 +1,4 @@
-//! The operands of an instruction.
+//! The operands of an instruction in program text.
 ghost use Rattle.std.specs.Prelude.{◌≡◌, ◌<◌, IfSome, length};
 ghost use Rattle.std.specs.List.{position};
 ghost use Rattle.std.specs.Str.{bytes_eq};
@@ -16,7 +16,7 @@ const REGISTER_NAMES: [&str; 11] = [
     "r0", "r1", "r2", "r3", "r4", "r5", "r6", "r7", "r8", "r9", "r10",
 ];
 
-/// Two operands: a flaw of either one's form comes before one of a number's range.
+/// Combines two operands. A syntax flaw in either one takes precedence over a number out of range.
 pub(crate) fn both<T: Copy, U: Copy>(
     left: Result<T, TextFlaw>,
     right: Result<U, TextFlaw>,
@@ -44,7 +44,7 @@ fn form_first(flaw: TextFlaw, other: TextFlaw) -> TextFlaw
     }
 }
 
-/// The number of the register that a word names.
+/// Returns the number of the register that a word names.
 fn register_number(word: &[u8]) -> Option<usize>
     ensures value { result ≡ register_number word.now }
     ensures within { IfSome result (λ number. number < 11) }
@@ -59,14 +59,14 @@ fn index_of(names: &[&str], word: &[u8]) -> Option<usize>
     names.iter().position(|name| name.as_bytes() == word)
 }
 
-/// A register's name.
+/// Returns a register's name.
 pub(crate) fn register_name(register: Register) -> &'static str
     ensures { result.now ≡ register_name register.number }
 {
     REGISTER_NAMES[usize::from(register.number)]
 }
 
-/// The register that a word names.
+/// Returns the register that a word names.
 fn register_named(word: &[u8]) -> Option<Register>
     ensures { result ≡ register_named word.now }
 {
@@ -74,7 +74,7 @@ fn register_named(word: &[u8]) -> Option<Register>
     Some(Register { number })
 }
 
-/// A register.
+/// Reads a register.
 pub(crate) fn register_in(word: &[u8]) -> Result<Register, TextFlaw>
     ensures { result ≡ register_in word.now }
 {
@@ -84,7 +84,7 @@ pub(crate) fn register_in(word: &[u8]) -> Result<Register, TextFlaw>
     }
 }
 
-/// A register that an instruction writes.
+/// Returns the register as one that an instruction may write.
 pub(crate) fn destination_of(register: Register) -> Result<WritableRegister, TextFlaw>
     ensures { result ≡ destination_of register }
 {
@@ -95,7 +95,7 @@ pub(crate) fn destination_of(register: Register) -> Result<WritableRegister, Tex
     Ok(WritableRegister { number })
 }
 
-/// A register, or else an immediate.
+/// Reads a register, or else an immediate.
 pub(crate) fn source_in(word: &[u8]) -> Result<Source, TextFlaw>
     ensures { result ≡ source_in word.now }
 {
@@ -105,7 +105,7 @@ pub(crate) fn source_in(word: &[u8]) -> Result<Source, TextFlaw>
     }
 }
 
-/// An offset, which may be left out.
+/// Reads an offset, which may be left out.
 fn offset_in(text: &[u8]) -> Result<i16, TextFlaw>
     ensures { result ≡ offset_in text.now }
 {
@@ -115,7 +115,7 @@ fn offset_in(text: &[u8]) -> Result<i16, TextFlaw>
     signed_16(text)
 }
 
-/// A base register and an offset.
+/// Reads a base register and an offset.
 fn address_in(text: &[u8]) -> Result<(Register, i16), TextFlaw>
     ensures { result ≡ address_in text.now }
 {
@@ -125,7 +125,7 @@ fn address_in(text: &[u8]) -> Result<(Register, i16), TextFlaw>
     }
 }
 
-/// A base register and an offset, in brackets.
+/// Reads a base register and an offset, in brackets.
 pub(crate) fn memory_in(word: &[u8]) -> Result<(Register, i16), TextFlaw>
     ensures { result ≡ memory_in word.now }
 {
@@ -135,7 +135,7 @@ pub(crate) fn memory_in(word: &[u8]) -> Result<(Register, i16), TextFlaw>
     }
 }
 
-/// Where a jump goes: a distance, or 0 and the label that will say it.
+/// Reads a jump's target: a distance, or a label, with distance 0 until the label is resolved.
 pub(crate) fn target_16(word: &[u8]) -> Result<(i16, Option<&[u8]>), TextFlaw>
     ensures { target_view result ≡ target_in limit_of_16_bits word.now }
 {
@@ -145,7 +145,7 @@ pub(crate) fn target_16(word: &[u8]) -> Result<(i16, Option<&[u8]>), TextFlaw>
     Ok((signed_16(word)?, None))
 }
 
-/// The same with a distance of 32 bits.
+/// Reads a jump's target, with a distance of 32 bits.
 pub(crate) fn target_32(word: &[u8]) -> Result<(i32, Option<&[u8]>), TextFlaw>
     ensures { target_view result ≡ target_in limit_of_32_bits word.now }
 {

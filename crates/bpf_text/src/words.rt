@@ -1,4 +1,4 @@
-//! The words of a line.
+//! The words of a line of program text.
 ghost use Rattle.std.specs.Prelude.{◌≡◌, ◌<◌, length, reverse, option_map, IfSome};
 ghost use Rattle.std.specs.List.{list_all, position};
 ghost use Rattle.bpf_text.specs.Words.{is_blank, is_semicolon, is_comma, is_sign, trim_start, trim, content_of, first_word, after_word, is_mnemonic_byte, is_label_byte, is_label, split_operand};
@@ -11,7 +11,7 @@ fn is_blank(byte: u8) -> bool
     byte == b' ' || byte == b'\t'
 }
 
-/// The bytes without the blanks and tabs at both ends.
+/// Returns the bytes without the blanks and tabs at both ends.
 pub(crate) fn trim(bytes: &[u8]) -> &[u8]
     ensures { result.now ≡ trim bytes.now }
 {
@@ -38,7 +38,7 @@ fn trim_end(bytes: &[u8]) -> &[u8]
     rest
 }
 
-/// A line without its comment, and without blanks at its ends.
+/// Returns a line's content, without its comment and without blanks and tabs at both ends.
 pub(crate) fn content_of(line: &[u8]) -> &[u8]
     ensures { result.now ≡ content_of line.now }
 {
@@ -48,7 +48,7 @@ pub(crate) fn content_of(line: &[u8]) -> &[u8]
     }
 }
 
-/// The first word, and what follows it.
+/// Returns the first word, and the text after it.
 pub(crate) fn split_word(content: &[u8]) -> (&[u8], &[u8])
     ensures word { result.0.now ≡ first_word content.now }
     ensures rest { result.1.now ≡ after_word content.now }
@@ -59,7 +59,7 @@ pub(crate) fn split_word(content: &[u8]) -> (&[u8], &[u8])
     }
 }
 
-/// The operand before the first comma, and what follows it.
+/// Returns the operand before the first comma, and the text after the comma.
 pub(crate) fn split_operand(operands: &[u8]) -> Option<(&[u8], &[u8])>
     ensures { option_map (λ parts. (parts.0.now, parts.1.now)) result ≡ split_operand operands.now }
 {
@@ -90,7 +90,7 @@ fn find_comma(operands: &[u8]) -> Option<usize>
     operands.iter().position(|byte| *byte == b',')
 }
 
-/// Where the sign of an offset stands.
+/// Returns the index of an offset's sign.
 pub(crate) fn find_sign(text: &[u8]) -> Option<usize>
     ensures value { result ≡ position is_sign text.now }
     ensures within { IfSome result (λ index. index < length text.now) }
@@ -98,14 +98,14 @@ pub(crate) fn find_sign(text: &[u8]) -> Option<usize>
     text.iter().position(|byte| *byte == b'+' || *byte == b'-')
 }
 
-/// Whether it's made of small letters, digits and underscores alone, as mnemonics are.
+/// Returns whether a word consists of small letters, digits and underscores, as mnemonics do.
 pub(crate) fn is_mnemonic(word: &[u8]) -> bool
     ensures { result ≡ list_all is_mnemonic_byte word.now }
 {
     word.iter().all(|byte| byte.is_ascii_lowercase() || byte.is_ascii_digit() || *byte == b'_')
 }
 
-/// Whether it may be the name of a label.
+/// Returns whether a name is valid for a label.
 pub(crate) fn is_label(name: &[u8]) -> bool
     ensures { result ≡ is_label name.now }
 {

@@ -3,7 +3,7 @@ use Rattle.std.specs.String.{string_bytes}
 use Rattle.bpf_text.specs.Spelled.{hexadecimal}
 use Rattle.bpf_text.proofs.disassembler.push_hexadecimal.Given as goal
 
--- what is written, with the digits that are left
+-- the digits that are written, and those that are left
 abbrev pub invariant-loop-left : goal.invariant-loop-left
 invariant-loop-left g l = record {
   written : string_bytes l.text ++ hexadecimal l.left l.number ≡ string_bytes l.initial.text ++ hexadecimal 16 l.number;

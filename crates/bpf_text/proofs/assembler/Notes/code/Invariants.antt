@@ -5,7 +5,7 @@ use Rattle.bpf_text.specs.Notes.{item_view, AreNotesOf, places_in}
 use Rattle.bpf_text.proofs.NoteLemmas.{with_front}
 use Rattle.bpf_text.proofs.assembler.Notes.code.Given as goal
 
--- the code so far, and that of the items that are left
+-- the code so far, and that of the remaining items
 abbrev pub invariant-loop-item : goal.invariant-loop-item
 invariant-loop-item g l =
     (statements : List Statement) → AreNotesOf l.self.items.items (places_in l.self.labels) l.self.words statements
