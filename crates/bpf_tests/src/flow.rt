@@ -1,10 +1,10 @@
-//! Places of instructions, and those that the flow of a code leads to.
+//! Places of instructions, and the places that the flow of a code leads to.
 use bpf_flow::Flow;
 use bpf_insn::{Code, decode};
 use fixtures::{Refusing, cell, program};
 use std::alloc::{Allocator, Global};
 
-// A place, the index of the instruction that begins there, the place after it, where it jumps, or `none`; and the program.
+// A place, the index of the instruction that begins there, the place after it, the place that it jumps to, or `none`; and the program.
 const PLACES: &str = "\
 0; 0; 1; 3; jeq r0, r1, +2 | lddw r0, 0x1 | ja +0 | exit
 1; 1; 3; none; jeq r0, r1, +2 | lddw r0, 0x1 | ja +0 | exit
@@ -24,12 +24,12 @@ const PLACES: &str = "\
 65536; none; none; none; mov r0, 1 | ja32 +65000 | lddw r2, 0x1 *32500 | mov r3, 1 *533 | exit
 65534; 65534; 65535; 65535; mov r0, 1 *65534 | jeq r0, 0, +0 | exit";
 
-/// The number in a cell, if it has one.
+/// Returns the number in a cell, if it has one.
 fn number(row: &str, cell_number: usize) -> Option<usize> {
     cell(row, cell_number).parse().ok()
 }
 
-/// Whether a flow has what a row says of its place.
+/// Returns whether a flow agrees with a row about the row's place.
 fn has_place<A: Allocator>(flow: &Flow<A>, row: &str) -> bool {
     let code: &Code<A> = flow.code();
     let place = number(row, 0).unwrap_or(0);
@@ -45,7 +45,7 @@ fn has_place<A: Allocator>(flow: &Flow<A>, row: &str) -> bool {
     }
 }
 
-/// Whether that is so of the flow of a row's program, and none of it takes memory.
+/// Returns whether the flow of a row's program agrees with the row, and nothing here allocates.
 fn is_place(alloc: Global, bytes: &[u8], row: &str) -> Option<bool> {
     let heap = Refusing::new(alloc);
     let code = decode(&heap, bytes).ok()?;

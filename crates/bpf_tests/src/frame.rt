@@ -1,4 +1,4 @@
-//! Maps beside those of a plain program over 512 truth values.
+//! Frame maps, compared with a simple model of 512 booleans.
 ghost use Rattle.std.specs.Prelude.{IfSome};
 ghost use Rattle.bpf_frame.specs.FrameMap.{IsProper};
 
@@ -7,8 +7,8 @@ use bpf_insn::{FRAME_LENGTH, SLOTS};
 use bpf_kinds::{Kind, Order};
 use fixtures::cell;
 
-// What is marked in a map and in another, each by the first offset and how many; whether the first has the same marks as the other, more,
-// fewer or others; and the bytes that are written in both, by the first of each run and how many.
+// The marks of two maps, as runs of a first offset and a length; whether the first map has the same marks as the second, more, fewer or others; and
+// the bytes that are written in both, as such runs.
 const MAPS: &str = "\
 60+8; 60+8; same; 60+8
 0+512; 0+512; same; 0+512
@@ -44,7 +44,7 @@ const MAPS: &str = "\
 363+1 505+0 294+3 407+63 82+7; 284+6 285+45 389+2 84+2 237+0; others; 84+2 294+3
 ";
 
-/// Whether a row says how two maps are to each other, and what is written in both.
+/// Returns whether two maps compare as a row says, and have the row's bytes written in both.
 fn is_map(row: &str) -> Option<bool> {
     let (map, _) = marked(cell(row, 0))?;
     let (other, _) = marked(cell(row, 1))?;
@@ -72,7 +72,7 @@ fn maps(rt: HostRuntime) {
     }
 }
 
-/// The map with so many bytes marked from each offset on, and these bytes as truth values.
+/// Returns the map with the given runs of bytes marked, and the same bytes as booleans.
 fn marked(text: &str) -> Option<(FrameMap, [bool; FRAME_LENGTH])>
     ensures { IfSome result (λ both. IsProper both.0) }
 {
@@ -88,13 +88,13 @@ fn marked(text: &str) -> Option<(FrameMap, [bool; FRAME_LENGTH])>
     Some((map, written))
 }
 
-/// An offset, and how many bytes.
+/// Reads a run: its first offset and its length.
 fn run_of(text: &str) -> Option<(usize, usize)> {
     let (from, len) = text.split_once('+')?;
     Some((from.parse().ok()?, len.parse().ok()?))
 }
 
-/// Whether a map says of just these bytes that they are written: of each two neighbours, and from each offset to the last of its run and no
+/// Returns whether a map reports exactly these bytes as written: for each two neighbours, and from each offset to the end of its run but no
 /// further.
 fn has_exactly(map: &FrameMap, written: &[bool; FRAME_LENGTH]) -> bool {
     let mut end = FRAME_LENGTH;

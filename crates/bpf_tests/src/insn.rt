@@ -1,4 +1,4 @@
-//! Opcodes, and codes that are built and not decoded.
+//! Opcodes, and codes that are built instead of decoded.
 use bpf_insn::{
     Code, CodeBuilder, CodeFault, Insn, Register, WORD_LIMIT, WritableRegister, decode, encode,
 };
@@ -15,8 +15,8 @@ const OPCODES: &[u8] = b"\x18\
 \x06\x16\x1e\x26\x2e\x36\x3e\x46\x4e\x56\x5e\x66\x6e\x76\x7e\xa6\xae\xb6\xbe\xc6\xce\xd6\xde\
 \x07\x0f\x17\x1f\x27\x2f\x37\x3f\x47\x4f\x57\x5f\x67\x6f\x77\x7f\x87\x97\x9f\xa7\xaf\xb7\xbf\xc7\xcf\xd7";
 
-/// Whether a word with this opcode, or two for a wide load, is one instruction, which is encoded as the same bytes, or no instruction has the
-/// opcode.
+/// Returns whether a word with this opcode, or two words for a wide load, is one instruction that is encoded as the same bytes, or else no
+/// instruction has the opcode.
 fn is_opcode(alloc: Global, opcode: u8) -> bool {
     // The immediate of a byte swap is the width that it keeps.
     let immediate = if matches!(opcode, 0xd4 | 0xd7 | 0xdc) {
@@ -36,7 +36,7 @@ fn is_opcode(alloc: Global, opcode: u8) -> bool {
     }
 }
 
-/// Whether a code has one instruction, which is encoded as these bytes.
+/// Returns whether a code has one instruction, which is encoded as these bytes.
 fn is_one(alloc: Global, code: &Code<Global>, bytes: &[u8]) -> bool {
     match encode(alloc, code) {
         Ok(encoded) => code.instructions().len() == 1 && encoded.as_slice() == bytes,
@@ -57,14 +57,14 @@ const WIDE: Insn = Insn::WideLoad {
     next_immediate: 2,
 };
 
-/// A builder takes as many words as fit and no more.
+/// Checks that a builder takes as many words as fit, and no more.
 #[test]
 fn limit(rt: HostRuntime) {
     let mut builder = CodeBuilder::new(rt.alloc());
     for _ in 1..WORD_LIMIT {
         let _ = builder.push(Insn::Exit);
     }
-    // One word is left: a wide load has no room, and another instruction has.
+    // One word is left, which has room for any instruction but a wide load.
     let pushed = (
         builder.words(),
         builder.push(WIDE),

@@ -1,4 +1,4 @@
-//! What instructions make of intervals, and the order of kinds.
+//! The results of instructions on intervals, and the order of kinds.
 ghost use Rattle.std.specs.Prelude.{IfSome};
 ghost use Rattle.bpf_kinds.specs.Interval.{IsProper};
 
@@ -10,12 +10,11 @@ use bpf_kinds::{
 use fixtures::cell;
 use std::alloc::Global;
 
-// An instruction, its operands and the result; or a jump, the two intervals that it compares, and what they become where it is taken and
-// where it isn't: `same` where nothing is narrowed, `none` where the edge isn't reached. Intervals are in hexadecimal, and one number stands
-// for itself.
+// An instruction, its operands and the result; or a jump, the two intervals that it compares, and these intervals after the jump is taken and after
+// it isn't: `same` if nothing is narrowed, `none` if the edge isn't reached. Intervals are in hexadecimal; a single number is written alone.
 const ROWS: &str = concat!(
-    // From another tool that goes by the written rules and was tried on all numbers of small intervals. Of each case each operand has each of
-    // the numbers 0, 1, 2^31 - 1, 2^31, 2^32 - 1, 2^32, 2^63 - 1, 2^63 and 2^64 - 1 as an end, and each rule has its row.
+    // Computed by an independent implementation of the written rules, which was checked on all numbers of small intervals. Each operand of each
+    // case has each of the numbers 0, 1, 2^31 - 1, 2^31, 2^32 - 1, 2^32, 2^63 - 1, 2^63 and 2^64 - 1 as an end, and each rule has its row.
     "\
 add r1, r2; 80000000-ffffffff 0-1; 80000000-100000000
 add r1, r2; 8000000000000000-ffffffffffffffff 8000000000000000-ffffffffffffffff; 0-fffffffffffffffe
@@ -336,7 +335,7 @@ ldxsb r1, [r2+0]; 0; 0-ffffffffffffffff
 ldxsh r1, [r2+0]; 0; 0-ffffffffffffffff
 ldxsw r1, [r2+0]; 0; 0-ffffffffffffffff
 ",
-    // At the ends of what 31, 32, 63 and 64 bits hold, worked out with whole numbers elsewhere.
+    // At the ends of what 31, 32, 63 and 64 bits hold, computed elsewhere with unbounded integers.
     "\
 jeq r1, r2, +0; 0-80000000 80000000; 80000000 80000000; 0-7fffffff 80000000
 jeq r1, r2, +0; 0-ffffffff 0; 0 0; 1-ffffffff 0
@@ -536,7 +535,7 @@ jsle32 r1, r2, +0; 80000000-100000000 ffffffff-100000000; same; same
 "
 );
 
-/// An interval from its two ends, or from its one number.
+/// Reads an interval from its two ends, or from its only number.
 fn interval(text: &str) -> Option<Interval>
     ensures { IfSome result IsProper }
 {
@@ -550,7 +549,7 @@ fn interval(text: &str) -> Option<Interval>
     }
 }
 
-/// Two intervals, the second of which is the first where there is one alone.
+/// Reads two intervals; if there is only one, it's both of them.
 fn intervals(text: &str) -> Option<Narrowed>
     ensures { IfSome result (λ both. IsProper both.left × IsProper both.right) }
 {
@@ -559,7 +558,7 @@ fn intervals(text: &str) -> Option<Narrowed>
     Some(Narrowed { left, right })
 }
 
-/// What an instruction makes of its operands: of two, of the first one alone, or of none.
+/// Returns the result of an instruction on its operands: two, the first alone, or none.
 fn result_of(instruction: Insn, x: Interval, y: Interval) -> Option<Interval>
     requires x { IsProper x }
     requires y { IsProper y }
@@ -578,7 +577,7 @@ fn result_of(instruction: Insn, x: Interval, y: Interval) -> Option<Interval>
     }
 }
 
-/// Whether these are the intervals that a row says of an edge.
+/// Returns whether these are a row's intervals for an edge.
 fn is_edge(given: Option<Narrowed>, same: Narrowed, text: &str) -> bool {
     match text {
         "none" => given.is_none(),
@@ -587,7 +586,7 @@ fn is_edge(given: Option<Narrowed>, same: Narrowed, text: &str) -> bool {
     }
 }
 
-/// Whether an instruction makes of a row's intervals what the row says.
+/// Returns whether an instruction's result on a row's intervals is the row's.
 fn is_right(alloc: Global, row: &str) -> Option<bool> {
     let instruction = code_of(alloc, cell(row, 0))?.at(0)?;
     let both = intervals(cell(row, 1))?;
@@ -612,7 +611,7 @@ fn instructions(rt: HostRuntime) {
     }
 }
 
-/// The join of two values, if both lie within it.
+/// Returns the join of two values, if both are less than or equal to it.
 fn bound_of<T: Order + Drop>(x: &T, y: &T) -> Option<T> {
     let join = x.join(y);
     if x.leq(&join) && y.leq(&join) {

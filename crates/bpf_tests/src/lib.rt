@@ -1,6 +1,6 @@
-//! Tests of the crates of BPF programs, `bpf_insn` to `bpf_machine`. They go through public calls, and stand in a crate of their own since a
-//! crate with tests is proved once without them and once with them. They have what only the libraries show, and the worked rows that the
-//! libraries are specified by. Further rows, which the built program answers, are in examples/rows and examples/verdicts.
+//! Tests of the BPF crates, from `bpf_insn` to `bpf_machine`, through their public calls. They are in a crate of their own because a crate with
+//! tests is proved twice, once without them and once with them. They cover what only the libraries show, and the worked rows that specify the
+//! libraries. Further rows, for the built program, are in examples/rows and examples/verdicts.
 #![tactic(auto)]
 
 #[cfg(test)]

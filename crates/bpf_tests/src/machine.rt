@@ -1,4 +1,4 @@
-//! Programs that are accepted: what is found out of them, and their answers by a run, by steps and by the tracer.
+//! Accepted programs: what the verifier found, and their answers when they are run, stepped and traced.
 use crate::meaning::{NAMED, comes_to, county_of, is_exit};
 use crate::sweep::verified;
 use bpf_insn::{Area, Code, decode};
@@ -9,8 +9,8 @@ use fixtures::{RT1, Refusing, cell, program};
 use std::alloc::{Allocator, Global};
 use tl_segments::Segment;
 
-// What register 0 holds at a program's end, and the score if it isn't 0; the program; maybe the area of each instruction's base, R for the
-// record, F for the frame and - for none; and `joined` if the program asks for more than the record.
+// Register 0 at the program's end, with the score if it isn't 0; the program; optionally the area of each instruction's base, R for the record, F
+// for the frame and - for none; and `joined` if the program reads more than the record.
 const PROGRAMS: &str = concat!(
     // Operations and jumps.
     "\
@@ -84,7 +84,7 @@ ldxdw r3, [r10-8] | ldxb r0, [r3+55] | exit
 18446744073709551615 score 18446744073709551615; mov r1, -13 | smod r1, 3 | mov r6, r1 | call 8 | mov r0, r6 | exit
 18446744073623051616 score 18446744073623051616; mov r1, 0 | call 9 | mov r1, r0 | mov r6, r0 | call 8 | mov r0, r6 | exit
 ",
-    // Long programs, most of as many words as one may have. In one of them ADD follows each of 32,766 jumps, which is JGT of 254.
+    // Long programs, most of them of the greatest length. In one of them ADD follows each of 32,766 jumps, which are JGT with 254.
     "\
 1; ldxb r2, [r1+55] | jne r2, 65, +0 *4000 | mov r0, 1 | exit
 1; ldxb r2, [r1+55] | jne r2, 65, +0 *65000 | mov r0, 1 | exit
@@ -93,7 +93,7 @@ ldxdw r3, [r10-8] | ldxb r0, [r3+55] | exit
 255; ldxb r0, [r1+55] | hex 25000100fe000000 0700000001000000 *32766 | jeq r0, 255, +1 | mov r0, r9 | exit"
 );
 
-/// The machine after so many steps or fewer, and the answer if they come to it.
+/// Returns the machine after at most `count` steps, and the answer if it's reached.
 fn stepped<A: Allocator, B: Allocator>(
     verified: &Verified<A>,
     segment: &Segment<B>,
@@ -108,7 +108,7 @@ fn stepped<A: Allocator, B: Allocator>(
     (bare, None)
 }
 
-/// Whether a program comes to an answer by a run, in a machine that is reused, and by steps.
+/// Returns whether a program answers as a row says when it's run, when it's run in a reused machine, and when it's stepped.
 fn runs_to<A: Allocator, B: Allocator>(
     verified: &Verified<A>,
     segment: &Segment<B>,
@@ -121,7 +121,7 @@ fn runs_to<A: Allocator, B: Allocator>(
         && is_answer(stepped(verified, segment, verified.entries().len()).1, said)
 }
 
-/// Whether there is an answer, which a cell says.
+/// Returns whether there is an answer, and it's the one in a cell.
 fn is_answer(answer: Option<Answer>, said: &str) -> bool {
     match answer {
         Some(Answer { r0, score }) => is_exit(said, r0, score),
@@ -129,7 +129,7 @@ fn is_answer(answer: Option<Answer>, said: &str) -> bool {
     }
 }
 
-/// Whether a code comes to an answer by the tracer and by its steps, in no more of them than the code has words.
+/// Returns whether a code answers as a row says when it's traced and when it's stepped, in no more steps than the code has words.
 fn traces_to<A: Allocator, B: Allocator>(code: &Code<A>, segment: &Segment<B>, said: &str) -> bool {
     let mut state = State::start();
     for _steps in 0..code.words() {
@@ -141,7 +141,7 @@ fn traces_to<A: Allocator, B: Allocator>(code: &Code<A>, segment: &Segment<B>, s
     false
 }
 
-/// Whether a code that is accepted has an entry and a flat form for each of these instructions, in order.
+/// Returns whether a code that is accepted has an entry and a flat form for each of these instructions, in order.
 fn has_entries<A: Allocator, B: Allocator>(verified: &Verified<A>, code: &Code<B>) -> bool {
     let (entries, instructions) = (verified.entries(), code.instructions());
     for (entry, insn) in entries.iter().zip(instructions) {
@@ -152,7 +152,7 @@ fn has_entries<A: Allocator, B: Allocator>(verified: &Verified<A>, code: &Code<B
     (entries.len(), verified.flat_forms().len()) == (instructions.len(), instructions.len())
 }
 
-/// Whether the bases of the instructions point into a row's areas, if the row has any.
+/// Returns whether the bases of the instructions point into a row's areas, if the row has any.
 fn has_areas<A: Allocator>(verified: &Verified<A>, areas: &str) -> bool {
     for (entry, letter) in verified.entries().iter().zip(areas.bytes()) {
         let area = match entry.area {
@@ -167,7 +167,7 @@ fn has_areas<A: Allocator>(verified: &Verified<A>, areas: &str) -> bool {
     areas.is_empty() || areas.len() == verified.entries().len()
 }
 
-/// Whether a program is accepted and is what a row says. Nothing that is asked of it then takes memory.
+/// Returns whether a program is accepted and agrees with a row, and nothing allocates after the verification.
 fn is_right(
     heap: &Refusing<Global>,
     segment: &Segment<&Refusing<Global>>,
@@ -200,21 +200,21 @@ fn programs(rt: HostRuntime) {
     }
 }
 
-/// The machine after so many steps of a program on the example record.
+/// Returns the machine after at most `count` steps of a program on the example record.
 fn machine_after(alloc: Global, text: &str, count: usize) -> Option<Bare> {
     let heap = Refusing::new(alloc);
     let verified = verified(&heap, &program(alloc, text)?, "").ok()?;
     Some(stepped(&verified, &Segment::of(alloc, RT1), count).0)
 }
 
-// Register 6 is the pointer's offset, the least four bits of 123,456,789.
+// Register 6 is the pointer's offset, the low four bits of 123,456,789.
 const POINTER: &str =
     "mov r6, r1 | mov r1, 0 | call 1 | and r0, 15 | add r6, r0 | ldxb r0, [r6+0] | exit";
 
-// Pointers that are put into the last two slots: into the record, and to the end of the frame.
+// Pointers that are stored in the last two slots: one into the record, and one to the end of the frame.
 const KEPT: &str = "add r1, 5 | stxdw [r10-8], r1 | stxdw [r10-16], r10 | mov r0, 1 | exit";
 
-/// Pointers are bare words, in registers and in the frame.
+/// Checks that pointers are bare words, in registers and in the frame.
 #[test]
 fn words(rt: HostRuntime) {
     assert!(rt; size_of::<Registers>() == 88);

@@ -1,5 +1,5 @@
-//! Programs by the tracer, on segments whose bytes are known. What comes of one is its answer, with a score that isn't 0, the refusal where it's
-//! stuck, or `running`.
+//! Programs in the tracer, on segments whose bytes are known. An outcome is the answer, with the score if it isn't 0, the refusal where the program
+//! is stuck, or `running`.
 use crate::codes::code_of;
 use bpf_insn::Code;
 use bpf_meaning::{Outcome, trace};
@@ -8,9 +8,9 @@ use std::alloc::{Allocator, Global};
 use std::test::Fail;
 use tl_segments::{County, Segment};
 
-// What comes of a program within so many steps, and the county's files.
+// The outcome of a program, the program, the limit on its steps, and the county's files.
 const OUTCOMES: &str = concat!(
-    // Steps and their limit.
+    // Steps and the limit on them.
     r"0; mov r0, 3 | add r0, -1 | jne r0, 0, -2 | exit; 8; {rt1}\n
 running; mov r0, 3 | add r0, -1 | jne r0, 0, -2 | exit; 7; {rt1}\n
 running; mov r0, 1; 0; {rt1}\n
@@ -25,7 +25,7 @@ refused 40 place 0 ReadsNothing(0); exit; 1; {rt1}\n
 running; exit; 0; {rt1}\n
 1; mov r0, 1 | ja32 +32768 | mov r0, 1 *32768 | exit; 3; {rt1}\n
 ",
-    // Where programs are stuck.
+    // Programs that are stuck.
     r"refused 41 place 3 PointerArithmetic; mov r6, r1 | mov r1, 0 | call 1 | add r6, r0 | ldxb r0, [r6+0] | exit; 9; {rt1}\n
 refused 44 place 1 OutOfBounds; add r1, 228 | ldxb r0, [r1+0] | exit; 9; {rt1}\n
 refused 43 place 1 NotPointer; mov r2, 5 | ldxb r0, [r2+0] | exit; 9; {rt1}\n
@@ -66,7 +66,7 @@ refused 32 place 0 IntoWide; ja +1 | lddw r0, 0x1 | exit; 9; {rt1}\n
 pub const NAMED: &str = r"{rt1}\n; {rt4 FEAT2=8}\n; {rt5 FENAME=Elm}\n{rt5 FEAT=8}\n;
   {rt6 FRADDR=200 TOADDR=300 ZIPL=36068 ZIPR=36068}\n";
 
-/// The county of the files whose texts a row has in its cells from this one on, in memory of another allocator.
+/// Returns the county of the files whose texts are in a row's cells from `first` on, allocated in `heap`.
 pub fn county_of<A: Allocator + Copy>(
     heap: A,
     alloc: Global,
@@ -77,7 +77,7 @@ pub fn county_of<A: Allocator + Copy>(
     county(heap, &files).ok()
 }
 
-/// Whether so many steps of a code on a segment come to what a row says.
+/// Returns whether at most `limit` steps of a code on a segment have the outcome that a row says.
 pub fn comes_to<A: Allocator, B: Allocator>(
     code: &Code<A>,
     segment: &Segment<B>,
@@ -91,13 +91,13 @@ pub fn comes_to<A: Allocator, B: Allocator>(
     }
 }
 
-/// Whether these are the answer and the score of a cell. A score of 0 isn't written.
+/// Returns whether a cell has this answer and this score. A score of 0 isn't written.
 pub fn is_exit(said: &str, answer: u64, score: u64) -> bool {
     let (wanted, wanted_score) = said.split_once(" score ").unwrap_or((said, "0"));
     wanted.parse() == Ok(answer) && wanted_score.parse() == Ok(score)
 }
 
-/// Whether a row's program comes to what the row says on the first segment of its county.
+/// Returns whether a row's program has the row's outcome on the first segment of its county.
 fn is_outcome(alloc: Global, row: &str) -> Option<bool> {
     let limit = cell(row, 2).parse().ok()?;
     let county = county_of(alloc, alloc, row, 3)?;

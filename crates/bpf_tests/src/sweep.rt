@@ -1,4 +1,4 @@
-//! Calls that take memory, with each growth refused in turn.
+//! Calls that allocate, with a failure injected into each allocation.
 use bpf_flat::flat_forms;
 use bpf_flow::Flow;
 use bpf_insn::{Area, Code, CodeBuilder, CodeFault, Insn, Register, decode, encode};
@@ -9,9 +9,9 @@ use refusals::Fault;
 use std::alloc::{AllocError, Global};
 use std::test::Fail;
 
-// Calls, a text, a program, and what the calls say of these: `accepted` where one is written as the other, or the refusal.
+// Calls, a text, a program, and the result of the calls: `accepted` if each is converted to the other, or the refusal.
 const ROWS: &str = concat!(
-    // Words: their number, a wide load without its second word, and a field that is unused and not 0.
+    // Words: their number, a wide load without its second word, and an unused field that isn't 0.
     r"decode disassemble verify;;; refused 10 Empty
 decode disassemble verify;; hex b7000000010000; refused 11 NotWhole
 decode disassemble verify;; hex b710000001000000 | exit; refused 15 place 0 UnusedNotZero
@@ -40,7 +40,7 @@ assemble source; {mov r0, 1\n*300}ja nowhere;; refused 23 line 301 UnknownLabel
 assemble source; {mov r0, 1\n*300}frob;; refused 21 line 301 UnknownMnemonic
 source; exit\n\xff\n;; not UTF-8
 ",
-    // Programs that take memory, straight ones, and ones with jumps to twenty places and to one.
+    // Programs that allocate: straight ones, and ones with jumps to twenty places and to one.
     r"assemble source decode disassemble verify flatten; mov r0, 1\nexit\n; mov r0, 1 | exit; accepted
 assemble source decode disassemble verify flatten; {mov r0, 1\n*300}{lddw r2, 0x0000000000000001\n*100}{stdw [r10-8],
   7\n*100}ldxdw r0, [r10-8]\nexit\n; mov r0, 1 *300 | lddw r2, 0x1 *100 | stdw [r10-8], 7 *100 | ldxdw r0, [r10-8] |
@@ -110,7 +110,7 @@ verify;; ldxb r2, [r1+55] | stxdw [r10-8], r1 | jeq r2, 65, +1 | stxdw [r10-8], 
 "
 );
 
-// The same of long texts and programs, most of as many words as one may have, or of one more.
+// Long texts and programs. Most have the greatest length in words, or one word more.
 const LONG: &str = r"decode disassemble verify;; exit *65537; refused 12 TooLong
 decode disassemble verify;; lddw r0, 0x1 *32768 | exit; refused 12 TooLong
 decode disassemble verify;; exit *65535 | hex 1800000000000000; refused 17 place 65535 CutWide
@@ -146,10 +146,10 @@ impl Program {
     }
 }
 
-/// The allocator that refuses a growth.
+/// The allocator that fails a chosen allocation.
 type Heap = Refusing<Global>;
 
-/// What a call should say: what a row says, or out of memory where a growth was refused.
+/// Returns the expected result of a call: the row's, or out of memory if an allocation was refused.
 fn due<'a>(heap: &Heap, said: &'a str) -> &'a str {
     if heap.was_refused() {
         "refused memory"
@@ -158,7 +158,7 @@ fn due<'a>(heap: &Heap, said: &'a str) -> &'a str {
     }
 }
 
-/// Whether these are the bytes that a call should give.
+/// Returns whether a call returned these bytes, or failed because an allocation was refused.
 fn is_same(heap: &Heap, given: Result<Vec<u8, &Heap>, AllocError>, bytes: &[u8]) -> bool {
     match given {
         Ok(given) => !heap.was_refused() && given.as_slice() == bytes,
@@ -166,7 +166,7 @@ fn is_same(heap: &Heap, given: Result<Vec<u8, &Heap>, AllocError>, bytes: &[u8])
     }
 }
 
-/// Whether a text is assembled, and the code encoded, as a row says.
+/// Returns whether a text is assembled, and the code encoded, as a row says.
 fn is_assembled(heap: &Heap, program: &Program, said: &str) -> bool {
     let text = str::from_utf8(&program.text).unwrap_or("");
     match assemble(heap, text) {
@@ -175,7 +175,7 @@ fn is_assembled(heap: &Heap, program: &Program, said: &str) -> bool {
     }
 }
 
-/// Whether a text is converted to a program's bytes as a row says.
+/// Returns whether a text is converted to a program's bytes as a row says.
 fn is_source(heap: &Heap, program: &Program, said: &str) -> bool {
     match assemble_source(heap, &program.text) {
         Ok(words) => said == "accepted" && is_same(heap, Ok(words), &program.words),
@@ -184,7 +184,7 @@ fn is_source(heap: &Heap, program: &Program, said: &str) -> bool {
     }
 }
 
-/// Whether words are decoded, and the code built again and disassembled, as a row says.
+/// Returns whether words are decoded, and the code built again and disassembled, as a row says.
 fn is_decoded(heap: &Heap, program: &Program, said: &str) -> bool {
     match decode(heap, &program.words) {
         Ok(code) => {
@@ -196,7 +196,7 @@ fn is_decoded(heap: &Heap, program: &Program, said: &str) -> bool {
     }
 }
 
-/// Adds instructions to those of a builder, up to the first that it refuses.
+/// Adds instructions to a builder, up to the first that it refuses.
 fn push_all(builder: &mut CodeBuilder<&Heap>, instructions: &[Insn]) -> Result<(), CodeFault> {
     for insn in instructions {
         builder.push(*insn)?;
@@ -204,7 +204,7 @@ fn push_all(builder: &mut CodeBuilder<&Heap>, instructions: &[Insn]) -> Result<(
     Ok(())
 }
 
-/// Whether a builder takes the instructions of a code, and gives the same code.
+/// Returns whether a builder takes the instructions of a code and yields the same code.
 fn is_built(heap: &Heap, code: &Code<&Heap>) -> bool {
     let mut builder = CodeBuilder::new(heap);
     match push_all(&mut builder, code.instructions()) {
@@ -213,7 +213,7 @@ fn is_built(heap: &Heap, code: &Code<&Heap>) -> bool {
     }
 }
 
-/// Whether a builder gives a code, and takes no memory for what it is asked then.
+/// Returns whether a builder yields a code without allocating.
 fn is_finished(heap: &Heap, builder: CodeBuilder<&Heap>, code: &Code<&Heap>) -> bool {
     let (asked, words) = (heap.count(), builder.words());
     let is_writable = builder.destination(Register { number: 9 }).is_ok();
@@ -229,7 +229,7 @@ fn is_finished(heap: &Heap, builder: CodeBuilder<&Heap>, code: &Code<&Heap>) -> 
     }
 }
 
-/// Whether a code is disassembled as this text.
+/// Returns whether a code is disassembled as this text.
 fn is_disassembled(heap: &Heap, code: &Code<&Heap>, text: &[u8]) -> bool {
     match disassemble(heap, code) {
         Ok(disassembled) => is_same(heap, Ok(disassembled.into_bytes()), text),
@@ -237,7 +237,7 @@ fn is_disassembled(heap: &Heap, code: &Code<&Heap>, text: &[u8]) -> bool {
     }
 }
 
-/// Whether a program's bytes are converted to text as a row says.
+/// Returns whether a program's bytes are converted to text as a row says.
 fn is_text(heap: &Heap, program: &Program, said: &str) -> bool {
     match disassemble_program(heap, &program.words) {
         Ok(text) => said == "accepted" && is_same(heap, Ok(text.into_bytes()), &program.text),
@@ -245,7 +245,7 @@ fn is_text(heap: &Heap, program: &Program, said: &str) -> bool {
     }
 }
 
-/// What is found out of a program that is accepted, or whether it is refused as it should be.
+/// Verifies words, and returns what the verifier found if they are accepted. The error says whether they are refused as a row says.
 pub fn verified<'a>(heap: &'a Heap, words: &[u8], said: &str) -> Result<Verified<&'a Heap>, bool> {
     let flow = match decode(heap, words) {
         Ok(code) => Flow::of(code),
@@ -260,7 +260,7 @@ pub fn verified<'a>(heap: &'a Heap, words: &[u8], said: &str) -> Result<Verified
     }
 }
 
-/// Whether words are verified as a row says.
+/// Returns whether words are verified as a row says.
 fn is_verified(heap: &Heap, words: &[u8], said: &str) -> bool {
     match verified(heap, words, said) {
         Ok(_verified) => due(heap, said) == "accepted",
@@ -268,7 +268,7 @@ fn is_verified(heap: &Heap, words: &[u8], said: &str) -> bool {
     }
 }
 
-/// Whether words are decoded, and each instruction has its flat form.
+/// Returns whether words are decoded and each instruction has its flat form.
 fn is_flattened(heap: &Heap, words: &[u8]) -> bool {
     let flow = match decode(heap, words) {
         Ok(code) => Flow::of(code),
@@ -280,7 +280,7 @@ fn is_flattened(heap: &Heap, words: &[u8]) -> bool {
     }
 }
 
-/// Whether each instruction of a flow, of 1000 at most, has its flat form.
+/// Returns whether each instruction of a flow, which has at most 1000, has its flat form.
 fn is_flat<'a>(heap: &'a Heap, flow: &Flow<&'a Heap>) -> bool {
     let areas: [Option<Area>; 1000] = [None; 1000];
     let count = flow.code().instructions().len();
@@ -293,7 +293,7 @@ fn is_flat<'a>(heap: &'a Heap, flow: &Flow<&'a Heap>) -> bool {
     }
 }
 
-/// Whether the call with a name says what it should.
+/// Returns whether the call with a name has the expected result.
 fn is_given(heap: &Heap, call: &str, program: &Program, said: &str) -> bool {
     match call {
         "assemble" => is_assembled(heap, program, said),
@@ -305,7 +305,7 @@ fn is_given(heap: &Heap, call: &str, program: &Program, said: &str) -> bool {
     }
 }
 
-/// Whether that is so with each growth refused in turn, from one number up to the first that isn't reached.
+/// Returns whether a call has the expected result with each allocation refused, from number `first` to the first that the call doesn't reach.
 fn is_swept(alloc: Global, call: &str, program: &Program, said: &str, first: u64) -> bool {
     let heap = Refusing::new(alloc);
     for nth in first..=u64::MAX {
@@ -320,7 +320,7 @@ fn is_swept(alloc: Global, call: &str, program: &Program, said: &str, first: u64
     false
 }
 
-/// Whether each call of a row is swept so.
+/// Returns whether each call of a row passes the sweep.
 fn are_swept(alloc: Global, row: &str, first: u64) -> Option<bool> {
     let program = Program::of(alloc, row)?;
     for call in cell(row, 0).split_whitespace() {
@@ -339,7 +339,7 @@ fn calls(rt: HostRuntime) -> Result<(), Fail> {
     Ok(())
 }
 
-/// No growth is refused, since none has the number 0.
+/// Runs without refusing an allocation, since none has the number 0.
 #[test]
 fn long_programs(rt: HostRuntime) -> Result<(), Fail> {
     for row in table(rt.alloc(), LONG)?.lines() {
