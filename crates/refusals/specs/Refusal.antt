@@ -1,11 +1,11 @@
--- Refusals, and their line of text. A fault's row is one of four forms, `refused`, `detailed`, `device` and `memory`, with its position.
+-- Refusals, and their line of text. A fault's refusal has one of four forms, `refused`, `detailed`, `device` and `memory`, and a position.
 use Rattle.std.specs.Prelude.{ℕ, List, [], ◌++◌, Option, Some, None, codes, decimal}
 use Rattle.refusals.specs.declared.refusal.Class.{Class}
 use Rattle.refusals.specs.declared.refusal.Class.TheVariants.{Refused, Device, Memory}
 use Rattle.refusals.specs.declared.refusal.Position.{Position}
 use Rattle.refusals.specs.declared.refusal.Position.TheVariants.{Whole, Place, Line, Character, FileLine}
 
--- The class, the number and the name of a refusal; the number of a register, of an argument or of another refusal, if it has one; its position.
+-- A refusal: its class, number and name; optionally the number of a register, an argument or another refusal; and its position.
 pub record RefusalParts : Type 0 where
   pub class : Class
   pub number : Option ℕ
@@ -13,7 +13,7 @@ pub record RefusalParts : Type 0 where
   pub detail : Option ℕ
   pub position : Position
 
--- the input is at fault
+-- the input has a fault
 abbrev pub refused : ℕ → List ℕ → RefusalParts
 refused number name = record { class = Refused; number = Some number; name = name; detail = None; position = Whole }
 
@@ -24,23 +24,23 @@ detailed number name detail = record { class = Refused; number = Some number; na
 abbrev pub device : ℕ → List ℕ → RefusalParts
 device number name = record { class = Device; number = Some number; name = name; detail = None; position = Whole }
 
--- an allocation failed, and the refusal has no number
+-- an allocation failed; the refusal has no number
 abbrev pub memory : RefusalParts
 memory = record { class = Memory; number = None; name = codes "memory"; detail = None; position = Whole }
 
--- the same refusal at a word of a program
+-- the refusal at a word of a program
 abbrev pub at_place : ℕ → RefusalParts → RefusalParts
 at_place place refusal = record refusal { position = Place place }
 
--- at a line of a text
+-- the refusal at a line of a text
 abbrev pub at_line : ℕ → RefusalParts → RefusalParts
 at_line line refusal = record refusal { position = Line line }
 
--- at a character of a line of a text
+-- the refusal at a character of a line of a text
 abbrev pub at_character : ℕ → ℕ → RefusalParts → RefusalParts
 at_character line column refusal = record refusal { position = Character line column }
 
--- at a line of the county's file of a record type
+-- the refusal at a line of a county's file of a record type
 abbrev pub at_file_line : ℕ → ℕ → RefusalParts → RefusalParts
 at_file_line record_type line refusal = record refusal { position = FileLine record_type line }
 
@@ -52,7 +52,7 @@ abbrev pub detail_text : Option ℕ → List ℕ
 detail_text None = []
 detail_text (Some detail) = codes "(" ++ decimal detail ++ codes ")"
 
--- the position and the name; at a character and at a line of a file there is no detail
+-- the position and the name, and the detail, which isn't written at a character or at a line of a file
 abbrev pub position_text : Position → List ℕ → Option ℕ → List ℕ
 position_text Whole name detail = name ++ detail_text detail
 position_text (Place place) name detail = codes "place " ++ decimal place ++ codes " " ++ name ++ detail_text detail
@@ -60,6 +60,6 @@ position_text (Line line) name detail = codes "line " ++ decimal line ++ codes "
 position_text (Character line column) name detail = codes "line " ++ decimal line ++ codes " column " ++ decimal column ++ codes " " ++ name
 position_text (FileLine record_type line) name detail = codes "rt" ++ decimal record_type ++ codes " line " ++ decimal line ++ codes " " ++ name
 
--- the line of text, without its end
+-- the line of text, without its line end
 abbrev pub line : RefusalParts → List ℕ
 line refusal = codes "refused " ++ number_text refusal.number ++ position_text refusal.position refusal.name refusal.detail

@@ -1,4 +1,4 @@
-//! What every fault has.
+//! The interface of every fault.
 ghost use Rattle.std.specs.Prelude.{◌≡◌};
 ghost use Rattle.refusals.specs.Refusal.{RefusalParts};
 ghost use Rattle.refusals.specs.Refusal as refusal;
@@ -6,7 +6,7 @@ ghost use Rattle.refusals.specs.Refusal as refusal;
 use crate::refusal::Refusal;
 use arrayvec::ArrayString;
 
-/// A fault, whose refusal is one row for each of its variants.
+/// A fault, with one row of refusal data per variant.
 pub trait Fault {
     ghost refusal_of: { Self → RefusalParts };
 
@@ -14,7 +14,7 @@ pub trait Fault {
     fn refusal(&self) -> Refusal
         ensures { result ≡ refusal_of self.now };
 
-    /// Returns the refusal's line of text, as `refused 13 place 2 UnknownOpcode`, without an end of line. It takes no memory.
+    /// Returns the refusal's line of text, like `refused 13 place 2 UnknownOpcode`, without a line end. It doesn't allocate.
     fn line(&self) -> ArrayString<64>
         ensures { result.bytes ≡ refusal.line (refusal_of self.now) }
     {

@@ -1,4 +1,4 @@
-//! Refusals: what each fault says of itself, as one row of data, and the line of text that it gets.
+//! Refusals: each fault as one row of data, and its line of text.
 #![tactic(auto)]
 
 mod fault;

@@ -1,4 +1,4 @@
-//! Refusals, and the one place where their lines of text are put together. Nothing here allocates.
+//! Refusals, and the only place where their lines of text are composed. Nothing here allocates.
 ghost use Rattle.std.specs.Prelude.{◌≡◌, ◌++◌, ◌+◌, ◌≤◌, codes, decimal, length};
 ghost use Rattle.refusals.specs.Refusal as refusal;
 ghost use Rattle.refusals.specs.Refusal.{detail_text, number_text};
@@ -7,10 +7,10 @@ use arrayvec::ArrayString;
 use itoa::Buffer;
 use std::marker::Model;
 
-/// What a refusal comes from.
+/// The cause of a refusal.
 #[derive(Clone, Copy)]
 pub enum Class {
-    /// The input is at fault.
+    /// The input has a fault.
     Refused,
     /// A read or a write failed.
     Device,
@@ -18,7 +18,7 @@ pub enum Class {
     Memory,
 }
 
-/// Where the fault is.
+/// The position of a fault.
 #[derive(Clone, Copy)]
 pub enum Position {
     /// The input as a whole.
@@ -27,7 +27,7 @@ pub enum Position {
     Place(usize),
     /// A line of a text, counted from 1.
     Line(usize),
-    /// A character of a text: its line, and its place in the line, both counted from 1.
+    /// A character of a text: its line, and its position in the line, both counted from 1.
     Character { line: u32, column: u32 },
     /// A line of the county's file of a record type (TIGER/Line 2006), counted from 1.
     FileLine { record_type: u8, line: u64 },
@@ -55,7 +55,7 @@ impl Model for Refusal {
 }
 
 impl Refusal {
-    /// Refuses the input.
+    /// Returns a refusal of the input.
     pub fn refused(number: u8, name: &'static str) -> Refusal
         requires { length name.now ≤ 18 }
         ensures { result ≡ refusal.refused number name.now }
@@ -69,7 +69,8 @@ impl Refusal {
         }
     }
 
-    /// Refuses the input, with the number of a register, of an argument or of another refusal, which follows the name in parentheses.
+    /// Returns a refusal of the input. The detail, which follows the name in parentheses, is the number of a register, an argument or another
+    /// refusal.
     pub fn detailed(number: u8, name: &'static str, detail: Option<u8>) -> Refusal
         requires { length name.now ≤ 18 }
         ensures { result ≡ refusal.detailed number name.now detail }
@@ -80,7 +81,7 @@ impl Refusal {
         }
     }
 
-    /// Reports a read or a write that failed.
+    /// Returns the refusal for a failed read or write.
     pub fn device(number: u8, name: &'static str) -> Refusal
         requires { length name.now ≤ 18 }
         ensures { result ≡ refusal.device number name.now }
@@ -91,7 +92,7 @@ impl Refusal {
         }
     }
 
-    /// Reports an allocation that failed, which has no number.
+    /// Returns the refusal for a failed allocation, which has no number.
     pub fn memory() -> Refusal
         ensures { result ≡ refusal.memory }
     {
@@ -104,7 +105,7 @@ impl Refusal {
         }
     }
 
-    /// Puts the refusal at a word of a program, counted from 0.
+    /// Returns the refusal at a word of a program, counted from 0.
     pub fn at_place(self, place: usize) -> Refusal
         ensures { result ≡ refusal.at_place place self }
     {
@@ -114,7 +115,7 @@ impl Refusal {
         }
     }
 
-    /// Puts the refusal at a line of a text, counted from 1.
+    /// Returns the refusal at a line of a text, counted from 1.
     pub fn at_line(self, line: usize) -> Refusal
         ensures { result ≡ refusal.at_line line self }
     {
@@ -124,7 +125,7 @@ impl Refusal {
         }
     }
 
-    /// Puts the refusal at a character of a text, whose line and place in the line are counted from 1. There it has no detail.
+    /// Returns the refusal at a character of a text, whose line and position in the line are counted from 1. Its text has no detail.
     pub fn at_character(self, line: u32, column: u32) -> Refusal
         ensures { result ≡ refusal.at_character line column self }
     {
@@ -134,7 +135,7 @@ impl Refusal {
         }
     }
 
-    /// Puts the refusal at a line of a county's file, counted from 1.
+    /// Returns the refusal at a line of a county's file, counted from 1.
     pub fn at_file_line(self, record_type: u8, line: u64) -> Refusal
         ensures { result ≡ refusal.at_file_line record_type line self }
     {
@@ -157,7 +158,7 @@ impl Refusal {
         self.number
     }
 
-    /// Returns the line of text, as `refused 40 place 0 ReadsNothing(0)`, without an end of line.
+    /// Returns the line of text, like `refused 40 place 0 ReadsNothing(0)`, without a line end.
     pub fn line(&self) -> ArrayString<64>
         ensures { result.bytes ≡ refusal.line self.now }
     {
@@ -215,7 +216,7 @@ fn number_text(number: Option<u8>) -> ArrayString<4>
     text
 }
 
-/// Pushes a unit and the number of the one that is meant.
+/// Pushes a unit, like `place`, and its number.
 fn push_counted(line: &mut ArrayString<64>, unit: &str, at: u64)
     requires { length line.old.bytes + length unit.now ≤ 42 }
     ensures value { line.new.bytes ≡ line.old.bytes ++ (unit.now ++ codes " " ++ decimal at ++ codes " ") }
@@ -227,7 +228,7 @@ fn push_counted(line: &mut ArrayString<64>, unit: &str, at: u64)
     line.push_str(" ");
 }
 
-/// Pushes the place of a character.
+/// Pushes the position of a character.
 fn push_character(line: &mut ArrayString<64>, at: u32, column: u32)
     requires { length line.old.bytes ≤ 12 }
     ensures value { line.new.bytes ≡ line.old.bytes ++ (codes "line " ++ decimal at ++ codes " column " ++ decimal column ++ codes " ") }
