@@ -1,4 +1,4 @@
--- What is known of a body while it is read.
+-- What is known about a body while it's read.
 use Rattle.std.proofs.Common.{◌≡◌, ◌≢◌, ℕ, ◌+◌, ◌<◌, ◌≤◌, List, [], ◌++◌, length, take, min, inl, inr, ◌∙◌, ap, arith, refl, sym}
 use Rattle.std.proofs.Common.{append_assoc, length-append}
 use Rattle.std.proofs.lemmas.List.{append-nil, length-take, length-take-le, nil_from_length, take-append-le, take_all, take_min}
@@ -9,7 +9,7 @@ use Rattle.tl_fields.proofs.KnownBytesLemmas.{Consumes-append, Consumes-from_kee
 use Rattle.http_request.proofs.TakeLemmas.{Takes-append, Takes-refl}
 use Rattle.http_request.specs.Reading.{EndsInBody, FailsInBody, LacksMemory, ReadsBody, Takes}
 
--- the body so far: the first bytes behind the head, and then what was taken
+-- the body so far: the first bytes after the head, then the bytes taken
 pub record IsBodySoFar (behind : List ℕ) (count : ℕ) (body : List ℕ) (old new : Reader) : Type 0 where
   pub taken : List ℕ
   pub takes : Takes taken old new
@@ -29,13 +29,13 @@ body_begins {behind} {count} {room} {body} {input} is nothing least =
       within = omega (arith, ap length same, length-take (min count (length behind)) behind);
     }
 
--- how many bytes of a body are there, while some are missing
+-- the number of bytes of an incomplete body
 so_far-length : (behind : List ℕ) (count : ℕ) (body : List ℕ) (old new : Reader) → (so_far : IsBodySoFar behind count body old new)
     → length body < count → length body ≡ length behind + length so_far.taken
 so_far-length behind count body old new so_far short =
     omega (arith, ap length so_far.is_body, length-append (take count behind) so_far.taken, length-take count behind)
 
--- one piece more, of the bytes that a read gave
+-- one more piece, with the bytes that a read returned
 pub body_more : {behind : List ℕ} {count : ℕ} {body more : List ℕ} (given rest : List ℕ) (read : ℕ) {old now new : Reader}
     → IsBodySoFar behind count body old now → Takes (take read given) now new → more ≡ body ++ take read (given ++ rest)
     → read ≤ length given → length body + read ≤ count → IsBodySoFar behind count more old new
@@ -73,7 +73,7 @@ body_fails {behind} {count} {body} {old} {now} {new} so_far short kept failed = 
   short = rw append-nil (omega (arith, length-append behind so_far.taken, so_far-length behind count body old now so_far short));
 }
 
--- memory was refused for a piece
+-- an allocation failed for a piece
 pub body_lacks_memory : {behind : List ℕ} {count : ℕ} {body : List ℕ} (given : List ℕ) (read : ℕ) {old now new : Reader}
     → IsBodySoFar behind count body old now → length body < count → Takes (take read given) now new → 0 < read → read ≤ length given
     → length body + read ≤ count → LacksMemory behind count old new
@@ -92,7 +92,7 @@ body_lacks_memory {behind} {count} {body} given read {old} {now} {new} so_far sh
       let long = length-take-le read given inside in omega (arith, some));
 }
 
--- where the bytes fit, they are the first of what is there
+-- bytes that fit are the first of all bytes
 take_front : (behind taken : List ℕ) (count : ℕ) → length (take count behind) + length taken ≤ count
     → take count behind ++ taken ≡ take count (behind ++ taken)
 take_front behind taken count fits = elim (cases_lt count (length behind)) [
@@ -104,7 +104,7 @@ take_front behind taken count fits = elim (cases_lt count (length behind)) [
       rw whole (sym (take_all count (behind ++ taken) (omega (arith, length-append behind taken, ap length whole))))
 ]
 
--- the body is whole
+-- the body is complete
 pub body_whole : (behind : List ℕ) (count : ℕ) (body : List ℕ) (old new : Reader) → IsBodySoFar behind count body old new
     → count ≤ length body → ReadsBody behind count body old new
 body_whole behind count body old new so_far whole =

@@ -1,4 +1,4 @@
--- Heads at the front of an input: bytes that follow change none, and there is one at most.
+-- Heads at the start of an input: bytes that follow don't change a head, and there is at most one.
 use Rattle.std.proofs.Common.{◌≡◌, ℕ, ◌<◌, List, [], ◌∷◌, ◌++◌, inl, refl, length, length-append, ap, ◌∙◌, sym, arith}
 use Rattle.std.proofs.lemmas.List.{append-nil}
 use Rattle.std.proofs.lemmas.List.Elements.{All-cons, All-nil}
@@ -10,7 +10,7 @@ use Rattle.httparse.specs.Grammar.{is_token_byte, is_uri_byte, lf, print_blank, 
 use Rattle.httparse.proofs.GrammarLemmas.{ReadsRequest-append, print_request-append, request_unique}
 use Rattle.http_request.specs.Head.{Head, HasHead, head_of}
 
--- bytes that follow stand behind the rest
+-- bytes that follow are appended to the rest
 pub HasHead-append : (input more : List ℕ) (head : Head) (rest : List ℕ) → HasHead input head rest
     → HasHead (input ++ more) head (rest ++ more)
 HasHead-append input more head rest has = record {
@@ -21,7 +21,7 @@ HasHead-append input more head rest has = record {
   parts = has.parts;
 }
 
--- an input has one head at most, and one rest behind it
+-- an input has at most one head, followed by one rest
 pub HasHead-unique : (input : List ℕ) (a b : Head) (r s : List ℕ) → HasHead input a r → HasHead input b s → (a ≡ b) × (r ≡ s)
 HasHead-unique input a b r s first second =
     let same = request_unique input first.tree second.tree r s first.reads second.reads in
@@ -54,7 +54,7 @@ some_head-valid = record {
   fields = All-nil IsField;
 }
 
--- a head may begin where nothing has come
+-- an empty input may become a head
 pub empty-MayBecomeRequest : MayBecomeRequest []
 empty-MayBecomeRequest = inl (print_request some_head, some_head, (some_head-valid, sym (append-nil (print_request some_head))))
 

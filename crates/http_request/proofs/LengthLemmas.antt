@@ -1,4 +1,4 @@
--- The headers of a name, while the headers are gone through.
+-- The headers with a name, while the loop visits the headers.
 use Rattle.std.proofs.Common.{◌≡◌, ℕ, ◌+◌, ◌<◌, ◌≤◌, true, false, List, [], ◌∷◌, ◌++◌, length, map, take, drop, get_or, Option, Some, None}
 use Rattle.std.proofs.Common.{Err, Bor, refl, ap, sym, ◌∙◌}
 use Rattle.std.specs.Prelude.{filter, Bool, ◌||◌}
@@ -18,12 +18,12 @@ abbrev pub IsFound : Option (Bor (List ℕ)) → List (List ℕ) → Type 0
 IsFound None values = values ≡ []
 IsFound (Some value) values = values ≡ value.now ∷ []
 
--- one header more
+-- one more header
 headers-next : {X : Type 0} (f : X → List ℕ × List ℕ) (xs : List X) (i : ℕ) (d : X) → i < length xs
     → map f (take (i + 1) xs) ≡ map f (take i xs) ++ f (get_or xs i d) ∷ []
 headers-next f xs i d inside = ap (map f) (take_more xs i d inside) ∙ map-append f (take i xs) (get_or xs i d ∷ [])
 
--- the headers gone through, and those that follow
+-- the headers visited, and those that follow
 headers-split : {X : Type 0} (f : X → List ℕ × List ℕ) (xs : List X) (i : ℕ) → map f xs ≡ map f (take i xs) ++ map f (drop i xs)
 headers-split f xs i = ap (map f) (sym (take-append-drop i xs)) ∙ map-append f (take i xs) (drop i xs)
 
@@ -38,7 +38,7 @@ pub any_of : {X Y : Type 0} (test : Y → Bool) (f : X → Y) (xs : List X) → 
 any_of test f [] = refl
 any_of test f (x ∷ xs) = ap (λ rest. test (f x) || rest) (any_of test f xs)
 
--- a name, the headers, and how many of them were gone through
+-- a name, the headers, and the number of headers visited
 module _ {X : Type 0} (name : List ℕ) (f : X → List ℕ × List ℕ) (xs : List X) (i : ℕ) where
   -- the value of a header with the name comes after those so far
   values_in-named : (d : X) → i < length xs → is_named name (f (get_or xs i d)) ≡ true
@@ -84,7 +84,7 @@ module _ {X : Type 0} (name : List ℕ) (f : X → List ℕ × List ℕ) (xs : L
       ∙ values_in-append name (map f (take (i + 1) xs)) (map f (drop (i + 1) xs)) in
       rw (values, values_in-named d inside named, so_far) refl
 
-  -- all headers were gone through
+  -- all headers were visited
   found_all : (headers : List (List ℕ × List ℕ)) → length xs ≤ i → map f xs ≡ headers
       → values_in name headers ≡ values_in name (map f (take i xs))
   found_all headers past all = ap (values_in name) (sym all ∙ ap (map f) (sym (take_all i xs past)))

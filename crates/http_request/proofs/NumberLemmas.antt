@@ -1,4 +1,4 @@
--- The number that digits write, while they are read.
+-- The number that digits denote, while they are read.
 use Rattle.std.proofs.Common.{◌≡◌, ℕ, ◌<◌, true, List, length, get_or, take, Err, refl, arith}
 use Rattle.std.specs.List.{list_all}
 use Rattle.std.specs.Char.{is_ascii_digit}
@@ -13,7 +13,7 @@ pub digit_at : (digits : List ℕ) (i : ℕ) → list_all is_ascii_digit digits 
     → is_ascii_digit (get_or digits i 0) ≡ true
 digit_at digits i all inside = AllPass-from_list_all is_ascii_digit digits all i 0 inside
 
--- the first digits write too large a number, and so all of them do
+-- if the first digits denote too large a number, so do all of them
 pub up_to_limit-large : (digits : List ℕ) (i value : ℕ) → value ≡ digits_value 10 (take i digits) → 1048576 < value
     → Err TooLarge ≡ up_to_limit (digits_value 10 digits)
 up_to_limit-large digits i value is large =

@@ -1,4 +1,4 @@
--- What is known of a head while it is searched for.
+-- What is known about a head during the search for its end.
 use Rattle.std.proofs.Common.{◌≡◌, ◌≢◌, ℕ, ◌+◌, ◌<◌, ◌≤◌, List, [], ◌++◌, length, take, drop, ◌∙◌, ap, arith, refl, sym, inl}
 use Rattle.std.proofs.lemmas.List.{append-nil, take-append-le, take_at, take-append-drop, length-take-le}
 use Rattle.std.proofs.Math.Seq.{take-append-add}
@@ -13,7 +13,7 @@ use Rattle.http_request.proofs.HeadLemmas.{empty-HasNoRequest, empty-MayBecomeRe
 use Rattle.http_request.proofs.TakeLemmas.{Takes-append, Takes-refl}
 use Rattle.http_request.specs.Reading.{Takes, FailsInHead, LacksHead}
 
--- what was read of the input, and it has no whole head
+-- the bytes read so far, which hold no complete head
 pub record HasReadSoFar (bytes : List ℕ) (count : ℕ) (old new : Reader) : Type 0 where
   pub inside : count ≤ length bytes
   pub takes : Takes (take count bytes) old new
@@ -29,7 +29,7 @@ nothing_read bytes input = record {
   unfinished = empty-MayBecomeRequest;
 }
 
--- the bytes behind those that were there come from the read
+-- the new bytes come from the read
 take-put_mid_read : (bytes piece : List ℕ) (count room read : ℕ) → count ≤ length bytes → read ≤ length piece
     → take (count + read) (put_mid count room bytes piece) ≡ take count bytes ++ take read piece
 take-put_mid_read bytes piece count room read inside fits =
@@ -39,7 +39,7 @@ take-put_mid_read bytes piece count room read inside fits =
     ∙ take-append-add (take count bytes) (piece ++ rest) read ∙ ap (λ (xs : List ℕ). take count bytes ++ xs)
     (take-append-le read piece rest fits)
 
--- one read more
+-- one more read
 pub takes_more : {bytes : List ℕ} (piece : List ℕ) {count : ℕ} (room read : ℕ) {old now : Reader} (new : Reader)
     → HasReadSoFar bytes count old now → read ≤ length piece → Consumes now.left new.left (take read piece) → new.failed ≡ now.failed
     → Takes (take (count + read) (put_mid count room bytes piece)) old new
@@ -52,23 +52,23 @@ takes_more {bytes} piece {count} room read {old} {now} new so_far fits consumed 
 HasNoHead-from_request : (bytes : List ℕ) → HasNoRequest bytes → HasNoHead bytes
 HasNoHead-from_request bytes none head rest has = none has.tree rest has.reads
 
--- a head with too many headers is none, whatever follows
+-- bytes with too many headers hold no head, whatever follows
 HasNoHead-from_overflows : (bytes : List ℕ) → RequestOverflows 64 bytes → (more : List ℕ) → HasNoHead (bytes ++ more)
 HasNoHead-from_overflows bytes many more head rest has = absurd (omega (arith, many more has.tree rest has.reads, has.few))
 
--- two texts that begin alike, the first of them the shorter
+-- if two concatenations are equal, the shorter first part begins the longer one
 front-append : (xs ys us vs : List ℕ) → length us ≤ length xs → xs ++ ys ≡ us ++ vs → xs ≡ us ++ drop (length us) xs
 front-append xs ys us vs short same =
     let same_front : take (length us) xs ≡ us = sym (take-append-le (length us) xs ys short) ∙ ap (take (length us)) same
     ∙ take_at us vs (length us) refl in
     sym (take-append-drop (length us) xs) ∙ ap (λ (front : List ℕ). front ++ drop (length us) xs) same_front
 
--- as many bytes as a head may have, and no head in them: nothing that follows makes one
+-- the greatest number of bytes of a head, and no head in them: no bytes that follow complete one
 HasNoHead-from_full : (bytes : List ℕ) → length bytes ≡ 8192 → HasNoRequest bytes → (more : List ℕ) → HasNoHead (bytes ++ more)
 HasNoHead-from_full bytes full none more head rest has =
     none has.tree _ (has.reads.0, front-append bytes more (print_request has.tree) rest (omega (arith, has.short)) has.reads.1)
 
--- the parser refused what was read
+-- the parser refused the bytes read
 pub lacks_by_refusal : (bytes : List ℕ) (count : ℕ) {old new : Reader} → Takes (take count bytes) old new → count ≤ length bytes → 0 < count
     → length bytes ≡ 8192 → RequestOverflows 64 (take count bytes) → LacksHead old new
 lacks_by_refusal bytes count takes inside some full many = record {
@@ -79,7 +79,7 @@ lacks_by_refusal bytes count takes inside some full many = record {
   room = omega (arith, length-take-le count bytes inside);
 }
 
--- no byte more has room
+-- there is no room for another byte
 pub lacks_by_limit : (bytes : List ℕ) (count : ℕ) (old new : Reader) → length bytes ≡ 8192 → length bytes ≤ count
     → HasReadSoFar bytes count old new → LacksHead old new
 lacks_by_limit bytes count old new full past so_far = record {

@@ -1,4 +1,4 @@
--- What was read of an input, joined to the whole of it.
+-- The part of an input that was read, and the complete input.
 use Rattle.std.proofs.Common.{◌≡◌, ℕ, List, [], ◌++◌, length, inl, inr, Some, None, Option, ◌∙◌, ap, arith, refl, sym, subst, length-append}
 use Rattle.std.specs.Prelude.{unwrap_or}
 use Rattle.std.proofs.lemmas.List.{append-nil, take-append-le}
@@ -18,11 +18,11 @@ nothing_left : (left : Option (List ℕ)) → IsAtEnd left → unwrap_or left []
 nothing_left None ended = refl
 nothing_left (Some bytes) ended = ended
 
--- what a reader had left is what was taken, and then what it has left now
+-- a reader had left the bytes taken, followed by those that it has left now
 pub known_whole : (taken : List ℕ) (old new : Reader) → Takes taken old new → Keeps old.left (Some (taken ++ left_of new))
 known_whole taken old new takes = whole_input taken old.left new.left takes.consumed
 
--- the same at the end of the input: it is what was taken
+-- at the end of the input, it had left the bytes taken
 pub known_at_end : (taken : List ℕ) (old new : Reader) → Takes taken old new → IsAtEnd new.left → Keeps old.left (Some taken)
 known_at_end taken old new takes ended =
     let all : taken ++ left_of new ≡ taken = ap (λ (left : List ℕ). taken ++ left) (nothing_left new.left ended) ∙ append-nil taken in
@@ -52,7 +52,7 @@ had_no_head old new lacking = elim lacking.lacks [
   }
 ]
 
--- a head was read, and then bytes behind it
+-- a head was read, then bytes after it
 had_more : (request : RequestParts) (taken : List ℕ) (old now new : Reader) → ReadsHead request old now → Takes taken now new
     → HadHead request.head (request.behind ++ taken ++ left_of new) old
 had_more request taken old now new read takes = record {
@@ -62,7 +62,7 @@ had_more request taken old now new read takes = record {
       (HasHead-append read.taken taken request.head request.behind read.has);
 }
 
--- a head was read, and then the body
+-- a head was read, then the body
 pub had_request : (request : RequestParts) (count : ℕ) (body : List ℕ) (old now new : Reader) → ReadsHead request old now
     → ReadsBody request.behind count body now new → HadRequest request.head count body old
 had_request request count body old now new read body_read =

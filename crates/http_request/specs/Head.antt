@@ -1,10 +1,10 @@
--- The head of a request (RFC 9112, sections 2 to 5), at the front of an input.
+-- The head of a request (RFC 9112, sections 2 to 5), at the start of an input.
 use Rattle.std.specs.Prelude.{◌≡◌, ℕ, ◌≤◌, List, length, map}
 use Rattle.httparse.specs.Grammar.{MayBecomeRequest, ReadsRequest, RequestHead, print_request}
 use Rattle.httparse.specs.Spans.{name_and_value}
 use Rattle.http_request.specs.declared.head.TheConstants.{HEAD_LIMIT, HEADER_LIMIT}
 
--- What counts of a head: the method, the request target, and each header's name with its value, without the blanks and tabs around that.
+-- The parts of a head that matter: the method, the request target, and each header's name and value, without the blanks and tabs around the value.
 pub record Head : Type 0 where
   pub method : List ℕ
   pub target : List ℕ
@@ -13,7 +13,7 @@ pub record Head : Type 0 where
 abbrev pub head_of : RequestHead → Head
 head_of tree = record { method = tree.method; target = tree.target; headers = map name_and_value tree.fields }
 
--- The input begins with a request head of the grammar, within the limits of bytes and of headers; behind it the rest follows.
+-- The input begins with a request head of the grammar, within the limits on bytes and headers; the rest follows it.
 pub record HasHead (input : List ℕ) (head : Head) (rest : List ℕ) : Type 0 where
   pub tree : RequestHead
   pub reads : ReadsRequest input tree rest
@@ -21,7 +21,7 @@ pub record HasHead (input : List ℕ) (head : Head) (rest : List ℕ) : Type 0 w
   pub few : length tree.fields ≤ HEADER_LIMIT
   pub parts : head ≡ head_of tree
 
--- Bytes may become a head: some that follow make them one; or they end within a target, which is looked at when it ends.
+-- Bytes may become a head: some bytes that follow complete it, or the bytes end within a target, which isn't checked before its end.
 abbrev pub MayBecomeHead : List ℕ → Type 0
 MayBecomeHead = MayBecomeRequest
 

@@ -1,4 +1,4 @@
--- What reading a request takes from a reader, and when it ends.
+-- What reading a request takes from a reader, and how it ends.
 use Rattle.std.specs.Prelude.{◌≡◌, ◌≢◌, ◌⊎◌, ℕ, ◌-◌, ◌<◌, ◌≤◌, List, [], ◌++◌, length, take, Option, None, Some, Result, Ok, Err}
 use Rattle.std.specs.Io.KnownBytes.{Consumes, IsAtEnd}
 use Rattle.tl_fields.specs.Device.{Reader}
@@ -14,25 +14,25 @@ pub record Takes (bytes : List ℕ) (old new : Reader) : Type 0 where
   pub consumed : Consumes old.left new.left bytes
   pub failed : new.failed ≡ old.failed
 
--- a read failed, behind these bytes
+-- a read failed after these bytes
 pub record FailsBehind (bytes : List ℕ) (old new : Reader) : Type 0 where
   pub consumed : Consumes old.left new.left bytes
   pub failed : new.failed ≢ old.failed
 
--- what is known of a request once its head is there: the head, and what was read behind it
+-- what is known about a request once its head is read: the head, and the bytes read after it
 pub record RequestParts : Type 0 where
   pub head : Head
   pub behind : List ℕ
 
--- What was taken begins with the head of the request. It is no more than a head may have.
+-- The bytes taken begin with the head of the request. They are no more than a head may have.
 pub record ReadsHead (request : RequestParts) (old new : Reader) : Type 0 where
   pub taken : List ℕ
   pub takes : Takes taken old new
   pub has : HasHead taken request.head request.behind
   pub room : length taken ≤ HEAD_LIMIT
 
--- What was taken is not the beginning of an input with a head: whatever follows it, or since nothing does, though more might have made it
--- one. It is a byte or more, and no more than a head may have.
+-- The bytes taken don't begin an input that has a head: either no bytes that follow could complete one, or the input has ended although more bytes
+-- could have. They are at least one byte, and no more than a head may have.
 pub record LacksHead (old new : Reader) : Type 0 where
   pub taken : List ℕ
   pub takes : Takes taken old new
@@ -45,7 +45,7 @@ pub record IsClosed (old new : Reader) : Type 0 where
   pub takes : Takes [] old new
   pub ended : IsAtEnd new.left
 
--- A read failed while the head wasn't whole, and more bytes might have made it so: nothing is read after what can't begin a head.
+-- A read failed while the head was incomplete but could still be completed: nothing is read after bytes that can't begin a head.
 pub record FailsInHead (old new : Reader) : Type 0 where
   pub taken : List ℕ
   pub fails : FailsBehind taken old new
@@ -53,14 +53,14 @@ pub record FailsInHead (old new : Reader) : Type 0 where
   pub unfinished : MayBecomeHead taken
   pub room : length taken < HEAD_LIMIT
 
--- what a reading of a head answers
+-- the result of reading a head
 abbrev pub AnswersHead : Result (Option RequestParts) HeadFault → Reader → Reader → Type 0
 AnswersHead (Ok (Some request)) old new = ReadsHead request old new
 AnswersHead (Ok None) old new = LacksHead old new
 AnswersHead (Err Closed) old new = IsClosed old new
 AnswersHead (Err Read) old new = FailsInHead old new
 
--- The body: of what is behind the head the first bytes, as many as announced. No more was taken than it has.
+-- The body: the first `count` bytes after the head. No bytes beyond it were taken.
 pub record ReadsBody (behind : List ℕ) (count : ℕ) (body : List ℕ) (old new : Reader) : Type 0 where
   pub taken : List ℕ
   pub takes : Takes taken old new
@@ -81,7 +81,7 @@ pub record FailsInBody (behind : List ℕ) (count : ℕ) (old new : Reader) : Ty
   pub fails : FailsBehind taken old new
   pub short : length (behind ++ taken) < count
 
--- Memory was refused for bytes of the body that had come. No read had failed, and no more was taken than the body has.
+-- An allocation failed for bytes of the body that had been read. No read had failed, and no bytes beyond the body were taken.
 pub record LacksMemory (behind : List ℕ) (count : ℕ) (old new : Reader) : Type 0 where
   pub taken : List ℕ
   pub takes : Takes taken old new
@@ -89,7 +89,7 @@ pub record LacksMemory (behind : List ℕ) (count : ℕ) (old new : Reader) : Ty
   pub wanted : 0 < count
   pub came : 0 < length (behind ++ taken)
 
--- how the reading of a body ends without it
+-- why reading a body ends without one
 abbrev pub EndsBody : BodyFault → List ℕ → ℕ → Reader → Reader → Type 0
 EndsBody Short behind count old new = EndsInBody behind count old new
 EndsBody ReadBody behind count old new = FailsInBody behind count old new

@@ -1,4 +1,4 @@
--- What a search for the end of a head finds in the bytes that it read.
+-- What a search for the end of a head finds in the bytes read.
 use Rattle.std.specs.Prelude.{ℕ, ◌≤◌, List, length, take, Option, None, Some, Result, Ok, Err}
 use Rattle.httparse.specs.declared.spans.HeaderSpan.{HeaderSpan}
 use Rattle.httparse.specs.Spans.{IsRequestOf, IsRequestWithin}
@@ -9,7 +9,7 @@ use Rattle.http_request.specs.declared.head.HeadFault.{HeadFault}
 use Rattle.http_request.specs.declared.head.TheConstants.{HEAD_LIMIT}
 use Rattle.http_request.specs.declared.head.HeadFault.TheVariants.{Closed, Read}
 
--- the bytes that were read stand at the front, and begin with a head whose parts are at these places
+-- the bytes read are at the start, and begin with a head whose parts are at these places
 pub record FindsHead (bytes : List ℕ) (headers : List HeaderSpan) (found : Found) (old new : Reader) : Type 0 where
   pub inside : found.count ≤ length bytes
   pub room : found.count ≤ HEAD_LIMIT

@@ -8,7 +8,7 @@ use std::alloc::{AllocError, Allocator};
 use thiserror::Error;
 use tl_fields::CountedRead;
 
-/// Why a body isn't there.
+/// Why a body can't be read.
 #[derive(Clone, Copy, Debug, PartialEq, Eq, Error)]
 pub enum BodyFault {
     /// The input ended within the body.
@@ -28,12 +28,12 @@ impl From<AllocError> for BodyFault {
     }
 }
 
-// A body is read in pieces of at most this size.
+// The greatest size of a piece in which a body is read.
 const PIECE: usize = 16_384;
 
-/// Reads the body that has this length: first from what was read behind the head, and then from the reader, no byte more than the body has.
+/// Reads a body of the given length, first from the bytes already read after the head, and then from the reader, without reading past the body.
 ///
-/// Memory is taken for what is there, so that an announced length alone takes none. No read is tried again, not after `Interrupted` either.
+/// Allocates for the bytes that have been read, so an announced length alone allocates nothing. No read is retried, not even after `Interrupted`.
 pub fn read_body<A: Allocator + Copy, R: CountedRead>(
     alloc: A,
     behind: &[u8],

@@ -10,13 +10,13 @@ use httparse::spans::{EMPTY_HEADER_SPAN, HeaderSpan, RequestSpans, parse_request
 use thiserror::Error;
 use tl_fields::CountedRead;
 
-/// The most bytes that a head may have, with the empty line that ends it.
+/// The greatest number of bytes of a head, including the empty line that ends it.
 pub const HEAD_LIMIT: usize = 8192;
 
-/// The most headers that a head may have.
+/// The greatest number of headers of a head.
 pub const HEADER_LIMIT: usize = 64;
 
-/// Why there is no head to judge.
+/// Why there is no head to check.
 #[derive(Clone, Copy, Debug, PartialEq, Eq, Error)]
 pub enum HeadFault {
     /// The input ended before its first byte.
@@ -26,15 +26,15 @@ pub enum HeadFault {
     Read,
 }
 
-/// Where a head is in what was read.
+/// The places of a head in the bytes read.
 #[derive(Drop)]
 struct Found {
     spans: RequestSpans,
-    /// How many bytes were read.
+    /// The number of bytes read.
     count: usize,
 }
 
-/// The room for one head. What it holds is lent to the request that was read last.
+/// The space for one head. The last request that was read borrows its contents.
 #[derive(Drop)]
 pub struct HeadBuffer {
     bytes: [u8; HEAD_LIMIT],
@@ -49,10 +49,10 @@ impl HeadBuffer {
         }
     }
 
-    /// Reads a request's head, and with it what the same reads gave of the bytes behind it.
+    /// Reads a request's head, along with any bytes after it that the same reads return.
     ///
-    /// `None` is an input that has no head of the grammar within the limits, whatever else it holds. No read is tried again, not after
-    /// `Interrupted` either.
+    /// Returns `None` if the input doesn't begin with a head of the grammar within the limits, whatever else it holds. No read is retried, not even
+    /// after `Interrupted`.
     pub fn read_head<R: CountedRead>(
         &mut self,
         input: &mut R,
@@ -70,7 +70,7 @@ impl HeadBuffer {
     }
 }
 
-/// Reads until the head is there, or can't come any more.
+/// Reads until the head is complete, or can't be completed.
 fn find_head<R: CountedRead>(
     bytes: &mut [u8],
     headers: &mut [HeaderSpan],

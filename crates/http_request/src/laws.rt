@@ -1,4 +1,4 @@
-//! Laws, each the contract of a function that does nothing.
+//! Laws over the definitions, as contracts of functions that do nothing.
 ghost use Rattle.std.specs.Prelude.{◌≡◌, ℕ, List, ◌++◌};
 ghost use Rattle.tl_fields.specs.Device.{Reader};
 ghost use Rattle.http_request.specs.Head.{Head, HasHead};
@@ -7,21 +7,21 @@ ghost use Rattle.http_request.specs.Whole.{HadHead, HadNoHead, HadRequest, HadSh
 ghost use Rattle.http_request.specs.declared.head.TheConstants.{HEAD_LIMIT, HEADER_LIMIT};
 ghost use Rattle.http_request.specs.declared.length.TheConstants.{BODY_LIMIT};
 
-/// The limits of a request: the bytes of its head, the number of its headers, the bytes of its body.
+/// The limits on a request: the bytes of its head, the number of its headers, the bytes of its body.
 pub fn limits()
     ensures head { HEAD_LIMIT ≡ 8192 }
     ensures headers { HEADER_LIMIT ≡ 64 }
     ensures body { BODY_LIMIT ≡ 1048576 }
 {}
 
-/// An input begins with one head at most, with one rest behind it, and bytes that come later only lengthen that rest.
+/// An input begins with at most one head, followed by one rest, and bytes that arrive later only lengthen that rest.
 pub fn one_head()
     ensures unique { (input : List ℕ) (head other : Head) (rest behind : List ℕ) → HasHead input head rest → HasHead input other behind
         → (head ≡ other) × (rest ≡ behind) }
     ensures lasting { (input more : List ℕ) (head : Head) (rest : List ℕ) → HasHead input head rest → HasHead (input ++ more) head (rest ++ more) }
 {}
 
-/// What was read, in however many reads, says what the whole of the input has, where that is known.
+/// The bytes read, in any number of reads, determine what the complete input has, if that is known.
 pub fn whole_inputs()
     ensures head { (request : RequestParts) (old new : Reader) → ReadsHead request old new → HadHead request.head (request.behind ++ left_of new) old }
     ensures no_head { (old new : Reader) → LacksHead old new → HadNoHead old }

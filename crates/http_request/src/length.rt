@@ -1,4 +1,4 @@
-//! The length of a body, as a header says it.
+//! The length of a body, as its header gives it.
 ghost use Rattle.std.specs.Prelude.{◌≡◌, IsTrue};
 ghost use Rattle.std.specs.Char.{is_ascii_digit};
 ghost use Rattle.std.specs.List.{list_all};
@@ -7,23 +7,23 @@ ghost use Rattle.http_request.specs.Length.{is_numeral, length_of, up_to_limit};
 
 use thiserror::Error;
 
-/// The most bytes that a body may have.
+/// The greatest number of bytes of a body.
 pub const BODY_LIMIT: usize = 1_048_576;
 
-/// Why no length of a body is taken from a head.
+/// Why a head gives no length for the body.
 #[derive(Clone, Copy, Debug, PartialEq, Eq, Error)]
 pub enum LengthFault {
     /// No length is announced, or the body is in a transfer coding.
     #[error("no length of the body")]
     Missing,
-    /// More than one length is announced, or none that is a number.
+    /// More than one length is announced, or the value isn't a number.
     #[error("a bad length of the body")]
     Invalid,
     #[error("the body is too long")]
     TooLarge,
 }
 
-/// The length that the value of a Content-Length header says: digits and nothing else.
+/// Returns the length in the value of a Content-Length header, which consists of digits and nothing else.
 pub(crate) fn length_of(value: &[u8]) -> Result<usize, LengthFault>
     ensures { result ≡ length_of value.now }
 {
@@ -46,7 +46,7 @@ fn are_digits(bytes: &[u8]) -> bool
     bytes.iter().all(|byte| byte.is_ascii_digit())
 }
 
-/// The number that these digits write.
+/// Returns the number that digits denote.
 fn number_up_to_limit(digits: &[u8]) -> Result<usize, LengthFault>
     requires { IsTrue (list_all is_ascii_digit digits.now) }
     ensures { result ≡ up_to_limit (digits_value 10 digits.now) }

@@ -1,4 +1,4 @@
-//! One request of HTTP/1.1, read from a reader: its head without memory, and its body with as much memory as it has bytes.
+//! An HTTP/1.1 request, read from a reader: its head without allocating, and its body in as much memory as it has bytes.
 #![tactic(auto)]
 
 mod body;

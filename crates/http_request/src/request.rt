@@ -1,4 +1,4 @@
-//! A request, of which the head was read.
+//! A request whose head has been read.
 ghost use Rattle.std.specs.Prelude.{◌≡◌, IsUtf8, codes, drop, length, map, take};
 ghost use Rattle.std.specs.List.{list_any};
 ghost use Rattle.httparse.specs.Spans.{IsHeaderWithin, IsRequestWithin, header_bytes, span_bytes};
@@ -13,13 +13,13 @@ const CONTENT_LENGTH: &str = "content-length";
 
 const TRANSFER_ENCODING: &str = "transfer-encoding";
 
-/// A request's head, and what was read behind it, lent by the buffer that they were read into.
+/// A request's head, and the bytes read after it, borrowed from the buffer that they were read into.
 #[derive(Drop)]
 pub struct Request<'a> {
     bytes: &'a [u8],
     method: &'a [u8],
     target: &'a str,
-    // Where the headers are in the bytes.
+    // The places of the headers in the bytes.
     headers: &'a [HeaderSpan],
     behind: &'a [u8],
 }
@@ -40,7 +40,7 @@ impl<'a> Model for Request<'a> {
 }
 
 impl<'a> Request<'a> {
-    /// The request whose parts are at these places in what was read.
+    /// Returns the request whose parts are at these places in the bytes read.
     pub(crate) fn of(bytes: &'a [u8], headers: &'a [HeaderSpan], spans: RequestSpans) -> Self
         requires within { IsRequestWithin bytes.now headers.now spans }
         requires text { IsUtf8 (span_bytes bytes.now spans.path) }
@@ -58,7 +58,7 @@ impl<'a> Request<'a> {
         }
     }
 
-    /// The method, as `GET`; upper and lower case are different.
+    /// Returns the method, like `GET`, which is case-sensitive.
     #[inline]
     pub fn method(&self) -> &'a [u8]
         ensures { result.now ≡ self.now.head.method }
@@ -66,7 +66,7 @@ impl<'a> Request<'a> {
         self.method
     }
 
-    /// The request target, as it was sent.
+    /// Returns the request target as it was sent.
     #[inline]
     pub fn target(&self) -> &'a str
         ensures { result.now ≡ self.now.head.target }
@@ -74,7 +74,7 @@ impl<'a> Request<'a> {
         self.target
     }
 
-    /// What was read behind the head: the body's beginning, where there is a body, and perhaps more.
+    /// Returns the bytes read after the head: the start of the body, if there is one, and possibly more.
     #[inline]
     pub fn behind(&self) -> &'a [u8]
         ensures { result.now ≡ self.now.behind }
@@ -82,9 +82,9 @@ impl<'a> Request<'a> {
         self.behind
     }
 
-    /// How many bytes the body has, as the head announces them.
+    /// Returns the body's length in bytes, as the head announces it.
     ///
-    /// A body in a transfer coding isn't taken: it counts as one without a length.
+    /// A body in a transfer coding isn't accepted: it counts as one without a length.
     pub fn body_length(&self) -> Result<usize, LengthFault>
         ensures { result ≡ body_length self.now.head }
     {
@@ -121,7 +121,7 @@ impl<'a> Request<'a> {
     }
 }
 
-/// Whether the header has this name, in any case (RFC 9110, section 5.1).
+/// Returns whether a header has this name, in any case (RFC 9110, section 5.1).
 fn is_named(bytes: &[u8], header: &HeaderSpan, name: &str) -> bool
     requires { IsHeaderWithin (length bytes.now) header.now }
     ensures { result ≡ is_named name.now (header_bytes bytes.now header.now) }
