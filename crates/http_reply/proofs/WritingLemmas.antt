@@ -1,4 +1,4 @@
--- What two texts that are written one after the other do to a writer.
+-- Writing two texts, one after the other.
 use Rattle.std.proofs.Common.{◌≡◌, ℕ, zero, suc, Ok, Err, List, [], ◌∷◌, ◌++◌, length, take, refl, sym, ap, subst, ◌∙◌}
 use Rattle.std.specs.Io.KnownBytes.{Appends}
 use Rattle.std.specs.Prelude.{Result}
@@ -13,7 +13,7 @@ take-within zero text more = refl
 take-within (suc count) [] more = refl
 take-within (suc count) (byte ∷ text) more = ap (λ (rest : List ℕ). byte ∷ rest) (take-within count text more)
 
--- the first wasn't written whole, and the second wasn't tried
+-- the first text wasn't written completely, and the second wasn't tried
 pub first_failed : (first second : List ℕ) (fault : WriteFault) (old new : Writer) → WritesText first (Err fault) old new
     → WritesText (first ++ second) (Err fault) old new
 first_failed first second fault old new (beginning, counts) = (
@@ -24,7 +24,7 @@ first_failed first second fault old new (beginning, counts) = (
   counts,
 )
 
--- the first was written whole, and the second up to its end or to a fault
+-- the first text was written completely, and the second up to its end or to a fault
 pub then_written : (first second : List ℕ) (result : Result (Unit {0}) WriteFault) (old now new : Writer) → WritesText first (Ok tt) old now
     → WritesText second result now new → WritesText (first ++ second) result old new
 then_written first second (Ok done) old now new before next =

@@ -1,4 +1,4 @@
--- Replies (RFC 9112, sections 2, 4, 5 and 6), as the bytes that are written.
+-- Replies (RFC 9112, sections 2, 4, 5 and 6), as the bytes to write.
 use Rattle.std.specs.Prelude.{ℕ, List, [], ◌++◌, length, codes, decimal, Option, Some, None, option_map}
 use Rattle.http_reply.specs.Status.{number, phrase}
 use Rattle.http_reply.specs.declared.status.Status.{Status}
@@ -6,14 +6,14 @@ use Rattle.http_reply.specs.declared.reply.MediaType.{MediaType}
 use Rattle.http_reply.specs.declared.reply.MediaType.TheVariants.{Plain, Octets}
 use Rattle.http_reply.specs.declared.reply.Reply.{Reply}
 
--- a reply: its status, what its body is, the methods that would be allowed, where another was used, and the body
+-- a reply: its status, its body's media type, the methods that are allowed if another one was used, and the body
 pub record ReplyParts : Type 0 where
   pub status : Status
   pub media : MediaType
   pub allow : Option (List ℕ)
   pub body : List ℕ
 
--- the parts of a reply that lends its body
+-- the parts of a reply that borrows its body
 abbrev pub parts_of : Reply → ReplyParts
 parts_of reply = record {
   status = reply.status;
@@ -34,12 +34,12 @@ status_line status = codes "HTTP/1.1 " ++ decimal (number status) ++ codes " " +
 abbrev pub header : List ℕ → List ℕ → List ℕ
 header name value = name ++ codes ": " ++ value ++ codes "\r\n"
 
--- the methods that are allowed, where they are said
+-- the methods that are allowed, if they are given
 abbrev pub allow_header : Option (List ℕ) → List ℕ
 allow_header None = []
 allow_header (Some methods) = header (codes "Allow") methods
 
--- the status line, the headers, of which one says the body's length, and an empty line
+-- the status line, the headers, one of which gives the body's length, and an empty line
 abbrev pub head : ReplyParts → List ℕ
 head reply =
     status_line reply.status

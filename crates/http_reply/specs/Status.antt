@@ -1,4 +1,4 @@
--- The statuses of replies (RFC 9110, section 15), a row each.
+-- The statuses of replies (RFC 9110, section 15), one row per status.
 use Rattle.std.specs.Prelude.{ℕ, List, [], codes}
 use Rattle.http_reply.specs.declared.status.Status.{Status}
 use Rattle.http_reply.specs.declared.status.Status.TheVariants.{Ok, BadRequest, NotFound, MethodNotAllowed, LengthRequired, PayloadTooLarge, UnprocessableEntity, ServiceUnavailable}
@@ -23,7 +23,7 @@ phrase PayloadTooLarge = codes "Payload Too Large"
 phrase UnprocessableEntity = codes "Unprocessable Entity"
 phrase ServiceUnavailable = codes "Service Unavailable"
 
--- the body that a reply with this status has, where what was asked for doesn't give another
+-- the default body of a reply with this status
 abbrev pub text : Status → List ℕ
 text BadRequest = codes "bad request\n"
 text NotFound = codes "not found\n"

@@ -1,4 +1,4 @@
-//! Replies of an HTTP server (RFC 9112) that closes each connection behind its reply.
+//! Replies of an HTTP server (RFC 9112) that closes each connection after its reply.
 #![tactic(auto)]
 
 pub mod laws;

@@ -1,4 +1,4 @@
-//! Replies, and how they are written.
+//! Replies, and writing them.
 ghost use Rattle.std.specs.Prelude.{[], ◌≡◌, ◌≤◌, ◌+◌, ◌++◌, length, None, option_map};
 ghost use Rattle.std.specs.Option.{ForSome};
 ghost use Rattle.tl_fields.specs.Device.{writer};
@@ -12,18 +12,18 @@ use arrayvec::ArrayVec;
 use itoa::Buffer;
 use tl_fields::{CountedWrite, WriteFault, write_whole};
 
-/// How many bytes of a body can be made for one reply.
+/// The greatest number of bytes of a body that are stored in the reply itself.
 pub const LEAD_LIMIT: usize = 65;
 
-/// How many bytes the methods of an `Allow` header have at most.
+/// The greatest number of bytes of the methods in an `Allow` header.
 pub const ALLOW_LIMIT: usize = 32;
 
-// How many bytes are written at once at most, of those that aren't lent.
+// The greatest number of bytes written at once, apart from a borrowed body.
 const PACKET_LIMIT: usize = 1024;
 
 type Packet = ArrayVec<u8, PACKET_LIMIT>;
 
-/// What a body is.
+/// The media type of a body.
 #[derive(Clone, Copy, PartialEq, Eq)]
 pub enum MediaType {
     Plain,
@@ -42,21 +42,21 @@ impl MediaType {
     }
 }
 
-/// A reply that lends its body, which is `lead` and then `rest`.
+/// A reply with a body that consists of `lead` and then `rest`, which is borrowed.
 #[derive(Drop)]
 pub struct Reply<'a> {
     pub status: Status,
     pub media: MediaType,
-    /// The methods that the path has, where another was asked for.
+    /// The methods that the path allows, if the request used another one.
     pub allow: Option<&'a str>,
-    /// What was made for this reply, as a refusal's line.
+    /// The part of the body that is made for this reply, like a refusal's line.
     pub lead: ArrayVec<u8, LEAD_LIMIT>,
-    /// What is written from where it lies.
+    /// The part of the body that is borrowed, and written without a copy.
     pub rest: &'a [u8],
 }
 
 impl Reply<'_> {
-    /// A plain reply whose body is the status's own text.
+    /// Returns a plain reply whose body is the status's own text.
     pub fn of_status(status: Status) -> Reply<'static>
         ensures { parts_of result ≡ record { status = status; media = Plain; allow = None; body = text status } }
     {
@@ -69,8 +69,8 @@ impl Reply<'_> {
         }
     }
 
-    /// Writes the reply, in one write where all of it fits into a small packet, else the part that isn't `rest` in one, and `rest` in another.
-    /// Nothing is tried again, and nothing is flushed. It takes no memory.
+    /// Writes the reply in one write if it fits into a small packet, otherwise everything before `rest` in one write and `rest` in another. Doesn't
+    /// retry, flush or allocate.
     pub fn write<W: CountedWrite>(&self, out: &mut W) -> Result<(), WriteFault>
         requires { ForSome (parts_of self.now).allow (λ methods. length methods ≤ ALLOW_LIMIT) }
         ensures { WritesText (reply_text (parts_of self.now)) result

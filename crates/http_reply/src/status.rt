@@ -1,4 +1,4 @@
-//! The statuses that replies have.
+//! The statuses of replies.
 ghost use Rattle.std.specs.Prelude.{◌≡◌, ◌≤◌, length};
 ghost use Rattle.http_reply.specs.Status.{number, phrase, text};
 
@@ -40,7 +40,7 @@ impl Status {
         self.code().canonical_reason().unwrap_or("")
     }
 
-    /// The body that a reply has where nothing else is said.
+    /// Returns the default body of a reply with this status.
     pub fn text(self) -> &'static str
         ensures { result.now ≡ text self }
     {
