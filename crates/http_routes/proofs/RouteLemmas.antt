@@ -1,4 +1,4 @@
--- What a method asks of a route, found among the methods as they stand in the code.
+-- The action of a method on a route, looked up among the methods as the code lists them.
 use Rattle.std.proofs.Common.{◌≡◌, Bool, true, false, cond, ℕ, List, [], ◌∷◌, Option, Some, refl, ap, ◌∙◌, find, map}
 use Rattle.std.specs.Prelude.{option_map}
 use Rattle.std.specs.Str.{bytes_eq}
@@ -7,7 +7,7 @@ use Rattle.http_routes.specs.declared.route.Action.{Action}
 use Rattle.http_routes.specs.declared.route.Route.{Route}
 use Rattle.http_routes.specs.declared.route.Verb.{Verb}
 
--- the first of these methods that is such
+-- the action of the first method with this name
 abbrev pub asked : List (Verb × Action) → List ℕ → Option Action
 asked methods method = option_map (λ asks. asks.1) (find (λ asks. bytes_eq (verb_name asks.0) method) methods)
 

@@ -1,4 +1,4 @@
--- Which route a path finds among literal rows and one row that ends with a parameter.
+-- The route that a path finds among literal rows and one row that ends with a parameter.
 use Rattle.std.proofs.Common.{◌≡◌, ℕ, zero, suc, ◌-◌, ◌<◌, ◌≤◌, ◌==◌, ◌&&◌, Bool, true, false, not, cond, List, [], ◌∷◌, ◌++◌, length}
 use Rattle.std.proofs.Common.{drop, Option, None, Some, refl, sym, ap, subst, ◌∙◌, arith}
 use Rattle.std.specs.Prelude.{nat_eq, nat_lt}
@@ -10,7 +10,7 @@ use Rattle.matchit.specs.Rows.{RowsOf, catch_all_token, param_token}
 use Rattle.matchit.specs.Seek.{has_slash as slashed, or_else, own, param_step, seek, step}
 use Rattle.http_routes.specs.Routes.{has_slash, is_segment}
 
--- a path's segments are the router's
+-- the path segments here are those of the router
 
 slashed_is : (text : List ℕ) → slashed text ≡ has_slash text
 slashed_is [] = refl
@@ -21,7 +21,7 @@ segment_is byte text =
     let some : nat_lt 0 (length (byte ∷ text)) ≡ true = grind (arith, nat_tests) in
     ap not (slashed_is (byte ∷ text)) ∙ sym (ap (λ (some : Bool). some && not (has_slash (byte ∷ text))) some)
 
--- a literal beginning and a parameter behind it
+-- a literal start followed by a parameter
 abbrev pub with_parameter : List ℕ → List ℕ
 with_parameter front = front ++ param_token ∷ []
 
@@ -30,7 +30,7 @@ module _ {K : Type 0} where
   or_else_none None = refl
   or_else_none (Some key) = refl
 
-  -- where no row goes on, none is found
+  -- if no row continues, none is found
 
   param_none : (path : List ℕ) → (param_step {K = K} [] path).1 ≡ []
   unfolding param_step
@@ -46,14 +46,14 @@ module _ {K : Type 0} where
   seek_none zero (byte ∷ path) =
       simp (seek_none 0 path, param_none (byte ∷ path), seek_none ((param_step {K = K} [] (byte ∷ path)).0 - 1) path)
 
-  -- a byte of the path, where no row goes on with a parameter
+  -- a byte of the path, if no row continues with a parameter
   one_step : (rows : RowsOf K) (byte : ℕ) (path : List ℕ) → step param_token rows ≡ [] → step catch_all_token rows ≡ []
       → seek 0 rows (byte ∷ path) ≡ seek 0 (step byte rows) path
   unfolding seek
   one_step rows byte path no_param no_catch_all =
       simp (no_param, no_catch_all, param_none (byte ∷ path), seek_none ((param_step {K = K} [] (byte ∷ path)).0 - 1) path, or_else_none)
 
-  -- literal rows: none has a parameter
+  -- literal rows, none of which has a parameter
 
   abbrev pub AreLiteral : RowsOf K → Type 0
   AreLiteral [] = Unit {0}
@@ -102,14 +102,14 @@ module _ {K : Type 0} where
   seek_literal rows (byte ∷ path) are =
       literal_step rows byte path are ∙ seek_literal (step byte rows) path (step_literal byte rows are) ∙ lookup_step byte path rows
 
-  -- a row that ends with a parameter, of which nothing else is left
+  -- a row that ends with a parameter, of which only the parameter is left
 
   skip_all : (rows : RowsOf K) (path : List ℕ) → seek (length path) rows path ≡ own rows
   unfolding seek
   skip_all rows [] = refl
   skip_all rows (byte ∷ path) = skip_all rows path
 
-  -- what a path finds by it
+  -- what a path finds through the parameter
   abbrev parameter : K → List ℕ → Option K
   parameter key [] = None
   parameter key (byte ∷ path) = seek ((param_step (([], key) ∷ []) (byte ∷ path)).0 - 1) (param_step (([], key) ∷ []) (byte ∷ path)).1 path
@@ -127,7 +127,7 @@ module _ {K : Type 0} where
       by_slash true count is = seek_none _ path
       by_slash false count is = rw is (skip_all (([], key) ∷ []) path)
 
-  -- a byte of the path, where one row goes on with a parameter
+  -- a byte of the path, if one row continues with a parameter
   parameter_step : (rows : RowsOf K) (key : K) (byte : ℕ) (path : List ℕ) → step param_token rows ≡ ([], key) ∷ []
       → step catch_all_token rows ≡ [] → seek 0 rows (byte ∷ path) ≡ or_else (seek 0 (step byte rows) path) (parameter key (byte ∷ path))
   unfolding seek
@@ -136,7 +136,7 @@ module _ {K : Type 0} where
   row_gone : (key : K) (byte : ℕ) (path : List ℕ) → seek 0 (([], key) ∷ []) (byte ∷ path) ≡ None
   row_gone key byte path = one_step (([], key) ∷ []) byte path refl refl ∙ seek_none 0 path
 
-  -- the path's own number may be that of the token: then the row is found all the same
+  -- the path's own byte may equal the parameter's token; the row is found anyway
 
   taken : (key : K) (path : List ℕ) → or_else (seek 0 (([], key) ∷ []) path) (parameter key (param_token ∷ path)) ≡ parameter key
       (param_token ∷ path)
@@ -170,7 +170,7 @@ module _ {K : Type 0} where
       let other : (first == token) ≡ false = grind (arith, nat_tests) in
       rw other refl
 
-  -- one row alone: what is behind its beginning must be a segment
+  -- one row alone: the path after its literal start must be a segment
   pub seek_alone : (front : List ℕ) (key : K) (path : List ℕ) → IsText front
       → seek 0 ((with_parameter front, key) ∷ []) path ≡ cond (starts_with nat_eq path front && is_segment (drop (length front) path))
       (Some key) None
@@ -189,13 +189,13 @@ module _ {K : Type 0} where
       by_test true rest = rest
       by_test false rest = seek_none 0 path
 
-  -- that row among literal rows, which come first
+  -- the row among literal rows, which come first
 
   own_behind : (front : List ℕ) (key : K) (rows : RowsOf K) → own ((with_parameter front, key) ∷ rows) ≡ own rows
   own_behind [] key rows = refl
   own_behind (byte ∷ front) key rows = refl
 
-  -- by neither token does a row go on that begins with a byte, nor do literal ones
+  -- neither token continues a row that begins with a byte, nor a literal row
   step_among : (first : ℕ) (text : List ℕ) (key : K) (before behind : RowsOf K) → first < 256 → AreLiteral before → AreLiteral behind
       → (step param_token (before ++ (first ∷ text, key) ∷ behind) ≡ [])
       × (step catch_all_token (before ++ (first ∷ text, key) ∷ behind) ≡ [])

@@ -17,14 +17,14 @@ use Rattle.http_routes.proofs.SeekLemmas.{seek_alone, seek_among, seek_literal}
 use Rattle.http_routes.specs.declared.route.Route.{Route}
 use Rattle.http_routes.specs.declared.route.Route.TheVariants.{Verify, Assemble, Disassemble, Extract, Geocode, Jobs, Job}
 
--- what inserting a route's path does to the rows
+-- the effect of inserting a route's path on the rows
 pub row_inserted : (route : Route) (old new : RowsOf (RouteOf Route)) (result : Result (Unit {0}) InsertError)
     → InsertsRead (parse_route (row route).path) route old new result → Inserted (entry route).1 old new result
 unfolding matchit_on_literals
 row_inserted Job old new result is = is
 row_inserted route old new result is = is
 
--- a path that conflicts with none is refused for want of memory alone
+-- a path that conflicts with no other is refused only if an allocation fails
 pub refused_for_memory : (route : Route) (old new : RowsOf (RouteOf Route)) (error : InsertError)
     → InsertsRead (parse_route (row route).path) route old new (Err error) → nearest (pattern route) old ≡ None → error ≡ OutOfMemory
 refused_for_memory route old new error is free = by_error error (row_inserted route old new (Err error) is).1
@@ -46,7 +46,7 @@ behind_job = entry Jobs ∷ entry Verify ∷ []
 pub table : RowsOf (RouteOf Route)
 table = before_job ++ entry Job ∷ behind_job
 
--- a test ahead of two answers is one ahead of both, and so it is of what is made of an answer
+-- `or_else` and `option_map` move into the branches of a test
 or_else-cond : {K : Type 0} (test : Bool) (key : K) (rest last : Option K)
     → or_else (cond test (Some key) rest) last ≡ cond test (Some key) (or_else rest last)
 or_else-cond true key rest last = refl
@@ -73,7 +73,7 @@ table_finds path =
     ∙ ap (or_else (lookup path (before_job ++ behind_job))) (seek_alone (codes "/jobs/") (entry Job).1 path (search rules)))
     ∙ finds_route path
 
--- routes that can be inserted one after the other, behind which the table stands
+-- routes that can be inserted one after the other, after which the rows are the table
 abbrev pub MakesTable : List Route → RowsOf (RouteOf Route) → Type 0
 MakesTable [] rows = rows ≡ table
 MakesTable (route ∷ more) rows = (nearest (pattern route) rows ≡ None) × MakesTable more (placed (entry route) rows)
@@ -82,12 +82,12 @@ pub all_make : MakesTable routes []
 unfolding table before_job behind_job
 all_make = search rules
 
--- the next one can be inserted
+-- the next route can be inserted
 pub next_route : (all : List Route) (fallback : Route) (index : ℕ) (rows : RowsOf (RouteOf Route)) → index < length all
     → MakesTable (drop index all) rows → MakesTable (get_or all index fallback ∷ drop (suc index) all) rows
 next_route all fallback index rows below makes = subst (λ left. MakesTable left rows) (drop-cons all index fallback below) makes
 
--- it is inserted
+-- the next route is inserted
 pub inserted : (all : List Route) (fallback : Route) (index : ℕ) (rows more : RowsOf (RouteOf Route)) → index < length all
     → MakesTable (drop index all) rows → more ≡ placed (entry (get_or all index fallback)) rows → MakesTable (drop (index + 1) all) more
 inserted all fallback index rows more below makes same = rw (same, add-one) (next_route all fallback index rows below makes).1

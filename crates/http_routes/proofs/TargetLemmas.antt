@@ -1,4 +1,4 @@
--- The ids of jobs in paths.
+-- Job ids in paths.
 use Rattle.std.proofs.Common.{◌≡◌, ℕ, ◌<◌, ◌≤◌, ◌^◌, Bool, true, false, cond, List, ◌++◌, ◌&&◌, length, Ok, Err, None, Some, refl, sym}
 use Rattle.std.proofs.Common.{arith, rules, ◌∙◌}
 use Rattle.std.specs.Char.{is_ascii_digit}
@@ -13,7 +13,7 @@ use Rattle.http_routes.specs.Target.{id_of, job_id}
 pub job_path : (path text : List ℕ) → path ≡ codes "/jobs/" ++ text → job_id path ≡ id_of text
 job_path path text is = rw is refl
 
--- which tests an id passes
+-- the tests that an id passes
 id_by_tests : (text : List ℕ) {digits : Bool} (some short small : Bool) → nat_le 1 (length text) ≡ some → nat_le (length text) 20 ≡ short
     → list_all is_ascii_digit text ≡ digits → nat_lt (digits_value 10 text) (2 ^ 64) ≡ small
     → id_of text ≡ cond (some && short && digits && small) (Some (digits_value 10 text)) None

@@ -1,4 +1,4 @@
--- The routes: which paths and methods there are, and what each asks for.
+-- The routes: their paths and methods, and the action of each.
 use Rattle.std.specs.Prelude.{ℕ, Bool, ◌==◌, ◌||◌, ◌&&◌, not, false, List, [], ◌∷◌, ◌++◌, length, drop, find, map, codes, Option, option_map, nat_lt, nat_eq}
 use Rattle.std.specs.List.{starts_with}
 use Rattle.std.specs.Str.{bytes_eq}
@@ -9,13 +9,13 @@ use Rattle.http_routes.specs.declared.route.Action.TheVariants as action
 use Rattle.http_routes.specs.declared.route.Verb.{Verb}
 use Rattle.http_routes.specs.declared.route.Verb.TheVariants.{Get, Post, Delete}
 
--- the methods by their names (RFC 9110, section 9)
+-- the names of the methods (RFC 9110, section 9)
 abbrev pub verb_name : Verb → List ℕ
 verb_name Get = codes "GET"
 verb_name Post = codes "POST"
 verb_name Delete = codes "DELETE"
 
--- A row of the table: the path, in which what stands in braces is any one segment that isn't empty, and the methods, with what each asks for.
+-- A row of the table: the path, in which the name in braces stands for any one segment that isn't empty, and the methods with their actions.
 pub record RowParts : Type 0 where
   pub path : List ℕ
   pub actions : List (List ℕ × Action)
@@ -38,29 +38,29 @@ has_slash (byte ∷ text) = byte == 47 || has_slash text
 abbrev pub is_segment : List ℕ → Bool
 is_segment text = nat_lt 0 (length text) && not (has_slash text)
 
--- a route has a path: what stands in braces is a segment, and all else itself
+-- a route matches a path: the name in braces matches a segment, and everything else matches itself
 abbrev pub matches : Route → List ℕ → Bool
 matches Job text = starts_with nat_eq text (codes "/jobs/") && is_segment (drop 6 text)
 matches route text = bytes_eq (row route).path text
 
--- all routes, in the order in which a router tries them: the one with a parameter last
+-- all routes, in the order in which a router tries them; the one with a parameter is last
 abbrev pub routes : List Route
 routes = Assemble ∷ Disassemble ∷ Extract ∷ Geocode ∷ Jobs ∷ Verify ∷ Job ∷ []
 
--- the route that has a path
+-- the route that matches a path
 abbrev pub route_of : List ℕ → Option Route
 route_of text = find (λ route. matches route text) routes
 
--- what a method asks of a route
+-- the action of a method on a route
 abbrev pub action_of : Route → List ℕ → Option Action
 action_of route method = option_map (λ asks. asks.1) (find (λ asks. bytes_eq asks.0 method) (row route).actions)
 
--- the names, with a comma and a blank between each two
+-- the names, separated by a comma and a blank
 abbrev pub listed : List (List ℕ) → List ℕ
 listed [] = []
 listed (name ∷ []) = name
 listed (name ∷ next ∷ names) = name ++ codes ", " ++ listed (next ∷ names)
 
--- the methods of a route, as the header `Allow` has them (RFC 9110, section 10.2.1)
+-- the methods of a route, as in the `Allow` header (RFC 9110, section 10.2.1)
 abbrev pub allow : Route → List ℕ
 allow route = listed (map (λ asks. asks.0) (row route).actions)

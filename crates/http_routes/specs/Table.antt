@@ -7,7 +7,7 @@ use Rattle.http_routes.specs.Routes.{route_of, row}
 use Rattle.http_routes.specs.declared.route.Route.{Route}
 use Rattle.http_routes.specs.declared.route.Route.TheVariants.{Job}
 
--- a path, byte by byte, with a token for what stands in braces
+-- a path, byte by byte, with a token for the name in braces
 abbrev pub pattern : Route → List ℕ
 pattern Job = codes "/jobs/" ++ param_token ∷ []
 pattern route = (row route).path
@@ -20,6 +20,6 @@ names route = []
 abbrev pub entry : Route → List ℕ × RouteOf Route
 entry route = (pattern route, record { pattern = pattern route; text = (row route).path; names = names route; value = route })
 
--- a router finds the route of each path
+-- a router finds the route that matches each path
 abbrev pub FindsRoutes : RowsOf (RouteOf Route) → Type 0
 FindsRoutes rows = (path : List ℕ) → option_map (λ found. found.value) (first rows path) ≡ route_of path

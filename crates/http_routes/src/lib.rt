@@ -1,4 +1,4 @@
-//! The routes of the HTTP interface: what a path and a method ask for.
+//! The routes of the HTTP interface, from a path and a method to an action.
 #![tactic(auto)]
 
 mod route;

@@ -5,7 +5,7 @@ ghost use Rattle.http_routes.specs.Routes.{action_of, allow, row, verb_name};
 
 use http::Method;
 
-/// What a request asks for.
+/// The action that a request asks for.
 #[derive(Clone, Copy, PartialEq, Eq)]
 pub enum Action {
     Verify,
@@ -33,15 +33,15 @@ pub enum Route {
 /// A row of the table.
 #[derive(Clone, Copy)]
 struct Row {
-    /// What stands in braces is any one segment of a path that isn't empty.
+    /// The path. A name in braces stands for any one segment that isn't empty.
     path: &'static str,
-    /// The methods, as the header `Allow` has them.
+    /// The methods, as in the `Allow` header.
     allow: &'static str,
-    /// What each method asks for.
+    /// The action of each method.
     methods: &'static [(Verb, Action)],
 }
 
-/// A method that some route has.
+/// A method of a route.
 #[derive(Clone, Copy)]
 enum Verb {
     Get,
@@ -50,7 +50,7 @@ enum Verb {
 }
 
 impl Verb {
-    /// Whether a request's method is this one. Small letters are another method (RFC 9110, section 9.1).
+    /// Returns whether a request's method is this one. Methods are case-sensitive (RFC 9110, section 9.1).
     fn is(self, method: &[u8]) -> bool
         ensures { result ≡ bytes_eq (verb_name self) method.now }
     {
@@ -62,7 +62,7 @@ impl Verb {
     }
 }
 
-/// Writes the match from a route to its row.
+/// Expands to the match from a route to its row.
 macro_rules! row {
     ($route:expr; $($name:ident: $path:literal $allow:literal $($verb:ident $action:ident),*;)*) => {
         match $route {
@@ -83,7 +83,7 @@ impl Route {
         Route::Job,
     ];
 
-    /// The table, a row each.
+    /// Returns the route's row in the table.
     fn row(self) -> Row
         ensures path { result.path.now ≡ (row self).path }
         ensures allow { result.allow.now ≡ allow self }
@@ -101,21 +101,21 @@ impl Route {
         )
     }
 
-    /// The route's path.
+    /// Returns the route's path.
     pub(crate) fn path(self) -> &'static str
         ensures { result.now ≡ (row self).path }
     {
         self.row().path
     }
 
-    /// What a method asks of the route, `None` where the route doesn't have it. Small letters are another method.
+    /// Returns the action of a method on the route, or `None` if the route doesn't have the method. Methods are case-sensitive.
     pub fn action(self, method: &[u8]) -> Option<Action>
         ensures { result ≡ action_of self method.now }
     {
         action_among(self.row().methods, method)
     }
 
-    /// The methods of the route, as the header `Allow` has them.
+    /// Returns the methods of the route, as in the `Allow` header.
     pub fn allow(self) -> &'static str
         ensures value { result.now ≡ allow self }
         ensures short { length result.now ≤ 32 }
@@ -124,7 +124,7 @@ impl Route {
     }
 }
 
-/// What a method asks for where these are all.
+/// Returns the action of a method among the given methods.
 fn action_among(methods: &[(Verb, Action)], method: &[u8]) -> Option<Action>
     ensures { result ≡ option_map (λ asks. asks.1) (find (λ asks. bytes_eq (verb_name asks.0) method.now) methods.now) }
 {

@@ -9,7 +9,7 @@ use crate::route::Route;
 use matchit::{InsertError, Router};
 use std::alloc::{AllocError, Global};
 
-/// The routes, ready to be looked up.
+/// The routes, ready for lookups.
 #[derive(Drop)]
 pub struct Routes {
     router: Router<Route>,
@@ -17,7 +17,7 @@ pub struct Routes {
 }
 
 impl Routes {
-    /// The routes of the table. This alone takes memory.
+    /// Builds the router from the table of routes. Only this call allocates.
     pub fn new(alloc: Global) -> Result<Routes, AllocError> {
         let mut router = Router::new(alloc);
         for route in Route::ALL {
@@ -26,7 +26,7 @@ impl Routes {
         Ok(Routes { router })
     }
 
-    /// The route that has a path, `None` where none has. It takes no memory.
+    /// Returns the route that matches a path, or `None` if no route does. It doesn't allocate.
     pub fn find(&self, path: &str) -> Option<Route>
         ensures { result ≡ route_of path.now }
     {
@@ -37,7 +37,7 @@ impl Routes {
     }
 }
 
-// Want of memory is the one fault.
+// The only possible fault is a failed allocation.
 fn insert(route: Route, router: &mut Router<Route>) -> Result<(), AllocError>
     requires { nearest (pattern route) router.old ≡ None }
     ensures { OnOk result (router.new ≡ placed (entry route) router.old) }

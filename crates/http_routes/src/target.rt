@@ -1,13 +1,13 @@
-//! Request targets, and what stands in them.
+//! Request targets and their parts.
 ghost use Rattle.std.specs.Prelude.{◌≡◌};
 ghost use Rattle.std.specs.Char.{is_ascii_digit};
 ghost use Rattle.std.specs.List.{list_all};
 ghost use Rattle.http_routes.specs.Target.{job_id, path_of, query_of};
 
-// How many digits the greatest number below 2^64 has.
+// The number of digits of the greatest number below 2^64.
 const ID_LENGTH: usize = 20;
 
-/// A request target, cut into its path and its query. No percent sign is decoded.
+/// A request target, split into its path and its query. Percent-encoding isn't decoded.
 #[derive(Clone, Copy)]
 pub struct Target<'a> {
     pub path: &'a str,
@@ -29,7 +29,7 @@ impl<'a> Target<'a> {
     }
 }
 
-/// The id of the job that a path names, `None` where that isn't a number below 2^64 in at most 20 digits.
+/// Returns the id of the job that a path names, or `None` if that isn't a number below 2^64 in at most 20 digits.
 pub fn job_id(path: &str) -> Option<u64>
     ensures { result ≡ job_id path.now }
 {
@@ -40,7 +40,7 @@ pub fn job_id(path: &str) -> Option<u64>
     text.parse().ok()
 }
 
-// `parse` takes a plus sign too.
+// `parse` would also accept a plus sign.
 fn all_digits(text: &str) -> bool
     ensures { result ≡ list_all is_ascii_digit text.now }
 {

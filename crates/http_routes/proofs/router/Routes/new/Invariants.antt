@@ -3,6 +3,6 @@ use Rattle.http_routes.specs.Routes.{routes}
 use Rattle.http_routes.proofs.TableLemmas.{MakesTable}
 use Rattle.http_routes.proofs.router.Routes.new.Given as goal
 
--- the routes that are left make the table
+-- inserting the remaining routes makes the table
 abbrev pub invariant-loop-route : goal.invariant-loop-route
 invariant-loop-route l = MakesTable (drop l.route-index routes) l.router
