@@ -1,4 +1,4 @@
--- Lists of values by ascending ids: what is found in them after a change, and the ordered map's words for it.
+-- Lists of values by ascending ids: what is found in them after a change, and the same in terms of the ordered map.
 use Rattle.std.proofs.Common.{◌≡◌, ◌≢◌, ℕ, ◌<◌, ◌≤◌, nat_eq, cond, inl, inr, List, [], ◌∷◌, ◌++◌, Some, None, Bool, true, false, refl, sym}
 use Rattle.std.proofs.Common.{ap, ◌∙◌, arith}
 use Rattle.std.proofs.Math.Path.{fun_ext}
@@ -18,7 +18,7 @@ use Rattle.std.proofs.lemmas.Map.Made.{lookup-map_values}
 use Rattle.std.proofs.lemmas.Map.Views.{lookup-from_Contains}
 use Rattle.jobs.specs.Inside.{Ascend}
 
--- a test by the order of ids is one for equal ids
+-- a comparison of ids tests for equality
 pub same_test : (id other : ℕ) → is_at (nat_cmp id) other ≡ nat_eq id other
 same_test id other = grind (arith, nat_tests)
 
@@ -48,7 +48,7 @@ Ascend-remove test low (e ∷ es) high ascend =
     let skipped = Ascend-lower e.0 low es high (let first = ascend.0 in omega arith) ascend.2 in
     let others = Ascend-remove test e.0 es high ascend.2 in grind (arith, ascend, skipped, others)
 
--- an id that is found lies within
+-- an id that is found is within the bounds
 pub found_within : {X : Type 0} (low : ℕ) (es : List (ℕ × X)) (high id : ℕ) (value : X) → Ascend low es high
     → lookup (nat_eq id) es ≡ Some value → (low < id) × (id ≤ high)
 found_within low [] high id value ascend found = cc
@@ -62,7 +62,7 @@ found_within {X} low (e ∷ es) high id value ascend found = by (found_within e.
         let first = ascend.0 in
         ((let above = there.0 in omega arith), there.1)
 
--- what is found behind a pushed value
+-- what is found after a value was appended
 pub found_pushed : {X : Type 0} (es : List (ℕ × X)) (id : ℕ) (value : X) (q : ℕ) (found : X)
     → lookup (nat_eq q) (es ++ (id, value) ∷ []) ≡ Some found → (lookup (nat_eq q) es ≡ Some found) ⊎ ((q ≡ id) × (found ≡ value))
 found_pushed {X} [] id value q found is = by (nat_eq q id) refl is
@@ -72,7 +72,7 @@ found_pushed {X} [] id value q found is = by (nat_eq q id) refl is
     by false is there = cc
 found_pushed (e ∷ es) id value q found is = grind (arith, nat_tests, found_pushed es id value q found)
 
--- ids that ascend differ
+-- ascending ids are distinct
 distinct : {X : Type 0} (low : ℕ) (es : List (ℕ × X)) (high : ℕ) → Ascend low es high → IsDistinct nat_eq (keys_of es)
 unfolding IsDistinct
 distinct low [] high ascend = tt
@@ -87,7 +87,7 @@ distinct low (e ∷ es) high ascend = (above e.0 e.0 es high (omega arith) ascen
 same_key : (id x y : ℕ) → nat_eq id x ≡ true → nat_eq id y ≡ nat_eq x y
 same_key id x y same = let is : id ≡ x = grind (arith, nat_tests) in ap (λ id. nat_eq id y) is
 
--- what is found where a value was changed
+-- what is found after a value was changed
 pub found_changed : {X : Type 0} (es : List (ℕ × X)) (id : ℕ) (old value : X) (q : ℕ) (found : X) → lookup (nat_eq id) es ≡ Some old
     → lookup (nat_eq q) (set_value (nat_eq id) es value) ≡ Some found → ((q ≢ id) × (lookup (nat_eq q) es ≡ Some found))
     ⊎ ((q ≡ id) × (found ≡ value))
@@ -99,7 +99,7 @@ found_changed {X} es id old value q found there is =
     by true same is = inr ((grind (arith, nat_tests)), cc)
     by false other is = inl ((grind (arith, nat_tests)), is)
 
--- what is found where an id was removed was found before
+-- what is found after an id was removed was also found before
 pub found_removed : {X : Type 0} (es : List (ℕ × X)) (high id q : ℕ) (found : X) → Ascend 0 es high
     → lookup (nat_eq q) (remove_entry (nat_eq id) es) ≡ Some found → lookup (nat_eq q) es ≡ Some found
 found_removed {X} es high id q found ascend is =
@@ -114,7 +114,7 @@ pub found_among : {X : Type 0} (es : List (ℕ × X)) (high id : ℕ) (value : X
     → lookup (nat_eq id) es ≡ Some value
 found_among es high id value ascend among = lookup-from_Contains nat_eq_equiv id value es (distinct 0 es high ascend) among
 
--- an id above all others goes behind them
+-- an id above all others is inserted at the end
 pub insert_entry-last : {X : Type 0} (low : ℕ) (es : List (ℕ × X)) (high id : ℕ) (value : X) → Ascend low es high → high < id
     → insert_entry nat_cmp es id value ≡ es ++ (id, value) ∷ []
 insert_entry-last low [] high id value ascend above = refl
@@ -125,7 +125,7 @@ insert_entry-last {X} low (e ∷ es) high id value ascend above =
     ap (λ order. match_ordering order ((id, value) ∷ e ∷ es) ((e.0, value) ∷ es) (e ∷ insert_entry nat_cmp es id value)) (sym behind)
     ∙ ap (λ (es : List (ℕ × X)). e ∷ es) others
 
--- ids before an entry are less
+-- ids before an entry are less than its id
 pub less_before : {X : Type 0} (low : ℕ) (front : List (ℕ × X)) (entry : ℕ × X) (back : List (ℕ × X)) (high : ℕ)
     → Ascend low (front ++ entry ∷ back) high → (low < entry.0) × AllByRecursion (λ (before : ℕ × X). before.0 < entry.0) front
 less_before low [] entry back high ascend = (ascend.0, tt)
@@ -134,7 +134,7 @@ less_before low (first ∷ front) entry back high ascend =
     let above = others.0 in
     ((let first = ascend.0 in omega arith), (above, others.1))
 
--- the entries of a map, with what is seen of each value
+-- the entries of a map, with the visible part of each value
 module _ {X Y : Type 0} (seen : X → Y) where
   abbrev pub entries_seen : List (ℕ × X) → List (ℕ × Y)
   entries_seen es = map (λ e. (e.0, seen e.1)) es

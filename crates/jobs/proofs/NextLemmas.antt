@@ -1,4 +1,4 @@
--- Whose turn is next, among the first jobs of a table.
+-- The job whose turn is next among the first jobs of a table.
 use Rattle.std.specs.List.{Contains}
 use Rattle.std.proofs.Common.{◌≡◌, ℕ, ◌<◌, ◌≤◌, inl, inr, List, [], ◌∷◌, ◌++◌, slice_index_or, Option, Some, None, refl, sym, ap}
 use Rattle.std.proofs.Common.{◌∙◌, subst, append_assoc, arith}
@@ -12,13 +12,13 @@ use Rattle.jobs.specs.Table.{IsBefore, IsNextTurn, JobParts, Table, total_of}
 use Rattle.jobs.specs.declared.job.Job.{Job}
 use Rattle.jobs.proofs.MapLemmas.{found_among, less_before}
 
--- among these jobs this one is unfinished, and before every other that is
+-- among these jobs, this one is unfinished and comes before every other unfinished one
 pub record IsFirst (total : ℕ) (jobs : List (ℕ × JobParts)) (id : ℕ) (job : JobParts) : Type 0 where
   pub among : Contains jobs (id, job)
   pub unfinished : job.done < total
   pub first : All (λ other. other.1.done < total → IsBefore (id, job) other) jobs
 
--- among these jobs: the next one and how many of its segments are done, or that all are finished, and then the total
+-- among these jobs: the next one and its number of segments done; or no job, if all are finished, and the total
 abbrev pub FirstOf : ℕ → List (ℕ × JobParts) → Option ℕ → ℕ → Type 0
 FirstOf total jobs (Some id) least = (job : JobParts) × (job.done ≡ least) × IsFirst total jobs id job
 FirstOf total jobs None least = (least ≡ total) × All (λ entry. total ≤ entry.1.done) jobs
@@ -33,19 +33,19 @@ pub none_seen : {A : Type 0} (total : ℕ) (entries : List (ℕ × Job A)) (leas
     → IsNextSoFar total entries entries None least
 none_seen total entries least is = record { seen = []; split = refl; first = (is, λ k d inside. absurd (omega arith)) }
 
--- all that were seen have ids below that of one behind them
+-- all jobs seen have ids below that of a later one
 before_all : {A : Type 0} (seen : List (ℕ × Job A)) (id : ℕ) → AllByRecursion (λ (before : ℕ × Job A). before.0 < id) seen
     → All (λ other. other.0 < id) (jobs_of seen)
 before_all [] id below = All-nil _
 before_all (first ∷ seen) id below =
     All-cons (λ (other : ℕ × JobParts). other.0 < id) (first.0, parts_of first.1) (jobs_of seen) below.0 (before_all seen id below.1)
 
--- the first of these jobs is no further than the total
+-- the next of these jobs has at most the total number of segments done
 least-le : (total : ℕ) (jobs : List (ℕ × JobParts)) (next : Option ℕ) (least : ℕ) → FirstOf total jobs next least → least ≤ total
 least-le total jobs None least first = let is = first.0 in omega arith
 least-le total jobs (Some id) least (job, is, next) = let unfinished = next.unfinished in omega arith
 
--- a job behind these, with a greater id, that isn't further back
+-- a later job, with a greater id, that doesn't have fewer segments done
 first_kept : (total : ℕ) (jobs : List (ℕ × JobParts)) (next : Option ℕ) (least : ℕ) (entry : ℕ × JobParts)
     → All (λ other. other.0 < entry.0) jobs → least ≤ entry.1.done → FirstOf total jobs next least
     → FirstOf total (jobs ++ entry ∷ []) next least
@@ -71,7 +71,7 @@ first_kept total jobs (Some id) least entry below further (job, is, next) = (
     before (inl same) = inr (same, (let below = less in omega arith))
     before (inr nearer) = inl nearer
 
--- one that is further back
+-- a later job that has fewer segments done
 first_taken : (total : ℕ) (jobs : List (ℕ × JobParts)) (next : Option ℕ) (least : ℕ) (entry : ℕ × JobParts) → entry.1.done < least
     → FirstOf total jobs next least → FirstOf total (jobs ++ entry ∷ []) (Some entry.0) entry.1.done
 first_taken total jobs next least entry back first = (
@@ -126,7 +126,7 @@ module _ {A : Type 0} (total : ℕ) (entries : List (ℕ × Job A)) (entry : ℕ
         (first_taken total (jobs_of so_far.seen) next least (entry.0, parts_of entry.1) back so_far.first);
   }
 
--- of all jobs
+-- the next of all jobs
 pub all_seen : {A : Type 0} (total : ℕ) (entries left : List (ℕ × Job A)) (next : Option ℕ) (least : ℕ)
     → IsNextSoFar total entries left next least → left ≡ [] → FirstOf total (jobs_of entries) next least
 all_seen total entries left next least so_far none =

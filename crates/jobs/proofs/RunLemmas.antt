@@ -1,4 +1,4 @@
--- Runs of a table: by each step every open job stays what its own submission and its own turns make of it.
+-- Runs of a table: after each step, every open job is the result of its own submission and its own turns.
 use Rattle.std.proofs.Common.{◌≡◌, ◌≢◌, ℕ, zero, suc, ◌+◌, ◌*◌, ◌<◌, ◌≤◌, nat_eq, inl, inr, List, [], ◌∷◌, ◌++◌, length, take, min, Some}
 use Rattle.std.proofs.Common.{None, refl, sym, ap, ◌∙◌, subst, append_assoc, arith}
 use Rattle.std.specs.List.{cons_option, range_with_len}
@@ -25,7 +25,7 @@ use Rattle.jobs.specs.Inside.{Ascend}
 use Rattle.jobs.proofs.MapLemmas.{Ascend-push, Ascend-remove, Ascend-set, found_changed, found_pushed, found_removed, found_within}
 use Rattle.jobs.proofs.SegmentLemmas.{extract_turned}
 
--- What holds of a table after the exchanges of a run so far.
+-- The invariant of a table after the exchanges of a run so far.
 pub record IsSoFar (counties : List CountyParts) (past : List Exchange) (table : Table) : Type 0 where
   pub over : table.counties ≡ counties
   pub ids : ids_given past ≡ range_with_len 1 table.last_id
@@ -42,7 +42,7 @@ nothing_so_far counties = record {
   own = λ id job found. cc;
 }
 
--- one exchange more
+-- one more exchange
 
 abbrev pub exchange_of : Event → Reply → Exchange
 exchange_of event reply = record { event = event; reply = reply }
@@ -79,7 +79,7 @@ range-push from (suc count) =
     ∙ ap (λ n. range_with_len (from + 1) count ++ n ∷ []) {x = from + 1 + count} {y = from + suc count} (omega arith))
 
 module _ (counties : List CountyParts) (past : List Exchange) (event : Event) (reply : Reply) where
-  -- what is a job's own, where the exchange isn't about it
+  -- a job, if the exchange isn't about it
   own_kept : (id : ℕ) (job : JobParts) → program_of id event reply ≡ None → turn_count id event reply ≡ 0 → IsOwn counties past id job
       → IsOwn counties (past ++ exchange_of event reply ∷ []) id job
   own_kept id job no_program no_turn own = record {
@@ -92,7 +92,7 @@ module _ (counties : List CountyParts) (past : List Exchange) (event : Event) (r
     rows = own.rows;
   }
 
-  -- where it is a turn of it
+  -- a job, if the exchange is a turn of it
   own_turned : (id : ℕ) (old new : JobParts) → program_of id event reply ≡ None → turn_count id event reply ≡ 1 → new.code ≡ old.code
       → Advances old.code (segments_of counties) old.done old.rows new.done new.rows → IsOwn counties past id old
       → IsOwn counties (past ++ exchange_of event reply ∷ []) id new
@@ -110,7 +110,7 @@ module _ (counties : List CountyParts) (past : List Exchange) (event : Event) (r
         (extract_turned own.chosen own.rows advances);
   }
 
-  -- where it is its submission
+  -- a job, if the exchange is its submission
   own_new : (id : ℕ) (program : List ℕ) (code : List Insn) → program_of id event reply ≡ Some program → turn_count id event reply ≡ 0
       → programs_of id past ≡ [] → turns_of id past ≡ 0 → IsSafeProgram program code
       → IsOwn counties (past ++ exchange_of event reply ∷ []) id (new_job code)
@@ -124,7 +124,7 @@ module _ (counties : List CountyParts) (past : List Exchange) (event : Event) (r
     rows = (refl, refl);
   }
 
-  -- an exchange that gives no id and moves no job, and after which each open job was there before
+  -- an exchange that assigns no id and advances no job, and after which each open job was there before
   module _ (old new : Table) (so_far : IsSoFar counties past old) where
     pub nothing_given : given_id event reply ≡ None → ((id : ℕ) → program_of id event reply ≡ None)
         → ((id : ℕ) → turn_count id event reply ≡ 0) → new.counties ≡ old.counties → new.last_id ≡ old.last_id
@@ -148,7 +148,7 @@ unchanged {counties} {past} event reply {old} so_far no_id no_program no_turn sa
     subst (λ table. IsSoFar counties (past ++ exchange_of event reply ∷ []) table) (sym same)
     (nothing_given counties past event reply old old so_far no_id no_program no_turn refl refl so_far.ascend (λ id job found. found))
 
--- one step more
+-- one more step
 step_more : (counties : List CountyParts) (past : List Exchange) (event : Event) (reply : Reply) (old new : Table)
     → IsSoFar counties past old → Step old event reply new → IsSoFar counties (past ++ exchange_of event reply ∷ []) new
 step_more counties past (Submit program) (Submitted id) old new so_far (room, next, code, safe, is) =
@@ -235,7 +235,7 @@ step_more counties past (Drop id) Dropped old new so_far (there, is) =
     (Ascend-remove (nat_eq id) 0 old.jobs old.last_id so_far.ascend)
     (λ q job found. found_removed old.jobs old.last_id id q job so_far.ascend found))
 step_more counties past (Drop id) (Refused NoJob) old new so_far step = unchanged _ _ so_far refl (λ id. refl) (λ id. refl) step.1
--- no other replies are given
+-- there are no other replies
 step_more counties past event reply old new so_far none = absurd none
 
 -- the rest of a run
@@ -248,12 +248,12 @@ run_more counties past (exchange ∷ exchanges) old new so_far (now, step, run) 
     (run_more counties (past ++ exchange ∷ []) exchanges now new
     (step_more counties past exchange.event exchange.reply old now so_far step) run)
 
--- a whole run, from a table with no job
+-- a complete run, from a table with no jobs
 pub whole_run : (counties : List CountyParts) (exchanges : List Exchange) (table : Table) → IsRun (empty_table counties) exchanges table
     → IsSoFar counties exchanges table
 whole_run counties exchanges table run = run_more counties [] exchanges (empty_table counties) table (nothing_so_far counties) run
 
--- jobs of the same program with as many turns are the same
+-- jobs with the same program and the same number of turns are equal
 pub own_alike : {counties : List CountyParts} {exchanges others : List Exchange} {id other_id : ℕ} {job other : JobParts}
     → programs_of id exchanges ≡ programs_of other_id others → turns_of id exchanges ≡ turns_of other_id others
     → IsOwn counties exchanges id job → IsOwn counties others other_id other → job ≡ other
@@ -273,7 +273,7 @@ own_alike {counties} {job} {other} programs turns own also =
     same_first : (program other : List ℕ) → program ∷ [] ≡ other ∷ [] → program ≡ other
     same_first program other is = cc
 
--- a step behind a run
+-- a step after a run
 pub run_push : (old now new : Table) (exchanges : List Exchange) (event : Event) (reply : Reply) → IsRun old exchanges now
     → Step now event reply new → IsRun old (exchanges ++ exchange_of event reply ∷ []) new
 run_push old now new [] event reply same step =

@@ -1,4 +1,4 @@
--- Where a job stands among segments, and how its rows grow by a turn.
+-- A job's position among segments, and the rows that a turn adds.
 use Rattle.std.specs.List.{Contains}
 use Rattle.std.proofs.Common.{◌≡◌, ℕ, zero, suc, ◌+◌, ◌-◌, ◌*◌, ◌^◌, ◌<◌, ◌≤◌, nat_lt, true, List, [], ◌∷◌, ◌++◌, length, take, drop, min}
 use Rattle.std.proofs.Common.{slice_index_or, refl, sym, ap, ◌∙◌, subst, append_assoc, arith}
@@ -18,28 +18,28 @@ use Rattle.jobs.specs.Segments.{Advances, WantsRow, segments_of}
 use Rattle.jobs.specs.declared.position.Position.{Position}
 use Rattle.jobs.specs.declared.turn.TheConstants.{SEGMENTS_PER_TURN}
 
--- what is behind an element
+-- the list from an element on
 pub drop_item : {X : Type 0} (xs : List X) (i : ℕ) (d x : X) → i < length xs → x ≡ slice_index_or xs i d → drop i xs ≡ x ∷ drop (i + 1) xs
 drop_item xs i d x inside is = drop_more xs i d inside ∙ ap (λ found. found ∷ drop (i + 1) xs) (sym is)
 
--- the same where one was looked up
+-- the list from an element that was looked up
 pub drop_found : {X : Type 0} (xs : List X) (i : ℕ) (d x : X) → true ≡ nat_lt i (length xs) → x ≡ slice_index_or xs i d
     → drop i xs ≡ x ∷ drop (i + 1) xs
 drop_found xs i d x inside is = drop_item xs i d x (grind (arith, nat_tests)) is
 
--- at the beginning of counties are all their segments
+-- at the start of counties, all their segments are left
 pub behind_none : (counties : List CountyParts) → segments_behind 0 counties ≡ segments_of counties
 behind_none [] = refl
 behind_none (county ∷ counties) = refl
 
--- within the first county the others are whole
+-- a position in the first county leaves all segments of the other counties
 pub behind_within : (segment : ℕ) (county : CountyParts) (counties : List CountyParts) → segment ≤ length county.segments
     → segments_behind segment (county ∷ counties) ≡ drop segment (segments_of (county ∷ counties))
 behind_within segment county counties within = sym (drop-append-le segment county.segments (segments_of counties) within)
 
 module _ (counties : List CountyParts) (done at segment : ℕ) (county : CountyParts)
     (here : drop at counties ≡ county ∷ drop (at + 1) counties) where
-  -- the next segment, and what is left behind it
+  -- the next segment, and those left after it
   pub left_found : (found : Contents) → drop segment county.segments ≡ found ∷ drop (segment + 1) county.segments
       → left_at counties (record { done = done; county = at; segment = segment }) ≡ found ∷ left_at counties
       (record { done = done + 1; county = at; segment = segment + 1 })
@@ -48,7 +48,7 @@ module _ (counties : List CountyParts) (done at segment : ℕ) (county : CountyP
       ∙ ap (λ (front : List Contents). front ++ segments_of (drop (at + 1) counties)) is
       ∙ ap (λ counties. found ∷ segments_behind (segment + 1) counties) (sym here)
 
-  -- a county behind whose last segment nothing is left is passed over
+  -- a county with no segments left is skipped
   pub left_passed : length county.segments ≤ segment → left_at counties (record { done = done; county = at; segment = segment }) ≡ left_at
       counties (record { done = done; county = at + 1; segment = 0 })
   left_passed none =
@@ -56,7 +56,7 @@ module _ (counties : List CountyParts) (done at segment : ℕ) (county : CountyP
       ∙ ap (λ (front : List Contents). front ++ segments_of (drop (at + 1) counties)) (drop_all segment county.segments none)
       ∙ sym (behind_none (drop (at + 1) counties))
 
--- the segments of one county more, each of which has fewer than 2^32
+-- the segments of one more county, each of which has fewer than 2^32
 pub segments_more : (counties : List CountyParts) (i : ℕ) (county : CountyParts) (total : ℕ) → i < length counties
     → county ≡ slice_index_or counties i county → (total ≡ length (segments_of (take i counties))) × (total ≤ i * 2 ^ 32)
     → length county.segments < 2 ^ 32 → (total + length county.segments ≡ length (segments_of (take (i + 1) counties)))
@@ -73,7 +73,7 @@ segments_more counties i county total inside is so_far few =
     let below = so_far.1 in
     ((omega (arith, count)), omega arith)
 
--- Behind all segments of so many counties, which are done, this many more of the others are.
+-- After all segments of the first `number` counties, which are done, `left` more segments of the other counties are done.
 pub record IsLeftBehind (counties : List CountyParts) (done number left : ℕ) : Type 0 where
   pub few : left ≤ length (segments_of (drop number counties))
   pub rest : drop done (segments_of counties) ≡ drop left (segments_of (drop number counties))
@@ -83,7 +83,7 @@ all_behind counties done within = record { few = within; rest = refl }
 
 module _ (counties : List CountyParts) (done number left : ℕ) (county : CountyParts)
     (left_here : drop number counties ≡ county ∷ drop (number + 1) counties) (behind : IsLeftBehind counties done number left) where
-  -- a county of which all segments are done
+  -- a county whose segments are all done
   pub behind_county : length county.segments ≤ left → IsLeftBehind counties done (number + 1) (left - length county.segments)
   behind_county whole =
       let others = segments_of (drop (number + 1) counties) in
@@ -99,7 +99,7 @@ module _ (counties : List CountyParts) (done number left : ℕ) (county : County
             ∙ drop-append-add county.segments others (left - length county.segments);
       }
 
-  -- a county of which some aren't
+  -- a county with segments that aren't done
   pub position_here : length (segments_of counties) < 2 ^ 64 → done ≤ length (segments_of counties) → left < length county.segments
       → IsPositionIn counties (record { done = done; county = number; segment = left })
   position_here few within some = record {
@@ -128,7 +128,7 @@ position_end counties done number left behind last few within =
           ∙ sym behind.rest;
     }
 
--- a position behind one segment more
+-- the position after one more segment
 pub position_more : (counties : List CountyParts) (old new : Position) (segment : Contents) → IsPositionIn counties old
     → left_at counties old ≡ segment ∷ left_at counties new → new.done ≡ old.done + 1 → IsPositionIn counties new
 position_more counties old new segment is left done =
@@ -149,7 +149,7 @@ position_more counties old new segment is left done =
     tail (first ∷ xs) zero x rest is = cc
     tail (first ∷ xs) (suc i) x rest is = tail xs i x rest is
 
--- an element within the first ones is among them
+-- an element at an index below `n` is among the first `n`
 next_among : {X : Type 0} (front : List X) (x : X) (back : List X) (n : ℕ) → length front < n → Contains (take n (front ++ x ∷ back)) x
 next_among {X = X} front x back n within =
     let whole : length (front ++ x ∷ back) ≡ length front + suc (length back) = length-append front (x ∷ back) in
@@ -163,7 +163,7 @@ next_among {X = X} front x back n within =
     at_end [] = refl
     at_end (first ∷ front) = at_end front
 
--- So many segments were gone over from a position, and the rows that the code chooses of them appended.
+-- The next `count` segments from a position were processed, and the rows that the code selects from them were appended.
 pub record IsTurnedSoFar (code : List Insn) (counties : List CountyParts) (from now : Position) (count : ℕ)
     (rows new_rows : List ℕ) : Type 0 where
   pub seen : List Contents
@@ -205,7 +205,7 @@ module _ (code : List Insn) (counties : List CountyParts) (from now : Position) 
         ∙ append_assoc rows so_far.text (row_if_chosen answer score segment);
   }
 
-  -- how many segments were left
+  -- the number of segments that were left
   left_count : length (segments_of counties) - from.done ≡ count + length (left_at counties now)
   left_count =
       sym (length-drop from.done (segments_of counties))
@@ -213,7 +213,7 @@ module _ (code : List Insn) (counties : List CountyParts) (from now : Position) 
       ∙ length-append so_far.seen (left_at counties now)
       ∙ ap (λ n. n + length (left_at counties now)) so_far.counted
 
-  -- the segments that were gone over are those of a turn
+  -- the segments that were processed are those of a turn
   turned : now.done ≡ min (length (segments_of counties)) (from.done + SEGMENTS_PER_TURN)
       → take SEGMENTS_PER_TURN (so_far.seen ++ left_at counties now) ≡ so_far.seen
       → Advances code (segments_of counties) from.done rows now.done new_rows
@@ -226,20 +226,20 @@ module _ (code : List Insn) (counties : List CountyParts) (from now : Position) 
     appended = so_far.appended;
   }
 
-  -- a whole turn
+  -- a complete turn
   pub turn_whole : from.done ≤ length (segments_of counties) → count ≡ SEGMENTS_PER_TURN
       → Advances code (segments_of counties) from.done rows now.done new_rows
   turn_whole within whole = turned (let count = left_count in let done = so_far.done in grind (arith))
       (take_at so_far.seen (left_at counties now) SEGMENTS_PER_TURN (so_far.counted ∙ whole))
 
-  -- a turn of the rest
+  -- a turn over all segments that were left
   pub turn_of_rest : from.done ≤ length (segments_of counties) → count ≤ SEGMENTS_PER_TURN → left_at counties now ≡ []
       → Advances code (segments_of counties) from.done rows now.done new_rows
   turn_of_rest within few none = turned
       (let count = left_count in let ended = ap (λ (xs : List Contents). length xs) none in let done = so_far.done in grind (arith))
       (rw (none, append-nil) (take_all SEGMENTS_PER_TURN so_far.seen (let counted = so_far.counted in omega arith)))
 
-  -- where memory is wanting for the row of the next segment
+  -- an allocation fails for the row of the next segment
   pub turn_wants : (segment : Contents) (others : List Contents) → left_at counties now ≡ segment ∷ others → count < SEGMENTS_PER_TURN
       → IsChosen code segment → WantsRow code (segments_of counties) from.done
   turn_wants segment others left few chosen = (
@@ -249,11 +249,11 @@ module _ (code : List Insn) (counties : List CountyParts) (from now : Position) 
     chosen,
   )
 
-  -- where memory is wanting, what was appended is taken off again
+  -- if an allocation fails, the appended rows are removed
   pub taken_off : take (length rows) new_rows ≡ rows
   taken_off = ap (λ rows'. take (length rows) rows') so_far.appended ∙ take_at rows so_far.text (length rows) refl
 
--- the extract of the segments that are done, where those of a turn are added
+-- the extract of the segments done, with those of a turn added
 pub extract_turned : {code : List Insn} {segments : List Contents} {done new_done : ℕ} {rows new_rows : List ℕ} (chosen : ℕ)
     → IsExtract code (take done segments) rows chosen → (advances : Advances code segments done rows new_done new_rows)
     → IsExtract code (take new_done segments) new_rows (chosen + advances.chosen)

@@ -1,4 +1,4 @@
--- What a change of a map of jobs does to the table that it stands for.
+-- The effect of a change to a map of jobs on the table that it stands for.
 use Rattle.std.proofs.Common.{◌≡◌, ◌≢◌, ℕ, ◌+◌, ◌-◌, ◌^◌, ◌<◌, nat_eq, inl, inr, List, [], ◌∷◌, ◌++◌, length, Option, Some, sym, ap, ◌∙◌}
 use Rattle.std.proofs.Common.{subst, arith}
 use Rattle.std.specs.BTreeMap.{insert_entry, is_at}
@@ -24,7 +24,7 @@ module _ {A : Type 0} (counties : List CountyParts) (total : ℕ) (entries : Lis
   same_counties others new_id ascend positions =
       record { within = is.within; counted = is.counted; few = is.few; ascend = ascend; positions = positions }
 
-  -- one job more
+  -- one more job
   pub table_pushed : (job : Job A) → IsPositionIn counties job.position
       → IsTable counties total (insert_entry nat_cmp entries (last_id + 1) job) (last_id + 1)
   table_pushed job position = same_counties _ _
@@ -48,7 +48,7 @@ module _ {A : Type 0} (counties : List CountyParts) (total : ℕ) (entries : Lis
       (parts_of job)
   jobs_changed id job = set_value-seen parts_of id entries job
 
-  -- one job become another that is seen alike
+  -- a job replaced by one that looks the same
   pub jobs_unchanged : (id : ℕ) (old new : Job A) → Some old ≡ lookup (is_at (nat_cmp id)) entries → parts_of new ≡ parts_of old
       → jobs_of (set_value (is_at (nat_cmp id)) entries new) ≡ jobs_of entries
   jobs_unchanged id old new found same =
@@ -57,7 +57,7 @@ module _ {A : Type 0} (counties : List CountyParts) (total : ℕ) (entries : Lis
       ∙ sym (jobs_changed id old)
       ∙ ap jobs_of (set_value_same (is_at (nat_cmp id)) entries old (sym found))
 
-  -- one job less
+  -- one job fewer
   pub table_removed : (id : ℕ) → IsTable counties total (remove_entry (is_at (nat_cmp id)) entries) last_id
   table_removed id = same_counties _ _ (Ascend-remove (is_at (nat_cmp id)) 0 entries last_id is.ascend)
       (All-map-remove_entry (is_at (nat_cmp id)) (λ (e : ℕ × Job A). e.1) (λ (job : Job A). IsPositionIn counties job.position) entries

@@ -1,4 +1,4 @@
--- What is replied to a submission is told of the table and the program, want of memory aside.
+-- Unless an allocation fails, the reply to a submission depends only on the table and the program.
 use Rattle.std.proofs.Common.{◌≡◌, ◌≢◌, ℕ, List, refl, sym, ap, ◌∙◌}
 use Rattle.extract.proofs.VerdictLemmas as verdict
 use Rattle.std.specs.Borrow.{Bor}

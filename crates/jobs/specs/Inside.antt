@@ -1,4 +1,4 @@
--- Inside the crate: where a job stands among segments; what a table's map of jobs stands for, and what always holds of it.
+-- Internal definitions: a job's position among segments, the table that a map of jobs stands for, and its invariant.
 use Rattle.std.specs.Prelude.{◌≡◌, ℕ, ◌^◌, ◌<◌, ◌≤◌, List, [], ◌∷◌, ◌++◌, length, drop, map, All}
 use Rattle.std.specs.Map.{values_of}
 use Rattle.tl_segments.specs.County.{CountyParts}
@@ -9,22 +9,22 @@ use Rattle.jobs.specs.declared.job.Job.{Job}
 use Rattle.jobs.specs.declared.position.Position.{Position}
 use Rattle.jobs.specs.declared.position.TheConstants.{COUNTY_LIMIT}
 
--- the segments of the first county behind so many, and those of the others
+-- the segments of the first county without its first `segment` ones, and those of the other counties
 abbrev pub segments_behind : ℕ → List CountyParts → List Contents
 segments_behind segment [] = []
 segments_behind segment (county ∷ counties) = drop segment county.segments ++ segments_of counties
 
--- the segments that are left at a position
+-- the segments left at a position
 abbrev pub left_at : List CountyParts → Position → List Contents
 left_at counties position = segments_behind position.segment (drop position.county counties)
 
--- a position stands behind the segments that are done, of counties whose segments can be counted in 64 bits
+-- a position after the segments that are done, in counties whose segments can be counted in 64 bits
 pub record IsPositionIn (counties : List CountyParts) (position : Position) : Type 0 where
   pub within : position.done ≤ length (segments_of counties)
   pub few : length (segments_of counties) < 2 ^ 64
   pub left : left_at counties position ≡ drop position.done (segments_of counties)
 
--- what a job is to contracts: its machine isn't kept, and how it finds its next segment isn't seen
+-- a job as contracts see it: without its machine and without the way it finds its next segment
 abbrev pub parts_of : {A : Type 0} → Job A → JobParts
 parts_of job = record { code = job.verified.code; done = job.position.done; rows = job.rows.items }
 
@@ -37,7 +37,8 @@ abbrev pub Ascend : {X : Type 0} → ℕ → List (ℕ × X) → ℕ → Type 0
 Ascend low [] high = Unit {0}
 Ascend low (entry ∷ entries) high = (low < entry.0) × (entry.0 ≤ high) × Ascend entry.0 entries high
 
--- There are few counties, and the total is that of their segments; ids ascend, up to the last one at most; each job stands where its number of segments says.
+-- The counties are within the limit, and the total is the number of their segments. Ids ascend, up to at most the last one. Each job's position
+-- agrees with its number of segments.
 pub record IsTable {A : Type 0} (counties : List CountyParts) (total : ℕ) (entries : List (ℕ × Job A)) (last_id : ℕ) : Type 0 where
   pub within : length counties ≤ COUNTY_LIMIT
   pub counted : total ≡ length (segments_of counties)

@@ -1,4 +1,4 @@
--- The refusal of a table of jobs, and its line of text.
+-- The refusal by a table of jobs, and its line of text.
 use Rattle.std.specs.Prelude.{ℕ, List, codes}
 use Rattle.refusals.specs.Refusal.{RefusalParts, line as refusal_line, memory, refused}
 use Rattle.extract.specs.ProgramFault as program_fault
@@ -7,7 +7,7 @@ use Rattle.extract.specs.declared.program.ProgramFault.TheVariants as program_va
 use Rattle.jobs.specs.declared.fault.JobFault.{JobFault}
 use Rattle.jobs.specs.declared.fault.JobFault.TheVariants.{Full, NoJob, Program, Memory}
 
--- want of memory is one fault, wherever it came from
+-- a failed allocation is one fault, wherever it happens
 abbrev pub of_program : ProgramFault → JobFault
 of_program program_variant.Memory = Memory
 of_program fault = Program fault

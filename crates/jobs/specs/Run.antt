@@ -1,4 +1,4 @@
--- Runs of a table of jobs, and what a job owes to its own submission and its own turns.
+-- Runs of a table of jobs, and the effect of a job's own submission and its own turns.
 use Rattle.std.specs.Prelude.{◌≡◌, ℕ, ◌+◌, ◌*◌, List, [], ◌∷◌, length, take, min, Option, Some, None, ◌==◌, if◌then◌else◌}
 use Rattle.std.specs.List.{filter_map}
 use Rattle.bpf_meaning.specs.Extract.{IsExtract}
@@ -22,12 +22,12 @@ abbrev pub IsRun : Table → List Exchange → Table → Type 0
 IsRun old [] new = new ≡ old
 IsRun old (exchange ∷ exchanges) new = (now : Table) × Step old exchange.event exchange.reply now × IsRun now exchanges new
 
--- the id that an exchange gave
+-- the id that an exchange assigned
 abbrev pub given_id : Event → Reply → Option ℕ
 given_id (Submit program) (Submitted id) = Some id
 given_id event reply = None
 
--- the ids that were given, in order
+-- the assigned ids, in order
 abbrev pub ids_given : List Exchange → List ℕ
 ids_given exchanges = filter_map (λ exchange. given_id exchange.event exchange.reply) exchanges
 
@@ -40,18 +40,18 @@ program_of id event reply = None
 abbrev pub programs_of : ℕ → List Exchange → List (List ℕ)
 programs_of id exchanges = filter_map (λ exchange. program_of id exchange.event exchange.reply) exchanges
 
--- 1 for a turn of the job with this id that was answered with how far it is
+-- 1 for an answered turn of the job with this id, otherwise 0
 abbrev pub turn_count : ℕ → Event → Reply → ℕ
 turn_count id (Turn turned) (Turned done total) = if turned == id then 1 else 0
 turn_count id event reply = 0
 
--- how many turns of the job with this id were answered so
+-- the number of answered turns of the job with this id
 abbrev pub turns_of : ℕ → List Exchange → ℕ
 turns_of id [] = 0
 turns_of id (exchange ∷ exchanges) = turn_count id exchange.event exchange.reply + turns_of id exchanges
 
--- A job is what its own submission and its own turns make of it: its code is that of the one program that was submitted and answered with its
--- id; as many segments are done as its turns make, and no more than there are; its rows are the extract of its code over these.
+-- A job is the result of its own submission and its own turns. Its code is that of the only program whose submission was answered with its id. The
+-- number of segments done follows from its turns, and is at most the total; its rows are the extract of its code over these segments.
 pub record IsOwn (counties : List CountyParts) (exchanges : List Exchange) (id : ℕ) (job : JobParts) : Type 0 where
   pub program : List ℕ
   pub submitted : programs_of id exchanges ≡ program ∷ []

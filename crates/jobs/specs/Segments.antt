@@ -1,4 +1,4 @@
--- The segments of counties, and how an extract of them goes on by a turn.
+-- The segments of counties, and an extract that advances by a turn.
 use Rattle.std.specs.Prelude.{◌≡◌, ℕ, ◌+◌, List, ◌++◌, length, take, drop, min, Contains}
 use Rattle.std.specs.List.{flat_map}
 use Rattle.bpf_insn.specs.declared.instruction.Insn.{Insn}
@@ -8,15 +8,15 @@ use Rattle.tl_segments.specs.County.{CountyParts}
 use Rattle.tl_segments.specs.Segment.{Contents}
 use Rattle.jobs.specs.declared.turn.TheConstants.{SEGMENTS_PER_TURN}
 
--- the segments of all counties, in their order
+-- the segments of all counties, in order
 abbrev pub segments_of : List CountyParts → List Contents
 segments_of counties = flat_map (λ county. county.segments) counties
 
--- the segments of a turn: the next ones behind so many, as many as a turn has or the rest
+-- the segments of a turn: the next ones after the first `done`, as many as a turn has, or all that are left
 abbrev pub next_segments : List Contents → ℕ → List Contents
 next_segments segments done = take SEGMENTS_PER_TURN (drop done segments)
 
--- Behind so many segments the extract of those of a turn was appended to the rows.
+-- After the first `done` segments, the extract of a turn's segments was appended to the rows.
 pub record Advances (code : List Insn) (segments : List Contents) (done : ℕ) (rows : List ℕ) (new_done : ℕ) (new_rows : List ℕ) : Type 0 where
   pub moved : new_done ≡ min (length segments) (done + SEGMENTS_PER_TURN)
   pub text : List ℕ
@@ -24,6 +24,6 @@ pub record Advances (code : List Insn) (segments : List Contents) (done : ℕ) (
   pub is_extract : IsExtract code (next_segments segments done) text chosen
   pub appended : new_rows ≡ rows ++ text
 
--- a row wants memory: the code chooses one of a turn's segments
+-- a row needs memory: the code selects one of a turn's segments
 abbrev pub WantsRow : List Insn → List Contents → ℕ → Type 0
 WantsRow code segments done = (segment : Contents) × Contains (next_segments segments done) segment × IsChosen code segment

@@ -1,38 +1,38 @@
-//! What may be asked of a table of jobs, and what it replies.
+//! The events of a table of jobs, and its replies.
 
 use crate::fault::JobFault;
 
-/// What is asked of a table of jobs.
+/// A request to a table of jobs.
 #[derive(Clone, Copy)]
 pub enum Event<'a> {
-    /// A job is to be opened for the program with these bytes.
+    /// The submission of the program with these bytes as a job.
     Submit(&'a [u8]),
-    /// The job with this id is to go on by a turn.
+    /// A turn of the job with this id.
     Turn(u64),
-    /// How far the job with this id is, and its rows.
+    /// A request for the progress and the rows of the job with this id.
     Fetch(u64),
-    /// The job with this id is to be removed, with its rows.
+    /// The removal of the job with this id and its rows.
     Drop(u64),
 }
 
-/// What a table of jobs replies. Of a job with `total` segments to go over, `done` are done.
+/// A reply of a table of jobs. Of the `total` segments of a job, `done` have been processed.
 #[derive(Clone, Copy, PartialEq, Eq)]
 pub enum Reply<'a> {
-    /// To a submission: the id of the job that was opened, counted from 1.
+    /// For a submission: the id of the job that was opened, counted from 1.
     Submitted(u64),
-    /// To a turn.
+    /// For a turn.
     Turned {
         done: u64,
         total: u64,
     },
-    /// To a fetch. The rows are lent: no byte of them is copied.
+    /// For a fetch. The rows are borrowed: no byte of them is copied.
     Rows {
         done: u64,
         total: u64,
         rows: &'a [u8],
     },
-    /// To a removal.
+    /// For a removal.
     Dropped,
-    /// To any of them: why it wasn't done. The table is as it was.
+    /// For any request: why it was refused. The table is unchanged.
     Refused(JobFault),
 }

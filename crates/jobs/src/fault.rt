@@ -1,4 +1,4 @@
-//! Why a table of jobs refuses what is asked.
+//! Why a table of jobs refuses a request.
 ghost use Rattle.std.specs.Prelude.{◌≡◌};
 ghost use Rattle.jobs.specs.JobFault as job_fault;
 ghost use Rattle.jobs.specs.JobFault.{of_program};
@@ -10,16 +10,16 @@ use refusals::{Fault, Refusal};
 use std::alloc::{AllocError, AllocFailed};
 use thiserror::Error;
 
-/// Why a table of jobs refuses what is asked.
+/// Why a table of jobs refuses a request.
 #[derive(Clone, Copy, Debug, PartialEq, Eq, Error)]
 pub enum JobFault {
-    /// As many jobs are open as may be, or the last of the ids was given.
+    /// The limit of open jobs is reached, or the greatest id was assigned.
     #[error("no job can be opened")]
     Full,
     /// No open job has this id.
     #[error("no such job")]
     NoJob,
-    /// The program isn't accepted. This is never want of memory.
+    /// The program isn't accepted. This is never an allocation failure.
     #[error("{0}")]
     Program(ProgramFault),
     #[error("out of memory")]
@@ -54,7 +54,7 @@ impl<T: Drop> From<AllocFailed<T>> for JobFault {
 }
 
 impl JobFault {
-    /// Returns the fault as a refusal. That of a refused program has one number, whatever the program's own.
+    /// Returns the fault as a refusal. All refused programs have the same number, whatever that of their own refusal.
     pub fn refusal(&self) -> Refusal
         ensures { result ≡ job_fault.refusal self.now }
     {
@@ -66,7 +66,8 @@ impl JobFault {
         }
     }
 
-    /// Returns the refusal's line of text, without an end of line: of a refused program, its own. It takes no memory.
+    /// Returns the refusal's line of text, without a line end. For a refused program, it's the line of the program's own refusal. It doesn't
+    /// allocate.
     pub fn line(&self) -> ArrayString<64>
         ensures { result.bytes ≡ job_fault.line self.now }
     {

@@ -1,4 +1,4 @@
-//! One job of a table.
+//! A job of a table.
 ghost use Rattle.std.specs.Prelude.{◌≡◌, ℕ, ◌^◌, ◌<◌, List, length, OnErr, OnOk};
 ghost use Rattle.tl_segments.specs.County.{CountyParts};
 ghost use Rattle.jobs.specs.Inside.{IsPositionIn, parts_of};
@@ -11,7 +11,7 @@ use bpf_verify::Verified;
 use std::alloc::{AllocError, Allocator};
 use tl_segments::County;
 
-/// A job: its program, where it stands, and its rows so far. A turn runs the program in a machine of its own, which isn't kept.
+/// A job: its program, its position, and its rows so far. Each turn runs the program in a fresh machine.
 #[derive(Drop)]
 pub(crate) struct Job<A: Allocator> {
     pub verified: Verified<A>,
@@ -20,7 +20,7 @@ pub(crate) struct Job<A: Allocator> {
 }
 
 impl<A: Allocator> Job<A> {
-    /// A job before its first turn.
+    /// Returns a job before its first turn.
     pub fn of(alloc: A, verified: Verified<A>) -> Self
         ensures parts { parts_of result ≡ new_job verified.code }
         ensures position { (counties : List CountyParts) → length (segments_of counties) < 2 ^ 64 → IsPositionIn counties result.position }
@@ -32,7 +32,7 @@ impl<A: Allocator> Job<A> {
         }
     }
 
-    /// Goes on by a turn. Where memory is wanting it stays as it was.
+    /// Advances by a turn. If an allocation fails, the job is unchanged.
     pub fn go_on(&mut self, counties: &[County<A>]) -> Result<(), AllocError>
         requires { IsPositionIn counties.now self.old.position }
         ensures position { IsPositionIn counties.now self.new.position }

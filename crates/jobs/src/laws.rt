@@ -1,4 +1,4 @@
-//! Laws, each the contract of a function that does nothing.
+//! Laws over the definitions, as contracts of functions that do nothing.
 ghost use Rattle.std.specs.Prelude.{◌≡◌, ◌≢◌, ℕ, List, [], ◌∷◌, ◌++◌, Some, Contains};
 ghost use Rattle.std.specs.Borrow.{Bor};
 ghost use Rattle.std.specs.List.{range_with_len};
@@ -14,18 +14,19 @@ ghost use Rattle.jobs.specs.declared.position.TheConstants.{COUNTY_LIMIT};
 ghost use Rattle.jobs.specs.declared.table.TheConstants.{JOB_LIMIT};
 ghost use Rattle.jobs.specs.declared.turn.TheConstants.{SEGMENTS_PER_TURN};
 
-/// The limits of a table, and of a turn.
+/// The limits of a table and of a turn.
 pub fn limits()
     ensures jobs { JOB_LIMIT ≡ 64 }
     ensures counties { COUNTY_LIMIT ≡ 100000 }
     ensures turn { SEGMENTS_PER_TURN ≡ 256 }
 {}
 
-/// Whatever is asked of a table, in whatever order, and whatever it replies: each open job is what its own submission and its own turns make of it,
-/// and no program, refusal, turn or removal of another job is in that. Ids are 1, 2, 3 and on, each given once, and an open job has its id alone.
+/// Whatever is requested of a table, in whatever order, and whatever it replies, each open job is the result of its own submission and its own
+/// turns; no program, refusal, turn or removal of another job affects it. Ids are 1, 2, 3 and so on, each assigned once, and no two open jobs have
+/// the same id.
 ///
-/// So a job is the same, to the byte, as that of another run over the same counties which has as many turns and whose program is the same, whatever
-/// its id there, and whatever else is asked of either table.
+/// A job is therefore the same, byte for byte, as a job of another run over the same counties with the same program and the same number of turns,
+/// whatever its id there, and whatever else is requested of either table.
 pub fn runs()
     ensures own { (counties : List CountyParts) (exchanges : List Exchange) (table : Table) → IsRun (empty_table counties) exchanges table
         → (id : ℕ) (job : JobParts) → job_of table id ≡ Some job → IsOwn counties exchanges id job }
@@ -41,13 +42,13 @@ pub fn runs()
         → table.counties ≡ counties }
 {}
 
-/// A step behind a run makes a longer run. So what was asked of a table, call by call, and what it replied are a run from the table that it was at first.
+/// A step after a run makes a longer run. The calls of a table and their replies, in order, are therefore a run from the table's first state.
 pub fn runs_go_on()
     ensures { (old now new : Table) (exchanges : List Exchange) (event : Event) (reply : Reply)
         → IsRun old exchanges now → Step now event reply new → IsRun old (exchanges ++ record { event = event; reply = reply } ∷ []) new }
 {}
 
-/// Want of memory aside, one thing is replied to a submission: it is told of the table and of the program.
+/// Unless an allocation fails, a submission has only one possible reply, which depends on the table and the program.
 pub fn submissions()
     ensures { (old new again : Table) (program : Bor (List ℕ)) (reply other : Reply) → Step old (Submit program) reply new
         → Step old (Submit program) other again → reply ≢ Refused Memory → other ≢ Refused Memory → reply ≡ other }

@@ -1,4 +1,4 @@
-//! A table of jobs: extracts of counties that are made turn by turn, many under way at once, none of which sees another.
+//! A table of jobs: extracts of counties made turn by turn, many at the same time, each isolated from the others.
 #![tactic(auto)]
 
 mod event;

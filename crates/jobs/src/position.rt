@@ -1,4 +1,4 @@
-//! Where a job stands among the segments of counties.
+//! A job's position among the segments of counties.
 ghost use Rattle.std.specs.Prelude.{◌≡◌, ◌+◌, ◌^◌, ◌<◌, ◌≤◌, ◌∷◌, [], length, MatchOption};
 ghost use Rattle.jobs.specs.Inside.{IsPositionIn, left_at};
 ghost use Rattle.jobs.specs.Segments.{segments_of};
@@ -6,10 +6,10 @@ ghost use Rattle.jobs.specs.Segments.{segments_of};
 use std::alloc::Allocator;
 use tl_segments::{County, Segment};
 
-/// How many counties jobs go over at most.
+/// The greatest number of counties that jobs process.
 pub const COUNTY_LIMIT: usize = 100_000;
 
-/// How many segments counties have.
+/// Returns the number of segments of counties.
 pub(crate) fn count_segments<A: Allocator>(counties: &[County<A>]) -> u64
     requires { length counties.now ≤ COUNTY_LIMIT }
     ensures { result ≡ length (segments_of counties.now) }
@@ -21,19 +21,19 @@ pub(crate) fn count_segments<A: Allocator>(counties: &[County<A>]) -> u64
     total
 }
 
-/// Where a job stands: behind all segments of the counties before its own, and behind the first ones of its own.
+/// A job's position: after all segments of the counties before its own, and after the first ones of its own.
 #[derive(Clone, Copy)]
 pub(crate) struct Position {
-    /// How many segments are done in all.
+    /// The total number of segments done.
     pub done: u64,
     /// The county of the next segment, counted from 0.
     pub county: usize,
-    /// The next segment's number in it, counted from 0.
+    /// The index of the next segment in its county, counted from 0.
     pub segment: usize,
 }
 
 impl Position {
-    /// Before all segments.
+    /// Returns the position before all segments.
     pub fn start() -> Self
         ensures { result ≡ record { done = 0; county = 0; segment = 0 } }
     {
@@ -44,7 +44,7 @@ impl Position {
         }
     }
 
-    /// Behind so many segments: it goes over counties, but not over their segments.
+    /// Returns the position after `done` segments. Visits the counties, but not their segments.
     pub fn behind<A: Allocator>(done: u64, counties: &[County<A>]) -> Self
         requires within { done ≤ length (segments_of counties.now) }
         requires few { length (segments_of counties.now) < 2 ^ 64 }
@@ -70,7 +70,7 @@ impl Position {
         }
     }
 
-    /// The next segment, behind which it then stands, or `None` behind the last one.
+    /// Returns the next segment and moves past it, or returns `None` after the last one.
     #[inline]
     pub fn next<'a, A: Allocator>(&mut self, counties: &'a [County<A>]) -> Option<&'a Segment<A>>
         requires { IsPositionIn counties.now self.old }

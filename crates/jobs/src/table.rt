@@ -16,10 +16,10 @@ use std::collections::BTreeMap;
 use std::marker::Model;
 use tl_segments::County;
 
-/// How many jobs may be open at once.
+/// The greatest number of open jobs.
 pub const JOB_LIMIT: usize = 64;
 
-/// A table of jobs, each of which makes the extract of a program over all segments of the same counties, in the counties' order. Contracts see it
+/// A table of jobs, each of which makes a program's extract over all segments of the same counties, in the order of the counties. Contracts see it
 /// as a record with the fields `counties`, `jobs` and `last_id`.
 #[derive(Drop)]
 pub struct Jobs<A: Allocator> {
@@ -44,7 +44,7 @@ impl<A: Allocator> Model for Jobs<A> {
 impl<A: Allocator + Copy> Jobs<A> {
     ghost use Rattle.jobs.specs.contracts.table.Jobs.{the_row};
 
-    /// A table with no job, over counties, which it keeps. It takes no memory.
+    /// Returns a table with no jobs, and keeps the counties. It doesn't allocate.
     pub fn new(alloc: A, counties: Vec<County<A>, A>) -> Self
         requires { length counties.items ≤ COUNTY_LIMIT }
         ensures { result ≡ empty_table counties.items }
@@ -59,7 +59,7 @@ impl<A: Allocator + Copy> Jobs<A> {
         }
     }
 
-    /// The counties that the table was made of.
+    /// Returns the counties of the table.
     pub fn counties(&self) -> &[County<A>]
         ensures value { result.now ≡ self.now.counties }
         ensures few { length result.now ≤ COUNTY_LIMIT }
@@ -67,9 +67,9 @@ impl<A: Allocator + Copy> Jobs<A> {
         self.counties.as_slice()
     }
 
-    /// Does what is asked, and replies. A refused event changes nothing.
+    /// Processes an event, and returns the reply. A refused event changes nothing.
     pub fn apply(&mut self, event: Event<'_>) -> Reply<'_>
-        // What the table is once the reply is given back. To a caller it is as any other clause.
+        // The state of the table once the borrowed reply is dropped. For a caller, this clause is like any other.
         ensures* step { sem 𝓛 (follows_so (the_row A.row A.Allocator) (the_row A.row A.Allocator) self.entry.ghost_name none (λ _ _. ⊤)
             (Step self.old event.entry result)) }
     {
@@ -141,8 +141,7 @@ impl<A: Allocator + Copy> Jobs<A> {
         Ok(())
     }
 
-    /// The job whose turn is next: of the unfinished ones that with the fewest segments done, the least id among equals; `None` where all are
-    /// finished.
+    /// Returns the unfinished job with the fewest segments done, or `None` if all are finished. Ties go to the lowest id.
     pub fn next_turn(&self) -> Option<u64>
         ensures { IsNextTurn self.now result }
     {

@@ -1,4 +1,4 @@
-//! Turns: an extract that goes on over a few segments more.
+//! Turns, which advance an extract by a limited number of segments.
 ghost use Rattle.std.specs.Prelude.{◌≡◌, ◌≤◌, length, IfOk, OnErr};
 ghost use Rattle.jobs.specs.Inside.{IsPositionIn};
 ghost use Rattle.jobs.specs.Segments.{Advances, WantsRow, segments_of};
@@ -10,14 +10,13 @@ use extract::push_row_if_chosen;
 use std::alloc::{AllocError, Allocator};
 use tl_segments::County;
 
-/// How many segments a turn goes over, unless fewer are left.
+/// The number of segments of a turn, unless fewer are left.
 pub const SEGMENTS_PER_TURN: usize = 256;
 
-/// Appends the rows that a code chooses of the next 256 segments of counties, or of the rest, behind the first `done` of them, and answers how
-/// many are done then. Where memory is wanting the rows stay as they were.
+/// Appends the rows that a code selects from the next 256 segments after the first `done`, or from all that are left, and returns the number of
+/// segments done then. If an allocation fails, the rows are unchanged.
 ///
-/// It goes over the counties twice, to count all segments and to find where it stands, which a turn in a table needn't. It takes memory for rows
-/// alone.
+/// Visits the counties twice, to count all segments and to find the position; a turn in a table needs neither. Only rows are allocated.
 pub fn advance<A: Allocator>(
     verified: &Verified<A>,
     counties: &[County<A>],
@@ -30,14 +29,14 @@ pub fn advance<A: Allocator>(
     ensures err { OnErr result (rows.new.items ≡ rows.old.items) }
     ensures wants { OnErr result (WantsRow verified.now.code (segments_of counties.now) done) }
 {
-    // That all of them can be counted is what a position needs.
+    // Counting shows that the number of segments fits in 64 bits, which a position requires.
     let _total = count_segments(counties);
     let from = Position::behind(done, counties);
     let position = advance_from(verified, counties, from, rows)?;
     Ok(position.done)
 }
 
-/// The same from a position, and it answers the one where it then stands.
+/// Does the same from a position, and returns the position after the turn.
 pub(crate) fn advance_from<A: Allocator>(
     verified: &Verified<A>,
     counties: &[County<A>],
