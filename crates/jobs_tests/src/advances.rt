@@ -7,7 +7,7 @@ use jobs::{COUNTY_LIMIT, JobFault, advance};
 use std::alloc::{AllocError, Global};
 use tl_segments::County;
 
-// The sizes of the counties, a program, and whether growths of its turns are refused.
+// The sizes of the counties, a program, and whether its turns allocate.
 const TURNS: &str = "\
 ; every; false
 0 0; every; false
@@ -18,8 +18,8 @@ const TURNS: &str = "\
 255 1 1 255; roads; true
 257 256 0 255 600 1; tlids; true";
 
-/// Appends the rows of all turns, each growth of which is refused once, and returns how many are. Returns `None` where a refused growth changes the
-/// rows, or a turn doesn't go over the next 256 segments or the rest.
+/// Appends the rows of all turns, with a failure injected into each allocation once, and returns the number of failures. Returns `None` if a failed
+/// allocation changes the rows, or if a turn doesn't process the next 256 segments or all that are left.
 fn refusals<'a>(
     heap: &'a Refusing<Global>,
     verified: &Verified<&'a Refusing<Global>>,
@@ -54,7 +54,7 @@ fn refusals<'a>(
     None
 }
 
-/// Tells whether the turns of a row make the rows that the program chooses, and refuse growths as it says.
+/// Returns whether the turns of a row make the rows that the program selects, and allocate as the row says.
 fn are_turns_right(alloc: Global, row: &str) -> Option<bool> {
     let heap = Refusing::new(alloc);
     let lines = lines_of(alloc, cell(row, 0)).ok()?;

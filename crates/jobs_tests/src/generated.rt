@@ -1,14 +1,14 @@
-//! Lists of events that are made by numbers, beside the plain table.
+//! Generated lists of events, compared with the plain table.
 use crate::pair::Pair;
 use crate::plain::Asked;
 use fixtures::{Refusing, cell};
 use std::alloc::Global;
 
-// What programs are drawn of, nine of the nineteen refused.
+// The programs to draw from; nine of the nineteen are refused.
 const PROGRAMS: &str = "every two never roads tlids scored_roads every two roads tlids \
 empty part unknown cut backward outside endless stuck pointer";
 
-// The seed; the sizes of the counties; how many events there are; the ten words that they are drawn of; and whether the table is full at the end.
+// The seed; the sizes of the counties; the number of events; the ten words to draw from; and whether the table is full at the end.
 const LISTS: &str = "\
 1; 300 0 257 43; 400; submit submit drop fetch fetch turn turn turn turn turn; false
 2; 600; 400; submit submit submit drop fetch turn turn turn turn turn; false
@@ -18,7 +18,7 @@ const LISTS: &str = "\
 6; 256 256; 400; submit submit submit submit submit submit submit submit fetch turn; true
 7; 1000 100; 500; submit submit submit submit submit drop fetch turn turn turn; true";
 
-/// Draws a number below a bound, the same ones for the same seed.
+/// Draws a number below a bound; the same seed draws the same numbers.
 fn drawn(state: &mut u64, bound: u64) -> u64 {
     *state = state
         .wrapping_mul(6_364_136_223_846_793_005)
@@ -26,7 +26,7 @@ fn drawn(state: &mut u64, bound: u64) -> u64 {
     (*state >> 33).checked_rem(bound).unwrap_or(0)
 }
 
-/// Draws an event. Its id is mostly one of the last eight, and now and then any that was given, the next one, or an odd one.
+/// Draws an event. Its id is usually one of the last eight, and sometimes any that was assigned, the next one, or an absurd one.
 fn drawn_event(state: &mut u64, words: &'static str, next_id: u64) -> Asked {
     let id = match drawn(state, 20) {
         0 => u64::MAX,
@@ -42,7 +42,7 @@ fn drawn_event(state: &mut u64, words: &'static str, next_id: u64) -> Asked {
     }
 }
 
-/// Tells whether a table does what is drawn for a row as the plain one does, and has the same jobs at the end.
+/// Returns whether a table replies like the plain one to a row's events, and has the same jobs at the end.
 fn does_same(pair: &mut Pair<'_>, row: &'static str) -> bool {
     let mut state = cell(row, 0).parse().unwrap_or(0);
     let count: u64 = cell(row, 2).parse().unwrap_or(0);

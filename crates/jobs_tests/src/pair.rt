@@ -1,23 +1,23 @@
-//! A table beside the plain one.
+//! A table, compared with the plain one.
 use crate::plain::{Asked, PlainTable, text_of};
 use crate::segments::{counties_of, lines_of};
 use fixtures::{Refusing, cell, program};
 use jobs::{COUNTY_LIMIT, Event, Jobs};
 use std::alloc::Global;
 
-/// A table whose heap can refuse a growth, and the plain one beside it.
+/// A table whose heap can refuse an allocation, and the plain table to compare it with.
 #[derive(Drop)]
 pub struct Pair<'a> {
     alloc: Global,
     heap: &'a Refusing<Global>,
     jobs: Jobs<&'a Refusing<Global>>,
     pub plain: PlainTable,
-    /// What the plain table replied last.
+    /// The last reply of the plain table.
     said: Vec<u8>,
 }
 
 impl<'a> Pair<'a> {
-    /// Makes tables over counties of these sizes, unless a call asks the heap for a growth once the counties are there.
+    /// Makes tables over counties of these sizes. Returns `None` if a call allocates once the counties are loaded.
     pub fn new(alloc: Global, heap: &'a Refusing<Global>, sizes: &str) -> Option<Self> {
         let lines = lines_of(alloc, sizes).ok()?;
         let counties = counties_of(heap, &lines, sizes)?;
@@ -39,7 +39,7 @@ impl<'a> Pair<'a> {
         })
     }
 
-    /// Asks the table alone.
+    /// Applies an event to the table alone, and returns the reply as text.
     fn ask(&mut self, asked: Asked) -> Option<Vec<u8>> {
         let id = asked.id.or(self.jobs.next_turn()).unwrap_or(0);
         let program = match asked.word {
@@ -55,8 +55,9 @@ impl<'a> Pair<'a> {
         text_of(self.alloc, self.jobs.apply(event)).ok()
     }
 
-    /// Asks both tables, and tells whether the growth with this number was refused. Returns `None` where the table's reply is wrong: for a refused
-    /// growth it is that memory ran out, and the plain table isn't asked; otherwise it is that of the plain table, with the same next turn.
+    /// Applies an event to both tables, and returns whether allocation number `nth` was refused. Returns `None` if the table's reply is wrong.
+    /// After a refused allocation it must be `refused memory`, and the plain table is left alone; otherwise it must be that of the plain table, with
+    /// the same next turn.
     pub fn is_refused(&mut self, asked: Asked, nth: u64) -> Option<bool> {
         self.heap.refuse(nth);
         let reply = self.ask(asked)?;
@@ -70,7 +71,7 @@ impl<'a> Pair<'a> {
         is_same.then_some(false)
     }
 
-    /// Tells whether the table has the jobs that the plain one has, and none with another of the ids that were given or with the next one.
+    /// Returns whether the table has the same jobs as the plain one, and none with any other id up to the next one.
     pub fn has_same(&mut self) -> bool {
         for id in 0..=self.plain.next_id() {
             let id = Some(id);
@@ -85,7 +86,8 @@ impl<'a> Pair<'a> {
         true
     }
 
-    /// Returns how many growths are refused in turn, each of which leaves the table as it was, before the tables do what is asked.
+    /// Returns the number of allocations of an event. Each of them is refused once, which must leave the table unchanged, before the event is
+    /// applied to both tables.
     fn refusals(&mut self, asked: Asked) -> Option<u64> {
         for nth in 1..=u64::MAX {
             if !self.is_refused(asked, nth)? {
@@ -98,8 +100,8 @@ impl<'a> Pair<'a> {
         None
     }
 
-    /// Tells whether a row is right: what is asked, or `next`; the reply, or the id of the next turn; whether `some` growths are refused in turn, or
-    /// `none` or `any`; and how often it is asked.
+    /// Returns whether a row is right. Its cells are the event, or `next`; the reply, or the id of the next turn; whether `some` allocations are
+    /// refused, one at a time, `none`, or `any` number; and how many times the event is applied.
     pub fn is_right(&mut self, row: &'static str) -> bool {
         let asked = Asked::new(cell(row, 0));
         if asked.word == "next" {

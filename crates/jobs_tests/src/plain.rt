@@ -1,10 +1,10 @@
-//! A plain program for tables of jobs. It keeps each job alone, by its program and the number of its segments done.
+//! A plain model of tables of jobs. It keeps each job separately, as its program and its number of segments done.
 use crate::segments::{LINE_LENGTH, rows_of};
 use fixtures::refusal;
 use jobs::Reply;
 use std::alloc::{AllocError, Global};
 
-/// What is asked of a table: `submit` with a program, or `turn`, `fetch` or `drop` with an id.
+/// An event of a table: `submit` with a program, or `turn`, `fetch` or `drop` with an id.
 #[derive(Clone, Copy)]
 pub struct Asked {
     pub word: &'static str,
@@ -14,7 +14,7 @@ pub struct Asked {
 }
 
 impl Asked {
-    /// Reads words such as `submit every`, `turn 2` and `turn next`.
+    /// Reads words like `submit every`, `turn 2` and `turn next`.
     pub fn new(words: &'static str) -> Self {
         let (word, program) = words.split_once(' ').unwrap_or((words, ""));
         Asked {
@@ -53,7 +53,7 @@ impl PlainTable {
         }
     }
 
-    /// Returns the id that the next job gets.
+    /// Returns the id of the next job.
     pub fn next_id(&self) -> u64 {
         (self.jobs.len() as u64).wrapping_add(1)
     }
@@ -66,7 +66,7 @@ impl PlainTable {
         open == 64
     }
 
-    /// Returns the open job with the fewest segments done of those that have any left, the first of several.
+    /// Returns the open, unfinished job with the fewest segments done. Ties go to the lowest id.
     pub fn next_turn(&self) -> Option<u64> {
         let mut next = None;
         let mut fewest = self.total;
@@ -96,7 +96,7 @@ impl PlainTable {
         text_of(self.alloc, Reply::Submitted(self.jobs.len() as u64))
     }
 
-    /// Does what is asked, and replies in full.
+    /// Applies an event, and returns the full reply.
     pub fn reply(&mut self, asked: Asked) -> Result<Vec<u8>, AllocError> {
         if asked.word == "submit" {
             return self.submit(asked.program);
@@ -109,8 +109,8 @@ impl PlainTable {
         }
     }
 
-    /// Writes what a script says in full. Where it names a program, as `256 600 59136 of every`, the rows that the program chooses stand in place
-    /// of its name.
+    /// Returns the full form of a script's reply. A name of a program, as in `256 600 59136 of every`, is replaced by the rows that the program
+    /// selects.
     pub fn in_full(&self, said: &str) -> Result<Vec<u8>, AllocError> {
         let Some((numbers, program)) = said.split_once(" of ") else {
             return said.as_bytes().to_vec(self.alloc);
@@ -123,7 +123,7 @@ impl PlainTable {
     }
 }
 
-/// Does what is asked of an open job over so many of these lines, and replies in full.
+/// Applies an event to an open job over `total` of these lines, and returns the full reply.
 fn reply_of(
     alloc: Global,
     lines: &[u8],
@@ -150,7 +150,7 @@ fn reply_of(
     }
 }
 
-/// Writes a reply in full.
+/// Returns the full text of a reply.
 pub fn text_of(alloc: Global, reply: Reply<'_>) -> Result<Vec<u8>, AllocError> {
     let text = match reply {
         Reply::Submitted(id) => format!(in alloc; "{id}"),

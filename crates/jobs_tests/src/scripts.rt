@@ -1,14 +1,14 @@
-//! Scripts for tables of jobs, worked by hand.
+//! Hand-made scripts for tables of jobs.
 use crate::pair::Pair;
 use fixtures::Refusing;
 use std::alloc::Global;
 
-// Scripts with an empty line between. The first line of each has the sizes of the counties, with `|` between lists that the script runs over one
-// after the other. The rows below it are what is asked of the table: what it is, the reply, which growths of it are refused before, and how
-// often it is asked, with the reply to the last.
+// Scripts, separated by empty lines. The first line of each has the sizes of the counties, with `|` between lists; the script runs over each list.
+// Each row below has an event, the reply, the allocations that are refused beforehand, and how many times the event is applied, with the last
+// reply.
 //
-// They have two programs side by side, a refused one between them, and ids that no open job has; a job among others and alone; the refusals of
-// programs; the longest program; no segments; as many jobs as may be open, and whose turn it is then; and counties of many sizes.
+// The scripts have two programs at the same time, with a refused one between them, and ids of no open job; a job among others and alone; refused
+// programs; the longest program; no segments; the greatest number of open jobs, and their next turns; and counties of many sizes.
 const SCRIPTS: &str = "\
 600 | 300 0 300 | 0 0 300 0 0 0 300 0 0
 next; none
@@ -306,8 +306,8 @@ next; none
 turn 3; 1369 1369
 fetch 2; 1369 1369 316239 of every";
 
-// The same, where growths are refused: submissions as the table's map makes a first node, adds to one, and divides one or several; turns; and what
-// takes no memory.
+// The same with refused allocations: submissions for which the table's map makes a first node, adds to a node, and splits one or several; turns;
+// and events that don't allocate.
 const SWEEPS: &str = "\
 3 0 2
 next; none; none
@@ -392,7 +392,7 @@ drop 2; refused 71 NoJob; none
 drop 1; dropped; none
 next; none; none";
 
-/// Returns the first row that is wrong, or `the end` where the tables don't have the same jobs then.
+/// Returns the first row that is wrong, or `the end` if the tables don't have the same jobs after the rows.
 fn wrong_row(pair: &mut Pair<'_>, rows: &'static str) -> Option<&'static str> {
     for row in rows.lines() {
         if !pair.is_right(row) {

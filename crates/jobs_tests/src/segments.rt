@@ -1,13 +1,13 @@
-//! Counties of numbered segments, and the rows that programs choose of them.
+//! Counties of numbered segments, and the rows that programs select from them.
 use fixtures::bytes;
 use std::alloc::{AllocError, Allocator, Global};
 use tl_fields::Buffered;
 use tl_segments::County;
 
-// A line of type 1 with its line feed.
+// The length of a type 1 record with its line feed.
 pub const LINE_LENGTH: usize = 229;
 
-/// Makes the lines of as many segments as these sizes add up to, numbered from 1: a segment's TLID is its number, and every third is no road.
+/// Makes the lines of segments numbered from 1, the sum of these sizes in all. A segment's TLID is its number, and every third isn't a road.
 pub fn lines_of(alloc: Global, sizes: &str) -> Result<Vec<u8>, AllocError> {
     let mut total: u64 = 0;
     for size in sizes.split_whitespace() {
@@ -24,7 +24,7 @@ pub fn lines_of(alloc: Global, sizes: &str) -> Result<Vec<u8>, AllocError> {
     Ok(lines)
 }
 
-/// Takes the county of the first `count` of these lines.
+/// Loads a county from the first `count` lines, and removes them from `lines`.
 fn county_of<A: Allocator + Copy>(alloc: A, lines: &mut &[u8], count: usize) -> Option<County<A>> {
     let length = count.saturating_mul(LINE_LENGTH);
     let rt1 = lines.get(..length)?;
@@ -40,7 +40,7 @@ fn county_of<A: Allocator + Copy>(alloc: A, lines: &mut &[u8], count: usize) -> 
     .ok()
 }
 
-/// Makes counties of these sizes of lines.
+/// Loads counties of these sizes from the lines.
 pub fn counties_of<A: Allocator + Copy>(
     alloc: A,
     lines: &[u8],
@@ -55,7 +55,7 @@ pub fn counties_of<A: Allocator + Copy>(
     Some(counties)
 }
 
-/// Returns the score with which a program chooses the segment with this number, if it does.
+/// Returns the score of the segment with this number if a program selects it.
 fn score_of(program: &str, number: usize) -> Option<usize> {
     let is_road = number % 3 != 0;
     match program {
@@ -67,7 +67,7 @@ fn score_of(program: &str, number: usize) -> Option<usize> {
     }
 }
 
-/// Makes the rows that a program chooses of the first `done` of these lines, without the program's words and without counties.
+/// Makes the rows that a program selects from the first `done` lines, without running the program and without counties.
 pub fn rows_of(
     alloc: Global,
     lines: &[u8],
