@@ -1,4 +1,4 @@
--- What was answered is what is replied.
+-- The answers of the code are the replies of the definitions.
 use Rattle.std.proofs.Common.{◌≡◌, ℕ, Option, Some, None, ap, refl, subst}
 use Rattle.std.specs.Prelude.{Result}
 use Rattle.http_reply.specs.Reply.{ReplyParts, reply_text}
@@ -19,11 +19,11 @@ pub writes_such : (is_reply : ReplyParts → Type 0) (reply : ReplyParts) (writt
     → is_reply reply → WritesText (reply_text reply) written old new → WritesReply is_reply written old new
 writes_such is_reply reply written old new is writes = record { reply = reply; is_such = is; writes = writes }
 
--- an id that isn't one is of no job
+-- an invalid id belongs to no job
 pub of_no_job : (asked : ℕ → Event) (id : Option ℕ) (table : Table) → None ≡ id → AsksJob asked id table (status_reply NotFound) table
 of_no_job asked id table none = subst (λ id. AsksJob asked id table (status_reply NotFound) table) none (refl, refl)
 
--- an event of the table leaves its counties alone
+-- an event of the table doesn't change its counties
 pub step_counties : (old : Table) (event : Event) (reply : JobReply) (new : Table) → Step old event reply new → new.counties ≡ old.counties
 step_counties old (Submit program) (Submitted id) new (room, next, code, safe, is) = ap (λ (table : Table). table.counties) is
 step_counties old (Submit program) (Refused Full) new step = ap (λ (table : Table). table.counties) step.1
@@ -37,10 +37,10 @@ step_counties old (Fetch id) (Rows done total rows) new step = ap (λ (table : T
 step_counties old (Fetch id) (Refused NoJob) new step = ap (λ (table : Table). table.counties) step.1
 step_counties old (Drop id) Dropped new (there, is) = ap (λ (table : Table). table.counties) is
 step_counties old (Drop id) (Refused NoJob) new step = ap (λ (table : Table). table.counties) step.1
--- no other replies are given
+-- there are no other replies
 step_counties old event reply new none = absurd none
 
--- nor does what is asked of a job
+-- nor does an event for a job
 pub asked_counties : (asked : ℕ → Event) (id : Option ℕ) (old : Table) (reply : ReplyParts) (new : Table) → AsksJob asked id old reply new
     → new.counties ≡ old.counties
 asked_counties asked None old reply new same = ap (λ (table : Table). table.counties) same.1

@@ -1,4 +1,4 @@
--- What was read of an input decides what the whole of it decides.
+-- The bytes read of an input determine the decision on the complete input.
 use Rattle.std.proofs.Common.{◌≡◌, ℕ, ◌-◌, ◌<◌, ◌≤◌, true, false, inl, inr, List, [], ◌∷◌, ◌++◌, length, take, Option, Some, None, refl}
 use Rattle.std.proofs.Common.{sym, ap, ◌∙◌, subst, arith}
 use Rattle.std.proofs.lemmas.Bool.{le-leb, lt-leb}
@@ -38,7 +38,7 @@ decides_no_head old new lacks =
           record { taken = lacks.taken; takes = lacks.takes; some = lacks.some; enough = inl lacks.room };
     }
 
--- what the head decides, whatever follows it
+-- the decision on a head, whatever follows it
 pub decides_by_head : (request : RequestParts) (decision : DecisionParts) (old new : Reader) → ReadsHead request old new
     → ((rest : List ℕ) → decision ≡ decide request.head rest) → Decides decision old new
 decides_by_head request decision old new reads decided =
@@ -70,7 +70,7 @@ decides_no_action request route old new reads is_route none =
     decides_by_head request (Disallows route) old new reads
     (λ rest. sym (with_route request.head route rest is_route ∙ ap (λ found. decide_action request.head route found rest) none))
 
--- what a head decides that asks for something, by its route
+-- the decision on a head with an action, by its route
 by_action : (head : Head) (found : Option Route) (action : Action) (rest : List ℕ)
     → option_and_then (λ route. action_of route head.method) found ≡ Some action
     → decide_route head found rest ≡ (if takes_body action then decide_body head action (body_length head) rest else Asks
@@ -95,7 +95,7 @@ pub decides_without_body : (request : RequestParts) (action : Action) (old new :
 decides_without_body request action old new reads asks none =
     decides_by_head request _ old new reads (λ rest. sym (without_body request.head action rest asks none))
 
--- The head was read. It asks for something with a body, whose length it announces so.
+-- The head was read. It requests an action with a body, and announces this length.
 pub record ReadsAsking (request : RequestParts) (announced : Result ℕ LengthFault) (old new : Reader) : Type 0 where
   pub reads : ReadsHead request old new
   pub action : Action
@@ -109,7 +109,7 @@ abbrev pub asking : {request : RequestParts} {old new : Reader} {action : Action
 asking {action = action} reads asks takes is =
     record { reads = reads; action = action; asks = asks; takes = takes; announces = sym is }
 
--- such a head decides by the length and by what follows it
+-- the decision on such a head depends on the length and on the bytes that follow
 by_length : (request : RequestParts) (announced : Result ℕ LengthFault) (old new : Reader) (head : ReadsAsking request announced old new)
     (rest : List ℕ) → decide request.head rest ≡ decide_body request.head head.action announced rest
 by_length request announced old new head rest =
@@ -122,7 +122,7 @@ decides_no_length request fault old new head =
     decides_by_head request _ old new head.reads (λ rest. sym (by_length request (Err fault) old new head rest))
 
 module _ (request : RequestParts) (count : ℕ) (old now new : Reader) (head : ReadsAsking request (Ok count) old now) where
-  -- what is announced where this was read behind the head
+  -- the announced body, if these bytes were read after the head
   abbrev announced : (more : List ℕ) → AnnouncesBody (head.reads.taken ++ more)
   announced more = record {
     head = request.head;
@@ -135,7 +135,7 @@ module _ (request : RequestParts) (count : ℕ) (old now new : Reader) (head : R
     announces = head.announces;
   }
 
-  -- no more was read behind the head than the body has
+  -- no more bytes were read after the head than the body has
   read_enough : (more : List ℕ) → Takes more now new → length more ≤ count - length request.behind → ReadsEnough old new
   read_enough more takes fits = record {
     taken = head.reads.taken ++ more;
@@ -207,7 +207,7 @@ module _ (request : RequestParts) (count : ℕ) (old now new : Reader) (head : R
     read = read_enough lacks.taken lacks.takes lacks.within;
   }
 
--- an input decides one thing
+-- an input has only one decision
 pub one_decision : (input : List ℕ) (decision other : DecisionParts) → IsDecided input decision → IsDecided input other → decision ≡ other
 one_decision input decision other (inl none) (inl also) = none.1 ∙ sym also.1
 one_decision input decision other (inl none) (inr has) = absurd (none.0 has.0 has.1 has.2)

@@ -1,4 +1,4 @@
--- A request is one event of the table of jobs, or none.
+-- A request is at most one event of the table of jobs.
 use Rattle.std.proofs.Common.{◌≡◌, ◌⊎◌, ℕ, IsTrue, true, false, inl, inr, List, [], ◌∷◌}
 use Rattle.std.proofs.Common.{length, take, Option, Some, None, refl, sym, ap, ◌∙◌, subst}
 use Rattle.std.specs.Prelude.{Bool, nat_le, if◌then◌else◌}
@@ -33,7 +33,7 @@ use Rattle.wire.specs.State.{StateParts, new_state}
 pub same_table : (state other : StateParts) → state.table ≡ other.table → state ≡ other
 same_table state other same = ap (λ (table : Table). record { table = table }) same
 
--- What such an answer is to the table: none of this is asked of it, and it stays; or it was told one event that is.
+-- The effect of such an answer on the table: no such event is requested, and the table is unchanged; or the table received one such event.
 abbrev pub Tells : (Event → Type 0) → StateParts → ReplyParts → StateParts → Type 0
 Tells asks old reply new = (((event : Event) → asks event → ⊥) × (new ≡ old)) ⊎ TellsTable asks old.table reply new.table
 
@@ -88,7 +88,7 @@ pub one_event_lem : (input : List ℕ) (extent : Extent) (old new : StateParts) 
 one_event_lem input extent old new reply (inl decided) = is_event decided.0 old new reply (of_decision old reply new decided.0 decided.3)
 one_event_lem input extent old new reply (inr stopped) = inl stopped.4
 
--- the exchanges of acts, which lead from one table to the other
+-- the exchanges among the acts, which lead from one table to the other
 abbrev pub LeadsTo : StateParts → List Act → StateParts → Type 0
 LeadsTo old acts new = (exchanges : List Exchange) × AreExchanges acts exchanges × IsRun old.table exchanges new.table
 
@@ -98,7 +98,7 @@ module _ (old now new : StateParts) (acts : List Act) (leads : LeadsTo now acts 
   passed act none same =
       (leads.0, inl (none, leads.1), subst (λ state. IsRun state.table leads.0 new.table) same leads.2)
 
-  -- an act that is one
+  -- an act that is an exchange
   exchanged : (act : Act) (exchange : Exchange) → IsExchange act exchange → Step old.table exchange.event exchange.reply now.table
       → LeadsTo old (act ∷ acts) new
   exchanged act exchange is step =
@@ -126,9 +126,9 @@ pub acts_lead : (old : StateParts) (acts : List Act) (new : StateParts) → AreA
 acts_lead old [] new same = ([], refl, ap (λ state. state.table) same)
 acts_lead old (act ∷ acts) new are = acted old are.0 new acts (acts_lead are.0 acts new are.2) act are.1
 
--- Who asks for a job gets its own.
+-- A request for a job returns the job's own result.
 
--- what is asked of a job's rows is one event
+-- a request for a job's rows is one event
 fetch_asked : (action : Action) (asked : AskedParts) (told : Event) (id : ℕ) → IsAsked action asked told
     → IsAsked action asked (event.Fetch id) → told ≡ event.Fetch id
 fetch_asked action.Fetch asked told id is also = is.2 ∙ ap event.Fetch (same is.0 also.0 (sym is.1 ∙ also.1)) ∙ sym also.2
@@ -146,7 +146,7 @@ fetch_decided : (decision : DecisionParts) (told : Event) (id : ℕ) → AsksEve
 fetch_decided (Asks asked) told id is also = fetch_asked asked.action asked told id is also
 fetch_decided decision told id is also = absurd is
 
--- what is asked for with a body isn't a job
+-- an action with a body doesn't fetch a job
 with_body_no_job : (action : Action) (asked : AskedParts) (id : ℕ) → takes_body action ≡ true → IsAsked action asked (event.Fetch id) → ⊥
 with_body_no_job action.Fetch asked id takes is = cc
 with_body_no_job action.Drop asked id takes is = cc
@@ -157,7 +157,7 @@ body_no_job : (head : Head) (action : Action) (body : List ℕ) (id : ℕ) (fits
 body_no_job head action body id true takes is = with_body_no_job action (asked_by head action body) id takes is
 body_no_job head action body id false takes is = is
 
--- an input that announces a body asks for no job
+-- an input that announces a body fetches no job
 announces_no_job : (input : List ℕ) (id : ℕ) → AnnouncesBody input → Requests input (event.Fetch id) → ⊥
 announces_no_job input id announced (decision, inl none, asks) = none.0 announced.head announced.rest announced.has
 announces_no_job input id announced (decision, inr (head, rest, has, is), asks) =
@@ -168,7 +168,7 @@ announces_no_job input id announced (decision, inr (head, rest, has, is), asks) 
     body_no_job announced.head announced.action (take announced.count rest) id (nat_le announced.count (length rest)) announced.takes
     (subst (λ decision. AsksEvent decision (event.Fetch id)) decided asks)
 
--- what is said of a job, if there is one
+-- the reply about a job, if there is one
 abbrev pub reply_of_job : (JobParts → ReplyParts) → Option JobParts → ReplyParts
 reply_of_job made None = status_reply NotFound
 reply_of_job made (Some job) = made job

@@ -8,7 +8,7 @@ pub found_first : (key : List ℕ) (name value : List ℕ) (pairs : List (List �
     → value_in key ((name, value) ∷ pairs) ≡ Some (decoded value)
 found_first key name value pairs is = rw is refl
 
--- a pair with another key is passed over
+-- a pair with another key is skipped
 pub passed_over : (key : List ℕ) (name value : List ℕ) (pairs : List (List ℕ × List ℕ)) → bytes_eq (decoded name) key ≡ false
     → value_in key ((name, value) ∷ pairs) ≡ value_in key pairs
 passed_over key name value pairs isnt = rw isnt refl

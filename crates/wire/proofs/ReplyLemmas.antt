@@ -1,4 +1,4 @@
--- The same input gets one reply, and leaves one state, out of memory aside.
+-- Unless an allocation fails, the same input has one reply and leaves one state.
 use Rattle.std.proofs.Common.{◌≡◌, ◌≢◌, ◌<◌, ℕ, List, All, Option, Some, None, inl, inr, refl, sym, ap, ◌∙◌, subst}
 use Rattle.std.specs.Borrow.{Bor}
 use Rattle.bpf_insn.proofs.CodeLemmas as code_of
@@ -43,7 +43,7 @@ IsOne reply other new again = (reply ≡ other) × (new ≡ again)
 abbrev pub AreBytes : ReplyParts → Type 0
 AreBytes reply = All (λ byte. byte < 256) reply.body
 
--- two replies, neither of them out of memory, and both of bytes
+-- two replies other than out of memory, both made of bytes
 record AreKnown (reply other : ReplyParts) : Type 0 where
   pub known : reply ≢ memory_reply
   pub given : other ≢ memory_reply
@@ -100,7 +100,7 @@ module _ (reply other : ReplyParts) (are : AreKnown reply other) where
   one_place counties query is (inr memory) = absurd (are.given memory)
   one_place counties query (inl is) (inl also) = is ∙ sym also
 
--- A submission says the same of each program with these bytes.
+-- A submission has the same reply for each program with these bytes.
 resubmitted : (old new : Table) (program copy : Bor (List ℕ)) (said : JobReply) → program.now ≡ copy.now
     → Step old (event.Submit copy) said new
     → Step old (event.Submit program) said new
@@ -120,7 +120,7 @@ one_table old new again program (Refused (Program fault)) is also = is.3 ∙ sym
 one_table old new again program (Refused Memory) is also = is.1 ∙ sym also.1
 one_table old new again program said is also = absurd is
 
--- the table where a job was to be removed
+-- the table after a request to remove a job
 abbrev left_without : Table → ℕ → Option JobParts → Table
 left_without table id None = table
 left_without table id (Some job) = without_job table id
@@ -131,7 +131,7 @@ dropped old new id Dropped ((job, there), is) = rw there (refl, is)
 dropped old new id (Refused NoJob) step = rw step.0 (refl, step.1)
 dropped old new id given step = absurd step
 
--- what a submission was told, of a program with these bytes
+-- the event of a submission, for a program with these bytes
 submitted : (body : List ℕ) (asked : Event) → Submits body asked
     → (program : Bor (List ℕ)) × (asked ≡ event.Submit program) × (program.now ≡ body)
 submitted body (event.Submit program) is = (program, refl, is)
@@ -189,7 +189,7 @@ module _ (old new again : StateParts) (reply other : ReplyParts) (are : AreKnown
   one_decided (Asks asked) is also = one_answer asked.action asked is also
   one_decided decision is also = (is.0 ∙ sym also.0, is.1 ∙ sym also.1)
 
--- an input is replied this, out of memory aside
+-- a reply to an input, other than out of memory
 pub record IsKnownReply (input : List ℕ) (old : StateParts) (reply : ReplyParts) (new : StateParts) : Type 0 where
   pub extent : Extent
   pub replies : Replies input extent old reply new

@@ -8,7 +8,7 @@ use Rattle.jobs.specs.Segments.{Advances}
 use Rattle.jobs.specs.declared.turn.TheConstants.{SEGMENTS_PER_TURN}
 use Rattle.tl_segments.specs.Segment.{Contents}
 
--- so many segments are done, and these are their rows
+-- the first `done` segments are done, and these are their rows
 pub record AreRowsOf (code : List Insn) (segments : List Contents) (done : ℕ) (rows : List ℕ) : Type 0 where
   pub within : done ≤ length segments
   pub chosen : ℕ
@@ -17,7 +17,7 @@ pub record AreRowsOf (code : List Insn) (segments : List Contents) (done : ℕ) 
 pub no_rows : (code : List Insn) (segments : List Contents) → AreRowsOf code segments 0 []
 no_rows code segments = record { within = (omega arith); chosen = 0; is_extract = (refl, refl) }
 
--- one turn more
+-- one more turn
 pub rows_turned : {code : List Insn} {segments : List Contents} {done now : ℕ} {rows new_rows : List ℕ} → AreRowsOf code segments done rows
     → Advances code segments done rows now new_rows → AreRowsOf code segments now new_rows
 rows_turned so_far advances = record {
@@ -26,12 +26,12 @@ rows_turned so_far advances = record {
   is_extract = extract_turned so_far.chosen so_far.is_extract advances;
 }
 
--- a turn goes on, so what it did can be counted
+-- a turn never goes back, so the segments it processed can be counted
 pub turned_on : {code : List Insn} {segments : List Contents} {done now : ℕ} {rows new_rows : List ℕ} → AreRowsOf code segments done rows
     → Advances code segments done rows now new_rows → done ≤ now
 turned_on so_far advances = let within = so_far.within in let moved = advances.moved in grind (arith)
 
--- a turn that did less than it may has done all
+-- a turn with fewer segments than the greatest number was the last
 pub all_done : {code : List Insn} {segments : List Contents} {done now : ℕ} {rows new_rows : List ℕ} → AreRowsOf code segments done rows
     → Advances code segments done rows now new_rows → now - done < SEGMENTS_PER_TURN
     → (chosen : ℕ) × IsExtract code segments new_rows chosen

@@ -1,4 +1,4 @@
--- What was written is how serving ends.
+-- The result of serving, from what was written.
 use Rattle.std.proofs.Common.{◌≡◌, inl, inr, refl}
 use Rattle.std.specs.Prelude.{Result, Ok, Err}
 use Rattle.http_reply.specs.Reply.{reply_text}
@@ -24,7 +24,7 @@ pub tells_extent : (extent : Extent) (written : Result (Unit {0}) WriteFault) (r
 tells_extent extent (Ok done) result old new is replied = rw is replied
 tells_extent extent (Err fault) result old new is replied = rw is tt
 
--- what was decided was answered
+-- the decision was answered
 pub replied : (decision : DecisionParts) (extent : Extent) (written : Result (Unit {0}) WriteFault) (old new : Connection)
     → extent ≡ extent_of decision → Decides decision old.reader new.reader
     → WritesReply (λ reply. Answers old.state decision reply new.state) written old.writer new.writer → IsReplied extent written old new
@@ -37,7 +37,7 @@ replied decision extent written old new is_extent decides writes = record {
   writes = writes.writes;
 }
 
--- memory was wanting for the body
+-- an allocation failed for the body
 pub lacked : (written : Result (Unit {0}) WriteFault) (old new : Connection) → StopsInBody old.reader new.reader → new.state ≡ old.state
     → WritesText (reply_text memory_reply) written old.writer new.writer → IsReplied Part written old new
 lacked written old new stops same writes = record {

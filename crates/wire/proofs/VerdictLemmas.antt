@@ -1,4 +1,4 @@
--- A program's verdict as it is replied, want of memory aside.
+-- The reply about a program's verdict, unless an allocation fails.
 use Rattle.std.proofs.Common.{◌≡◌, ◌≢◌, ℕ, List, inl, inr, sym, ap, subst, ◌∙◌}
 use Rattle.bpf_insn.specs.declared.instruction.Insn.{Insn}
 use Rattle.bpf_meaning.proofs.ExtractLemmas.{one_extract_lem}
@@ -15,7 +15,7 @@ use Rattle.wire.specs.Answer.{ExtractsTo, IsVerified, memory_reply, octets, refu
 abbrev fault_reply : ProgramFault → ReplyParts
 fault_reply fault = refusal_reply (program_fault.refusal fault)
 
--- of a fault that isn't want of memory
+-- the fault isn't a failed allocation
 not_memory : (reply : ReplyParts) (fault : ProgramFault) → reply ≢ memory_reply → reply ≡ fault_reply fault → fault ≢ Memory
 not_memory reply fault known is memory = known (is ∙ ap fault_reply memory)
 

@@ -1,4 +1,4 @@
--- What is replied to what was decided, and what it leaves of the state.
+-- The reply to a decision, and the state after it.
 use Rattle.std.specs.Prelude.{◌≡◌, ◌<◌, ◌⊎◌, ℕ, List, [], ◌∷◌, ◌++◌, codes, decimal, Option, Some, None}
 use Rattle.bpf_insn.specs.Code.{IsFirstFault}
 use Rattle.bpf_insn.specs.CodeFault as code_fault
@@ -47,7 +47,7 @@ use Rattle.wire.specs.declared.serving.Extent.TheVariants.{Part}
 abbrev pub plain : Status → List ℕ → ReplyParts
 plain status body = record { status = status; media = Plain; allow = None; body = body }
 
--- a 200 of bytes
+-- a 200 with a body of bytes
 abbrev pub octets : List ℕ → ReplyParts
 octets body = record { status = status.Ok; media = Octets; allow = None; body = body }
 
@@ -55,7 +55,7 @@ octets body = record { status = status.Ok; media = Octets; allow = None; body = 
 abbrev pub status_reply : Status → ReplyParts
 status_reply status = plain status (text status)
 
--- 405 says which methods the route has
+-- a 405 lists the methods of the route
 abbrev pub disallowed : Route → ReplyParts
 disallowed route = record { status = status.MethodNotAllowed; media = Plain; allow = Some (allow route); body = text status.MethodNotAllowed }
 
@@ -74,13 +74,13 @@ refusal_reply refusal = line_reply (class_status refusal.class) (line refusal)
 abbrev pub memory_reply : ReplyParts
 memory_reply = refusal_reply memory
 
--- a program is accepted, or refused for its fault
+-- a program is accepted, or refused with its fault
 abbrev pub IsVerified : List ℕ → ReplyParts → Type 0
 IsVerified program reply =
     ((code : List Insn) × IsSafeProgram program code × (reply ≡ plain status.Ok (codes "accepted\n")))
     ⊎ ((fault : ProgramFault) × IsProgramFault program fault × (reply ≡ refusal_reply (program_fault.refusal fault)))
 
--- the words of a source, or why it has none
+-- why a source has no words
 abbrev pub source_reply : SourceFault → ReplyParts
 source_reply NotUtf8 = status_reply status.BadRequest
 source_reply (Text fault) = refusal_reply (text_fault.refusal fault)
@@ -96,7 +96,7 @@ DisassemblesTo program reply =
     ((source : List ℕ) × IsDisassembled program source × (reply ≡ plain status.Ok source))
     ⊎ ((fault : CodeFault) × IsFirstFault program fault × (reply ≡ refusal_reply (code_fault.refusal fault)))
 
--- the rows of a program over all counties, or its fault
+-- the rows that a program selects over all counties, or its fault
 abbrev pub ExtractsTo : List CountyParts → List ℕ → ReplyParts → Type 0
 ExtractsTo counties program reply =
     ((code : List Insn) × IsSafeProgram program code × (rows : List ℕ) × (chosen : ℕ) × IsExtract code (segments_of counties) rows chosen
@@ -117,11 +117,11 @@ job_fault_reply Full = line_reply status.ServiceUnavailable (job_fault.line Full
 job_fault_reply (Program fault) = refusal_reply (program_fault.refusal fault)
 job_fault_reply Memory = memory_reply
 
--- how many of the segments are done, of how many, and the rows behind that
+-- the number of segments done and their total, followed by the rows
 abbrev pub rows_reply : ℕ → ℕ → List ℕ → ReplyParts
 rows_reply done total rows = octets ((decimal done ++ codes " " ++ decimal total ++ 10 ∷ []) ++ rows)
 
--- what the table says, as a reply; no request asks for a turn
+-- a reply of the table, as an HTTP reply; no request makes a turn
 abbrev pub job_reply : JobReply → ReplyParts
 job_reply (Submitted id) = line_reply status.Ok (decimal id)
 job_reply (Turned done total) = rows_reply done total []
@@ -142,13 +142,12 @@ abbrev pub Submits : List ℕ → Event → Type 0
 Submits program (event.Submit submitted) = submitted.now ≡ program
 Submits program other = ⊥
 
--- what is asked of the job of an id; an id that isn't one is of no job
+-- an event for the job with an id; an invalid id belongs to no job
 abbrev pub AsksJob : (ℕ → Event) → Option ℕ → Table → ReplyParts → Table → Type 0
 AsksJob asked None old reply new = (reply ≡ status_reply status.NotFound) × (new ≡ old)
 AsksJob asked (Some id) old reply new = TellsTable (λ event. event ≡ asked id) old reply new
 
--- What is replied to what is asked for, a row each, and the state that it leaves. What is asked of jobs is one event of their table, and nothing
--- else changes the state.
+-- The reply to each action, and the state after it. A request about jobs is one event of their table, and nothing else changes the state.
 abbrev pub AnswersAction : Action → StateParts → AskedParts → ReplyParts → StateParts → Type 0
 AnswersAction action.Verify old asked reply new = IsVerified asked.body reply × (new ≡ old)
 AnswersAction action.Assemble old asked reply new = AssemblesTo asked.body reply × (new ≡ old)
@@ -159,14 +158,14 @@ AnswersAction action.Submit old asked reply new = TellsTable (Submits asked.body
 AnswersAction action.Fetch old asked reply new = AsksJob event.Fetch (job_id asked.path) old.table reply new.table
 AnswersAction action.Drop old asked reply new = AsksJob event.Drop (job_id asked.path) old.table reply new.table
 
--- what is replied to a decision
+-- the reply to a decision
 abbrev pub Answers : StateParts → DecisionParts → ReplyParts → StateParts → Type 0
 Answers old (Refuses status) reply new = (reply ≡ status_reply status) × (new ≡ old)
 Answers old (Disallows route) reply new = (reply ≡ disallowed route) × (new ≡ old)
 Answers old (Asks asked) reply new = AnswersAction asked.action old asked reply new
 
--- What is replied to an input of which so much was read: what it decides is answered; or, where memory was wanting for a body that isn't empty,
--- that is said, and the state stays.
+-- The reply to an input of which this extent was read: the reply to its decision; or the out-of-memory reply, if an allocation fails for a body
+-- that isn't empty, with the state unchanged.
 abbrev pub Replies : List ℕ → Extent → StateParts → ReplyParts → StateParts → Type 0
 Replies input extent old reply new =
     ((decision : DecisionParts) × IsDecided input decision × (extent ≡ extent_of decision) × Answers old decision reply new)

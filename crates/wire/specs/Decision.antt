@@ -1,4 +1,4 @@
--- What an input decides: whether it is a request, and what that asks for. It is of the whole input, however that was read.
+-- The decision on an input: whether it's a request, and what it asks for. It depends on the complete input, not on how that was read.
 use Rattle.std.specs.Prelude.{◌≡◌, ◌⊎◌, ◌<◌, ◌≤◌, ℕ, nat_le, Bool, true, false, if◌then◌else◌, List, [], length, take, Option, Some, None, Result, Ok, Err, IsTrue}
 use Rattle.std.specs.Option.{option_and_then}
 use Rattle.http_request.specs.Head.{Head, HasHead, HasNoHead, MayBecomeHead}
@@ -16,43 +16,43 @@ use Rattle.http_routes.specs.declared.route.Route.{Route}
 use Rattle.wire.specs.declared.serving.Extent.{Extent}
 use Rattle.wire.specs.declared.serving.Extent.TheVariants.{Whole, Part}
 
--- what a request asks for, with the path and the query of its target and with its body
+-- an accepted request: its action, the path and the query of its target, and its body
 pub record AskedParts : Type 0 where
   pub action : Action
   pub path : List ℕ
   pub query : List ℕ
   pub body : List ℕ
 
--- a request is refused with a status, or for its method, which its route hasn't; or it asks for something
+-- a request is refused with a status, refused because its route doesn't have its method, or accepted
 pub data DecisionParts : Type 0 where
   Refuses : Status → DecisionParts
   Disallows : Route → DecisionParts
   Asks : AskedParts → DecisionParts
 
--- how much of a request was read: the whole of one that asks for something, else as much as it took to refuse it
+-- how much of a request was read: all of an accepted request, otherwise only what was needed to refuse it
 abbrev pub extent_of : DecisionParts → Extent
 extent_of (Asks asked) = Whole
 extent_of (Refuses status) = Part
 extent_of (Disallows route) = Part
 
--- what is asked for with a body: all that is asked by POST
+-- the actions with a body: all those requested by POST
 abbrev pub takes_body : Action → Bool
 takes_body Geocode = false
 takes_body Fetch = false
 takes_body Drop = false
 takes_body action = true
 
--- the status that a request without a usable length of its body gets
+-- the status for a request without a usable body length
 abbrev pub length_status : LengthFault → Status
 length_status Missing = LengthRequired
 length_status Invalid = BadRequest
 length_status TooLarge = PayloadTooLarge
 
--- what a head asks for with this body
+-- the request of a head with this body
 abbrev pub asked_by : Head → Action → List ℕ → AskedParts
 asked_by head action body = record { action = action; path = path_of head.target; query = query_of head.target; body = body }
 
--- A body is as long as was announced. What follows it is passed over.
+-- A body has the announced length. Bytes that follow it are ignored.
 abbrev pub decide_body : Head → Action → Result ℕ LengthFault → List ℕ → DecisionParts
 decide_body head action (Err fault) rest = Refuses (length_status fault)
 decide_body head action (Ok count) rest =
@@ -64,26 +64,26 @@ decide_action head route None rest = Disallows route
 decide_action head route (Some action) rest =
     if takes_body action then decide_body head action (body_length head) rest else Asks (asked_by head action [])
 
--- a route, then its method, then the body
+-- first the route, then its method, then the body
 abbrev pub decide_route : Head → Option Route → List ℕ → DecisionParts
 decide_route head None rest = Refuses NotFound
 decide_route head (Some route) rest = decide_action head route (action_of route head.method) rest
 
--- what a head decides, with what follows it
+-- the decision on a head and the bytes after it
 abbrev pub decide : Head → List ℕ → DecisionParts
 decide head rest = decide_route head (route_of (path_of head.target)) rest
 
--- what an input decides: without a head it is refused, and with one the head decides
+-- the decision on an input: refused if it has no head, otherwise the decision on its head
 abbrev pub IsDecided : List ℕ → DecisionParts → Type 0
 IsDecided input decision =
     (HasNoHead input × (decision ≡ Refuses BadRequest))
     ⊎ ((head : Head) × (rest : List ℕ) × HasHead input head rest × (decision ≡ decide head rest))
 
--- what a head asks for, by its route and its method
+-- the action of a head, by its route and its method
 abbrev pub asked_action : Head → Option Action
 asked_action head = option_and_then (λ route. action_of route head.method) (route_of (path_of head.target))
 
--- The input has a head that asks for something with a body, whose length it announces.
+-- The input has a head that requests an action with a body, and announces the body's length.
 pub record AnnouncesBody (input : List ℕ) : Type 0 where
   pub head : Head
   pub rest : List ℕ
@@ -94,14 +94,14 @@ pub record AnnouncesBody (input : List ℕ) : Type 0 where
   pub count : ℕ
   pub announces : body_length head ≡ Ok count
 
--- What was read of an input doesn't decide: it has no head yet, though more bytes may make it one, or not all of the body that its
--- head announces.
+-- The bytes read don't suffice for a decision: they have no head, though more bytes may complete one, or only a part of the body that their head
+-- announces.
 abbrev pub IsUndecided : List ℕ → Type 0
 IsUndecided taken =
     (HasNoHead taken × MayBecomeHead taken × (length taken < HEAD_LIMIT))
     ⊎ ((announced : AnnouncesBody taken) × (length announced.rest < announced.count))
 
--- No more was read than decides: what may hold a head, or no more than that has and the body that it announces.
+-- No more bytes were read than a decision needs: at most the greatest size of a head, or no more than a head and the body that it announces.
 abbrev pub IsEnough : List ℕ → Type 0
 IsEnough taken =
     (length taken ≤ HEAD_LIMIT)

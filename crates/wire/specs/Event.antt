@@ -1,4 +1,4 @@
--- What a server does to its state, and what that is to the table of jobs.
+-- The acts of a server on its state, and their effect on the table of jobs.
 use Rattle.std.specs.Prelude.{◌≡◌, ◌⊎◌, ℕ, Bool, true, false, IsTrue, List, [], ◌∷◌, Some, None, length}
 use Rattle.http_reply.specs.Reply.{ReplyParts}
 use Rattle.http_routes.specs.Target.{job_id}
@@ -16,16 +16,16 @@ use Rattle.wire.specs.Decision.{AskedParts, DecisionParts, IsDecided, Refuses, D
 use Rattle.wire.specs.State.{StateParts}
 use Rattle.wire.specs.declared.serving.Extent.{Extent}
 
--- an event that a request may be: any but a turn
+-- an event that a request can be: any but a turn
 abbrev pub is_requested : Event → Bool
 is_requested (Turn id) = false
 is_requested event = true
 
--- one event of the table of jobs, which a request may be, and what the table said is the reply
+-- one event of the table of jobs, which a request can be, and the table's reply
 abbrev pub IsEvent : StateParts → ReplyParts → StateParts → Type 0
 IsEvent old reply new = TellsTable (λ event. IsTrue (is_requested event)) old.table reply new.table
 
--- what is asked of the table: that a program is run as a job, how far the job of an id is, or that it is removed
+-- the request to the table: run a program as a job, return the progress of the job with an id, or remove it
 abbrev pub IsAsked : Action → AskedParts → Event → Type 0
 IsAsked action.Submit asked event = Submits asked.body event
 IsAsked action.Fetch asked event = (id : ℕ) × (job_id asked.path ≡ Some id) × (event ≡ Fetch id)
@@ -37,11 +37,11 @@ AsksEvent (Asks asked) event = IsAsked asked.action asked event
 AsksEvent (Refuses status) event = ⊥
 AsksEvent (Disallows route) event = ⊥
 
--- an input asks this of the table
+-- an input requests this event of the table
 abbrev pub Requests : List ℕ → Event → Type 0
 Requests input event = (decision : DecisionParts) × IsDecided input decision × AsksEvent decision event
 
--- what a server does: it replies to an input, makes a turn of the job of an id, or has no turn to make
+-- an act of a server: it replies to an input, makes a turn of the job with an id, or has no turn to make
 pub data Act : Type 0 where
   Replied : List ℕ → ReplyParts → Act
   Turned : ℕ → JobReply → Act
@@ -52,31 +52,31 @@ Acts old (Replied input reply) new = (extent : Extent) × Replies input extent o
 Acts old (Turned id reply) new = IsNextTurn old.table (Some id) × Step old.table (Turn id) reply new.table
 Acts old Rested new = IsNextTurn old.table None × (new ≡ old)
 
--- one after the other
+-- acts in order
 abbrev pub AreActs : StateParts → List Act → StateParts → Type 0
 AreActs old [] new = new ≡ old
 AreActs old (act ∷ acts) new = (now : StateParts) × Acts old act now × AreActs now acts new
 
--- the exchange with the table that an act is
+-- an act that is an exchange with the table
 abbrev pub IsExchange : Act → Exchange → Type 0
 IsExchange (Replied input reply) exchange = Requests input exchange.event × (reply ≡ job_reply exchange.reply)
 IsExchange (Turned id reply) exchange = exchange ≡ record { event = Turn id; reply = reply }
 IsExchange Rested exchange = ⊥
 
--- an act is none: nothing is asked of the table, or an allocation fails before it is told
+-- an act that is no exchange: it requests nothing of the table, or an allocation fails before the table sees the request
 abbrev pub IsNoExchange : Act → Type 0
 IsNoExchange (Replied input reply) = (event : Event) → Requests input event → reply ≡ memory_reply
 IsNoExchange (Turned id reply) = ⊥
 IsNoExchange Rested = Unit {0}
 
--- the exchanges that acts are, in the same order
+-- the exchanges among the acts, in order
 abbrev pub AreExchanges : List Act → List Exchange → Type 0
 AreExchanges [] exchanges = exchanges ≡ []
 AreExchanges (act ∷ acts) exchanges =
     (IsNoExchange act × AreExchanges acts exchanges)
     ⊎ ((exchange : Exchange) × (rest : List Exchange) × (exchanges ≡ exchange ∷ rest) × IsExchange act exchange × AreExchanges acts rest)
 
--- How far the job of an id is, with its rows: it is what its own submission and its own turns make of it, among all that the server did.
+-- The progress and the rows of the job with an id: the result of its own submission and its own turns, among all acts of the server.
 pub record IsOwnReply (counties : List CountyParts) (acts : List Act) (id : ℕ) (reply : ReplyParts) : Type 0 where
   pub exchanges : List Exchange
   pub are : AreExchanges acts exchanges

@@ -1,4 +1,4 @@
--- What the query of a target asks a geocoder (URL Standard, section 5.1: application/x-www-form-urlencoded).
+-- The geocoder request in the query of a target (URL Standard, section 5.1: application/x-www-form-urlencoded).
 use Rattle.std.specs.Prelude.{ℕ, List, find, codes, Option, Some, None, option_map, Result, Ok, Err}
 use Rattle.std.specs.Str.{bytes_eq}
 use Rattle.std.specs.Str.Lossy.{utf8_lossy}
@@ -6,7 +6,7 @@ use Rattle.form_urlencoded.specs.Form.{decode, raw_pairs}
 use Rattle.geocode.specs.Query.{QueryParts, query_of}
 use Rattle.geocode.specs.declared.query.QueryFault.{QueryFault}
 
--- the text that a key or a value stands for, with U+FFFD in place of what is no UTF-8
+-- the text that a key or a value stands for, with U+FFFD in place of invalid UTF-8
 abbrev pub decoded : List ℕ → List ℕ
 decoded bytes = utf8_lossy (decode bytes)
 
@@ -22,7 +22,7 @@ abbrev pub if_in_form : Result QueryParts QueryFault → Option QueryParts
 if_in_form (Ok place) = Some place
 if_in_form (Err fault) = None
 
--- a number and a name are asked for, and maybe a ZIP code; none where one is missing or not in its form
+-- a request with a number and a name, and optionally a ZIP code; none if one of them is missing or malformed
 abbrev pub place_with : Option (List ℕ) → Option (List ℕ) → Option (List ℕ) → Option QueryParts
 place_with (Some number) (Some name) zip = if_in_form (query_of number name zip)
 place_with number name zip = None

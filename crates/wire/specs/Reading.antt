@@ -1,4 +1,4 @@
--- Inside the crate: what reading an input and answering it came to.
+-- Internal definitions: the results of reading an input and replying to it.
 use Rattle.std.specs.Prelude.{◌<◌, ℕ, List, Some, Result, Ok, Err}
 use Rattle.std.specs.Io.KnownBytes.{Keeps}
 use Rattle.http_reply.specs.Reply.{ReplyParts, reply_text}
@@ -32,14 +32,14 @@ decision_of (Refuses status) = parts.Refuses status
 decision_of (Disallows route) = parts.Disallows route
 decision_of (Asks asked) = parts.Asks (asked_of asked)
 
--- all that the reader had left is an input, which decides this
+-- the reader had an input left, which has this decision
 pub record Decides (decision : DecisionParts) (old new : Reader) : Type 0 where
   pub input : List ℕ
   pub is_input : Keeps old.left (Some input)
   pub decided : IsDecided input decision
   pub read : ReadsEnough old new
 
--- all that the reader had left is an input with a head that announces a body, which isn't empty
+-- the reader had an input left whose head announces a body that isn't empty
 pub record StopsInBody (old new : Reader) : Type 0 where
   pub input : List ℕ
   pub is_input : Keeps old.left (Some input)
@@ -52,12 +52,12 @@ FailsToDecide Closed old new = IsClosed old new
 FailsToDecide Read old new = FailsUndecided old new
 FailsToDecide Memory old new = StopsInBody old new
 
--- how serving ends where a reply was written, or a beginning of it
+-- the result of serving, after a reply was written completely or in part
 abbrev pub ends_with : Extent → Result (Unit {0}) WriteFault → Result Extent WireFault
 ends_with extent (Ok done) = Ok extent
 ends_with extent (Err fault) = Err (of_write fault)
 
--- a reply that is such was written, whole or up to the writer's fault
+-- such a reply was written, completely or up to the writer's fault
 pub record WritesReply (is_reply : ReplyParts → Type 0) (written : Result (Unit {0}) WriteFault) (old new : Writer) : Type 0 where
   pub reply : ReplyParts
   pub is_such : is_reply reply

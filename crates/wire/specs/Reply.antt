@@ -1,4 +1,4 @@
--- Inside the crate: the reply that an answer is.
+-- Internal definitions: the reply that an answer stands for.
 use Rattle.std.specs.Prelude.{None}
 use Rattle.http_reply.specs.Reply.{ReplyParts}
 use Rattle.http_reply.specs.declared.status.Status.TheVariants as status

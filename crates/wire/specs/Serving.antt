@@ -1,4 +1,4 @@
--- What serving a connection does to the state and to both of its ends.
+-- The effect of serving a connection on the state and on both ends of the connection.
 use Rattle.std.specs.Prelude.{◌≡◌, ◌<◌, ℕ, List, length, Some, Result, Ok, Err, ⊤}
 use Rattle.std.specs.Io.KnownBytes.{Keeps}
 use Rattle.http_reply.specs.Reply.{ReplyParts, reply_text}
@@ -20,15 +20,15 @@ pub record Connection : Type 0 where
   pub reader : Reader
   pub writer : Writer
 
--- no read failed, and some bytes were taken, no more than decide
+-- no read failed, and at least one byte was taken, but no more than a decision needs
 pub record ReadsEnough (old new : Reader) : Type 0 where
   pub taken : List ℕ
   pub takes : Takes taken old new
   pub some : 0 < length taken
   pub enough : IsEnough taken
 
--- All that the reader has left is an input, of which so much was read, and which has a reply. That was written, whole or up to the writer's fault,
--- and the state is the one that it leaves.
+-- The reader had an input left, of which this extent was read, and which has a reply. The reply was written, completely or up to the writer's
+-- fault, and the state is the one after the reply.
 pub record IsReplied (extent : Extent) (written : Result (Unit {0}) WriteFault) (old new : Connection) : Type 0 where
   pub input : List ℕ
   pub is_input : Keeps old.reader.left (Some input)
@@ -37,19 +37,19 @@ pub record IsReplied (extent : Extent) (written : Result (Unit {0}) WriteFault) 
   pub replies : Replies input extent old.state reply new.state
   pub writes : WritesText (reply_text reply) written old.writer new.writer
 
--- nothing was written, and the state is as it was
+-- nothing was written, and the state is unchanged
 pub record IsUnanswered (old new : Connection) : Type 0 where
   pub state : new.state ≡ old.state
   pub writer : new.writer ≡ old.writer
 
--- a read failed behind bytes that don't decide
+-- a read failed after bytes that don't suffice for a decision
 pub record FailsUndecided (old new : Reader) : Type 0 where
   pub taken : List ℕ
   pub fails : FailsBehind taken old new
   pub undecided : IsUndecided taken
 
--- How serving ends: a reply was written, or a beginning of one up to the writer's fault; or nothing was written, since there is no input, or
--- since a read failed before the reply was decided.
+-- How serving ends. Either a reply was written, completely or up to the writer's fault; or nothing was written, because there is no input or
+-- because a read failed before the decision.
 abbrev pub IsServed : {T : Type 0} → Result T WireFault → Connection → Connection → Type 0
 IsServed (Ok done) old new = (extent : Extent) × IsReplied extent (Ok tt) old new
 IsServed (Err Write) old new = (extent : Extent) × IsReplied extent (Err write_fault.Write) old new
@@ -57,7 +57,7 @@ IsServed (Err WriteZero) old new = (extent : Extent) × IsReplied extent (Err wr
 IsServed (Err Closed) old new = IsUnanswered old new × IsClosed old.reader new.reader
 IsServed (Err Read) old new = IsUnanswered old new × FailsUndecided old.reader new.reader
 
--- a reply that was written goes with how much of the request was read
+-- a written reply comes with the extent of the request that was read
 abbrev pub TellsExtent : Result Extent WireFault → Connection → Connection → Type 0
 TellsExtent (Ok extent) old new = IsReplied extent (Ok tt) old new
 TellsExtent (Err fault) old new = ⊤

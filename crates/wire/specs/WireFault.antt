@@ -1,4 +1,4 @@
--- The refusal of a connection.
+-- The refusal for a connection.
 use Rattle.std.specs.Prelude.{codes}
 use Rattle.refusals.specs.Refusal.{RefusalParts, device, refused}
 use Rattle.tl_fields.specs.declared.writing.WriteFault.{WriteFault}

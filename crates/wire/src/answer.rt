@@ -1,4 +1,4 @@
-//! What a request is answered with.
+//! The answers to requests.
 ghost use Rattle.std.specs.Prelude.{◌≡◌, ◌++◌, ◌∷◌, [], codes, decimal};
 ghost use Rattle.tl_fields.specs.Device.{writer};
 ghost use Rattle.tl_fields.specs.Writing.{WritesText};
@@ -15,16 +15,16 @@ use refusals::{Class, Refusal};
 use std::alloc::Allocator;
 use tl_fields::{CountedWrite, WriteFault};
 
-/// What a request is answered with, before it is laid out as a reply.
+/// The answer to a request, before it's laid out as a reply.
 #[derive(Drop)]
 pub(crate) enum Answer<'a, A: Allocator> {
     /// A status with its own text.
     Status(Status),
-    /// The method isn't one of this route's.
+    /// The route doesn't have the method.
     Disallowed(Route),
-    /// A 200 of a text that always is the same.
+    /// A 200 with a constant text.
     Text(&'static str),
-    /// A 200 of what was made for it.
+    /// A 200 with a body made for the request.
     Made {
         media: MediaType,
         body: Vec<u8, A>,
@@ -35,7 +35,7 @@ pub(crate) enum Answer<'a, A: Allocator> {
         status: Status,
         line: ArrayString<64>,
     },
-    /// A 200 of a job's rows, behind how many of the segments are done.
+    /// A 200 with a job's progress, followed by its rows.
     Rows {
         done: u64,
         total: u64,
@@ -44,7 +44,7 @@ pub(crate) enum Answer<'a, A: Allocator> {
 }
 
 impl<'a, A: Allocator> Answer<'a, A> {
-    /// The reply, which lends what is large in it.
+    /// Returns the reply, which borrows the large parts of the answer.
     fn reply(&self) -> Reply<'_>
         ensures { parts_of result ≡ reply_of self.now }
     {
@@ -74,7 +74,7 @@ impl<'a, A: Allocator> Answer<'a, A> {
         }
     }
 
-    /// Writes the reply, in as few writes as its parts allow. It takes no memory.
+    /// Writes the reply, in as few writes as its parts allow. It doesn't allocate.
     pub fn write<W: CountedWrite>(self, out: &mut W) -> Result<(), WriteFault>
         ensures { WritesText (reply_text (reply_of self.entry)) result
             (writer W.contents W.counts out.old) (writer W.contents W.counts out.new) }
@@ -83,7 +83,7 @@ impl<'a, A: Allocator> Answer<'a, A> {
     }
 }
 
-/// The status of a refusal, by its class.
+/// Returns the status of a refusal, by its class.
 fn class_status(class: Class) -> Status
     ensures { result ≡ class_status class }
 {
@@ -93,7 +93,7 @@ fn class_status(class: Class) -> Status
     }
 }
 
-/// A 200 of this body, in plain text.
+/// Returns a 200 with this body, as plain text.
 fn plain(lead: ArrayVec<u8, LEAD_LIMIT>, rest: &[u8]) -> Reply<'_>
     ensures { parts_of result ≡ plain status.Ok (lead.items ++ rest.now) }
 {
@@ -106,7 +106,7 @@ fn plain(lead: ArrayVec<u8, LEAD_LIMIT>, rest: &[u8]) -> Reply<'_>
     }
 }
 
-/// The line, with its end of line.
+/// Returns the line with its line end.
 fn with_line_end(line: ArrayString<64>) -> ArrayVec<u8, LEAD_LIMIT>
     ensures { result.items ≡ line.bytes ++ 10 ∷ [] }
 {
@@ -116,7 +116,7 @@ fn with_line_end(line: ArrayString<64>) -> ArrayVec<u8, LEAD_LIMIT>
     text
 }
 
-/// How many of the segments are done, and of how many.
+/// Returns the number of segments done and their total, as text.
 fn counts(done: u64, total: u64) -> ArrayString<64>
     ensures { result.bytes ≡ decimal done ++ codes " " ++ decimal total }
 {

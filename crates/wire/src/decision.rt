@@ -1,4 +1,4 @@
-//! What an input decides: whether it is a request, and what that asks for.
+//! The decision on an input: whether it's a request, and what it asks for.
 ghost use Rattle.std.specs.Prelude.{◌≡◌, IfErr, IfOk, IsTrue};
 ghost use Rattle.http_request.specs.Reading.{ReadsHead};
 ghost use Rattle.tl_fields.specs.Device.{Reader, reader};
@@ -12,7 +12,7 @@ use http_routes::{Action, Route, Routes, Target};
 use std::alloc::Allocator;
 use tl_fields::CountedRead;
 
-/// What a request asks for, with the path and the query of its target and with its body.
+/// An accepted request: its action, the path and the query of its target, and its body.
 #[derive(Drop)]
 pub(crate) struct Asked<'a, A: Allocator> {
     pub action: Action,
@@ -22,7 +22,7 @@ pub(crate) struct Asked<'a, A: Allocator> {
 }
 
 impl<'a, A: Allocator> Asked<'a, A> {
-    /// What a request asks for by its target, with this body.
+    /// Returns a request's action and target with this body.
     fn of(request: &Request<'a>, action: Action, body: Vec<u8, A>) -> Self
         ensures { asked_of result ≡ asked_by request.now.head action body.items }
     {
@@ -36,7 +36,7 @@ impl<'a, A: Allocator> Asked<'a, A> {
     }
 }
 
-/// What an input decides.
+/// The decision on an input.
 #[derive(Drop)]
 pub(crate) enum Decision<'a, A: Allocator> {
     Refuses(Status),
@@ -45,7 +45,7 @@ pub(crate) enum Decision<'a, A: Allocator> {
 }
 
 impl<A: Allocator> Decision<'_, A> {
-    /// How much of the request was read.
+    /// Returns how much of the request was read.
     pub fn extent(&self) -> Extent
         ensures { result ≡ extent_of (decision_of self.now) }
     {
@@ -56,7 +56,7 @@ impl<A: Allocator> Decision<'_, A> {
     }
 }
 
-/// Why nothing was decided.
+/// Why there is no decision.
 #[derive(Clone, Copy)]
 pub(crate) enum ReadFault {
     Closed,
@@ -75,7 +75,7 @@ impl From<HeadFault> for ReadFault {
     }
 }
 
-/// Reads an input as far as it takes to decide.
+/// Reads an input as far as a decision needs.
 pub(crate) fn read_decision<'a, A: Allocator + Copy, R: CountedRead>(
     alloc: A,
     routes: &Routes,
@@ -102,7 +102,7 @@ pub(crate) fn read_decision<'a, A: Allocator + Copy, R: CountedRead>(
     read_asked(alloc, &request, action, input)
 }
 
-/// Reads a request on behind its head, which asks for something with a body.
+/// Reads the body of a request whose action takes one.
 fn read_asked<'a, A: Allocator + Copy, R: CountedRead>(
     alloc: A,
     request: &Request<'a>,
@@ -130,14 +130,14 @@ fn read_asked<'a, A: Allocator + Copy, R: CountedRead>(
     }
 }
 
-/// What is asked for with a body: all that is asked by POST.
+/// Returns whether an action takes a body, as all those requested by POST do.
 fn takes_body(action: Action) -> bool
     ensures { result ≡ takes_body action }
 {
     !matches!(action, Action::Geocode | Action::Fetch | Action::Drop)
 }
 
-/// The status that a request without a usable length of its body gets.
+/// Returns the status for a request without a usable body length.
 fn length_status(fault: LengthFault) -> Status
     ensures { result ≡ length_status fault }
 {

@@ -6,7 +6,7 @@ use refusals::{Fault, Refusal};
 use thiserror::Error;
 use tl_fields::WriteFault;
 
-/// Why a connection got no reply, or not all of one.
+/// Why a connection got no reply, or only a part of one.
 #[derive(Clone, Copy, Debug, PartialEq, Eq, Error)]
 pub enum WireFault {
     #[error("the input ended before its first byte")]

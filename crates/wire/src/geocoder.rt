@@ -1,4 +1,4 @@
-//! What is answered to the query of a place.
+//! The answer to a query for a place.
 ghost use Rattle.std.specs.Prelude.{◌≡◌, ◌⊎◌, IfOk, option_map};
 ghost use Rattle.std.specs.Cow.{cow_str_bytes};
 ghost use Rattle.geocode.specs.Gazetteer.{IsGazetteerOf};
@@ -15,7 +15,7 @@ use std::alloc::{AllocError, Allocator};
 use std::borrow::CowStr;
 use tl_segments::County;
 
-/// The lines of the hits of the place that a query asks for.
+/// Returns the lines of the hits for the place in a query.
 pub(crate) fn geocode<A: Allocator + Copy>(
     alloc: A,
     gazetteer: &Gazetteer<A>,
@@ -57,7 +57,7 @@ fn answer_place<A: Allocator + Copy>(
     })
 }
 
-/// The value of the first pair with this key.
+/// Returns the value of the first pair with this key.
 #[tactic(auto, using(crate::proofs::QueryLemmas::found_first, crate::proofs::QueryLemmas::passed_over))]
 fn first_value<'q, A: Allocator + Copy>(
     alloc: A,

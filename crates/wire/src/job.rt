@@ -1,4 +1,4 @@
-//! What the table of jobs says, as an answer.
+//! The replies of the table of jobs, as answers.
 ghost use Rattle.std.specs.Prelude.{◌≡◌, decimal, false};
 ghost use Rattle.http_reply.specs.Reply.{reply_text};
 ghost use Rattle.http_reply.specs.declared.status.Status.TheVariants.{NotFound};
@@ -20,7 +20,7 @@ use refusals::{Fault, Refusal};
 use std::alloc::Allocator;
 use tl_fields::{CountedWrite, WriteFault};
 
-/// Tells the table what is asked of it, and writes what it says.
+/// Applies an event to the table, and writes its reply.
 pub(crate) fn tell<A: Allocator + Copy, W: CountedWrite>(
     jobs: &mut Jobs<A>,
     event: Event<'_>,
@@ -33,7 +33,7 @@ pub(crate) fn tell<A: Allocator + Copy, W: CountedWrite>(
     job_answer::<A>(said).write(out)
 }
 
-/// Replies how far the job is that a path names, with its rows.
+/// Writes the progress and the rows of the job that a path names.
 pub(crate) fn fetch<A: Allocator + Copy, W: CountedWrite>(
     jobs: &mut Jobs<A>,
     path: &str,
@@ -48,7 +48,7 @@ pub(crate) fn fetch<A: Allocator + Copy, W: CountedWrite>(
     }
 }
 
-/// Removes the job that a path names.
+/// Removes the job that a path names, and writes the reply.
 pub(crate) fn remove<A: Allocator + Copy, W: CountedWrite>(
     jobs: &mut Jobs<A>,
     path: &str,
@@ -63,7 +63,7 @@ pub(crate) fn remove<A: Allocator + Copy, W: CountedWrite>(
     }
 }
 
-/// An id that isn't one is of no job.
+/// Writes the reply for an invalid id, which belongs to no job.
 fn no_job<A: Allocator, W: CountedWrite>(out: &mut W) -> Result<(), WriteFault>
     ensures { WritesText (reply_text (status_reply NotFound)) result
         (writer W.contents W.counts out.old) (writer W.contents W.counts out.new) }
@@ -71,7 +71,7 @@ fn no_job<A: Allocator, W: CountedWrite>(out: &mut W) -> Result<(), WriteFault>
     Answer::<A>::Status(Status::NotFound).write(out)
 }
 
-/// Moves the job whose turn is next on by a turn.
+/// Advances the next job by a turn.
 pub(crate) fn next_turn<A: Allocator + Copy>(jobs: &mut Jobs<A>) -> Option<JobReply<'static>>
     ensures { IsTurn jobs.old result jobs.new }
 {
@@ -80,7 +80,7 @@ pub(crate) fn next_turn<A: Allocator + Copy>(jobs: &mut Jobs<A>) -> Option<JobRe
     Some(without_rows(said))
 }
 
-/// The reply to a turn, which lends nothing.
+/// Returns the reply to a turn, which borrows nothing.
 fn without_rows(said: JobReply<'_>) -> JobReply<'static>
     ensures { lends_rows said.entry ≡ false → result ≡ said.entry }
 {
@@ -97,7 +97,7 @@ fn without_rows(said: JobReply<'_>) -> JobReply<'static>
     }
 }
 
-/// What the table says, as an answer.
+/// Returns the answer for a reply of the table.
 fn job_answer<'a, A: Allocator>(said: JobReply<'a>) -> Answer<'a, A>
     ensures { reply_of result ≡ job_reply said.entry }
 {
@@ -131,7 +131,7 @@ fn job_fault_answer<A: Allocator>(fault: JobFault) -> Answer<'static, A>
     }
 }
 
-/// The id that a job was given.
+/// Returns the id of a job as text.
 fn id_line(id: u64) -> ArrayString<64>
     ensures { result.bytes ≡ decimal id }
 {

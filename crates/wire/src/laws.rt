@@ -1,4 +1,4 @@
-//! Laws, each the contract of a function that does nothing.
+//! Laws over the definitions, as contracts of functions that do nothing.
 ghost use Rattle.std.specs.Prelude.{◌≡◌, ◌≢◌, ◌⊎◌, ◌<◌, ℕ, List, All};
 ghost use Rattle.http_reply.specs.Reply.{ReplyParts};
 ghost use Rattle.jobs.specs.Run.{Exchange, IsRun};
@@ -12,13 +12,14 @@ ghost use Rattle.wire.specs.Event.{Act, AreActs, AreExchanges, IsEvent, IsOwnRep
 ghost use Rattle.wire.specs.State.{StateParts, new_state};
 ghost use Rattle.wire.specs.declared.serving.Extent.{Extent};
 
-/// An input decides one thing. So how it is cut into reads can't matter, since what is replied is told of the input alone.
+/// An input has only one decision. The way it's split into reads therefore doesn't matter: the reply depends on the input alone.
 pub fn decisions()
     ensures one { (input : List ℕ) (decision other : DecisionParts) → IsDecided input decision → IsDecided input other → decision ≡ other }
 {}
 
-/// A request is one event of the table of jobs and never a turn, or none. So whatever a server replies, to whatever inputs, and with whatever turns behind
-/// them, its table is that of the run of these events, of which `laws::runs` of the crate `jobs` says that no job is in what another one gets.
+/// A request is at most one event of the table of jobs, and never a turn. Whatever a server replies to any inputs, with any turns in between, its
+/// table is therefore that of a run of these events. `laws::runs` of the crate `jobs` says about such runs that no job affects another one's
+/// result.
 pub fn requests()
     ensures one_event { (input : List ℕ) (extent : Extent) (old new : StateParts) (reply : ReplyParts) → Replies input extent old reply new
         → (new ≡ old) ⊎ IsEvent old reply new }
@@ -26,15 +27,16 @@ pub fn requests()
         → (exchanges : List Exchange) × AreExchanges acts exchanges × IsRun (empty_table counties) exchanges state.table }
 {}
 
-/// Whatever a server did, who asks for a job gets what that job's own submission and its own turns make of it, or is told that there is no such job.
+/// Whatever a server did before, a request for a job returns the result of that job's own submission and its own turns, or reports that there is no
+/// such job.
 pub fn isolation()
     ensures { (counties : List CountyParts) (acts : List Act) (state : StateParts) → AreActs (new_state counties) acts state
         → (input : List ℕ) (extent : Extent) (reply : ReplyParts) (new : StateParts) → Replies input extent state reply new
         → (id : ℕ) → Requests input (Fetch id) → (reply ≡ status_reply NotFound) ⊎ IsOwnReply counties acts id reply }
 {}
 
-/// Want of memory aside, one thing is replied to a program that is to be verified, or run over the counties: it is told of the program, and of them.
-/// Of one that is submitted as a job `laws::submissions` of the crate `jobs` says the same.
+/// Unless an allocation fails, a request to verify a program or to run it over the counties has only one possible reply, which depends on the
+/// program and the counties. For a program that is submitted as a job, `laws::submissions` of the crate `jobs` says the same.
 pub fn verdicts()
     ensures verify { (program : List ℕ) (reply other : ReplyParts) → IsVerified program reply → IsVerified program other
         → reply ≢ memory_reply → other ≢ memory_reply → reply ≡ other }
@@ -42,7 +44,8 @@ pub fn verdicts()
         → ExtractsTo counties program other → reply ≢ memory_reply → other ≢ memory_reply → reply ≡ other }
 {}
 
-/// Want of memory aside, the same bytes get one reply on every route, over the same counties and the same table of jobs, and leave one state.
+/// Unless an allocation fails, the same bytes have only one possible reply on every route, over the same counties and the same table of jobs, and
+/// only one state after it.
 pub fn one_reply()
     ensures { (input : List ℕ) (extent other_extent : Extent) (old new again : StateParts) (reply other : ReplyParts)
         → Replies input extent old reply new → Replies input other_extent old other again

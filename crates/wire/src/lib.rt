@@ -1,4 +1,4 @@
-//! The HTTP server over readers and writers: one request is read and one reply is written (RFC 9112; HTTP/1.0 and 1.1).
+//! The HTTP server over readers and writers. It reads one request and writes one reply (RFC 9112; HTTP/1.0 and 1.1).
 #![tactic(auto)]
 
 mod answer;

@@ -1,4 +1,4 @@
-//! What is answered to a program, or to a program's text.
+//! The answers about programs and program texts.
 ghost use Rattle.std.specs.Prelude.{◌≤◌, ℕ, length, IfOk};
 ghost use Rattle.bpf_meaning.specs.Extract.{IsExtract};
 ghost use Rattle.jobs.specs.Segments.{segments_of};
@@ -16,7 +16,7 @@ use refusals::{Fault, Refusal};
 use std::alloc::{AllocError, Allocator};
 use tl_segments::County;
 
-/// Whether a program is accepted.
+/// Returns the verdict on a program.
 pub(crate) fn verify<A: Allocator + Copy>(alloc: A, program: &[u8]) -> Answer<'static, A>
     ensures { IsVerified program.now (reply_of result) }
 {
@@ -26,7 +26,7 @@ pub(crate) fn verify<A: Allocator + Copy>(alloc: A, program: &[u8]) -> Answer<'s
     }
 }
 
-/// The words of a source.
+/// Returns the words of a source.
 pub(crate) fn assemble<A: Allocator + Copy>(alloc: A, source: &[u8]) -> Answer<'static, A>
     ensures { AssemblesTo source.now (reply_of result) }
 {
@@ -40,7 +40,7 @@ pub(crate) fn assemble<A: Allocator + Copy>(alloc: A, source: &[u8]) -> Answer<'
     }
 }
 
-/// The text of a program.
+/// Returns the text of a program.
 pub(crate) fn disassemble<A: Allocator + Copy>(alloc: A, program: &[u8]) -> Answer<'static, A>
     ensures { DisassemblesTo program.now (reply_of result) }
 {
@@ -53,7 +53,7 @@ pub(crate) fn disassemble<A: Allocator + Copy>(alloc: A, program: &[u8]) -> Answ
     }
 }
 
-/// The rows of a program over all counties, one after the other.
+/// Returns the rows that a program selects over all counties, in order.
 pub(crate) fn extract<A: Allocator + Copy>(
     alloc: A,
     counties: &[County<A>],
@@ -75,7 +75,7 @@ pub(crate) fn extract<A: Allocator + Copy>(
     }
 }
 
-/// The rows over all counties, made turn by turn as those of a job.
+/// Returns the rows over all counties, made turn by turn like those of a job.
 #[tactic(auto, using(crate::proofs::RowsLemmas::no_rows, crate::proofs::RowsLemmas::rows_turned, crate::proofs::RowsLemmas::turned_on, crate::proofs::RowsLemmas::all_done))]
 fn all_rows<A: Allocator + Copy>(
     alloc: A,

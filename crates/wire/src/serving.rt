@@ -1,4 +1,4 @@
-//! One request, read and answered.
+//! Reading and answering one request.
 ghost use Rattle.tl_fields.specs.Device.{reader, writer};
 ghost use Rattle.std.specs.Prelude.{◌≡◌};
 ghost use Rattle.tl_fields.specs.Writing.{WritesText};
@@ -24,16 +24,16 @@ use tl_fields::{CountedRead, CountedWrite, WriteFault};
 /// How much of a request was read.
 #[derive(Clone, Copy, PartialEq, Eq)]
 pub enum Extent {
-    /// All of it that counts: what comes later isn't of the request, or is a body of one that has none.
+    /// Everything that matters: bytes that come later aren't part of the request, or are the body of a request that takes none.
     Whole,
-    /// As much as it took to refuse it: the client may still be sending.
+    /// Only what was needed to refuse the request: the client may still be sending.
     Part,
 }
 
 /// Reads one request and writes one reply.
 ///
-/// No read is made once what came decides the reply; a read of the head may take what stands behind it, 8,192 bytes with the head at most. No read and
-/// no write is tried again, and nothing is flushed. The reply that memory was wanting takes none itself.
+/// Nothing more is read once the bytes read decide the reply. Reads of the head may also take bytes after it, at most 8,192 bytes with the head. No
+/// read or write is retried, and nothing is flushed. The out-of-memory reply itself doesn't allocate.
 pub fn serve_one<A: Allocator + Copy, R: CountedRead, W: CountedWrite>(
     state: &mut State<A>,
     input: &mut R,
@@ -49,7 +49,7 @@ pub fn serve_one<A: Allocator + Copy, R: CountedRead, W: CountedWrite>(
     }
 }
 
-/// The same as [`serve_one`], which also tells how much of the request was read.
+/// Does the same as [`serve_one`], and also returns how much of the request was read.
 pub fn serve_request<A: Allocator + Copy, R: CountedRead, W: CountedWrite>(
     state: &mut State<A>,
     input: &mut R,
@@ -72,7 +72,7 @@ pub fn serve_request<A: Allocator + Copy, R: CountedRead, W: CountedWrite>(
     end_with(decision.extent(), state.answer(&decision, out))
 }
 
-/// How serving ends, by what came of the write.
+/// Returns the result of serving, given the result of the write.
 fn end_with(extent: Extent, written: Result<(), WriteFault>) -> Result<Extent, WireFault>
     ensures { result ≡ ends_with extent written }
 {
@@ -82,7 +82,7 @@ fn end_with(extent: Extent, written: Result<(), WriteFault>) -> Result<Extent, W
     }
 }
 
-/// Says that memory was wanting for the body.
+/// Writes the reply for a failed allocation of the body.
 fn lack_memory<A: Allocator, W: CountedWrite>(out: &mut W) -> Result<(), WriteFault>
     ensures { WritesText (reply_text memory_reply) result
         (writer W.contents W.counts out.old) (writer W.contents W.counts out.new) }
@@ -91,7 +91,7 @@ fn lack_memory<A: Allocator, W: CountedWrite>(out: &mut W) -> Result<(), WriteFa
 }
 
 impl<A: Allocator + Copy> State<A> {
-    /// Answers what was decided.
+    /// Writes the reply to a decision.
     fn answer<W: CountedWrite>(
         &mut self,
         decision: &Decision<'_, A>,
@@ -107,7 +107,7 @@ impl<A: Allocator + Copy> State<A> {
         }
     }
 
-    /// Answers what is asked for.
+    /// Writes the reply to an accepted request.
     fn answer_asked<W: CountedWrite>(
         &mut self,
         asked: &Asked<'_, A>,

@@ -12,7 +12,7 @@ use std::alloc::{AllocError, Allocator, Global};
 use std::marker::Model;
 use tl_segments::County;
 
-/// What a server keeps from one connection to the next: its counties, an index of their street names, and the jobs that are open. Contracts see it as a
+/// What a server keeps from one connection to the next: its counties, an index of their street names, and the open jobs. Contracts see it as a
 /// record with the table.
 #[derive(Drop)]
 pub struct State<A: Allocator> {
@@ -34,8 +34,7 @@ impl<A: Allocator> Model for State<A> {
 }
 
 impl<A: Allocator + Copy> State<A> {
-    /// Returns a state with no job, over counties, which it keeps. Takes memory for an index of their street names from `alloc`, and for the routes from
-    /// `global`.
+    /// Returns a state with no jobs, and keeps the counties. Allocates an index of their street names in `alloc`, and the routes in `global`.
     pub fn new(
         global: Global,
         alloc: A,
@@ -54,7 +53,7 @@ impl<A: Allocator + Copy> State<A> {
         })
     }
 
-    /// Moves the job whose turn is next on by a turn, and answers what came of it; `None` where no job is unfinished.
+    /// Advances the next job by a turn, and returns the reply; `None` if all jobs are finished.
     pub fn turn(&mut self) -> Option<JobReply<'static>>
         ensures { IsTurn self.old.table result self.new.table }
     {
