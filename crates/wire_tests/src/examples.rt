@@ -1,8 +1,10 @@
-//! The examples of docs/http.md in its order, row for row: examples/try.sh compares the document with the tables, and sends it to the program.
+//! The examples of docs/http.md in order, row for row. examples/try.sh compares the document with these tables, and sends the examples to the
+//! program.
 
-// The blocks with whole replies, an empty line between: the county, then each request of curl and its reply. Turns are those behind the connections.
+// The blocks with complete replies, separated by empty lines: the county, then each request of curl and its reply. Turns are the ones that the
+// server makes after connections.
 //
-// Of what curl sends its version is fixed, and the Content-Type of a body is left out, which isn't looked at.
+// In curl's requests, the version of curl is fixed, and the Content-Type of a body, which the server ignores, is left out.
 pub const BLOCKS: &str = r"one
 POST /verify{curl} >> {every} => =200 OK; text/plain; 9; accepted\n
 POST /verify{curl} >> {stuck} => =422 Unprocessable Entity; text/plain; 35; refused 40 place 0 ReadsNothing(0)\n
@@ -39,7 +41,8 @@ POST /jobs{curl} >> => =503 Service Unavailable; text/plain; 16; refused 70 Full
 one
 PUT /jobs/1{curl} => =405 Method Not Allowed; text/plain; 19; method not allowed\n; GET, DELETE";
 
-// The block of which parts of the replies are shown, between the last two of those. Any 400 segments stand for the example county.
+// The block whose replies are shown in part, which is between the last two blocks above in the document. Any 400 segments stand in for the example
+// county.
 pub const TURNS: &str = r"{rt1\n*400}
 POST /jobs{curl} >> {every} => 200 text 1\n
 turn => 256 400
@@ -81,7 +84,7 @@ GET /jobs/0 HTTP/1.0\r\n\r\n => 404
 \r\n\nGET /jobs/x HTTP/1.1\nContent-Length: x\n\n => 404
 DELETE /jobs/18446744073709551616 HTTP/1.1\r\n\r\n => 404";
 
-// Those of which it counts what comes next. One that is silent then is left to the tests of clients that are slow.
+// The requests that the document lists with what comes next. A client that stays silent is covered by the tests of slow clients.
 pub const ENDS: &str = r"{rt1}\n
  => 80
 \r\n\r\n => 400

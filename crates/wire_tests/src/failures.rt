@@ -1,11 +1,11 @@
-//! Requests that are cut short, readers and writers that fail, and growths that are refused.
+//! Requests that are cut short, readers and writers that fail, and allocations that fail.
 use crate::tables::wrong_in;
 
-// A program that is to be verified. The request has 61 bytes, and the reply 92.
+// A program to verify. The request has 61 bytes, and the reply 92.
 const VERIFY: &str = r"{rt1}\n
 POST /verify HTTP/1.1\r\nContent-Length: 16\r\n\r\n{every} => =200 OK; text/plain; 9; accepted\n";
 
-// A script in which each request is decided by its last byte.
+// A script in which each request is decided only by its last byte.
 const REQUESTS: &str = r"{rt1\n*2}
 POST /verify HTTP/1.1 >> {stuck} => 422 refused 40 place 0 ReadsNothing(0)
 POST /assemble HTTP/1.1 >> mov r0, 1\nexit\n => 200 octets {every}
@@ -32,7 +32,8 @@ POST /jobs HTTP/1.1\r\nTransfer-Encoding: chunked\r\n\r\n => 411
 POST /jobs HTTP/1.1\r\nContent-Length: 16\r\nContent-Length: 16\r\n\r\n => 400
 POST /jobs HTTP/1.1\r\nContent-Length: 1048577\r\n\r\n => 413";
 
-// Requests that are decided before their body, or what is to be a head, has come. A head is refused at the first byte that no head has there.
+// Requests that are decided before their body, or what should be a head, is complete. A head is refused at the first byte that no head can have
+// there.
 const DECIDED: &str = r"-
 GET /x HTTP/2 => 400
 GET /x HTTP/1.1x => 400
@@ -54,23 +55,23 @@ PATCH /verify HTTP/1.1\r\nContent-Length: 16\r\n\r\n => 405 POST
 GET /jobs/1 HTTP/1.1\r\nContent-Length: 16\r\n\r\n => 404
 DELETE /jobs/1 HTTP/1.1\r\nContent-Length: 16\r\n\r\n => 404";
 
-// Replies that are longer, in two writes.
+// Longer replies, in two writes.
 const REPLIES: &str = r"{rt1\n*6}
 POST /extract HTTP/1.1 >> {every} => 200 octets {0\trt1\n*6}
 POST /jobs HTTP/1.1 >> {scored} => 200 text 1\n
 turn => 6 6
 GET /jobs/1{end} => 200 octets 6 6\n{18446744073709551615\trt1\n*6}";
 
-// Requests that end early, and reads that fail, where a read takes a byte.
+// Requests that end early, and failing reads, when each read takes one byte.
 const TRIALS: &str =
     "end, end by 1, read by 1 pipe, read by 1 interrupted, read by 1 blocked, read by 1 late";
 
-// How writes fail, also of a reply of which each takes a byte.
+// Ways in which writes fail, including replies written byte by byte.
 const WRITES: &str = "write pipe, write interrupted, write blocked, write late, write nothing, \
 write by 1 pipe, write by 1 interrupted, write by 1 nothing";
 
-// Scripts with an empty line between: the counties, and then requests and turns, each with what comes of it where no growth is refused. What follows `+`
-// takes memory, and what follows `-` takes none.
+// Scripts, separated by empty lines: the counties, then requests and turns, each with its result if no allocation fails. Rows marked `+` allocate,
+// and rows marked `-` don't.
 const GROWTHS: &str = r"{rt1\n*2}
 + POST /verify HTTP/1.1 >> {every} => 200 text accepted\n
 + POST /verify HTTP/1.1 >> {roads} => 200 text accepted\n

@@ -1,8 +1,8 @@
-//! Heads that are none, and what methods and targets get.
+//! Invalid heads, and the replies to methods and targets.
 
-// A job is there before each table, and no id is used by its rows.
+// Each table begins with a job, and its rows assign no id, as the next job shows.
 //
-// Long heads, and what comes before a head.
+// Long heads, and bytes before a head.
 pub const LIMITS: &str = r"{rt1}\n
 jobs => 1
 turn => 1 1
@@ -30,7 +30,7 @@ GET /jobs/1 HTTP/1.1\r\n\r\n{\xff*20000} => 200 octets 1 1\n0\t{rt1}\n
 turn => none
 job => 2";
 
-// What comes before a head; its lines; methods; targets; versions; and headers.
+// Bytes before a head; its lines; methods; targets; versions; and headers.
 pub const HEADS: &str = r"{rt1}\n
 jobs => 1
 turn => 1 1

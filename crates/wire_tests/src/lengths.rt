@@ -1,8 +1,9 @@
-//! The lengths of bodies, and what comes first of what is wrong.
+//! The lengths of bodies, and the order in which faults are reported.
 
-// A job is there before each table, and no id is used by its rows.
+// Each table begins with a job, and its rows assign no id, as the next job shows.
 //
-// First lengths that are numbers, and then none; two; the names of headers; transfer codings; bodies; other methods; and what comes first.
+// Lengths that are numbers, then other values; two lengths; the names of headers; transfer codings; bodies; other methods; and requests with more
+// than one fault.
 pub const LENGTHS: &str = r"{rt1}\n
 jobs => 1
 turn => 1 1

@@ -1,9 +1,9 @@
-//! What the tables name beyond the common notation, and counties.
+//! The names that the tables use in addition to the common notation, and counties.
 use fixtures::{Files, bytes, county};
 use std::alloc::{AllocError, Allocator, Global};
 use tl_segments::County;
 
-// The end of a head without headers, and of one with those of curl, whose version doesn't matter.
+// The end of a head without headers, and of one with curl's headers, whose version doesn't matter.
 const END: &str = r" HTTP/1.1\r\n\r\n";
 
 const CURL: &str = r" HTTP/1.1\r\nHost: 127.0.0.1:8080\r\nUser-Agent: curl/8.5.0\r\nAccept: */*";
@@ -18,7 +18,7 @@ const ONE: &str = "{lantern}\\r\\n; \
     5000601001     130  Old Lantern{ *19}Ct    \\r\\n5000601001     133  County Road 67{ *22}\\r\\n; \
     60006 107000725  1       3901       3999{ *22}01  36067     \\r\\n";
 
-// The program examples/not_water.s, and its text.
+// The program examples/not_water.s and its text.
 const NOT_WATER: &str = "{asm ldxb r0, [r1+55] | add r0, -72 | exit}";
 
 const NOT_WATER_TEXT: &str = "\
@@ -37,7 +37,7 @@ const NAMES: [(&str, &str); 6] = [
     ("{not_water.s}", NOT_WATER_TEXT),
 ];
 
-/// Returns a text in the common notation, without these names.
+/// Returns a text in the common notation, with these names replaced.
 fn spelled_out(alloc: Global, text: &str) -> Result<String, AllocError> {
     let mut spelled = String::from_str(alloc, text)?;
     for (name, meant) in NAMES {
@@ -51,7 +51,7 @@ pub fn bytes_of(alloc: Global, text: &str) -> Result<Vec<u8>, AllocError> {
     bytes(alloc, &spelled_out(alloc, text)?)
 }
 
-/// Makes the counties of these files of types 1, 4, 5 and 6, with `;` between files and `|` between counties; that of examples/one; or none, `-`.
+/// Loads counties from files of types 1, 4, 5 and 6, with `;` between files and `|` between counties; that of examples/one; or none, for `-`.
 pub fn counties_of<A: Allocator + Copy>(
     alloc: A,
     global: Global,

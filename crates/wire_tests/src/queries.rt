@@ -1,4 +1,4 @@
-//! What the route of the geocoder answers.
+//! The answers of the geocoder's route.
 
 // Queries over Main Street, which has 101 to 199 on its left and 100 to 198 on its right.
 pub const QUERIES: &str = r"{rt1}\n
@@ -109,8 +109,8 @@ GET /geocode?number=151&name=main HTTP/1.0\r\n\r\n => 200 text 123456789\tL\t-86
 POST /geocode?number=151&name=main HTTP/1.1 >> number=151&name=main => 405 GET
 HEAD /geocode?number=151&name=main{end} => 405 GET";
 
-// Counties, and what queries over them find: addresses that go down; ends exchanged; an end without a latitude; a second
-// range on the left, of no ZIP code; an alternate name; three counties; more than a thousand hits; no county.
+// Counties, and the results of queries over them: addresses that descend; ends exchanged; an end without a latitude; a second range on the left,
+// without a ZIP code; an alternate name; three counties; more than a thousand hits; no county.
 pub const COUNTIES: &str = r"{rt1 FRADDL=________199 TOADDL=________101}\n
 GET /geocode?number=151&name=main{end} => 200 text 123456789\tL\t-86495103\t32404897\n
 GET /geocode?number=152&name=main{end} => 200 text 123456789\tR\t-86494694\t32405306\n

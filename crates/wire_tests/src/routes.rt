@@ -1,6 +1,6 @@
-//! What the routes of programs answer.
+//! The answers of the routes for programs.
 
-// Words stand in hexadecimal where they are what is tested.
+// Words are in hexadecimal if the test is about them.
 pub const PROGRAMS: &str = r"{rt1}\n
 POST /verify HTTP/1.1 >> {every} => 200 text accepted\n
 POST /verify HTTP/1.1 >> {roads} => 200 text accepted\n
@@ -48,7 +48,7 @@ POST /extract HTTP/1.1 >> {stuck}\x00 => 422 refused 11 NotWhole
 POST /extract HTTP/1.1 >> {backward} => 422 refused 30 place 1 BackwardJump
 POST /extract HTTP/1.1 >> {stuck} => 422 refused 40 place 0 ReadsNothing(0)";
 
-// Three programs are as long as one may be, and the others longer.
+// Three programs have the greatest length, and the others are longer.
 pub const LONG: &str = r"{rt1}\n
 POST /verify HTTP/1.1 >> {asm mov r0, 1 *65535 | exit} => 200 text accepted\n
 POST /verify HTTP/1.1 >> {every*32768} => 200 text accepted\n
@@ -57,7 +57,7 @@ POST /verify HTTP/1.1 >> {every*32768}{stuck} => 422 refused 12 TooLong
 POST /disassemble HTTP/1.1 >> {every*32768}{stuck} => 422 refused 12 TooLong
 POST /extract HTTP/1.1 >> {asm mov r0, 1 *65535 | exit} => 200 octets 0\t{rt1}\n";
 
-// The counties, and what an extract over them has. The last are of as many segments as a job's turn has, and of one more.
+// Counties, and extracts over them. The last ones have the number of segments of a job's turn, and one more.
 pub const COUNTIES: &str = r"-
 POST /extract HTTP/1.1 >> {every} => 200 octets
 POST /extract HTTP/1.1 >> {stuck} => 422 refused 40 place 0 ReadsNothing(0)

@@ -1,23 +1,23 @@
-//! Rows of requests, each with what comes of it.
+//! Rows of requests, each with its result.
 use crate::notation::bytes_of;
 use fixtures::cell;
 use std::alloc::{AllocError, Global};
 
-/// A request with its reply, or a turn with what comes of it as text.
+/// A request with its reply, or a turn with its result as text.
 #[derive(Drop)]
 pub struct Row<'a> {
     pub text: &'a str,
     /// Empty for a turn.
     pub request: Vec<u8>,
-    /// Empty if there is none, as to a request without a byte.
+    /// Empty if there is no reply, as for a request without a byte.
     pub reply: Vec<u8>,
     pub is_turn: bool,
-    /// Whether it is asked once, and not cut.
+    /// Whether the request is sent only once, and not cut.
     pub is_once: bool,
 }
 
-// How replies are written for short, and at length with `@` for what follows the short form: the status and its phrase, what the body is, its length
-// unless it is that of the body, the body, and the methods that are allowed.
+// The short and the full form of replies, with `@` for what follows the short form: the status and its phrase, the media type, the length unless
+// it's that of the body, the body, and the methods that are allowed.
 const REPLIES: &str = r"=| @
 80| none
 200 text| 200 OK; text/plain; ; @
@@ -30,7 +30,7 @@ const REPLIES: &str = r"=| @
 422| 422 Unprocessable Entity; text/plain; ; @\n
 503| 503 Service Unavailable; text/plain; ; @\n";
 
-/// Returns the reply that a text says, for short or after `=` at length.
+/// Returns the reply for a text in short form, or in full form after `=`.
 pub fn reply_of(alloc: Global, said: &str) -> Result<Vec<u8>, AllocError> {
     for line in REPLIES.lines() {
         let (short, cells) = line.split_once('|').unwrap_or((line, ""));
@@ -61,7 +61,7 @@ fn reply_with(alloc: Global, cells: &str) -> Result<Vec<u8>, AllocError> {
     bytes_of(alloc, &text)
 }
 
-/// Returns the bytes of a request. Where `>>` stands in it, the head's last line announces the length of the body that follows.
+/// Returns the bytes of a request. If it contains `>>`, the last line of the head announces the length of the body that follows.
 fn request_of(alloc: Global, asked: &str) -> Result<Vec<u8>, AllocError> {
     let Some((line, body)) = asked.split_once(" >>") else {
         return bytes_of(alloc, asked);
@@ -76,7 +76,7 @@ fn request_of(alloc: Global, asked: &str) -> Result<Vec<u8>, AllocError> {
     bytes_of(alloc, &text)
 }
 
-/// Reads a row: `turn` or a request, and after `=>` what comes of it. A mark before it, `+` or `-`, says whether that takes memory.
+/// Reads a row: `turn` or a request, then `=>` and its result. A mark before the row, `+` or `-`, says whether it allocates.
 fn row_of<'a>(alloc: Global, text: &'a str) -> Result<Row<'a>, AllocError> {
     let (asked, said) = text.split_once(" => ").unwrap_or((text, ""));
     let asked = asked.strip_prefix("+ ").unwrap_or(asked);
@@ -104,7 +104,7 @@ fn turn_of<'a>(alloc: Global, text: &'a str, said: &str) -> Result<Row<'a>, Allo
     })
 }
 
-/// Reads the submission of a job that gets this id.
+/// Reads the row for the submission of a job that gets this id.
 fn job_of<'a>(alloc: Global, text: &'a str, id: u64) -> Result<Row<'a>, AllocError> {
     let request = request_of(alloc, "POST /jobs HTTP/1.1 >> {every}")?;
     Ok(Row {

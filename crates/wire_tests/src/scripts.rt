@@ -1,8 +1,8 @@
-//! Requests and turns that follow each other.
+//! Sequences of requests and turns.
 
-// Scripts with an empty line between: the counties, and then requests and turns, each with what comes of it.
+// Scripts, separated by empty lines: the counties, then requests and turns, each with its result.
 //
-// The first has what an id is and isn't. Then come jobs side by side over two counties, and jobs over no segments.
+// The first script has valid and invalid ids. The others have jobs at the same time over two counties, and jobs over no segments.
 pub const SCRIPTS: &str = r"{rt1\n*2}
 turn => none
 GET /jobs/1{end} => 404
@@ -98,7 +98,7 @@ GET /jobs/1{end} => 404
 GET /jobs/2{end} => 200 octets 0 0\n
 turn => none";
 
-// Two jobs side by side over 600 segments, with a refused program between them.
+// Two jobs at the same time over 600 segments, with a refused program between them.
 pub const TURNS: &str = r"{rt1\n*600}
 POST /jobs HTTP/1.1 >> {every} => 200 text 1\n
 GET /jobs/1{end} => 200 octets 0 600\n
@@ -149,13 +149,13 @@ turn => none
 GET /jobs/1{end} => 200 octets 4608 4608\n{0\trt1\n*4608}
 POST /extract HTTP/1.1 >> {every} => 200 octets {0\trt1\n*4608}";
 
-// A program of as many words as one may have.
+// A program of the greatest length in words.
 pub const LONG: &str = r"{rt1\n*2}
 POST /jobs HTTP/1.1 >> {asm mov r0, 1 *65535 | exit} => 200 text 1\n
 turn => 2 2
 GET /jobs/1{end} => 200 octets 2 2\n{0\trt1\n*2}";
 
-// What is asked where as many jobs are open as may be: a body is looked at before that, and a program behind.
+// Requests while the greatest number of jobs is open: the body is checked before that limit, and the program after it.
 pub const FULL: &str = r"{rt1}\n
 jobs => 64
 POST /jobs HTTP/1.1 >> {every} => 503 refused 70 Full

@@ -1,4 +1,4 @@
-//! A server over devices that fail, and a heap that refuses.
+//! A server whose readers, writers and heap can fail.
 use crate::notation::counties_of;
 use crate::rows::Row;
 use fixtures::{Device, Refusing, reader, writer};
@@ -13,7 +13,7 @@ pub struct Server<'a> {
     state: State<&'a Refusing<Global>>,
 }
 
-/// What comes of a request.
+/// The result of a request.
 #[derive(Drop)]
 struct Served {
     fault: Option<WireFault>,
@@ -29,7 +29,7 @@ const OUT_OF_MEMORY: &[u8] =
     b"HTTP/1.1 503 Service Unavailable\r\nContent-Type: text/plain\r\nContent-Length: 15\r\nConnection: close\r\n\r\nrefused memory\n";
 
 impl<'a> Server<'a> {
-    /// Makes a server over counties. Before that, each growth that its state asks for is refused once.
+    /// Makes a server over counties. Before that, a failure is injected into each allocation of its state.
     pub fn new(alloc: Global, heap: &'a Refusing<Global>, counties: &str) -> Option<Self> {
         for nth in 1..=u64::MAX {
             let counties = counties_of(heap, alloc, counties)?;
@@ -49,7 +49,7 @@ impl<'a> Server<'a> {
         None
     }
 
-    /// Makes a turn, and returns `none`, how far the job is, or a refusal.
+    /// Makes a turn, and returns `none`, the job's progress, or a refusal.
     fn turn(&mut self) -> Result<Vec<u8>, AllocError> {
         match self.state.turn() {
             Some(Reply::Turned { done, total }) => {
@@ -102,7 +102,8 @@ impl<'a> Server<'a> {
             && served.flushes == 0
     }
 
-    /// Returns the text of the first row that is wrong in a trial at the places from `first` to `last`, or at its own last place instead of a later one.
+    /// Returns the text of the first row that is wrong in a trial at the places from `first` to `last`. Places after a row's own last place are
+    /// replaced by it.
     pub fn wrong_row<'r>(
         &mut self,
         rows: &[Row<'r>],
@@ -122,8 +123,8 @@ impl<'a> Server<'a> {
         None
     }
 
-    /// Does what a row asks, and tells whether that takes memory, where each growth was refused once before. Returns `None` where a reply is wrong: to a
-    /// refused growth it is that memory ran out, and no other is asked for.
+    /// Applies a row with a failure injected into each allocation first, and returns whether it allocates. Returns `None` if a reply is wrong:
+    /// after a failed allocation it must be `refused memory`, and nothing more may be allocated.
     fn takes_memory(&mut self, row: &Row<'_>) -> Option<bool> {
         for nth in 1..=u64::MAX {
             self.heap.refuse(nth);
@@ -163,7 +164,7 @@ fn last_place(row: &Row<'_>, trial: &str) -> usize {
     }
 }
 
-/// Returns the distance of the places that are tried of so many: each, or about sixteen, or two of very many.
+/// Returns the distance between the places that are tried: 1, or enough for about sixteen places, or for two if there are very many.
 fn stride_of(places: usize) -> usize {
     match places {
         0..=400 => 1,
@@ -172,8 +173,7 @@ fn stride_of(places: usize) -> usize {
     }
 }
 
-/// Returns in how many writes a reply is written at most: a small one in one, a large one in two, and any of them in one more where one fails; or a
-/// byte each.
+/// Returns the greatest number of writes of a reply: one for a small reply and two for a large one, plus one if a write fails; or one per byte.
 fn most_writes(length: usize, trial: &str) -> u64 {
     match trial.split_once(' ') {
         Some(("write", words)) if words.starts_with("by 1") => (length as u64).wrapping_add(1),
@@ -183,10 +183,10 @@ fn most_writes(length: usize, trial: &str) -> u64 {
     }
 }
 
-/// Returns the fault and the reply that a row's request gets in a trial at a place.
+/// Returns the fault and the reply for a row's request in a trial at a place.
 ///
-/// In a `cut` one read ends there. At an `end` the request does, and any part of it is a bad request. The `read` with that number, counted from 1, fails,
-/// and then nothing is written unless the request was read whole by then. A `write` fails after so many bytes.
+/// In a `cut`, one read ends at the place. At an `end`, the request does, and a partial request is a bad request. The `read` with that number,
+/// counted from 1, fails; nothing is written unless the request was read completely by then. A `write` fails after that number of bytes.
 fn wanted<'r>(row: &'r Row<'_>, trial: &str, place: usize) -> (Option<WireFault>, &'r [u8]) {
     let (what, words) = trial.split_once(' ').unwrap_or((trial, ""));
     let length = row.request.len();

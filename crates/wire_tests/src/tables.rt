@@ -5,8 +5,8 @@ use crate::{examples, heads, lengths, queries, routes, scripts};
 use fixtures::{Refusing, table};
 use std::alloc::{AllocError, Global};
 
-/// Returns the first wrong row of a script in a trial. The script's first line has the counties, and each row below it follows those before. With a
-/// step of 0 one server tries each row at all places in turn; otherwise each pass has a server of its own, and the next place.
+/// Returns the first wrong row of a script in a trial. The script's first line has the counties, and each row below is applied after those before
+/// it. With a step of 0, one server tries each row at all places in order; otherwise each pass has its own server and the next place.
 fn wrong_in_script<'a>(
     alloc: Global,
     script: &'a str,
@@ -27,7 +27,7 @@ fn wrong_in_script<'a>(
     Ok(None)
 }
 
-/// Returns the first wrong row over a new server.
+/// Returns the first wrong row on a new server.
 fn wrong_over<'a>(
     alloc: Global,
     counties: &str,
@@ -43,7 +43,7 @@ fn wrong_over<'a>(
     }
 }
 
-/// Returns the first wrong row of these scripts, which an empty line parts.
+/// Returns the first wrong row of these scripts, which are separated by empty lines.
 pub fn wrong_in(
     alloc: Global,
     scripts: &str,
