@@ -1,4 +1,4 @@
--- Rounds after rounds.
+-- Rounds followed by further rounds.
 use Rattle.std.proofs.Common.{ℕ, zero, suc, refl, subst}
 use Rattle.std.specs.declared.io.Error.{Error}
 use Rattle.server.specs.Rounds.{AreRounds, HasEnded, IsRound, Serving, ServesUntilFailure}

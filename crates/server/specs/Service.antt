@@ -1,4 +1,4 @@
--- What a server does for a client, and behind each, to its state.
+-- The effect on a server's state of serving a client, and of the turn after it.
 use Rattle.std.specs.Prelude.{◌≡◌, Option, Result, Ok, Err}
 use Rattle.jobs.specs.declared.event.Reply.{Reply as JobReply}
 use Rattle.tl_fields.specs.Device.{Reader, Writer}
@@ -11,7 +11,7 @@ use Rattle.wire.specs.declared.serving.Extent.TheVariants.{Whole, Part}
 use Rattle.server.specs.declared.service.Close.{Close}
 use Rattle.server.specs.declared.service.Close.TheVariants.{AtOnce, Lingering}
 
--- how a connection is to be closed: lingering where a reply was written before the request was read whole
+-- how to close a connection: lingering if the reply was written before the request was read completely
 abbrev pub close_of : Result Extent WireFault → Close
 close_of (Ok Part) = Lingering
 close_of (Ok Whole) = AtOnce
@@ -25,18 +25,18 @@ pub record Ends : Type 0 where
 abbrev pub connection : StateParts → Ends → Connection
 connection state ends = record { state = state; reader = ends.reader; writer = ends.writer }
 
--- a request of these ends was served, whatever came of it, and the connection is to be closed as that says
+-- a request from these ends was served, whatever the result, which determines how to close the connection
 pub record HasServed (old : StateParts) (ends : Ends) (close : Close) (new : StateParts) (new_ends : Ends) : Type 0 where
   pub result : Result Extent WireFault
   pub is_served : IsServed result (connection old ends) (connection new new_ends)
   pub tells_extent : TellsExtent result (connection old ends) (connection new new_ends)
   pub closes : close ≡ close_of result
 
--- what serving a client does to a service and to both ends, with how the connection is to be closed
+-- the effect of serving a client on a service and on both ends, and how to close the connection
 abbrev pub Serves : Type 0 → Type 1
 Serves S = S → Ends → Close → S → Ends → Type 0
 
--- a service served some client: of the ends of a socket nothing is known
+-- a service served some client: nothing is known about the ends of a socket
 pub record ServesSome {S : Type 0} (serves : Serves S) (old new : S) : Type 0 where
   pub ends : Ends
   pub close : Close

@@ -1,4 +1,4 @@
-//! Connections, taken one after the other.
+//! Accepting connections one by one.
 ghost use Rattle.std.specs.Prelude.{◌≡◌, IfErr, false};
 ghost use Rattle.std.specs.IoError.{error_kind};
 ghost use Rattle.server.specs.Acceptor.{CountsAccept, is_passed_over};
@@ -9,7 +9,8 @@ use std::marker::Model;
 use std::net::OpenListener;
 use tl_fields::count_one;
 
-/// Takes connections at a listener, and counts them and the accepts that failed. Contracts see it as a record with the fields `taken` and `failed`.
+/// An acceptor of connections at a listener, which counts them and the accepts that failed. Contracts see it as a record with the fields `taken`
+/// and `failed`.
 #[derive(Drop)]
 pub struct Acceptor<'a, L> {
     listener: &'a L,
@@ -26,7 +27,7 @@ impl<'a, L> Model for Acceptor<'a, L> {
 }
 
 impl<'a, L: OpenListener> Acceptor<'a, L> {
-    /// Returns an acceptor that has taken no connection yet.
+    /// Returns an acceptor that has accepted no connection yet.
     pub fn new(listener: &'a L) -> Self
         ensures { result ≡ record { taken = 0; failed = 0 } }
     {
@@ -37,7 +38,7 @@ impl<'a, L: OpenListener> Acceptor<'a, L> {
         }
     }
 
-    /// Takes the next connection. Passes over an accept that failed for one connection alone, or for a signal. After 2^64 - 1 connections it fails.
+    /// Accepts the next connection. Skips accepts that failed for a single connection or because of a signal. After 2^64 - 1 connections it fails.
     pub(crate) fn accept(&mut self) -> io::Result<L::Stream>
         ensures { CountsAccept result self.old self.new }
     {
@@ -57,7 +58,7 @@ impl<'a, L: OpenListener> Acceptor<'a, L> {
     }
 }
 
-/// Takes the next connection that its client hasn't taken back.
+/// Accepts the next connection that its client hasn't aborted.
 fn next_stream<L: OpenListener>(listener: &L) -> io::Result<L::Stream>
     ensures { IfErr result (λ error. is_passed_over (error_kind error) ≡ false) }
 {
@@ -74,7 +75,7 @@ fn next_stream<L: OpenListener>(listener: &L) -> io::Result<L::Stream>
     Err(io::Error::from(ErrorKind::Other))
 }
 
-/// Whether the next connection can be taken after an accept that failed so.
+/// Returns whether the next connection can be accepted after an accept failed in this way.
 fn is_passed_over(kind: ErrorKind) -> bool
     ensures { result ≡ is_passed_over kind }
 {

@@ -12,19 +12,19 @@ use std::io::{ErrorKind, Read, Write};
 use std::net::TcpStream;
 use std::time::{Clock, Duration};
 
-/// What a client sends. A read is an error where its time is over, and doesn't touch the socket where it was over before.
+/// A reader of what a client sends. A read fails once its time is up; if the time was up before the read, the socket isn't touched.
 #[derive(Drop)]
 pub struct ClientReader<'a, C> {
     stream: &'a TcpStream,
     stopwatch: Stopwatch<'a, C>,
     silence: Duration,
     limit: Duration,
-    // The socket's timeout of reads, once it is set.
+    // The socket's read timeout, once it's set.
     timeout: Option<Duration>,
 }
 
 impl<'a, C: Clock> ClientReader<'a, C> {
-    /// Waits so long in one read, and in all of them so long from the first one on.
+    /// Returns a reader that waits at most `silence` in one read, and at most `limit` in all reads, counted from the first.
     pub fn new(stream: &'a TcpStream, clock: &'a C, silence: Duration, limit: Duration) -> Self {
         ClientReader {
             stream,
@@ -35,7 +35,7 @@ impl<'a, C: Clock> ClientReader<'a, C> {
         }
     }
 
-    // While more than the silence is left the timeout stays the same, and each time that it is set costs a system call.
+    // The timeout stays the same while more than the silence is left, and each change costs a system call.
     fn set_timeout(&mut self, passed: Duration) -> io::Result<()>
         ensures waits { OnOk result (IsSome self.new.timeout) }
         ensures rule { OnOk result (option_map as_nanos self.new.timeout ≡ wait (as_nanos self.old.silence) (as_nanos self.old.limit) (as_nanos passed)) }
@@ -66,7 +66,7 @@ impl<C: Clock> Read for ClientReader<'_, C> {
     }
 }
 
-/// What a client takes. A write is an error where its time is over, and doesn't touch the socket where it was over before.
+/// A writer of what a client receives. A write fails once its time is up; if the time was up before the write, the socket isn't touched.
 #[derive(Drop)]
 pub struct ClientWriter<'a, C> {
     stream: &'a TcpStream,
@@ -85,7 +85,7 @@ impl<'a, C: Clock> ClientWriter<'a, C> {
         }
     }
 
-    // It grows with the reply, of which no more is known than what was written and what is to be written now.
+    // The limit grows with the reply, of which only the bytes written and those to be written now are known.
     fn limit(&self, unwritten: usize) -> Duration
         ensures { as_nanos result ≡ min (reply_limit (as_nanos self.now.limits.reply) (min (self.now.written + unwritten) (2 ^ 64 - 1))) max_nanos }
     {
@@ -130,7 +130,7 @@ impl<C: Clock> Write for ClientWriter<'_, C> {
         self.write_in_time(buf)
     }
 
-    /// A socket keeps nothing back.
+    /// Does nothing: a socket has no buffer to flush.
     fn flush(&mut self) -> io::Result<()> {
         Ok(())
     }

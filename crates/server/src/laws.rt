@@ -1,4 +1,4 @@
-//! Laws, each the contract of a function that does nothing.
+//! Laws over the definitions, as contracts of functions that do nothing.
 ghost use Rattle.std.specs.Prelude.{ℕ, List};
 ghost use Rattle.server.specs.Rounds.{AreRounds, Serving};
 ghost use Rattle.server.specs.Service.{HasServed, HasTurned};
@@ -6,7 +6,7 @@ ghost use Rattle.server.specs.Tally.{ServesTallied, Tallied, TurnsTallied};
 ghost use Rattle.wire.specs.Event.{Act, AreActs};
 ghost use Rattle.wire.specs.State.{StateParts};
 
-/// What the loop does to the program's state are replies to requests and turns of jobs, of which `laws::requests` and `laws::isolation` of the crate
+/// The loop changes the program's state only by replies to requests and by turns of jobs. `laws::requests` and `laws::isolation` of the crate
 /// `wire` say what each client gets.
 pub fn acts()
     ensures { (count : ℕ) (old new : Serving (Tallied StateParts))

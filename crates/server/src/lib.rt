@@ -1,4 +1,4 @@
-//! A server of one connection after the other, on one thread, whose clients can't hold it longer than its limits allow.
+//! A server that handles one connection after the other on one thread. No client can hold it longer than its limits allow.
 #![tactic(auto)]
 
 mod acceptor;

@@ -1,4 +1,4 @@
-//! How long a client may hold the server.
+//! Limits on how long a client may hold the server.
 ghost use Rattle.std.specs.Prelude.{◌≡◌, ◌*◌, min};
 ghost use Rattle.std.specs.Option.{option_map};
 ghost use Rattle.std.specs.Duration.{as_nanos, max_nanos};
@@ -6,23 +6,23 @@ ghost use Rattle.server.specs.Limits.{reply_limit, wait};
 
 use std::time::Duration;
 
-/// How long a client may hold the server.
+/// Limits on how long a client may hold the server.
 #[derive(Clone, Copy)]
 pub struct Limits {
     /// One read.
     pub silence: Duration,
-    /// All reads of a request, from the first one on, which comes right behind the accept.
+    /// All reads of a request, from the first one on, which comes right after the accept.
     pub request: Duration,
     /// All writes of a reply, from the first one on, without the second that each mebibyte adds.
     pub reply: Duration,
-    /// All reads of what a client sends behind its request.
+    /// All reads of bytes that a client sends after its request.
     pub linger: Duration,
 }
 
 const MEBIBYTE: u64 = 1_048_576;
 
 impl Limits {
-    /// The program's limits.
+    /// Returns the program's limits.
     pub fn standard() -> Limits
         ensures silence { as_nanos result.silence ≡ 10 * 1_000_000_000 }
         ensures request { as_nanos result.request ≡ 30 * 1_000_000_000 }
@@ -37,7 +37,7 @@ impl Limits {
         }
     }
 
-    /// How long a client may take for a reply of so many bytes.
+    /// Returns the time that a client may take for a reply of `bytes` bytes.
     pub fn reply_limit(&self, bytes: u64) -> Duration
         ensures { as_nanos result ≡ min (reply_limit (as_nanos self.now.reply) bytes) max_nanos }
     {
@@ -46,11 +46,11 @@ impl Limits {
     }
 }
 
-/// How long the next call may wait where so much of a limit has passed, or that none may come.
+/// Returns the time that the next call may wait after `passed` of a limit, or `None` if the limit is over.
 pub fn wait_left(silence: Duration, limit: Duration, passed: Duration) -> Option<Duration>
     ensures { option_map as_nanos result ≡ wait (as_nanos silence) (as_nanos limit) (as_nanos passed) }
 {
-    // By their nanoseconds: what `<` tells of two durations is no fact about those.
+    // Compares nanoseconds, because comparing durations with `<` proves nothing about their nanoseconds.
     if limit.as_nanos() <= passed.as_nanos() {
         return None;
     }

@@ -1,4 +1,4 @@
-//! What is done with each connection.
+//! The service of each connection.
 ghost use Rattle.std.specs.Prelude.{⊤};
 ghost use Rattle.tl_fields.specs.Device.{reader, writer};
 ghost use Rattle.server.specs.Service.{Ends};
@@ -6,29 +6,29 @@ ghost use Rattle.server.specs.declared.service.Close.{Close};
 
 use tl_fields::{CountedRead, CountedWrite};
 
-/// How a connection is to be closed.
+/// The way to close a connection.
 #[derive(Clone, Copy, PartialEq, Eq)]
 pub enum Close {
-    /// The request was read whole, or no whole reply was written.
+    /// The request was read completely, or the reply wasn't written completely.
     AtOnce,
-    /// The reply was written before the request was read whole, so its client may still be sending it.
+    /// The reply was written before the request was read completely, so the client may still be sending it.
     Lingering,
 }
 
-/// What is done with each connection, and behind it.
+/// The work for each connection, and the work after it.
 pub trait Service {
-    // What serving a client does to it and to both ends of the client, with how the connection is to be closed; and what a turn does.
+    // The effect of serving a client on the service and on both ends of the client, with the way to close the connection; and the effect of a turn.
     ghost serves: { Self → Ends → Close → Self → Ends → Type 0 } = { λ _ _ _ _ _. ⊤ };
 
     ghost turns: { Self → Self → Type 0 } = { λ _ _. ⊤ };
 
-    /// Reads one request, and writes the reply to it. A fault is the client's alone: none is handed on.
+    /// Reads one request, and writes its reply. A fault concerns only this client, and isn't propagated.
     fn serve<R: CountedRead, W: CountedWrite>(&mut self, input: &mut R, out: &mut W) -> Close
         ensures { serves
             self.old (record { reader = reader R.remaining R.failed_reads input.old; writer = writer W.contents W.counts out.old })
             result self.new (record { reader = reader R.remaining R.failed_reads input.new; writer = writer W.contents W.counts out.new }) };
 
-    /// Does a piece of the work that isn't done for one client.
+    /// Does a piece of the work that isn't for a single client.
     fn turn(&mut self)
         ensures { turns self.old self.new };
 }

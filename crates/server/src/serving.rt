@@ -1,4 +1,4 @@
-//! One connection after the other, each from its accept to its close.
+//! Serving connections one by one, each from its accept to its close.
 ghost use Rattle.std.specs.Prelude.{◌≡◌, IfErr, OnOk};
 ghost use Rattle.server.specs.Rounds.{HasEnded, IsRound, ServesUntilFailure};
 ghost use Rattle.server.specs.Service.{ServesSome};
@@ -15,8 +15,8 @@ use std::net::{OpenListener, Shutdown, TcpStream};
 use std::time::{Clock, Duration};
 use tl_fields::Counting;
 
-/// Serves one connection after the other until an accept fails, and returns its error. Each connection is served once, and then the service makes one
-/// turn.
+/// Serves connections one by one until an accept fails, and returns its error. The service serves each connection once, and makes one turn after
+/// it.
 pub fn serve_all<L: OpenListener<Stream = TcpStream>, C: Clock, S: Service>(
     acceptor: &mut Acceptor<'_, L>,
     clock: &C,
@@ -34,8 +34,8 @@ pub fn serve_all<L: OpenListener<Stream = TcpStream>, C: Clock, S: Service>(
     }
 }
 
-/// Takes one connection, has it served, closes it, and gives the service a turn. Only an accept that failed is a fault: what goes wrong with the
-/// connection is passed over.
+/// Accepts one connection, lets the service serve it, closes it, and gives the service a turn. Only a failed accept is an error; failures of the
+/// connection itself are ignored.
 pub fn serve_next<L: OpenListener<Stream = TcpStream>, C: Clock, S: Service>(
     acceptor: &mut Acceptor<'_, L>,
     clock: &C,
@@ -53,7 +53,7 @@ pub fn serve_next<L: OpenListener<Stream = TcpStream>, C: Clock, S: Service>(
     Ok(())
 }
 
-/// Has a client served, and closes its connection.
+/// Lets the service serve a client, and closes the connection.
 fn serve_client<C: Clock, S: Service>(
     stream: TcpStream,
     clock: &C,
@@ -70,8 +70,8 @@ fn serve_client<C: Clock, S: Service>(
     }
 }
 
-/// Whether the client has sent more than was read. To close a socket with such bytes in it is to reset the connection, and a reset can take the
-/// reply from the client.
+/// Returns whether the client has sent more than was read. Closing a socket with unread bytes resets the connection, and the client can then lose
+/// the reply.
 fn has_unread(stream: &TcpStream) -> bool {
     if stream.set_nonblocking(true).is_err() {
         return false;
@@ -79,13 +79,13 @@ fn has_unread(stream: &TcpStream) -> bool {
     stream.peek(&mut [0]).is_ok_and(|count| count > 0)
 }
 
-// At most this much is read after a request.
+// The greatest number of bytes that are read after a request.
 const LINGER_BYTES: u64 = 1_048_576;
 
-/// Ends the sending side, and drops what the client still sends, so that it comes to read the reply before it hears of a reset.
+/// Ends the sending side, and drops what the client still sends, so that the client can read the reply before a reset arrives.
 fn linger<C: Clock>(stream: &TcpStream, clock: &C, limit: Duration) {
     let unread = ClientReader::new(stream, clock, limit, limit);
-    // The connection is closed next, whatever goes wrong.
+    // Failures don't matter, since the connection is closed next.
     let _ = stream.set_nonblocking(false);
     let _ = stream.shutdown(Shutdown::Write);
     let _ = io::copy(&mut unread.take(LINGER_BYTES), &mut io::sink());

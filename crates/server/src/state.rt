@@ -1,4 +1,4 @@
-//! The service of the program: requests over HTTP, and the turns of its jobs.
+//! The program's service: requests over HTTP, and the turns of its jobs.
 use crate::service::{Close, Service};
 use std::alloc::Allocator;
 use tl_fields::{CountedRead, CountedWrite};

@@ -1,8 +1,8 @@
-//! Time that passes.
+//! Measuring elapsed time.
 use std::io;
 use std::time::{Clock, Duration, Instant};
 
-/// Tells the time since it was first asked.
+/// A stopwatch that starts at its first reading.
 #[derive(Drop)]
 pub struct Stopwatch<'a, C> {
     clock: &'a C,
@@ -14,7 +14,7 @@ impl<'a, C: Clock> Stopwatch<'a, C> {
         Stopwatch { clock, start: None }
     }
 
-    /// The time since the first call that could read the clock.
+    /// Returns the time since the first call that could read the clock.
     pub fn passed(&mut self) -> io::Result<Duration> {
         let now = Instant::now(self.clock)?;
         let start = *self.start.get_or_insert(now);

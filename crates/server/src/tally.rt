@@ -1,14 +1,14 @@
-//! A count of what a service does.
+//! Counting the work of a service.
 ghost use Rattle.std.specs.Prelude.{◌≡◌};
 
 use crate::service::{Close, Service};
 use std::marker::Model;
 use tl_fields::{CountedRead, CountedWrite, count_one};
 
-/// Any service, with how many connections it served and how many turns it made.
+/// Any service, with the number of connections that it served and the number of turns that it made.
 ///
-/// Nothing else changes the counts, which begin at 0 and wrap at 2^64. So a contract that names them says that a service did its work, also of one whose
-/// work may leave it as it was.
+/// Nothing else changes the counts, which begin at 0 and wrap at 2^64. A contract that names them therefore says that the service did its work,
+/// even if that work may leave the service unchanged.
 #[derive(Drop)]
 pub struct Tally<S> {
     service: S,
@@ -27,7 +27,7 @@ impl<S> Model for Tally<S> {
 }
 
 impl<S> Tally<S> {
-    /// Takes the service as it is, with both counts at 0.
+    /// Wraps a service, with both counts at 0.
     pub fn new(service: S) -> Self
         ensures { result ≡ record { service = service; served = 0; turns = 0 } }
     {
@@ -38,14 +38,14 @@ impl<S> Tally<S> {
         }
     }
 
-    /// Returns how many connections were served, modulo 2^64.
+    /// Returns the number of connections served, modulo 2^64.
     pub fn served(&self) -> u64
         ensures { result ≡ self.now.served }
     {
         self.served
     }
 
-    /// Returns how many turns were made, modulo 2^64.
+    /// Returns the number of turns made, modulo 2^64.
     pub fn turns(&self) -> u64
         ensures { result ≡ self.now.turns }
     {

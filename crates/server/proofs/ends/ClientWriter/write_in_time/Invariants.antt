@@ -1,6 +1,6 @@
 use Rattle.std.proofs.Common.{◌≡◌}
 use Rattle.server.proofs.ends.ClientWriter.write_in_time.Given as goal
 
--- a write that is tried again has changed neither the count nor the limits
+-- a write that is retried has changed neither the count nor the limits
 abbrev pub invariant-loop : goal.invariant-loop
 invariant-loop g l = (l.self.written ≡ l.initial.self.written) × (l.self.limits ≡ l.initial.self.limits)
