@@ -1,4 +1,4 @@
-//! Accepts that fail, and connections behind one another.
+//! Accepts that fail, and consecutive connections.
 use crate::exchange::{Exchange, Exchanges, client_that, name_of, receive, short_limits};
 use crate::faults::FailingClock;
 use server::{Acceptor, Close, Tally, serve_all, serve_next};
@@ -17,7 +17,7 @@ const EXCHANGE: Exchange = Exchange {
     close: Close::AtOnce,
 };
 
-/// A listener at which some accepts fail, for a connection that ends before it is accepted and for a signal by turns.
+/// A listener whose accepts fail at first, alternately because the connection was aborted and because of a signal.
 #[derive(Drop)]
 struct Aborting {
     listener: TcpListener,
@@ -38,7 +38,7 @@ impl OpenListener for Aborting {
     }
 }
 
-/// A client is served after accepts that failed for one connection or for a signal.
+/// Checks that a client is served after accepts that failed for a single connection or because of a signal.
 #[test]
 fn aborted(rt: HostRuntime) -> Result<(), Fail> {
     let listener = Aborting {
@@ -58,7 +58,7 @@ fn aborted(rt: HostRuntime) -> Result<(), Fail> {
     Ok(())
 }
 
-/// An accept that fails is handed on, and nothing is served: of this listener one would wait.
+/// Checks that a failed accept is propagated, and nothing is served. At this listener, an accept that would wait fails.
 #[test]
 fn failed(rt: HostRuntime) -> Result<(), Fail> {
     let listener = TcpListener::bind(&rt, "127.0.0.1:0")?;
@@ -71,7 +71,8 @@ fn failed(rt: HostRuntime) -> Result<(), Fail> {
     Ok(())
 }
 
-/// Whether two clients are served, each once with a turn after it, up to the accept that fails: of this listener one would wait.
+/// Returns whether two clients are served, each once with a turn after it, until an accept fails. At this listener, an accept that would wait
+/// fails.
 fn serves_two<C: Clock>(rt: &HostRuntime, clock: &C) -> io::Result<bool> {
     let listener = TcpListener::bind(rt, "127.0.0.1:0")?;
     listener.set_nonblocking(true)?;
@@ -88,7 +89,7 @@ fn serves_two<C: Clock>(rt: &HostRuntime, clock: &C) -> io::Result<bool> {
     Ok(name_of(Some(error.kind())) == "blocked" && (service.served(), service.turns()) == (2, 2))
 }
 
-/// The loop goes on after a connection of which a read or a write fails.
+/// Checks that the loop goes on after a read or a write of a connection fails.
 #[test]
 fn until_failure(rt: HostRuntime) -> Result<(), Fail> {
     for call in 1..=usize::MAX {

@@ -1,4 +1,4 @@
-//! What becomes of clients, by the system's clock.
+//! What happens to clients, with the system's clock.
 use crate::exchange::{
     Exchange, Exchanges, client_that, close_of, name_of, number, receive, short_limits,
 };
@@ -8,8 +8,8 @@ use std::io;
 use std::net::{TcpListener, TcpStream};
 use std::test::Fail;
 
-// How many bytes a client sends, and what it does then; of how many bytes request and reply are, and how the service has it closed; how many the
-// service read and wrote, and its fault; how many the client got, and what it ended with.
+// The number of bytes that a client sends, and what it does then; the numbers of bytes of the request and the reply, and how the service wants the
+// connection closed; the numbers of bytes that the service read and wrote, and its fault; the number of bytes that the client got, and its fault.
 const CLIENTS: &str = "\
 10; stays; 10; 50; at once; 10; 50; none; 50; none
 10; ends; 10; 50; at once; 10; 50; none; 50; none
@@ -37,7 +37,7 @@ fn exchange_of(row: &str) -> Exchange {
     }
 }
 
-/// Whether the client of a row fares as the row says, and the service.
+/// Returns whether the client and the service of a row fare as the row says.
 fn is_right(rt: &HostRuntime, row: &str) -> io::Result<bool> {
     let listener = TcpListener::bind(rt, "127.0.0.1:0")?;
     let client = TcpStream::connect(rt, listener.local_addr()?)?;
@@ -72,7 +72,7 @@ fn clients(rt: HostRuntime) -> Result<(), Fail> {
     Ok(())
 }
 
-/// A client that has left before its reply is a fault of the write. Nothing else comes of it, no signal either: the next client is served.
+/// Checks that a client that leaves before its reply causes a fault of the write, and nothing else, not even a signal: the next client is served.
 #[test]
 fn left(rt: HostRuntime) -> Result<(), Fail> {
     let listener = TcpListener::bind(&rt, "127.0.0.1:0")?;

@@ -1,4 +1,4 @@
-//! Clients that are slow, by a clock that goes on in steps.
+//! Slow clients, with a clock that advances in steps.
 use crate::exchange::{
     Exchange, Exchanges, SteppingClock, client_that, name_of, number, short_limits,
 };
@@ -8,8 +8,9 @@ use std::io;
 use std::net::{TcpListener, TcpStream};
 use std::test::Fail;
 
-// Whose limits hold, and by how many milliseconds the clock goes on between two calls; of how many bytes a request is, all of which is there, and how
-// many a read takes; the same of the reply and writes, of which the client reads nothing; how many bytes the service read and wrote, and its fault.
+// The limits that apply, and the milliseconds by which the clock advances between two calls; the number of bytes of a request, all of which have
+// arrived, and the number that a read takes; the same for the reply and its writes, of which the client reads nothing; the numbers of bytes that
+// the service read and wrote, and its fault.
 const CLOCKS: &str = "\
 program; 0; 10; 1; 50; 10; 10; 50; none
 program; 9000; 10; 1; 50; 10; 4; 0; late
@@ -25,7 +26,7 @@ fn limits_of(row: &str) -> Limits {
     }
 }
 
-/// Serves the client of a row, with replies of such a text.
+/// Serves the client of a row, with replies made of a text.
 fn serve<'a>(rt: &HostRuntime, row: &str, text: &'a [u8]) -> io::Result<Exchanges<'a>> {
     let listener = TcpListener::bind(rt, "127.0.0.1:0")?;
     let client = TcpStream::connect(rt, listener.local_addr()?)?;
@@ -59,10 +60,11 @@ fn clocks(rt: HostRuntime) -> Result<(), Fail> {
     Ok(())
 }
 
-// A reply of 64 mebibytes, just less than a mebibyte in each write. With a second between two writes 0.2 seconds are left at each, until one waits.
+// A reply of 64 mebibytes, with just less than a mebibyte in each write. With a second between two writes, 0.2 seconds are left at each of them,
+// until one of them waits.
 const ENDLESS: &str = "short; 1000; 10; 10; 67108864; 1048575";
 
-/// A client that takes no byte of a reply doesn't hold the server, once the system has no more room for it.
+/// Checks that a client that reads no byte of a reply doesn't hold the server, once the system has no more room for the reply.
 #[test]
 fn untaken_reply(rt: HostRuntime) -> Result<(), Fail> {
     let text = vec![in rt.alloc(); b'r'; 1_048_575]?;

@@ -1,4 +1,4 @@
-//! How connections are closed, by limits of an hour but for the one that a row is of: a test that waits for another one doesn't end.
+//! Closing connections. All limits are an hour, except the one that a row is about: a test that waits for another limit doesn't end.
 use crate::exchange::{Exchange, Exchanges, SteppingClock, client_that, close_of, number, receive};
 use fixtures::cell;
 use server::{Acceptor, Limits, serve_next};
@@ -7,8 +7,8 @@ use std::net::{TcpListener, TcpStream};
 use std::test::Fail;
 use std::time::{Clock, Duration, Instant};
 
-// How many bytes a client sends, which then stays, and of how many the request is; how the service has the connection closed; the limit of what comes
-// after the request and the step of the clock, in milliseconds; by how much the clock has gone on at the end: a step a call.
+// The number of bytes that a client sends before it waits, and the number of bytes of the request; how the service wants the connection closed; the
+// limit on bytes after the request and the step of the clock, in milliseconds; and the time on the clock at the end, which is one step per call.
 const CLOSES: &str = "\
 10; 10; at once; 3600000; 100; 200
 5; 5; lingering; 200; 0; 0
@@ -17,7 +17,7 @@ const CLOSES: &str = "\
 300000; 5; lingering; 200; 200; 800
 300000; 5; at once; 200; 100; 500";
 
-/// Serves a client of a row, of a service that replies with 50 bytes, and tells how many of these the client got, if nothing failed for it.
+/// Serves the client of a row with a service that replies with 50 bytes. Returns the number of bytes that the client got, or `None` if it has left.
 fn received<C: Clock>(rt: &HostRuntime, clock: &C, row: &str) -> io::Result<Option<usize>> {
     let listener = TcpListener::bind(rt, "127.0.0.1:0")?;
     let client = TcpStream::connect(rt, listener.local_addr()?)?;
@@ -42,7 +42,8 @@ fn received<C: Clock>(rt: &HostRuntime, clock: &C, row: &str) -> io::Result<Opti
     Ok(received.map(|(count, _fault)| count))
 }
 
-/// A client that has sent all of its request isn't waited for, and one that may still be sending for as long as its own limit says.
+/// Checks that the server doesn't wait for a client that has sent its complete request, and waits for one that may still be sending only until its
+/// own limit.
 #[test]
 fn closes(rt: HostRuntime) -> Result<(), Fail> {
     for row in CLOSES.lines() {
@@ -54,7 +55,8 @@ fn closes(rt: HostRuntime) -> Result<(), Fail> {
     Ok(())
 }
 
-/// What a client may still be sending is read until the limit, and not refused before. The system may wake a little before its timeout.
+/// Checks that bytes that a client may still be sending are read until the limit, and not refused before. The system may wake up a little before
+/// its timeout.
 #[test]
 fn lingers(rt: HostRuntime) -> Result<(), Fail> {
     let start = Instant::now(&rt)?;

@@ -8,13 +8,13 @@ use std::net::{Shutdown, TcpStream};
 use std::time::{Clock, Duration};
 use tl_fields::{CountedRead, CountedWrite};
 
-/// The number in a cell.
+/// Returns the number in a cell.
 pub fn number(row: &str, place: usize) -> usize {
     cell(row, place).parse().unwrap_or(usize::MAX)
 }
 
-/// What the tables call a fault: as those of devices, but for two that devices don't have, the end of the input, and a client
-/// that is gone, of which the system says one or the other.
+/// Returns the name of a fault in the tables: those of failing readers and writers, and two more, the end of the input, and a client that is gone,
+/// which the system reports in either of two ways.
 pub fn name_of(fault: Option<ErrorKind>) -> &'static str {
     match fault {
         None => "none",
@@ -26,7 +26,7 @@ pub fn name_of(fault: Option<ErrorKind>) -> &'static str {
     }
 }
 
-/// A request and a reply of so many bytes, and how many of them a read or a write takes.
+/// A request and a reply of given lengths, and the number of bytes that a read or a write takes.
 #[derive(Clone, Copy)]
 pub struct Exchange {
     pub request: usize,
@@ -37,7 +37,7 @@ pub struct Exchange {
 }
 
 impl Exchange {
-    /// The one whose numbers a row has in its cells from this one on, closed at once.
+    /// Returns the exchange whose numbers are in a row's cells from `first` on, closed at once.
     pub fn new(row: &str, first: usize) -> Self {
         Exchange {
             request: number(row, first),
@@ -49,7 +49,7 @@ impl Exchange {
     }
 }
 
-/// How the connection of a row is to be closed, by its word.
+/// Returns the way to close a row's connection, by its word.
 pub fn close_of(word: &str) -> Close {
     match word {
         "lingering" => Close::Lingering,
@@ -57,11 +57,11 @@ pub fn close_of(word: &str) -> Close {
     }
 }
 
-/// A service that serves the same exchange each time, and tells what came of the last one.
+/// A service that serves the same exchange each time, and records the result of the last one.
 #[derive(Drop)]
 pub struct Exchanges<'a> {
     exchange: Exchange,
-    /// What replies are made of.
+    /// The text that replies are made of.
     text: &'a [u8],
     pub read: usize,
     pub written: usize,
@@ -139,7 +139,7 @@ impl Service for Exchanges<'_> {
     }
 }
 
-/// A clock that goes on by so many milliseconds each time that it is read.
+/// A clock that advances by a fixed number of milliseconds with each reading.
 #[derive(Drop)]
 pub struct SteppingClock {
     step: u64,
@@ -154,7 +154,7 @@ impl SteppingClock {
         }
     }
 
-    /// How many milliseconds have passed.
+    /// Returns the number of milliseconds that have passed.
     pub fn passed(&self) -> u64 {
         self.now.get()
     }
@@ -172,7 +172,7 @@ impl Clock for SteppingClock {
     }
 }
 
-/// Limits that a test can wait for.
+/// Returns limits short enough for a test to wait for.
 pub fn short_limits() -> Limits {
     Limits {
         silence: Duration::from_millis(200),
@@ -182,7 +182,7 @@ pub fn short_limits() -> Limits {
     }
 }
 
-/// Sends so many bytes, or as many as the system takes without a wait.
+/// Sends `count` bytes, or as many as the system takes without waiting.
 pub fn send(client: &TcpStream, count: usize) -> io::Result<()> {
     client.set_nonblocking(true)?;
     let mut stream = client;
@@ -201,7 +201,7 @@ pub fn send(client: &TcpStream, count: usize) -> io::Result<()> {
     client.set_nonblocking(false)
 }
 
-/// What a client got up to the end: so many bytes, and the fault that it ended with, if any.
+/// Returns the number of bytes that a client got up to the end, and the fault that it ended with, if any.
 pub fn receive(client: &TcpStream) -> (usize, Option<ErrorKind>) {
     let mut stream = client;
     let mut piece = [0; 4096];
@@ -216,7 +216,7 @@ pub fn receive(client: &TcpStream) -> (usize, Option<ErrorKind>) {
     (received, None)
 }
 
-/// Sends as much, and stays, ends its side or leaves, as the word says. One that leaves is no more.
+/// Sends `count` bytes, then stays, ends its side or leaves, as the word says. Returns `None` for a client that leaves.
 pub fn client_that(client: TcpStream, count: usize, word: &str) -> io::Result<Option<TcpStream>> {
     // No test waits for its own client longer than this.
     client.set_read_timeout(Some(Duration::from_secs(5)))?;

@@ -1,4 +1,4 @@
-//! Each read and each write of a connection going wrong in turn.
+//! A failure injected into each read and write of a connection.
 use crate::exchange::{Exchange, Exchanges, client_that, close_of, number, receive, short_limits};
 use fixtures::cell;
 use server::{Acceptor, serve_next};
@@ -8,7 +8,7 @@ use std::io::ErrorKind;
 use std::net::{TcpListener, TcpStream};
 use std::time::{Clock, Duration};
 
-/// A clock that stands still, and fails once. Since each read and each write of a connection first reads the clock, it fails by that.
+/// A clock that stands still, and fails once. Each read and each write of a connection first reads the clock, and fails if the clock does.
 #[derive(Drop)]
 pub struct FailingClock {
     readings: Cell<usize>,
@@ -17,7 +17,7 @@ pub struct FailingClock {
 }
 
 impl FailingClock {
-    /// The reading with this number fails, counted from 1.
+    /// Returns a clock whose reading with this number, counted from 1, fails.
     pub fn new(failing: usize, kind: ErrorKind) -> Self {
         FailingClock {
             readings: Cell::new(0),
@@ -26,7 +26,7 @@ impl FailingClock {
         }
     }
 
-    /// Whether there was the reading that fails.
+    /// Returns whether the failing reading was reached.
     pub fn has_failed(&self) -> bool {
         self.readings.get() >= self.failing
     }
@@ -47,7 +47,7 @@ impl Clock for FailingClock {
     }
 }
 
-/// How the clock fails. A read or a write that the system interrupts is made again, but not one before which the clock can't be read.
+/// The ways in which the clock fails. A read or a write that the system interrupts is retried, but not if the clock can't be read before it.
 pub const KINDS: [ErrorKind; 4] = [
     ErrorKind::TimedOut,
     ErrorKind::BrokenPipe,
@@ -55,9 +55,9 @@ pub const KINDS: [ErrorKind; 4] = [
     ErrorKind::TooManyLinks,
 ];
 
-// How many bytes a client sends before it ends its side; of how many bytes request and reply are, each with how many of them a call moves; how the
-// service has the connection closed; how many reads and writes there are of them, and reads of what comes behind the request, of which the last one
-// finds the end.
+// The number of bytes that a client sends before it ends its side; the numbers of bytes of the request and the reply, each with the number that a
+// call moves; how the service wants the connection closed; the numbers of reads and writes, and of reads of bytes after the request, the last of
+// which finds the end.
 const EXCHANGES: &str = "\
 10; 10; 1; 50; 7; at once; 10; 8; 0
 10; 10; 10; 50; 50; at once; 1; 1; 0
@@ -73,7 +73,8 @@ fn exchange_of(row: &str) -> Exchange {
     }
 }
 
-/// How many bytes of a row's exchange are read and written before the call with this number, and whether it is one of the exchange.
+/// Returns the numbers of bytes of a row's exchange that are read and written before the call with this number, and whether the call is part of the
+/// exchange.
 fn done_before(row: &str, call: usize) -> (usize, usize, bool) {
     let exchange = exchange_of(row);
     let before = call.saturating_sub(1);
@@ -89,7 +90,7 @@ fn done_before(row: &str, call: usize) -> (usize, usize, bool) {
     (exchange.request, exchange.reply, false)
 }
 
-/// Serves a client of a row over a connection of its own, and tells how many bytes it got, if nothing failed for it.
+/// Serves the client of a row over a connection of its own. Returns the number of bytes that it got, or `None` if it had a fault.
 fn received<C: Clock>(
     rt: &HostRuntime,
     listener: &TcpListener,
@@ -109,7 +110,8 @@ fn received<C: Clock>(
     Ok(received.and_then(|(count, fault)| fault.is_none().then_some(count)))
 }
 
-/// Whether the call with this number was made, and failed; nothing where that went wrong, or the next client isn't served whole.
+/// Returns whether the call with this number was reached, and failed. Returns `None` if the result is wrong, or the next client isn't served
+/// completely.
 fn is_failed(
     rt: &HostRuntime,
     listener: &TcpListener,
@@ -132,7 +134,7 @@ fn is_failed(
     (is_right && is_next_right).then_some(clock.has_failed())
 }
 
-/// How many calls failed in turn, up to the first that isn't made.
+/// Returns the number of calls that failed, one at a time, up to the first that isn't reached.
 fn failures(rt: &HostRuntime, row: &str, kind: ErrorKind) -> Option<usize> {
     let listener = TcpListener::bind(rt, "127.0.0.1:0").ok()?;
     for call in 1..=usize::MAX {

@@ -12,9 +12,8 @@ use std::time::Clock;
 use tl_fields::Counting;
 use wire::{State, serve_one};
 
-// What a client does behind its request, or `asks` where there is no connection; the request; of how many bytes the reply is,
-// and what it begins with. The 20,000 bytes are more than the reads of a head take, so that unread input is left where the
-// connection is closed.
+// What a client does after its request, or `asks` if there is no connection; the request; the number of bytes of the reply, and its start. The
+// 20,000 bytes are more than the reads of a head take, so unread input is left when the connection is closed.
 const REQUESTS: &str =
     r"ends; POST /jobs HTTP/1.1\r\nContent-Length: 16\r\n\r\n{every}; 85; HTTP/1.1 200
   OK\r\nContent-Type: text/plain\r\nContent-Length: 2\r\nConnection: close\r\n\r\n1\n
@@ -36,7 +35,7 @@ stays; POST /verify HTTP/1.1\r\nContent-Length: 16\r\n\r\n; 0;
 ends; POST /verify HTTP/1.1\r\nContent-Length: 16\r\n\r\n{every}; 92; HTTP/1.1 200
   OK\r\nContent-Type: text/plain\r\nContent-Length: 9\r\nConnection: close\r\n\r\naccepted\n";
 
-/// A state over the county of these files.
+/// Returns a state over the county of these files.
 pub fn state_of(alloc: Global, row: &str) -> Option<State<Global>> {
     let files = Files::new(alloc, row, 0).ok()?;
     let mut counties = Vec::new(alloc);
@@ -47,7 +46,7 @@ pub fn state_of(alloc: Global, row: &str) -> Option<State<Global>> {
     State::new(alloc, alloc, counties).ok()
 }
 
-/// What a client that does so gets over a connection of its own.
+/// Returns the reply that a client gets over a connection of its own.
 pub fn serve<C: Clock>(
     rt: &HostRuntime,
     listener: &TcpListener,
@@ -67,14 +66,14 @@ pub fn serve<C: Clock>(
     Ok(reply)
 }
 
-/// What the state replies without a connection.
+/// Returns the reply of the state, without a connection.
 fn ask(alloc: Global, state: &mut State<Global>, request: &[u8]) -> Vec<u8> {
     let mut out = Counting::new(Vec::new(alloc));
     let _fault = serve_one(state, &mut Counting::new(request), &mut out);
     out.into_inner()
 }
 
-/// The rows in their order, of one server and one state: a row's reply tells of the turns behind the connections before it.
+/// Checks the rows in order, with one server and one state: a row's reply shows the turns after the connections before it.
 #[test]
 fn requests(rt: HostRuntime) -> Result<(), Fail> {
     let listener = TcpListener::bind(&rt, "127.0.0.1:0")?;

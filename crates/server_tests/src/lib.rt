@@ -1,5 +1,5 @@
-//! Tests of the crate `server` over sockets of the loopback interface, a client and the server on one thread. They stand in a crate of their own since
-//! a crate with tests is proved once without them and once with them.
+//! Tests of the crate `server` over loopback sockets, with a client and the server on one thread. They have a crate of their own because a crate
+//! with tests is proved twice, once without them and once with them.
 #![tactic(auto)]
 
 #[cfg(test)]

@@ -1,4 +1,4 @@
-//! Submissions of a job, each read and each write of which goes wrong in turn.
+//! Submissions of a job, with a failure injected into each read and write.
 use crate::faults::{FailingClock, KINDS};
 use crate::http::{serve, state_of};
 use fixtures::{bytes, cell, table};
@@ -9,8 +9,8 @@ use std::test::Fail;
 use std::time::Clock;
 use wire::State;
 
-// What is asked over one connection after the other, over a county of one segment; the replies where each call of the first goes well, and where a
-// read of it fails. A turn comes behind each.
+// The requests, one connection each, over a county of one segment; the replies if each read of the first succeeds, and if a read of it fails. A
+// turn follows each connection.
 const SCRIPT: &str = r"POST /jobs HTTP/1.1\r\nContent-Length: 16\r\n\r\n{every}; HTTP/1.1 200
   OK\r\nContent-Type: text/plain\r\nContent-Length: 2\r\nConnection: close\r\n\r\n1\n;
 GET /jobs/1 HTTP/1.1\r\n\r\n; HTTP/1.1 200
@@ -20,10 +20,11 @@ POST /jobs HTTP/1.1\r\nContent-Length: 16\r\n\r\n{every}; HTTP/1.1 200
   OK\r\nContent-Type: text/plain\r\nContent-Length: 2\r\nConnection: close\r\n\r\n2\n; HTTP/1.1 200
   OK\r\nContent-Type: text/plain\r\nContent-Length: 2\r\nConnection: close\r\n\r\n1\n";
 
-// The submission comes in one read, and its reply goes out in one write. wire_tests has them byte by byte.
+// The submission arrives in one read, and its reply is sent in one write. wire_tests has both byte by byte.
 const CALLS: usize = 2;
 
-/// Which cell of the script has the replies where the call with this number fails, and how many bytes of the submission's are written before.
+/// Returns the cell of the script with the replies if the call with this number fails, and the number of bytes of the submission's reply that are
+/// written before.
 fn reply_before(call: usize) -> (usize, usize) {
     match call {
         1 => (2, 0),
@@ -32,7 +33,7 @@ fn reply_before(call: usize) -> (usize, usize) {
     }
 }
 
-/// Whether what a row of the script asks gets the reply of a cell, so many bytes of it or all.
+/// Returns whether the request in a row of the script gets the reply in a cell, or only its first bytes.
 fn is_replied<C: Clock>(
     rt: &HostRuntime,
     listener: &TcpListener,
@@ -47,7 +48,8 @@ fn is_replied<C: Clock>(
     Some(received.as_slice() == reply.get(..length).unwrap_or(&reply))
 }
 
-/// Whether the call with this number of a submission was made, and failed; nothing where that went wrong, or what is asked behind it does.
+/// Returns whether the call with this number of a submission was reached, and failed. Returns `None` if its result is wrong, or that of a later
+/// request.
 fn is_failed(
     rt: &HostRuntime,
     listener: &TcpListener,
@@ -74,7 +76,7 @@ fn is_failed(
     is_right.then_some(clock.has_failed())
 }
 
-/// How many calls of a submission failed in turn, up to the first that isn't made.
+/// Returns the number of calls of a submission that failed, one at a time, up to the first that isn't reached.
 fn failures(rt: &HostRuntime, script: &str, kind: ErrorKind) -> Option<usize> {
     let listener = TcpListener::bind(rt, "127.0.0.1:0").ok()?;
     for call in 1..=usize::MAX {

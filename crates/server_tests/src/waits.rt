@@ -1,11 +1,12 @@
-//! How long calls may wait, by the program's limits.
+//! The times that calls may wait, with the program's limits.
 use crate::exchange::number;
 use fixtures::cell;
 use server::{Limits, wait_left};
 use std::test::Fail;
 use std::time::Duration;
 
-// Which call; how many milliseconds have passed; of a write how many bytes the reply has with it; how many milliseconds it may wait.
+// The call; the milliseconds that have passed; for a write, the number of bytes of the reply including this write; and the milliseconds that it may
+// wait.
 const WAITS: &str = "\
 read; 0; 0; 10000
 read; 19999; 0; 10000
@@ -28,7 +29,7 @@ linger; 0; 0; 5000
 linger; 4999; 0; 1
 linger; 5000; 0; none";
 
-/// How long the call of a row may wait.
+/// Returns the time that a row's call may wait.
 fn wait_of(row: &str) -> Option<Duration> {
     let limits = Limits::standard();
     let passed = Duration::from_millis(number(row, 1) as u64);
