@@ -1,4 +1,4 @@
--- The states ahead of the pass: they wait at targets of jumps that were passed.
+-- The states ahead of the pass wait at targets of jumps that were passed.
 use Rattle.std.proofs.Common.{◌≡◌, ◌≢◌, ℕ, pos, ◌+◌, ◌<◌, ◌≤◌, ◌==◌, Bool, cond, if◌then◌else◌, true, false, List, [], ◌∷◌, length, Option}
 use Rattle.std.proofs.Common.{Some, None, IfSome, IsSome, refl, sym, ap, ◌∙◌, subst, arith, inl, inr}
 use Rattle.std.proofs.lemmas.Bool.{cases_lt, false≢true}
@@ -20,9 +20,9 @@ use Rattle.bpf_verify.specs.declared.known.Known.{Known}
 use Rattle.bpf_verify.proofs.PassLemmas.{entry_is_proper, is_found_proper, joined-here, joined-other, joined-same, joined_each}
 use Rattle.bpf_verify.proofs.PassLemmas.{joined_if-same, joined_proper, same_place}
 
--- where jumps lead that were passed
+-- targets of jumps that were passed
 
--- a place behind an instruction's first word where an instruction begins lies behind the instruction
+-- an instruction that begins after another one's first word begins after all of its words
 lies_behind : (code : List Insn) (place : ℕ) (insn : Insn) (to : ℕ) → instruction_at code place ≡ Some insn
     → IsSome (instruction_at code to) → place < to → place + length (spelling insn) ≤ to
 lies_behind code place insn to stands begins past = elim (cases_lt to (place + length (spelling insn))) as
@@ -35,7 +35,7 @@ lies_behind code place insn to stands begins past = elim (cases_lt to (place + l
     none-is_some None is some = false≢true some
     none-is_some (Some insn) is some = absurd (let no : ⊥ = cc in no)
 
--- a target ahead that isn't the place itself stays ahead behind the instruction there
+-- a target ahead, other than the place itself, is still ahead after the instruction there
 pub stays_ahead : {code : List Insn} {place next : ℕ} {insn : Insn} {to : ℕ} → IsForward code → instruction_at code place ≡ Some insn
     → next ≡ place + length (spelling insn) → to ≢ place → IsTargetAhead code place to → IsTargetAhead code next to
 stays_ahead {code} {place} {insn} {to} forward stands goes apart target =
@@ -54,7 +54,7 @@ stays_ahead {code} {place} {insn} {to} forward stands goes apart target =
           omega (arith, goes));
     }
 
--- at first
+-- at the start
 
 pub first_are_ahead : (code : List Insn) → IsForward code → AreAhead (first code)
 first_are_ahead code forward = record {
@@ -65,7 +65,7 @@ first_are_ahead code forward = record {
       λ to waits. absurd (waits refl);
 }
 
--- what waits, as it stands in the map
+-- what waits, as found in the map
 
 test_is : (place other : ℕ) → is_at (nat_cmp place) other ≡ (place == other)
 test_is place other = grind (arith, nat_tests)
@@ -83,7 +83,7 @@ waits {A} (known ∷ others) place = by (waits others place) (place == known.0) 
     by rest true false same = absurd (let no : ⊥ = cc in no)
     by rest false true same = absurd (let no : ⊥ = cc in no)
 
--- a map of which one entry is changed, or taken
+-- a map with one entry changed or removed
 pub waits_after : {A : Type 0} (old new : BTreeMap ℕ (Box Known A)) (place : ℕ) (put : Option (Box Known A))
     → Updates nat_cmp old new place put → (other : ℕ)
     → waiting_at (states_in new.entries) other ≡ (if other == place then state_of put else waiting_at (states_in old.entries) other)
@@ -105,13 +105,13 @@ pub found_proper : {A : Type 0} (entries : List (ℕ × Box Known A)) (place : �
 found_proper entries place found proper is = is_found_proper found
     (subst IsProper (waits entries place ∙ sym (ap state_of is)) (proper place))
 
--- an entry of a map was taken, and one put in its place
+-- an entry of a map was removed, and another one put in its place
 pub record IsPutAgain {A : Type 0} (old new : BTreeMap ℕ (Box Known A)) (place : ℕ) (put : Box Known A) : Type 0 where
   pub middle : BTreeMap ℕ (Box Known A)
   pub takes : Updates nat_cmp old middle place None
   pub puts : Updates nat_cmp middle new place (Some put)
 
--- what is found there is taken, and put there again, joined with what else is known
+-- what is found there is taken and put back, joined with another state
 pub waits_joined : {A : Type 0} {old new : BTreeMap ℕ (Box Known A)} {place : ℕ} {there : Option (Box Known A)} {met : Box Known A}
     (state : AbstractState) → IsPutAgain old new place met → there ≡ lookup (is_at (nat_cmp place)) old.entries
     → Reached met.value ≡ join (state_of there) state → (other : ℕ)
@@ -129,12 +129,12 @@ waits_joined {old} {new} {place} {met} state again found value other =
         waits_after old again.middle place None again.takes other
         ∙ ap (λ (test : Bool). if test then Unreached else waiting_at (states_in old.entries) other) is
 
--- states of which one was taken
+-- states with one taken
 
 abbrev pub IsTaken : List (ℕ × AbstractState) → List (ℕ × AbstractState) → ℕ → Type 0
 IsTaken old new place = (other : ℕ) → waiting_at new other ≡ (if other == place then Unreached else waiting_at old other)
 
--- each that is left was there
+-- each state that is left was there before
 left_each : (P : ℕ → AbstractState → Type 0) (old new : List (ℕ × AbstractState)) (place : ℕ) → IsTaken old new place
     → ((other : ℕ) → P other Unreached) → ((other : ℕ) → other ≢ place → P other (waiting_at old other)) → (other : ℕ)
     → P other (waiting_at new other)
@@ -152,7 +152,7 @@ kept_proper ahead are = joined_proper (waiting_at ahead.waiting) ahead.place ahe
 abbrev with_states : Ahead → AbstractState → List (ℕ × AbstractState) → Ahead
 with_states ahead straight waiting = record { code = ahead.code; place = ahead.place; straight = straight; waiting = waiting }
 
--- where a state is joined into those that wait at the target of a jump that was passed
+-- a state is joined into those that wait, at the target of a jump that was passed
 pub joined_ahead : {ahead : Ahead} {straight : AbstractState} (waiting : List (ℕ × AbstractState)) {to : ℕ} (state : AbstractState)
     → AreAhead ahead → IsProper straight → IsProper state → IsTargetAhead ahead.code ahead.place to
     → ((other : ℕ) → waiting_at waiting other ≡ joined (waiting_at ahead.waiting) to state other)
@@ -167,7 +167,7 @@ joined_ahead {ahead} {straight} waiting {to} state are proper-straight proper-st
       (λ waits. target) are.wait other);
 }
 
--- where one of those that wait was taken
+-- one of the waiting states was taken
 pub taken_ahead : (ahead : Ahead) (straight : AbstractState) (waiting : List (ℕ × AbstractState)) (place : ℕ) → AreAhead ahead
     → IsProper straight → IsTaken ahead.waiting waiting place → AreAhead (with_states ahead straight waiting)
 taken_ahead ahead straight waiting place are proper-straight taken = record {
@@ -178,7 +178,7 @@ taken_ahead ahead straight waiting place are proper-straight taken = record {
       (λ other waits. absurd (waits refl)) (λ other apart. are.wait other);
 }
 
--- where the state at the place was taken, and the pass goes on behind the instruction there
+-- the state at the place was taken, and the pass moves on past the instruction there
 pub moved_ahead : (ahead : Ahead) (waiting : List (ℕ × AbstractState)) (next : ℕ) (insn : Insn) → AreAhead ahead
     → instruction_at ahead.code ahead.place ≡ Some insn → next ≡ ahead.place + length (spelling insn)
     → IsTaken ahead.waiting waiting ahead.place
@@ -192,31 +192,31 @@ moved_ahead ahead waiting next insn are stands goes taken = record {
       (λ other apart waits. stays_ahead are.forward stands goes apart (are.wait other waits));
 }
 
--- behind the place they wait as before
+-- past the place, they wait as before
 pub left_behind : (old new : List (ℕ × AbstractState)) (place other : ℕ) → IsTaken old new place → place < other
     → waiting_at new other ≡ waiting_at old other
 left_behind old new place other taken past =
     let apart : (other == place) ≡ false = grind (arith, nat_tests) in
     taken other ∙ ap (λ (test : Bool). if test then Unreached else waiting_at old other) apart
 
--- the state at the place to which the pass has come
+-- the state at the current place of the pass
 pub here_is : (ahead : Ahead) (there straight : AbstractState) → there ≡ waiting_at ahead.waiting ahead.place → straight ≡ ahead.straight
     → join there straight ≡ kept ahead ahead.place
 here_is ahead there straight waits edge =
     ap (λ (s : AbstractState). join s straight) waits ∙ ap (join (waiting_at ahead.waiting ahead.place)) edge
     ∙ sym (joined-here (waiting_at ahead.waiting) ahead.place ahead.straight)
 
--- behind a visit
+-- after a visit
 
 at_other : (ahead : Ahead) (other : ℕ) → ahead.place < other → waiting_at ahead.waiting other ≡ kept ahead other
 at_other ahead other past = sym (joined-other (waiting_at ahead.waiting) ahead.place ahead.straight other (λ same. absurd (omega arith)))
 
--- past the place the states are those from before it, with those on the edges propagated
+-- past the place, the states are those from before, with the states on the edges propagated
 abbrev pub ArePropagated : Ahead → Ahead → Option ℕ → Edges → Type 0
 ArePropagated before after target edges =
     (other : ℕ) → before.place < other → kept after other ≡ propagated (kept before) after.place target edges other
 
--- the state at the place was taken, and those on the edges were propagated
+-- the state at the place was taken, and the states on the edges were propagated
 pub visited_states : (before middle after : Ahead) (target : Option ℕ) (edges : Edges)
     → ((other : ℕ) → before.place < other → waiting_at middle.waiting other ≡ waiting_at before.waiting other)
     → ((other : ℕ) → waiting_at after.waiting other ≡ joined_if (waiting_at middle.waiting) target edges.target other)

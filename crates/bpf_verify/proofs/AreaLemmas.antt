@@ -1,4 +1,4 @@
--- The areas of bases: in every run of a code that is accepted they hold.
+-- The areas of bases hold in every run of an accepted code.
 use Rattle.std.proofs.Common.{◌≡◌, ℕ, zero, suc, ◌+◌, ◌-◌, ◌<◌, ◌≤◌, nat_lt, IfSome, false, List, [], ◌∷◌, ◌++◌, ◌⊎◌, ◌==◌, length, get_or}
 use Rattle.std.proofs.Common.{Option, Some, None, option_map, option_and_then, Result, Ok, Err, is_some, refl, sym, ap, ◌∙◌, subst, arith}
 use Rattle.std.proofs.Common.{inl, inr}
@@ -41,13 +41,13 @@ use Rattle.bpf_verify.specs.declared.verified.Entry.{Entry}
 use Rattle.bpf_verify.proofs.SoundRuns.{IsAdmitted, end_admitted}
 use Rattle.bpf_verify.proofs.SoundSteps.{IsVerified}
 
--- The areas of instructions that follow each other.
+-- The areas of consecutive instructions.
 
 pub length-areas_from : (annotation : Annotation) (place : ℕ) (code : List Insn) → length (areas_from annotation place code) ≡ length code
 length-areas_from annotation place [] = refl
 length-areas_from annotation place (insn ∷ code) = ap suc (length-areas_from annotation (place + length (spelling insn)) code)
 
--- one instruction more
+-- one more instruction
 pub areas_from-more : (annotation : Annotation) (place : ℕ) (code : List Insn) (insn : Insn)
     → areas_from annotation place (code ++ insn ∷ []) ≡ areas_from annotation place code ++ area_of
     (annotation (place + word_count code)) insn ∷ []
@@ -59,7 +59,7 @@ areas_from-more annotation place (first ∷ code) insn =
     ap (λ (areas : List (Option Area)). area_of (annotation place) first ∷ areas)
     (rest ∙ ap (λ (p : ℕ). areas_from annotation (place + length (spelling first)) code ++ area_of (annotation p) insn ∷ []) sum)
 
--- an annotation that is another one up to their end
+-- an annotation that agrees with another one up to their end
 pub areas_from-same : (old new : Annotation) (end place : ℕ) (code : List Insn) → ((other : ℕ) → other ≤ end → new other ≡ old other)
     → place + word_count code ≤ end → areas_from new place code ≡ areas_from old place code
 areas_from-same old new end place [] same ends = refl
@@ -104,7 +104,7 @@ area_at annotation from (first ∷ code) (suc place) index insn is stands =
           (sym (instruction_at-behind first code (suc place) past) ∙ stands) ∙ ap (λ (p : ℕ). area_of (annotation p) insn) sum)
     ]
 
--- Where an instruction passes its checks, its base holds a pointer.
+-- If an instruction passes its checks, its base holds a pointer.
 
 first_passes : {A B : Type 0} (first : Result A Cause) (others : A → Result B Cause) (end : B) → first >>= others ≡ Ok end → (x : A)
     × (first ≡ Ok x)
@@ -148,7 +148,7 @@ by_state (Reached known) state insn base edges admits passes is =
     subst (IsPointerInto (register_value state base)) (sym (ap (option_and_then (λ (base : ℕ). area_of_kind (kind_of known base))) is))
     (points_into (kind_of known base) (register_value state base) base pointers.0 (admits.registers base) pointers.1)
 
--- a state in which a run is on its way
+-- a state that a run has reached
 state_points : {code : List Insn} {segment : segments.Contents} {annotation : Annotation} → IsVerified code segment annotation
     → (run : List Configuration) → IsRun code segment run → {state : State} → end_of run ≡ Running state → {insn : Insn} {base : ℕ}
     → instruction_at code state.place ≡ Some insn → base_of insn ≡ Some base
@@ -216,7 +216,7 @@ immediates_of_forms code areas flats forms = all_have_immediates code (λ index 
 
 -- Entries.
 
--- what they are made of
+-- their instructions and their areas
 
 pub instructions_in-entries_of : (code : List Insn) (areas : List (Option Area)) → length areas ≡ length code
     → instructions_in (entries_of code areas) ≡ code
@@ -236,7 +236,7 @@ pub entries_of-parts : (entries : List Entry) → entries ≡ entries_of (instru
 entries_of-parts [] = refl
 entries_of-parts (entry ∷ rest) = ap (λ (others : List Entry). entry ∷ others) (entries_of-parts rest)
 
--- where instructions or areas end
+-- no instructions or no areas are left
 pub entries_of-end : (code : List Insn) (areas : List (Option Area)) → (code ≡ []) ⊎ (areas ≡ []) → entries_of code areas ≡ []
 entries_of-end [] areas ends = refl
 entries_of-end (insn ∷ code) [] ends = refl

@@ -1,4 +1,4 @@
--- What is known behind a call is proper.
+-- The state after a call is proper.
 use Rattle.std.proofs.Common.{ℕ, zero, suc, ◌+◌, List, ◌∷◌, ◌++◌, drop, replicate, get_or, sym, subst, arith}
 use Rattle.std.proofs.lemmas.List.{get_or-drop, length-drop}
 use Rattle.bpf_kinds.specs.Interval as interval

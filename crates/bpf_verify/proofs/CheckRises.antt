@@ -1,4 +1,4 @@
--- Each check goes upwards, as its law has it.
+-- Each check is monotone, as its law states.
 use Rattle.std.proofs.Common.{ℕ, ℤ, Some}
 use Rattle.bpf_helpers.specs.declared.helper.Helper.{Helper}
 use Rattle.bpf_helpers.specs.declared.signature.Argument.{Argument}

@@ -1,4 +1,4 @@
--- Offsets stay proper where pointers are moved.
+-- Offsets stay proper when pointers are moved.
 use Rattle.std.proofs.Common.{◌≡◌, Option, Some, None, Result, Ok, IfOk, sym, ◌∙◌, subst}
 use Rattle.std.specs.Option.{ok_or}
 use Rattle.bpf_kinds.specs.Interval as interval
@@ -24,7 +24,7 @@ pub distances_are_proper : {x : Interval} {found : Option Offsets} (cause : Caus
 distances_are_proper {x} {found} cause {distances} proper near is ok =
     near-proper x distances proper (sym near ∙ is_found found cause distances (sym is ∙ ok))
 
--- the offsets behind a move
+-- the offsets after a move
 pub moved_are_proper : {offsets distances : Offsets} {moved : Option Offsets} (cause : Cause) {result : Result Offsets Cause}
     → IsProper offsets → IsProper distances → moved ≡ move_by offsets distances → result ≡ ok_or moved cause → IfOk result IsProper
 moved_are_proper {offsets} {distances} {moved} cause proper near move is =

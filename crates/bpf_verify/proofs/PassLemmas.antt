@@ -1,4 +1,4 @@
--- The pass: what it keeps is an annotation that is good up to where it has come.
+-- The pass: the states that it keeps are an annotation that is good up to its current place.
 use Rattle.std.proofs.Common.{◌≡◌, ℕ, ℤ, pos, ◌≢◌, zero, suc, ◌+◌, ◌+ℤ◌, ◌<◌, ◌≤◌, ◌==◌, Bool, List, [], ◌∷◌, ◌++◌, length, Option}
 use Rattle.std.proofs.Common.{Some, None, option_map, IfSome, Result, Ok, Err, nat_le, true, false, if◌then◌else◌, refl, sym, ap, ◌∙◌}
 use Rattle.std.proofs.Common.{take, subst, arith, rules, inl, inr}
@@ -49,7 +49,7 @@ pub is_found_proper : {A : Type 0} (found : Option (Box Known A)) → IsProper (
 is_found_proper None proper = tt
 is_found_proper (Some known) proper = proper
 
--- states into one of which another one is joined
+-- states with another one joined into one of them
 
 pub same_place : (other place : ℕ) → (other == place) ≡ true → place ≡ other
 same_place other place is = grind (arith, nat_tests)
@@ -77,7 +77,7 @@ pub joined_if-bottom : (states : Annotation) (place : Option ℕ) (other : ℕ) 
 joined_if-bottom states None other = refl
 joined_if-bottom states (Some place) other = joined-bottom states place other
 
--- where two annotations agree, they do so behind a join
+-- if two annotations agree at a place, they still agree there after a join
 pub joined-same : (states others : Annotation) (place : ℕ) (state : AbstractState) (other : ℕ) → states other ≡ others other
     → joined states place state other ≡ joined others place state other
 joined-same states others place state other same = ap (λ (s : AbstractState). if other == place then join s state else s) same
@@ -92,7 +92,7 @@ pub joined_proper : (states : Annotation) (place : ℕ) (state : AbstractState) 
 joined_proper states place state proper proper-state = joined_each (λ other. IsProper) states place state
     (laws.join_is_proper (states place) state (proper place) proper-state) proper
 
--- states into which another one is joined: they grow, and it is below the one where it leads
+-- states with another one joined into them: they grow, and it is below the one at its place
 record Takes (before after : Annotation) (place : Option ℕ) (state : AbstractState) : Type 0 where
   proper : AreProper after
   more : (other : ℕ) → IsWithin (before other) (after other)
@@ -125,10 +125,10 @@ joined_takes states (Some place) state proper proper-state = record {
       (λ at same. subst (λ (at : ℕ). IsWithin (states at) bound) (sym same) below) other refl;
 }
 
--- as the pass goes on
+-- as the pass advances
 
--- an annotation is good up to the place behind the instructions that were passed, and lies below every other that is; from there on it is
--- what is kept, and the areas that were found are those of these instructions
+-- an annotation is good up to the place after the instructions passed so far, and lies below every other such annotation; from there on it equals
+-- the kept states, and the areas found are those of these instructions
 pub record IsOnItsWay (code passed : List Insn) (ahead : Ahead) (areas : List (Option Area)) (visits : List Visit) : Type 0 where
   pub of_code : ahead.code ≡ code
   pub at : ahead.place ≡ word_count passed
@@ -147,7 +147,7 @@ length-found {passed = passed} way = ap length way.found ∙ length-areas_from w
 pub not_both : (edges : Edges) (cause : Cause) (found : Result Edges Cause) → found ≡ Ok edges → found ≡ Err cause → ⊥
 not_both edges cause found passes fails = cc
 
--- what passed passes still where other states grow
+-- an instruction that passes its checks still does when other states grow
 passes_more : (old new : Annotation) (place : ℕ) (insn : Insn) → new place ≡ old place → ((at : ℕ) → IsWithin (old at) (new at))
     → PassesAt old place insn → PassesAt new place insn
 passes_more old new place insn same more passes = record {
@@ -159,7 +159,7 @@ passes_more old new place insn same more passes = record {
       (more to);
 }
 
--- one annotation up to a place and another behind it
+-- one annotation up to a place, and another one after it
 abbrev behind : Annotation → ℕ → Annotation → Annotation
 behind old place new other = if nat_le other place then old other else new other
 
@@ -169,7 +169,7 @@ behind-old old new place other up = let is : nat_le other place ≡ true = grind
 behind-new : (old new : Annotation) (place other : ℕ) → place < other → behind old place new other ≡ new other
 behind-new old new place other past = let is : nat_le other place ≡ false = grind (arith, nat_tests) in rw is refl
 
--- where a jump that leads on has its target
+-- the target of a jump that leads on
 target_is : (place to : ℕ) (target : Option ℕ) (distance : ℤ) (jump : Option ℤ) → option_map pos target ≡ option_map (target_of place) jump
     → jump ≡ Some distance → pos (place + 1) +ℤ distance ≡ pos to → target ≡ Some to
 target_is place to target distance None same is leads = absurd (none-some distance is)
@@ -180,7 +180,7 @@ target_is place to (Some found) distance (Some by) same is leads =
     let at : pos found ≡ pos to = there ∙ ap (target_of place) by_distance ∙ leads in
     let equal : found ≡ to = cc in ap Some equal
 
--- and the jump of which it is
+-- and the jump with this target
 pub jump_of : (place to : ℕ) (target : Option ℕ) (jump : Option ℤ) → option_map pos target ≡ option_map (target_of place) jump
     → target ≡ Some to → (distance : ℤ) × (jump ≡ Some distance) × (pos (place + 1) +ℤ distance ≡ pos to)
 jump_of place to None jump same is = absurd (none-some to is)
@@ -221,7 +221,7 @@ module _ (code passed : List Insn) (insn : Insn) (before after : Ahead) (areas :
   is_behind : (other : ℕ) → place < other → annotation other ≡ propagated states next visits.target visits.edges other
   is_behind other past = behind-new way.annotation (kept after) place other past ∙ visits.states other past
 
-  -- behind the place what is kept has grown
+  -- past the place, the kept states have grown
   more : (other : ℕ) → IsWithin (way.annotation other) (annotation other)
   more other = elim (cases_lt place other) as (λ _. IsWithin (way.annotation other) (annotation other)) [
     | inl past ↦
@@ -300,8 +300,8 @@ module _ (code passed : List Insn) (insn : Insn) (before after : Ahead) (areas :
       ∙ ap (λ (visit : Visit). visits_from annotation 0 passed ++ visit ∷ []) (visit-parts _ insn _ (sym visit_here.0) (sym visit_here.1))
       ∙ sym (visits_from-more annotation 0 passed insn)
 
-  -- Below every other annotation that is good so far: its state here is above ours, so are its edges, and what is kept where they lead
-  -- stays below it.
+  -- It lies below every other annotation that is good so far: the other state here is above ours, and so are its edges, so the kept states that the
+  -- edges lead to stay below it.
   module _ (other : Annotation) (good : IsGoodUpTo code next other) where
     good_before : IsGoodUpTo code place other
     good_before = record {
@@ -348,7 +348,7 @@ module _ (code passed : List Insn) (insn : Insn) (before after : Ahead) (areas :
           (way.least other good_before at)
     ]
 
-  -- one instruction more
+  -- one more instruction
   pub goes_on : IsOnItsWay code (passed ++ insn ∷ []) after (areas ++ area_of (states place) insn ∷ []) (earlier ++ visit_of before insn ∷ [])
   goes_on = record {
     of_code = visits.code ∙ way.of_code;
@@ -368,7 +368,7 @@ module _ (code passed : List Insn) (insn : Insn) (before after : Ahead) (areas :
     shown = shown_more;
   }
 
--- Where a check fails in a state, some check fails in every state above: where none fails, none fails below.
+-- If a check fails in a state, some check fails in every state above it, because if none fails, none fails below.
 fails_above : (insn : Insn) (lower higher : AbstractState) (cause : Cause) → IsProper lower → IsProper higher → IsWithin lower higher
     → transfer lower insn ≡ Err cause → Fails higher insn
 fails_above insn lower higher cause proper above within fails = by_result (transfer higher insn) refl
@@ -413,7 +413,7 @@ entry_kinds register = tt
 pub entry_is_proper : IsProperKnown entry
 entry_is_proper = record { count = refl; kinds = entry_kinds; frame = unwritten_is_proper }
 
--- at first nothing but place 0 is reached
+-- at the start, only place 0 is reached
 
 pub first_are_proper : (code : List Insn) → AreProper (kept (first code))
 first_are_proper code = joined_proper (waiting_at []) 0 (Reached entry) (λ place. tt) entry_is_proper
@@ -464,7 +464,7 @@ shows visited code passed ahead old new all way shown = record {
   shown = shown ∙ ap (visited_all visited old) (way.shown ∙ ap (visits_from way.annotation 0) all);
 }
 
--- of one more, whose check failed
+-- of one more instruction, whose check failed
 pub shows_refusal : {V : Type 0} (visited : V → Visit → V) {code : List Insn} (insn : Insn) {ahead : Ahead} {areas : List (Option Area)}
     {visits : List Visit} (index : ℕ) (fault : VerifyFault) (old now new : V) → take (index + 1) code ≡ take index code ++ insn ∷ []
     → IsOnItsWay code (take index code) ahead areas visits → now ≡ visited_all visited old visits

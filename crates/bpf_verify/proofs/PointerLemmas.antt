@@ -1,4 +1,4 @@
--- Kinds of pointers: each is stored in a slot alone.
+-- Pointer kinds can be stored only in a slot.
 use Rattle.std.proofs.Common.{◌≡◌, ◌≢◌, ℕ, Some, None, Ok, Err, refl}
 use Rattle.bpf_kinds.specs.declared.kind.Kind.{Kind}
 use Rattle.bpf_kinds.specs.declared.kind.Kind.TheVariants.{Record, Frame, Nothing}

@@ -1,4 +1,4 @@
--- Calls of helper functions on what is known: what is lower passes the checks that what is higher passes, and is lower behind them.
+-- Calls of helper functions are monotone: a lower state passes every check that a higher one passes, and is lower after the call.
 use Rattle.std.proofs.Common.{◌≡◌, ℕ, zero, suc, ◌+◌, pos, Bool, true, false, List, ◌∷◌, ◌++◌, drop, get_or, replicate, Some, Ok, Err}
 use Rattle.std.proofs.Common.{if◌then◌else◌, refl, sym, subst, arith}
 use Rattle.std.proofs.lemmas.Bool.Decides.{nat_tests}

@@ -1,4 +1,4 @@
--- What is known of values, lower and higher: a check that passes on what is higher passes on what is lower, and gives what is lower too.
+-- Checks of values are monotone: a check that passes on a higher kind passes on a lower one, with a lower result.
 use Rattle.std.proofs.Common.{◌≡◌, ℕ, ◌≤◌, ◌≤ℤ◌, Option, Some, None, Ok, refl, sym, subst, arith}
 use Rattle.bpf_insn.specs.declared.instruction.Operation.{Operation}
 use Rattle.bpf_insn.specs.declared.instruction.Width.{Width}
@@ -27,7 +27,7 @@ use Rattle.bpf_kinds.proofs.KindLemmas.{within-nothing}
 use Rattle.bpf_kinds.proofs.MovingRises.{near_rises, move_by_rises, move_back_by_rises}
 use Rattle.bpf_kinds.proofs.ResultsRise.{cut_rises, cut_ordered, alu_rises, alu_ordered}
 
--- Intervals that lie within others, of which no end passes the other. Nothing is asked of the outer ones.
+-- Intervals that lie within others and whose ends are in order. Nothing is required of the outer ones.
 
 pub record IsLowerInterval (higher lower : Interval) : Type 0 where
   pub within : interval.IsWithin lower higher
@@ -51,7 +51,7 @@ is_lower (Frame x) (Frame n) within proper = record { within = within; ordered =
 is_lower Nothing n within proper = tt
 is_lower x n within proper = absurd within
 
--- such kinds, by what they are
+-- such kinds, case by case
 pub lower_cases : (Such : Kind → Kind → Type 0) → ((x n : Interval) → IsLowerInterval x n → Such (Number x) (Number n))
     → ((x n : Offsets) → AreLowerOffsets x n → Such (Record x) (Record n))
     → ((x n : Offsets) → AreLowerOffsets x n → Such (Frame x) (Frame n)) → ((n : Kind) → Such Nothing n)

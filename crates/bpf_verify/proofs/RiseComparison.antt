@@ -1,4 +1,4 @@
--- Conditional jumps on what is known: what is lower has lower edges.
+-- Conditional jumps are monotone: a lower state has lower edges.
 use Rattle.std.proofs.Common.{◌≡◌, ℕ, Bool, true, false, length, Option, Some, None, if◌then◌else◌, refl, sym, ◌∙◌, subst}
 use Rattle.bpf_insn.specs.declared.instruction.Source.{Source}
 use Rattle.bpf_insn.specs.declared.instruction.Source.TheVariants.{Immediate, Register}
@@ -19,7 +19,7 @@ use Rattle.bpf_verify.specs.declared.successors.Edge.TheVariants.{Unchanged}
 use Rattle.bpf_verify.proofs.RiseChecks.{IsLower, lower_cases, IsLowerInterval}
 use Rattle.bpf_verify.proofs.RiseMemory.{with_kind_lower}
 
--- what is known on the edges
+-- the states on the edges
 abbrev pub EdgesBelow : Edges → Edges → Type 0
 EdgesBelow higher lower = AreEdgesWithin lower higher
 

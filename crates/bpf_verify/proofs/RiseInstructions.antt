@@ -1,5 +1,5 @@
--- The transfer function goes upwards: where no check of an instruction fails on what is known, none fails on what is lower, and what is
--- known behind it is lower too.
+-- The transfer function is monotone: if no check of an instruction fails in a state, none fails in a lower one, and the state after it is lower
+-- too.
 use Rattle.std.proofs.Common.{◌≡◌, Result, Ok, Err, refl, sym, ◌∙◌, subst}
 use Rattle.bpf_insn.specs.Arithmetic as arithmetic
 use Rattle.bpf_insn.specs.Arithmetic.{operand_bits, low_bits}

@@ -1,4 +1,4 @@
--- Loads and stores on what is known: what is lower passes the checks that what is higher passes, and is lower behind them.
+-- Loads and stores are monotone: a lower state passes every check that a higher one passes, and is lower after the instruction.
 use Rattle.std.proofs.Common.{◌≡◌, ℕ, zero, suc, ◌+◌, ◌*◌, ◌/◌, ◌<◌, ◌≤◌, ℤ, pos, ◌+ℤ◌, ◌≤ℤ◌, ◌&&◌, int_le, unsigned_abs, Bool, true, false}
 use Rattle.std.proofs.Common.{length, Option, Some, None, Result, Ok, Err, if◌then◌else◌, refl, sym, ap, ◌∙◌, subst, arith}
 use Rattle.std.specs.Ordering.{int_eq}
@@ -58,7 +58,7 @@ pub pointers_lower : (higher lower : Known) → IsBelow lower higher → (base :
 pointers_lower higher lower below base = then_sound IsLower ArePointersLower _ _ _ _
     (read_lower higher lower below base) only_pointers_lower
 
--- bytes from each of the offsets on
+-- bytes that start at each of the offsets
 
 pub lie_within_falls : {x n : Offsets} (offset : ℤ) (count less bytes : ℕ) → AreLowerOffsets x n → less ≤ count
     → lie_within x offset count bytes ≡ true → lie_within n offset less bytes ≡ true
@@ -70,7 +70,7 @@ lie_within_falls {x} {n} offset count less bytes is fewer within =
         → (int_le (pos 0) (low +ℤ offset) && int_le ((high +ℤ offset) +ℤ pos less) (pos bytes)) ≡ true
     by_ends least low high most above between below within = grind (arith, ints, nat_tests)
 
--- the ends of offsets within others, as places of the frame
+-- the ends of offsets within others, as indexes of the frame's bytes
 record LieInside (x n : Offsets) (offset : ℤ) (count : ℕ) : Type 0 where
   above : unsigned_abs (x.low +ℤ offset) ≤ unsigned_abs (n.low +ℤ offset)
   between : unsigned_abs (n.low +ℤ offset) ≤ unsigned_abs (n.high +ℤ offset)
@@ -110,7 +110,7 @@ load_lower : (format : LoadFormat) → IsLowerInterval (load format) (load forma
 load_lower format = let proper = load-proper format in let ordered = proper.ordered in
     record { within = record { low = omega arith; high = omega arith }; ordered = ordered }
 
--- a load of a whole slot gives any number
+-- a load of a whole slot yields any number
 whole_lower : (format : LoadFormat) (x : Interval) → load_length format ≡ SLOT_LENGTH → interval.IsProper x
     → IsLowerInterval (load format) x
 whole_lower format.DoubleWord x long proper =
@@ -127,13 +127,13 @@ known_slot_at x offset count slot known = by_test (int_eq x.low x.high) known
     by_test true found = slot_at-is (unsigned_abs (x.low +ℤ offset)) count slot found
     by_test false found = cc
 
--- a known slot is whole, and its first byte is that of the one known offset
+-- a known slot is whole, and its first byte is the one at the single known offset
 known_slot_whole : (x : Offsets) (offset : ℤ) (count slot : ℕ) → known_slot x offset count ≡ Some slot → (count ≡ SLOT_LENGTH)
     × (unsigned_abs (x.low +ℤ offset) / SLOT_LENGTH ≡ slot)
 known_slot_whole x offset count slot known = let whole = known_slot_at x offset count slot known in let place = whole.1 in
     (whole.0, omega arith)
 
--- the first of bytes that have their marks has its mark
+-- the first one of marked bytes is marked
 marked_first : {known : Known} (x : Offsets) (offset : ℤ) {count : ℕ} → IsProperKnown known → count ≡ SLOT_LENGTH → x.low ≤ℤ x.high
     → lie_within x offset count FRAME_LENGTH ≡ true → all_marked known x offset count ≡ true
     → IsMarked known.frame.marks (unsigned_abs (x.low +ℤ offset))
@@ -144,14 +144,14 @@ marked_first {known} x offset {count = suc more} proper long ordered within mark
     written_at known.frame.marks (unsigned_abs (x.low +ℤ offset)) (unsigned_abs (x.high +ℤ offset) + more) (unsigned_abs (x.low +ℤ offset))
     (omega arith) (omega arith) (omega arith) marked
 
--- the kind that a slot keeps, where it's known which slot is loaded
+-- the kind in a slot, if it's known which slot is loaded
 
--- one offset has but itself below it
+-- a single offset has only itself below it
 only_one : (least low high most : ℤ) → least ≤ℤ low → low ≤ℤ high → high ≤ℤ most → int_eq least most ≡ true → (low ≡ least)
     × (int_eq low high ≡ true)
 only_one least low high most above between below one = (grind (arith, ints, nat_tests), grind (arith, ints, nat_tests))
 
--- a slot that is known is the slot that is known of fewer offsets
+-- a slot that is known for some offsets is the one known for fewer offsets
 known_slot_falls : (x n : Offsets) (offset : ℤ) (count slot : ℕ) → AreLowerOffsets x n → known_slot x offset count ≡ Some slot
     → known_slot n offset count ≡ Some slot
 known_slot_falls x n offset count slot is known = by_test (int_eq x.low x.high) refl known
@@ -163,7 +163,7 @@ known_slot_falls x n offset count slot is known = by_test (int_eq x.low x.high) 
         rw (only.1) (ap (λ (z : ℤ). slot_at (unsigned_abs (z +ℤ offset)) count) only.0 ∙ found)
     by_test false many found = cc
 
--- what a load of marked bytes gives lies above what one of the slot gives, if that keeps a number, or nothing is known of it
+-- the result of a load of marked bytes lies above that of a load of the slot, if the slot holds a number, or nothing is known of it
 marked_lower : (format : LoadFormat) (otherwise : Result Kind Cause) (k : Kind) → load_length format ≡ SLOT_LENGTH → IsNoPointer k
     → kind.IsProper k → Sound IsLower (Ok (Number (load format))) otherwise
     → Sound IsLower (Ok (Number (load format))) (kept_or otherwise k)
@@ -171,7 +171,7 @@ marked_lower format otherwise (Number x) long is proper rest = whole_lower forma
 marked_lower format otherwise Nothing long is proper rest = rest
 marked_lower format otherwise pointer long is proper rest = absurd is
 
--- what a slot of fewer offsets keeps
+-- the kind in the slot of fewer offsets
 kept_lower : (otherwise other : Result Kind Cause) (k l : Kind) → IsLower k l → (k ≡ Nothing → Sound IsLower otherwise (kept_or other l))
     → Sound IsLower (kept_or otherwise k) (kept_or other l)
 kept_lower otherwise other k l is =
@@ -192,7 +192,7 @@ load_area_lower {higher} {lower} below format area.Frame {x} {n} offset is withi
     bytes : Known → Offsets → Result Kind Cause
     bytes known offsets = if all_marked known offsets offset count then Ok (Number (load format)) else Err UnwrittenFrame
 
-    -- bytes that have their marks in the higher state have them in the lower one
+    -- bytes that are marked in the higher state are marked in the lower one
     bytes_lower : (marked : Bool) → all_marked higher x offset count ≡ marked
         → Sound IsLower (if marked then Ok (Number (load format)) else Err UnwrittenFrame) (bytes lower n)
     bytes_lower true marked =
@@ -200,7 +200,7 @@ load_area_lower {higher} {lower} below format area.Frame {x} {n} offset is withi
         (all_marked_falls below offset count count is (omega arith) within marked) (load_lower format)
     bytes_lower false unmarked = tt
 
-    -- the slot of the lower state, where its bytes have their marks in the higher one
+    -- the slot of the lower state, if its bytes are marked in the higher one
     slot_lower : (slot : ℕ) → known_slot n offset count ≡ Some slot → (marked : Bool) → all_marked higher x offset count ≡ marked
         → Sound IsLower (if marked then Ok (Number (load format)) else Err UnwrittenFrame)
         (kept_or (bytes lower n) (slot_kind lower.frame slot))
@@ -264,16 +264,16 @@ frame_offsets_lower p q are =
     (sym are.into)
     (frame_only_lower p.area p.offsets q.offsets are.offsets)
 
--- Bytes that are written: of slots that may have been written over nothing is known above, and those that were written in any case have
--- their marks below.
+-- Bytes that are written: above, nothing is known of the slots that may have been overwritten; below, the bytes that were written in any case are
+-- marked.
 
--- what is known once the bytes of a frame that are touched have their marks
+-- the state after the touched bytes of a frame are marked
 abbrev marks : Known → Offsets → ℤ → ℕ → Bool → Known
 marks known x offset count one = if one then record known { frame = mark known.frame (unsigned_abs (x.low +ℤ offset)) count } else known
 
 -- offsets of a lower state within those of a higher one
 module _ {higher lower : Known} (below : IsBelow lower higher) {x n : Offsets} (offset : ℤ) (is : AreLowerOffsets x n) where
-  -- where bytes from each of the higher one's offsets on are touched in the higher one, and none or some of these in the lower one
+  -- bytes from each of the higher state's offsets on are touched in the higher state, and none or some of these in the lower one
   marks_lower : {frame : map.Contents} (fewer least more : ℕ) → map.IsProper frame
       → map.IsWithin frame (touch higher.frame (unsigned_abs (x.low +ℤ offset)) (unsigned_abs (x.high +ℤ offset) + more))
       → fewer ≤ least → least ≤ suc more → lie_within x offset (suc more) FRAME_LENGTH ≡ true
@@ -324,7 +324,7 @@ module _ {higher lower : Known} (below : IsBelow lower higher) {x n : Offsets} (
       }
       by_tests false false many more = record { registers = below.within.registers; frame = within }
 
-  -- to mark no bytes changes nothing that is known
+  -- marking no bytes changes nothing
   none_marked : lie_within x offset 0 FRAME_LENGTH ≡ true → IsWithinKnown (mark_bytes lower n offset 0) (mark_bytes higher x offset 0)
   none_marked within = by_tests (int_eq x.low x.high) (int_eq n.low n.high) refl refl
     where
@@ -377,11 +377,11 @@ module _ {higher lower : Known} (below : IsBelow lower higher) {x n : Offsets} (
       one (omega arith) within
   write_bytes_lower fewer zero least less one two three within = absurd (omega arith)
 
--- what is known behind a change
+-- the state after a change
 abbrev pub ChangesBelow : Known → Known → Type 0
 ChangesBelow higher lower = IsWithinKnown lower higher
 
--- a slot that is known lies within the frame
+-- a known slot lies within the frame
 slot_inside : (x : Offsets) (offset : ℤ) (count slot : ℕ) → known_slot x offset count ≡ Some slot → x.low ≤ℤ x.high
     → lie_within x offset count FRAME_LENGTH ≡ true → slot < SLOTS
 slot_inside x offset count slot known ordered within =
@@ -389,7 +389,7 @@ slot_inside x offset count slot known ordered within =
     let ends = lie_inside offset count (themselves x ordered) within in
     let between = ends.between in let short = ends.within in let long = whole.0 in let place = whole.1 in omega arith
 
--- a number that is stored
+-- a stored number
 numbers_lower : {higher lower : Known} → IsBelow lower higher → {x n : Offsets} (offset : ℤ) (count : ℕ) {k l : Interval}
     → AreLowerOffsets x n → IsLowerInterval k l → lie_within x offset count FRAME_LENGTH ≡ true
     → IsWithinKnown (keep lower n offset count (Number l) (known_slot n offset count))
@@ -400,7 +400,7 @@ numbers_lower {higher} {lower} below {x} {n} offset count {k} {l} is stored with
     inside : lie_within n offset count FRAME_LENGTH ≡ true
     inside = lie_within_falls offset count count FRAME_LENGTH is (omega arith) within
 
-    -- the slot of one of the offsets, where any of them may have been written
+    -- the slot of one of the offsets, if any of them may have been written
     into_slot : (slot count : ℕ) → known_slot n offset count ≡ Some slot → known_slot x offset count ≡ None
         → lie_within x offset count FRAME_LENGTH ≡ true
         → IsWithinKnown (record lower { frame = set_slot lower.frame slot (Number l) }) (write_bytes higher x offset count count)
@@ -445,7 +445,7 @@ numbers_lower {higher} {lower} below {x} {n} offset count {k} {l} is stored with
               (slot_inside n offset count slot (known_slot_falls x n offset count slot is known) is.ordered inside) (λ e. cc) stored.within;
         })
 
--- a pointer that is stored, in a slot that is known
+-- a pointer stored in a known slot
 pointers_kept_lower : {higher lower : Known} → IsBelow lower higher → {x n : Offsets} (offset : ℤ) (size : StoreSize) {k l : Kind}
     → AreLowerOffsets x n → kind.IsWithin l k → ArePointers k → ArePointers l
     → Sound ChangesBelow (store_at higher x offset size k) (store_at lower n offset size l)
@@ -502,7 +502,7 @@ store_at_lower {higher} {lower} below {x} {n} offset size k l is stored =
             (numbers_lower below offset (store_length size) is stored within)
         by_test false outside = tt
 
--- registers that are written
+-- registers that are set
 
 pub with_kind_lower : (higher lower : Known) (register : ℕ) (x n : Kind) → length lower.registers ≡ length higher.registers
     → IsWithinKnown lower higher → kind.IsWithin n x → IsWithinKnown (with_kind lower register n) (with_kind higher register x)

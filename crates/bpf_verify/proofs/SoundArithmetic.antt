@@ -34,7 +34,7 @@ use Rattle.bpf_meaning.specs.Checks.{Sound}
 use Rattle.bpf_meaning.proofs.CheckLemmas.{passes_if}
 use Rattle.bpf_meaning.proofs.TagLemmas.{Relate, Agree, operate_agrees, move_agrees}
 
--- An immediate is any number in definitions, so these laws ask nothing of the interval.
+-- An immediate is any number in the definitions, so these laws require nothing of the interval.
 
 low_half_sound : (x : Interval) (n : ℕ) → Admits x n → Admits (cut w32 x) (low_bits w32 n)
 low_half_sound x n admits = let held = cut-holds w32 x n admits in record { above = held.above; below = held.below }
@@ -48,13 +48,13 @@ alu_sound : (operation : Operation) (width : Width) (x y : Interval) (m n : ℕ)
 alu_sound operation width x y m n left right =
     let held = alu-holds operation width x y m n left right in record { above = held.above; below = held.below }
 
--- pointers that are moved
+-- moved pointers
 
 near_offset : (low n high : ℕ) → low ≤ n → n ≤ high → (nat_lt high (2 ^ 15) || nat_le (2 ^ 64 - 2 ^ 15) low) ≡ true
     → IsTrue (is_offset (cast_signed w64 n))
 near_offset low n high above below near = grind (arith, ints, nat_tests)
 
--- A number by which pointers may be moved. Near ends have near numbers between them.
+-- A number by which pointers may be moved. All numbers between two near ends are near.
 near_sound : (x : Interval) (n : ℕ) → Admits x n → Sound offsets.Admits (or_cause PointerArithmetic (near_distances x))
     (effect.near_distance n)
 near_sound x n admits = by_test (nat_lt x.high (2 ^ 15) || nat_le (2 ^ 64 - 2 ^ 15) x.low) refl
@@ -72,7 +72,7 @@ near_sound x n admits = by_test (nat_lt x.high (2 ^ 15) || nat_le (2 ^ 64 - 2 ^ 
         })
     by_test false far = tt
 
--- offsets behind a move
+-- the offsets after a move
 moved_sound : (found : Option Offsets) (offset : ℤ)
     → ((moved : Offsets) → found ≡ Some moved → IsTrue (is_offset offset) × offsets.Admits moved offset)
     → Sound offsets.Admits (or_cause LeavesArea found) (offset_or offset)

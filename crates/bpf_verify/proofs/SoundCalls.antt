@@ -1,5 +1,5 @@
--- Calls of helper functions are sound: where their checks pass on kinds, they pass on values, and what is known behind a call admits the
--- state behind it.
+-- Calls of helper functions are sound: if their checks pass on kinds, they pass on values, and the abstract state after a call admits the state
+-- after it.
 use Rattle.std.proofs.Common.{◌≡◌, ℕ, zero, suc, ◌+◌, ◌≤◌, ℤ, pos, negsuc, ◌+ℤ◌, ◌≤ℤ◌, ◌&&◌, int_le, unsigned_abs, Bool, true, false, List}
 use Rattle.std.proofs.Common.{[], ◌∷◌, ◌++◌, length, drop, get_or, replicate, Option, Some, None, Result, Ok, Err, if◌then◌else◌, refl, sym}
 use Rattle.std.proofs.Common.{subst, arith}
@@ -57,14 +57,14 @@ use Rattle.bpf_verify.proofs.SoundMemory.{Stores}
 
 -- arguments
 
--- a word that stands for a pointer at one of the offsets
+-- a word that represents a pointer at one of the offsets
 record IsOffset (x : Offsets) (word : ℕ) : Type 0 where
   proper : offsets.IsProper x
   offset : ℤ
   admits : offsets.Admits x offset
   is : word ≡ cast_unsigned w64 offset
 
--- a word that stands for a value of a kind
+-- a word that represents a value of a kind
 abbrev IsWord : Kind → ℕ → Type 0
 IsWord (Number x) word = interval.Admits x word
 IsWord (Frame x) word = IsOffset x word
@@ -108,7 +108,7 @@ argument_in_sound known state has number (argument.Number allowed) =
 argument_in_sound known state has number argument.Frame = then_sound HasValue IsWord _ _ _ _ (read_sound known state has number)
     (argument_sound number argument.Frame)
 
--- the words that stand for bytes of the frame: where they begin, and how many they are
+-- the words that represent bytes of the frame: where they begin, and how many there are
 record AreWords (kinds : List Kind) (words : List ℕ) : Type 0 where
   second : IsWord (get_or kinds 1 Nothing) (second words)
   third : IsWord (get_or kinds 2 Nothing) (third words)
@@ -123,7 +123,7 @@ arguments_sound known state has wanted =
 
 -- bytes of the frame
 
--- bytes that begin at one of the offsets, and are as many as the interval allows
+-- bytes that begin at one of the offsets, with a count that the interval allows
 record AreLent (bytes : LentBytes) (words : List ℕ) : Type 0 where
   offset : IsOffset bytes.offsets (second words)
   count : interval.Admits bytes.count (third words)
@@ -171,7 +171,7 @@ lend_bytes_sound x y words offset count = tt
 abbrev written : State → List ℕ → List ℕ → State
 written state words bytes = record state { frame = write_bytes state.frame (second words) bytes }
 
--- what is known behind a call of the frame, whatever it writes
+-- the state after a call's use of the frame, whatever it writes
 record IsLent (state : State) (frame : FrameUse) (after : Known) (words : List ℕ) : Type 0 where
   admits : (bytes : List ℕ) → length bytes ≡ written_length frame words → AdmitsKnown after (written state words bytes)
 
@@ -239,7 +239,7 @@ lend_frame_sound known state has frame_use.Reads kinds words are =
 
 -- calls
 
--- the registers behind a call
+-- the registers after a call
 registers_admit : (kinds : List Kind) (values : List Value) (x : Interval) (n : ℕ) → interval.Admits x n
     → ((register : ℕ) → kind.Admits (get_or kinds register Nothing) (get_or values register value.Empty))
     → (register : ℕ) → kind.Admits (get_or (Number x ∷ replicate 5 Nothing ++ drop 6 kinds) register Nothing)

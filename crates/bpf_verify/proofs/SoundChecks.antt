@@ -1,4 +1,4 @@
--- Checks on kinds are sound: where they pass, the same checks on values pass, and what they give of kinds admits what they give of values.
+-- Checks on kinds are sound: if they pass, the same checks on values pass, and the resulting kinds admit the resulting values.
 use Rattle.std.proofs.Common.{◌≡◌, ℕ, refl}
 use Rattle.bpf_insn.specs.declared.value.Value.{Value}
 use Rattle.bpf_insn.specs.declared.value.Value.TheVariants as value
@@ -27,7 +27,7 @@ pub record HasValue (known : Kind) (held : Value) : Type 0 where
   pub proper : kind.IsProper known
   pub admits : kind.Admits known held
 
--- a proper abstract state and a whole state of which it is known
+-- a proper abstract state and a whole state that it admits
 pub record HasState (known : Known) (state : State) : Type 0 where
   pub proper : IsProperKnown known
   pub admits : AdmitsKnown known state
@@ -38,7 +38,7 @@ pub has_value : (known : Known) (state : State) → HasState known state → (re
     → HasValue (kind_of known register) (register_value state register)
 has_value known state has register = record { proper = has.proper.kinds register; admits = has.admits.registers register }
 
--- a value that is read, which is what the register holds
+-- a value that is read, which the register holds
 
 pub record IsReadOf (held : Value) (known : Kind) (found : Value) : Type 0 where
   pub has : HasValue known found

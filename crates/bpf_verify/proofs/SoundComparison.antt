@@ -1,4 +1,4 @@
--- Conditional jumps are sound: what is known on the edge that is taken admits the state.
+-- Conditional jumps are sound: the abstract state on the edge that is taken admits the state.
 use Rattle.std.proofs.Common.{◌≡◌, ℕ, ℤ, Bool, true, false, Option, if◌then◌else◌, refl, sym, ap, subst, arith}
 use Rattle.bpf_insn.specs.Arithmetic as arithmetic
 use Rattle.bpf_insn.specs.Arithmetic.{operand_bits, low_bits, is_met}
@@ -33,17 +33,17 @@ use Rattle.bpf_meaning.specs.Checks.{Sound}
 use Rattle.bpf_verify.proofs.SoundChecks.{HasNumber, HasState, IsReadOf}
 use Rattle.bpf_verify.proofs.SoundStates.{narrows_keep}
 
--- what is known on the edge that a comparison takes
+-- the abstract state on the edge that a comparison takes
 abbrev pub TakesEdge : State → Edges → Bool → Type 0
 TakesEdge state edges true = known_state.Admits edges.target state
 TakesEdge state edges false = known_state.Admits edges.next state
 
--- the register on the right, if it's one, holds this number
+-- the right operand, if it's a register, holds this number
 abbrev RightHolds : State → Source → ℕ → Type 0
 RightHolds state (Immediate immediate) n = Unit {0}
 RightHolds state (Register register) n = register_value state register.number ≡ value.Number n
 
--- the operands of a comparison: numbers of which these intervals are known
+-- the operands of a comparison: numbers in these intervals
 record Operands (state : State) (left : ℕ) (right : Source) (x y : Interval) (m n : ℕ) : Type 0 where
   first : HasNumber x m
   second : HasNumber y n
@@ -81,7 +81,7 @@ branch_admits {known} {state} has comparison {x} {y} {taken} operands answer = b
         subst (λ (refined : Option Narrowed). known_state.Admits (on_edge known comparison (narrowed refined)) state) (sym kept.1)
         (with_narrowed_admits has.admits left right kept.0 operands.on_left operands.on_right kept.2 kept.3)
 
--- both edges, where the operands are numbers
+-- both edges, if the operands are numbers
 abbrev edges_of : Known → Comparison → Interval → Interval → Edges
 edges_of known comparison x y = edges_to known (Branch comparison (branch comparison x y false) (branch comparison x y true))
 
@@ -95,7 +95,7 @@ edges_take {known} {state} has comparison {x} {y} {m} {n} operands = by_answer (
     by_answer true answer = branch_admits has comparison operands answer
     by_answer false answer = branch_admits has comparison operands answer
 
--- An immediate is compared as its low bits.
+-- An immediate is compared by its low bits.
 
 single_admits : (n : ℕ) → Admits (single n) n
 single_admits n = record { above = omega arith; below = omega arith }

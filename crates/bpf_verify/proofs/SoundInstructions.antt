@@ -1,5 +1,5 @@
--- One instruction is sound: where it fails no check on what is known, it fails none in a state of which this is known, and what is known
--- behind it admits the state behind it.
+-- One instruction is sound: if no check fails in an abstract state, none fails in a state that it admits, and the abstract state after the
+-- instruction admits the state after it.
 use Rattle.std.proofs.Common.{◌≡◌, ℕ, ◌<◌, ◌⊎◌, inl, inr, ℤ, pos, nat_lt, IsSome, Bool, true, false, List, Some, Result, Ok, Err}
 use Rattle.std.proofs.Common.{if◌then◌else◌, refl, sym, subst}
 use Rattle.std.specs.Prelude.{FitsSigned}
@@ -43,7 +43,7 @@ use Rattle.bpf_verify.proofs.SoundMemory.{Stores, PointsWithin, IsFrom, pointers
 use Rattle.bpf_verify.proofs.SoundCalls.{call_sound}
 use Rattle.bpf_meaning.proofs.WalkForesees.{Foresees, walk_foreseen}
 
--- The program goes on at the next place, or at a jump's target, and what is known on that edge admits the state there.
+-- The program goes on at the next place, or at a jump's target, and the abstract state on that edge admits the state there.
 
 pub record GoesToNext (code : List Insn) (segment : Contents) (state : State) (next : ℕ) (edges : Edges) (change : Change)
     (place : ℕ) : Type 0 where
@@ -65,7 +65,7 @@ Follows code segment state insn next edges (GoOn change place) =
     GoesToNext code segment state next edges change place ⊎ GoesToTarget code segment state insn edges change place
 Follows code segment state insn next edges (End answer) = Unit {0}
 
--- an instruction that stands at a state's place in a code whose jumps lead on
+-- an instruction at a state's place, in a code whose jumps lead on
 pub record Stands (code : List Insn) (segment : Contents) (known : Known) (state : State) (insn : Insn) (next : ℕ) : Type 0 where
   pub is_segment : IsSegment segment
   pub has : HasState known state
@@ -103,7 +103,7 @@ target_sound {code} segment state insn next edges {distance} jumps leads admits 
           admits;
     })))
 
--- a register is written
+-- a register is set
 set_sound : {code : List Insn} {segment : Contents} {known : Known} {state : State} {insn : Insn} {next : ℕ}
     → Stands code segment known state insn next → (insn ≡ Exit → ⊥) → (destination : WritableRegister) (x : Kind) (v : Value)
     → kind.Admits x v

@@ -1,5 +1,5 @@
--- What is known of the frame is sound: bytes that have their marks are written, those that get them were written, and of slots that may
--- have been written over nothing is known.
+-- What is known of the frame is sound: marked bytes are written, bytes are marked only if they were written, and nothing is known of slots that may
+-- have been overwritten.
 use Rattle.std.proofs.Common.{◌≡◌, ℕ, zero, suc, ◌+◌, ◌<◌, ◌≤◌, ℤ, pos, ◌+ℤ◌, ◌≤ℤ◌, ◌&&◌, int_le, unsigned_abs, Bool, true, false, IsTrue}
 use Rattle.std.proofs.Common.{List, if◌then◌else◌, refl, subst, arith}
 use Rattle.std.specs.Ordering.{int_eq}
@@ -22,7 +22,7 @@ use Rattle.bpf_verify.specs.AbstractState.{kind_of, IsProperKnown, AdmitsKnown}
 use Rattle.bpf_verify.specs.declared.known.Known.{Known}
 use Rattle.bpf_verify.proofs.SoundChecks.{HasState}
 
--- bytes that lie within an area from each of the offsets on, lie within it from one of them on
+-- bytes that lie within an area from each of the offsets on also lie within it from one of them on
 pub lies_within : (x : Offsets) (at offset : ℤ) (count bytes : ℕ) → Admits x at → lie_within x offset count bytes ≡ true
     → effect.lie_within (at +ℤ offset) count bytes ≡ true
 lies_within x at offset count bytes admits within = by_ends x.low x.high admits.above admits.below within
@@ -31,7 +31,7 @@ lies_within x at offset count bytes admits within = by_ends x.low x.high admits.
         (pos bytes)) ≡ true → (int_le (pos 0) (at +ℤ offset) && int_le ((at +ℤ offset) +ℤ pos count) (pos bytes)) ≡ true
     by_ends low high above below within = grind (arith, ints, nat_tests)
 
--- so many bytes of memory from an offset on are written
+-- `count` bytes of memory from an offset on are written
 abbrev pub AreWritten : List FrameByte → ℤ → ℕ → Type 0
 AreWritten memory from count = (i : ℕ) → unsigned_abs from ≤ i → i < unsigned_abs from + count → IsTrue (is_written memory i)
 
@@ -50,7 +50,7 @@ lie_between low high at offset count above below within = record {
   within = grind (arith, ints, nat_tests);
 }
 
--- bytes that have their marks from each of the offsets on are written from one of them on
+-- bytes that are marked from each of the offsets on are written from one of them on
 pub marked_are_written : {known : Known} {state : State} → HasState known state → {x : Offsets} {at : ℤ} (offset : ℤ) (count : ℕ)
     → Admits x at → lie_within x offset count FRAME_LENGTH ≡ true → all_marked known x offset count ≡ true
     → AreWritten state.frame.bytes (at +ℤ offset) count
@@ -81,13 +81,13 @@ touched_is_proper known x offset (suc more) proper ordered within =
           (unsigned_abs (x.high +ℤ offset) + more) proper.frame ends.0 ends.1;
     }
 
--- a frame once bytes of it, so many, were written from an offset on
+-- a frame before and after `count` of its bytes were written from an offset on
 pub record IsWritten (before after : FrameContents) (from : ℤ) (count : ℕ) : Type 0 where
   pub stay : (i : ℕ) → IsTrue (is_written before.bytes i) → IsTrue (is_written after.bytes i)
   pub written : AreWritten after.bytes from count
   pub kept : (slot : ℕ) → slot < SLOTS → IsApart slot (unsigned_abs from) count → slot_value after slot ≡ slot_value before slot
 
--- what is known of a frame and of the registers, before the frame is written and behind that
+-- what is known of a frame before it is written, and of the registers after that
 pub record IsKnownBefore (known : Known) (before : FrameContents) (after : State) : Type 0 where
   pub proper : IsProperKnown known
   pub registers : (register : ℕ) → kind.Admits (kind_of known register) (register_value after register)
@@ -98,7 +98,7 @@ ordered_ends x at admits = let above = admits.above in let below = admits.below 
 
 -- one of the offsets from which bytes may have been written
 module _ {x : Offsets} {at : ℤ} (offset : ℤ) (admits : Admits x at) where
-  -- what is known once bytes may have been written from each of the offsets on, where they were written from one of them on
+  -- the state after bytes may have been written from each of the offsets on, if they were written from one of them on
   touched_admits : {known : Known} {before : FrameContents} {after : State} → IsKnownBefore known before after → (count most : ℕ)
       → lie_within x offset most FRAME_LENGTH ≡ true → count ≤ most → IsWritten before after.frame (at +ℤ offset) count
       → AdmitsKnown (touch_bytes known x offset most) after
@@ -119,7 +119,7 @@ module _ {x : Offsets} {at : ℤ} (offset : ℤ) (admits : Admits x at) where
             (λ slot inside apart. written.kept slot inside (λ i above below same. apart i (omega arith) (omega arith) same));
       }
 
-  -- and once those that were written in any case have their marks
+  -- and after the bytes that were written in any case are marked
   marks_admit : {known : Known} {after : State} → IsProperKnown known → AdmitsKnown known after → (count least : ℕ)
       → lie_within x offset count FRAME_LENGTH ≡ true → least ≤ count → AreWritten after.frame.bytes (at +ℤ offset) count
       → AdmitsKnown (mark_bytes known x offset least) after
@@ -148,7 +148,7 @@ module _ {x : Offsets} {at : ℤ} (offset : ℤ) (admits : Admits x at) where
           }
       by_test false many = admitted
 
-  -- what is known where bytes are written from one of the offsets on
+  -- the state after bytes are written from one of the offsets on
   pub writes_admit : {known : Known} {before : FrameContents} {after : State} → IsKnownBefore known before after → (count least most : ℕ)
       → lie_within x offset most FRAME_LENGTH ≡ true → least ≤ count → count ≤ most → IsWritten before after.frame (at +ℤ offset) count
       → AdmitsKnown (write_bytes known x offset least most) after

@@ -80,7 +80,7 @@ pointers_sound known state has base = then_sound HasValue PointsWithin _ _ _ _ (
 
 -- loads
 
--- bytes that lie within an area and are written are loaded
+-- bytes that lie within an area and are written can be loaded
 load_inside : (load_format : LoadFormat) (bytes : List FrameByte) (from : ℤ) → HoldBytes bytes
     → effect.lie_within from (load_length load_format) (length bytes) ≡ true → AreWritten bytes from (load_length load_format)
     → Sound kind.Admits (Ok (Number (load load_format))) (effect.load_bytes load_format bytes from)
@@ -90,7 +90,7 @@ load_inside load_format bytes (pos at) hold within written =
     rw (within, part.is) (load-admits load_format part.number part.below)
 load_inside load_format bytes (negsuc n) hold within written = absurd (false≢true within)
 
--- a load from an area, where the bytes from each of the offsets on are written
+-- a load from an area, if the bytes from each of the offsets on are written
 area_sound : (load_format : LoadFormat) (bytes : List FrameByte) {count : ℕ} {x : Offsets} {at : ℤ} (offset : ℤ) → HoldBytes bytes
     → length bytes ≡ count → Admits x at → lie_within x offset (load_length load_format) count ≡ true
     → AreWritten bytes (at +ℤ offset) (load_length load_format)
@@ -100,7 +100,7 @@ area_sound load_format bytes {count} {x} {at} offset hold long admits within wri
     load_inside load_format bytes (at +ℤ offset) hold (subst
     (λ (n : ℕ). effect.lie_within (at +ℤ offset) (load_length load_format) n ≡ true) (sym long) inside) written
 
--- the bytes of the record are all written
+-- all bytes of the record are written
 record_written : (bytes : List ℕ) (i : ℕ) → i < length bytes → IsTrue (is_written (map Byte bytes) i)
 record_written [] i below = absurd (omega arith)
 record_written (byte ∷ bytes) zero below = refl
@@ -128,7 +128,7 @@ record_sound segment is load_format x at offset admits = by_test (lie_within x o
         (subst (λ (n : ℕ). effect.lie_within (at +ℤ offset) (load_length load_format) n ≡ true) (sym is.bytes.length) inside))
     by_test false outside = tt
 
--- bytes of the frame that are written are loaded, also where they are the whole of a slot
+-- written bytes of the frame are loaded, even if they are a whole slot
 load_written : (load_format : LoadFormat) (frame : FrameContents) (at : ℕ) → HoldBytes frame.bytes
     → at + load_length load_format ≤ length frame.bytes
     → ((i : ℕ) → at ≤ i → i < at + load_length load_format → IsTrue (is_written frame.bytes i))
@@ -151,7 +151,7 @@ load_written load_format frame at hold inside written = by_slot (slot_at at (loa
         (subst (interval.Admits (load load_format)) (whole_slot_is_loaded load_format part.number whole.0)
         (load-admits load_format part.number part.below))
 
--- a known slot is the one at each of the offsets, since there is but one
+-- a known slot is the one at each of the offsets, since there is only one
 known_slot_is : (x : Offsets) (at offset : ℤ) (count slot : ℕ) → Admits x at → known_slot x offset count ≡ Some slot
     → slot_at (unsigned_abs (at +ℤ offset)) count ≡ Some slot
 known_slot_is x at offset count slot admits is = by_test (int_eq x.low x.high) refl is
@@ -165,7 +165,7 @@ known_slot_is x at offset count slot admits is = by_test (int_eq x.low x.high) r
         (only_one x.low x.high at admits.above admits.below one) ∙ found
     by_test false many found = cc
 
--- what a slot holds is loaded, where a kind of it is known
+-- the contents of a slot are loaded, if their kind is known
 kept_sound : (otherwise : Result Kind Cause) (k : Kind) (held : Value) → kind.Admits k held
     → Sound kind.Admits otherwise (effect.load_slot held) → Sound kind.Admits (kept_or otherwise k) (effect.load_slot held)
 kept_sound otherwise Nothing held admits rest = rest
@@ -246,7 +246,7 @@ load_from_sound {segment} {known} {state} is has load_format {into = area.Frame}
 
 -- stores
 
--- an offset with another one added
+-- an offset plus another one
 pub record IsFrom (offset : ℤ) (x : Offsets) (from : ℤ) : Type 0 where
   pub at : ℤ
   pub sum : from ≡ at +ℤ offset
@@ -260,11 +260,11 @@ from_sound area.Frame x pointer offset into admits =
     subst (λ (a : Area). Sound (IsFrom offset) (Ok x) (effect.frame_offset a (pointer.offset +ℤ offset))) (sym into)
     (record { at = pointer.offset; sum = refl; admits = admits })
 
--- what is known behind a change
+-- the state after a change
 abbrev pub Stores : Contents → State → Known → Change → Type 0
 Stores segment state known change = AdmitsKnown known (carry_out segment state change)
 
--- bytes of a number, so many, in the frame
+-- the state after the bytes of a number are stored in the frame
 abbrev stored : Contents → State → ℤ → StoreSize → ℕ → State
 stored segment state from size number = carry_out segment state (StoreBytes (unsigned_abs from) size number)
 
@@ -286,7 +286,7 @@ number_written segment {state} has {x} {at} offset size number admits within =
           (store_length size) number slot fits inside has.whole.slots apart;
     })
 
--- bytes of one slot don't lie in another
+-- bytes of one slot aren't in another one
 other_slot : (slot other : ℕ) → other ≢ slot → IsApart other (SLOT_LENGTH * slot) SLOT_LENGTH
 other_slot slot other apart i above below same = apart (omega arith)
 
@@ -302,7 +302,7 @@ stays_outside frame slot pointer at fits apart =
           ]
     ]
 
--- a frame that is written keeps its length
+-- a frame keeps its length when it is written
 length-stored : (frame : FrameContents) (at count number : ℕ) → at + count ≤ length frame.bytes
     → length (store_number frame at count number).bytes ≡ length frame.bytes
 length-stored frame at count number fits =
@@ -401,7 +401,7 @@ pointer_kept segment {known} {state} has {k} slot pointer below known_kind holds
           (subst (kind.Admits k) (sym (slot_value-keep_pointer state.frame slot pointer fits (omega arith))) holds);
     }
 
--- the store of a pointer of a kind into a slot, if it's known to be one
+-- the store of a pointer of a kind, into a slot if one is known
 abbrev keeps_kind : Known → Offsets → ℤ → StoreSize → Kind → Option ℕ → Result Known Cause
 keeps_kind known x offset size k found =
     storable found k >>= λ k. if lie_within x offset (store_length size) FRAME_LENGTH then Ok

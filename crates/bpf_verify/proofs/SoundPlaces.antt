@@ -16,7 +16,7 @@ is_followed code ends place insn stands other =
     subst (λ (c : List Insn). instruction_at c place ≡ Some insn → IsSome (instruction_at c (place + length (spelling insn)))) (sym ends.1)
     (λ there. next_begins ends.0 Exit place insn there other) stands
 
--- an instruction that is found behind the start of the first one stands behind its words, and in the rest of the code
+-- an instruction found after the start of the first one is after its words, and in the rest of the code
 
 stands_behind : (first : Insn) (code : List Insn) (place : ℕ) (insn : Insn) → instruction_at (first ∷ code) (suc place) ≡ Some insn
     → length (spelling first) ≤ suc place
@@ -31,7 +31,7 @@ stands_in_rest : (first : Insn) (code : List Insn) (place : ℕ) (insn : Insn) �
 stands_in_rest first code place insn stands = sym (instruction_at-behind first code (suc place)
     (stands_behind first code place insn stands)) ∙ stands
 
--- how many instructions begin at a place or behind it
+-- the number of instructions that begin at a place or after it
 abbrev pub count_from : List Insn → ℕ → ℕ
 count_from [] place = 0
 count_from (insn ∷ code) zero = suc (length code)
@@ -46,7 +46,7 @@ count_from-most [] place = omega arith
 count_from-most (insn ∷ code) zero = omega arith
 count_from-most (insn ∷ code) (suc place) = let rest = count_from-most code (suc place - length (spelling insn)) in omega arith
 
--- from a place behind an instruction there are fewer
+-- fewer instructions are left from a later place on
 pub count_from-later : (code : List Insn) (place later : ℕ) (insn : Insn) → instruction_at code place ≡ Some insn → place < later
     → count_from code later < count_from code place
 count_from-later [] place later insn stands less = absurd (let no : ⊥ = cc in no)

@@ -1,4 +1,4 @@
--- Soundness: a code that is accepted, whose jumps go forward and which ends in EXIT, is safe.
+-- Soundness: an accepted code whose jumps go forward and that ends in EXIT is safe.
 use Rattle.std.proofs.Common.{◌≡◌, ℕ, zero, suc, ◌≤◌, List, [], ◌∷◌, length, refl, sym, subst, arith}
 use Rattle.bpf_insn.specs.Immediates.{HaveImmediates}
 use Rattle.bpf_insn.specs.declared.instruction.Insn.{Insn}
@@ -12,7 +12,7 @@ use Rattle.bpf_verify.specs.Annotation.{Annotation, HasGoodAnnotation}
 use Rattle.bpf_verify.proofs.SoundSteps.{IsVerified, IsOnItsWay, ComesTo, step_comes, starts}
 use Rattle.bpf_verify.proofs.SoundPlaces.{count_from, count_from-start, count_from-later}
 
--- Each configuration of a run is a state at an instruction, of which the annotation's abstract is known, or an exit.
+-- Each configuration of a run is a state at an instruction, admitted by the annotation, or an exit.
 
 abbrev pub IsAdmitted : List Insn → Annotation → Configuration → Type 0
 IsAdmitted code annotation (Running state) = IsOnItsWay code annotation state
@@ -40,9 +40,9 @@ pub end_admitted : (code : List Insn) (segment : Contents) (annotation : Annotat
 end_admitted code segment annotation verified run is_run =
     from_admitted code segment annotation verified (Running start) run (starts code segment annotation verified) is_run
 
--- Each step leaves fewer instructions, so an exit comes.
+-- Each step leaves fewer instructions, so the run exits.
 
--- from a state on the code exits in at most so many steps
+-- from a state on, the code exits in at most `steps` steps
 record ExitsFrom (code : List Insn) (segment : Contents) (state : State) (steps : ℕ) : Type 0 where
   run : List Configuration
   follow : FollowSteps code segment (Running state) run
@@ -51,7 +51,7 @@ record ExitsFrom (code : List Insn) (segment : Contents) (state : State) (steps 
   exits : last_of (Running state) run ≡ Exited answer score
   short : length run ≤ steps
 
--- by what the state comes to
+-- by what follows the state
 exits_by : {code : List Insn} (segment : Contents) {annotation : Annotation} {state : State} (steps : ℕ) → IsOnItsWay code annotation state
     → count_from code state.place ≤ suc steps
     → ((there : State) → IsOnItsWay code annotation there → count_from code there.place ≤ steps → ExitsFrom code segment there steps)

@@ -1,4 +1,4 @@
--- What is known of the registers, where one is written, and where more is known of one.
+-- What is known of the registers after one is set, and after one is narrowed.
 use Rattle.std.proofs.Common.{ℕ, arith}
 use Rattle.bpf_insn.specs.declared.register.WritableRegister.{WritableRegister}
 use Rattle.bpf_insn.specs.declared.value.Value.{Value}
@@ -16,7 +16,7 @@ use Rattle.bpf_verify.specs.declared.known.Known.{Known}
 use Rattle.bpf_verify.proofs.SoundChecks.{HasState}
 use Rattle.bpf_kinds.proofs.ListLemmas.{set_both, set_each}
 
--- a register is written, on both sides
+-- a register is set in both states
 pub writes_admit : (segment : Contents) (known : Known) (state : State) → HasState known state
     → (register : WritableRegister) (x : Kind) (v : Value) → kind.Admits x v
     → AdmitsKnown (with_kind known register.number x) (carry_out segment state (SetRegister register v))
@@ -26,7 +26,7 @@ writes_admit segment known state has register x v admits = record {
   frame = has.admits.frame;
 }
 
--- more is known of a register
+-- a register's kind is narrowed
 pub narrows_keep : (known : Known) (state : State) → AdmitsKnown known state → (register : ℕ) (x : Kind)
     → kind.Admits x (register_value state register) → AdmitsKnown (with_kind known register x) state
 narrows_keep known state admits register x a =

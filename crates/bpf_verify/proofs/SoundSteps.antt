@@ -1,4 +1,4 @@
--- A step of a code that is accepted: what the annotation says of the place that it comes to admits the state there.
+-- A step of an accepted code: the annotation's abstract state at the next place admits the state there.
 use Rattle.std.proofs.Common.{◌≡◌, ℕ, zero, suc, ◌+◌, ◌<◌, inl, inr, pos, IsSome, is_some, List, [], ◌∷◌, ◌++◌, length, Option}
 use Rattle.std.proofs.Common.{Some, None, Result, Ok, Err, refl, sym, ap, ◌∙◌, subst, arith}
 use Rattle.std.proofs.lemmas.Bool.{false≢true}
@@ -37,14 +37,14 @@ elsewhere : (abstract : AbstractState) (state : State) (place : ℕ) → Admits 
 elsewhere Unreached state place admits = absurd admits
 elsewhere (Reached known) state place admits = record { registers = admits.registers; frame = admits.frame }
 
--- a good annotation of a code that goes forward, whose immediates have 32 bits
+-- a good annotation of a forward code whose immediates have 32 bits
 pub record IsVerified (code : List Insn) (segment : Contents) (annotation : Annotation) : Type 0 where
   pub forward : IsForward code
   pub good : IsGood code annotation
   pub is_segment : IsSegment segment
   pub immediates : HaveImmediates code
 
--- a state at an instruction, of which the annotation's abstract is known
+-- a state at an instruction, which the annotation's abstract state admits
 pub record IsOnItsWay (code : List Insn) (annotation : Annotation) (state : State) : Type 0 where
   pub whole : IsWhole state
   pub bytes : HoldsBytes state
@@ -52,13 +52,13 @@ pub record IsOnItsWay (code : List Insn) (annotation : Annotation) (state : Stat
   pub stands : instruction_at code state.place ≡ Some insn
   pub admits : Admits (annotation state.place) state
 
--- what a state comes to: another one at a later place, or an exit
+-- what follows a state: another state at a later place, or an exit
 abbrev pub ComesTo : List Insn → Annotation → State → Configuration → Type 0
 ComesTo code annotation state (Running there) = IsOnItsWay code annotation there × (state.place < there.place)
 ComesTo code annotation state (Exited answer score) = Unit {0}
 ComesTo code annotation state (Stuck place cause) = ⊥
 
--- the instruction that is found at a place
+-- the instruction found at a place
 found : (o : Option Insn) → IsSome o → (insn : Insn) × (o ≡ Some insn)
 found (Some insn) some = (insn, refl)
 found None some = absurd (false≢true some)
@@ -72,7 +72,7 @@ module _ (code : List Insn) (segment : Contents) (annotation : Annotation) (stat
       let admitted = elsewhere (annotation place) (carry_out segment state change) place admits in
       (record { whole = whole; bytes = bytes; insn = next.0; stands = next.1; admits = admitted }, later)
 
-  -- by what the instruction does
+  -- by the instruction's effect
   effect_comes : {insn : Insn} → IsSegment segment → IsWhole state → HoldsBytes state → (passes : PassesAt annotation state.place insn)
       (concrete : Result Effect Cause) → after code segment state ≡ next_of segment state concrete
       → Sound (Follows code segment state insn (state.place + length (spelling insn))) (Ok passes.edges) concrete

@@ -1,4 +1,4 @@
--- Abstract states stand in order, and joins are least upper bounds.
+-- Abstract states are partially ordered, and joins are least upper bounds.
 use Rattle.std.proofs.Common.{◌≡◌, ℕ, List, sym, ap, ◌∙◌, subst, refl}
 use Rattle.std.proofs.lemmas.List.{ext_get_or, length-set}
 use Rattle.bpf_frame.specs.FrameMap.{Contents}
@@ -83,7 +83,7 @@ known_admits_more x y state below admits = record {
   frame = maps.admits_more x.frame y.frame state.frame below.frame admits.frame;
 }
 
--- registers that are written
+-- registers that are set
 
 with_kind_is_proper : (known : Known) (register : ℕ) (x : Kind) → IsProperKnown known → kind.IsProper x
     → IsProperKnown (with_kind known register x)

@@ -1,4 +1,4 @@
--- A code has one verdict.
+-- A code has at most one verdict.
 use Rattle.std.proofs.Common.{◌≡◌, ◌≢◌, ℕ, ◌<◌, ◌≤◌, List, Option, Some, Result, Err, refl, sym, ap, ◌∙◌, subst, inl, inr, arith}
 use Rattle.std.proofs.lemmas.Bool.{cases_lt}
 use Rattle.bpf_insn.proofs.PlaceLemmas.{instruction_within}
@@ -16,7 +16,7 @@ use Rattle.bpf_verify.proofs.AreaLemmas.{areas_from-same}
 use Rattle.bpf_verify.proofs.PassLemmas.{not_both}
 use Rattle.bpf_verify.proofs.StateLaws as laws
 
--- what is good is good so far
+-- an annotation that is good up to a place is good up to every earlier one
 good_before : (code : List Insn) (place end : ℕ) (annotation : Annotation) → place ≤ end → IsGoodUpTo code end annotation
     → IsGoodUpTo code place annotation
 good_before code place end annotation before good = record {
@@ -38,7 +38,7 @@ accepted_or_refused code place cause accepted refused =
     nothing_beyond code place (word_count code) cause accepted.0 refused accepted.1
     (instruction_within code place (ap is_some refused.stands))
 
--- the least is one
+-- the least annotation is unique
 one_least : (code : List Insn) (end : ℕ) (x y : Annotation) → IsLeastUpTo code end x → IsLeastUpTo code end y → (place : ℕ) → place ≤ end
     → x place ≡ y place
 one_least code end x y least other place before =
@@ -83,12 +83,12 @@ one_list_of_areas code areas others accepted again =
     (omega arith)
     ∙ sym again.are
 
--- a code with a good annotation is refused for want of memory alone
+-- a code with a good annotation fails only if memory runs out
 pub refused_for_memory : (code : List Insn) (fault : VerifyFault) → IsVerifyFault code fault → HasGoodAnnotation code → fault ≡ Memory
 refused_for_memory code Memory is accepted = refl
 refused_for_memory code (Refused place cause) is accepted = absurd (accepted_or_refused code place cause accepted is)
 
--- want of memory aside, a code has one fault
+-- apart from running out of memory, a code has only one fault
 pub one_fault : (code : List Insn) (a b : VerifyFault) → IsVerifyFault code a → IsVerifyFault code b → a ≢ Memory → b ≢ Memory → a ≡ b
 one_fault code Memory b is also first second = absurd (first refl)
 one_fault code (Refused place cause) Memory is also first second = absurd (second refl)

@@ -1,4 +1,4 @@
--- The visits of instructions that follow each other.
+-- The visits of consecutive instructions.
 use Rattle.std.proofs.Common.{◌≡◌, ℕ, ◌+◌, ◌≤◌, List, [], ◌∷◌, ◌++◌, length, refl, ap, ◌∙◌, arith}
 use Rattle.bpf_insn.proofs.PlaceLemmas.{word_count-cons}
 use Rattle.bpf_insn.specs.Code.{spelling, word_count}
@@ -7,12 +7,12 @@ use Rattle.bpf_verify.specs.AbstractState.{AbstractState}
 use Rattle.bpf_verify.specs.Annotation.{Annotation}
 use Rattle.bpf_verify.specs.Visit.{Visit, visit_at, visited_all, visits_from}
 
--- a visit is told by its parts
+-- a visit is determined by its parts
 pub visit-parts : (place : ℕ) {there : ℕ} (insn : Insn) (state : AbstractState) {other : AbstractState} → place ≡ there → state ≡ other
     → ◌≡◌ {A = Visit} (record { place = place; insn = insn; state = state }) (record { place = there; insn = insn; state = other })
 visit-parts place insn state same equal = cc
 
--- one instruction more
+-- one more instruction
 pub visits_from-more : (annotation : Annotation) (place : ℕ) (code : List Insn) (insn : Insn)
     → visits_from annotation place (code ++ insn ∷ [])
     ≡ visits_from annotation place code
@@ -27,7 +27,7 @@ visits_from-more annotation place (first ∷ code) insn =
     (rest ∙ ap (λ (p : ℕ). visits_from annotation (place + length (spelling first)) code
     ++ visit_at annotation p insn ∷ []) sum)
 
--- an annotation that is another one up to their end
+-- an annotation that agrees with another one up to their end
 pub visits_from-same : (old new : Annotation) (end place : ℕ) (code : List Insn) → ((other : ℕ) → other ≤ end → new other ≡ old other)
     → place + word_count code ≤ end → visits_from new place code ≡ visits_from old place code
 visits_from-same old new end place [] same ends = refl
@@ -38,7 +38,7 @@ visits_from-same old new end place (insn ∷ code) same ends =
     ∙ ap (λ (visits : List Visit). visit_at old place insn ∷ visits)
     (visits_from-same old new end (place + length (spelling insn)) code same (omega arith))
 
--- what one visit more makes of a visitor
+-- a visitor after one more visit
 pub visited_all-more : {V : Type 0} (visited : V → Visit → V) (visitor : V) (visits : List Visit) (visit : Visit)
     → visited (visited_all visited visitor visits) visit ≡ visited_all visited visitor (visits ++ visit ∷ [])
 visited_all-more visited visitor [] visit = refl

@@ -1,5 +1,5 @@
--- Abstract states: what is known of each register and of the frame before an instruction, whatever the segment, or that no edge leads
--- there. They stand in order: a state below another says more, and the bottom is that which isn't reached.
+-- Abstract states: what is known of each register and of the frame before an instruction, whatever the segment, or that no edge leads there. They
+-- are partially ordered: a lower state says more, and the unreached state is the bottom.
 use Rattle.std.specs.Prelude.{◌≡◌, ℕ, pos, [], ◌∷◌, length, replicate, slice_set, get_or}
 use Rattle.bpf_frame.specs.FrameMap as map
 use Rattle.bpf_kinds.specs.Kind as kind
@@ -12,26 +12,25 @@ use Rattle.bpf_meaning.specs.declared.state.State.{State}
 use Rattle.bpf_meaning.specs.declared.state.TheConstants.{REGISTERS}
 use Rattle.bpf_verify.specs.declared.known.Known.{Known}
 
--- what is known before an instruction; where no edge leads to one, it's the bottom
+-- the state before an instruction, which is the bottom if no edge leads there
 pub data AbstractState : Type 0 where
   Unreached : AbstractState
   Reached : (known : Known) → AbstractState
 
--- what is known behind an instruction, on each edge out of it: at the next one, and at the target of a jump
+-- the states after an instruction, on each edge out of it: to the next instruction, and to the target of a jump
 pub record Edges : Type 0 where
   pub next : AbstractState
   pub target : AbstractState
 
--- what is known of a register
+-- the kind of a register
 abbrev pub kind_of : Known → ℕ → Kind
 kind_of known register = get_or known.registers register Nothing
 
--- the same with a register's kind written
+-- a state with a register's kind replaced
 abbrev pub with_kind : Known → ℕ → Kind → Known
 with_kind known register kind = record known { registers = slice_set known.registers register kind }
 
--- what is known at the start: register 1 points to the record's first byte, register 10 behind the frame's last, and no byte of the frame is
--- written
+-- the state at the start: register 1 points to the record's first byte, register 10 past the end of the frame, and no byte of the frame is written
 abbrev pub entry : Known
 entry = record {
   registers = Nothing ∷ Record (offsets.between (pos 0) (pos 0)) ∷ Nothing ∷ Nothing ∷ Nothing ∷ Nothing ∷ Nothing ∷ Nothing ∷ Nothing
@@ -39,40 +38,40 @@ entry = record {
   frame = map.unwritten;
 }
 
--- what is known where nothing is
+-- the state in which nothing is known
 abbrev pub unknown : Known
 unknown = record { registers = replicate REGISTERS Nothing; frame = map.unwritten }
 
--- eleven kinds, each of them proper, and something proper of the frame
+-- eleven proper kinds, and a proper map of the frame
 pub record IsProperKnown (known : Known) : Type 0 where
   pub count : length known.registers ≡ REGISTERS
   pub kinds : (register : ℕ) → kind.IsProper (kind_of known register)
   pub frame : map.IsProper known.frame
 
--- the states of which this is known: each register's kind admits its value, and the frame is one of which its part is known
+-- the states that a state admits: each register's kind admits its value, and what is known of the frame admits it
 pub record AdmitsKnown (known : Known) (state : State) : Type 0 where
   pub registers : (register : ℕ) → kind.Admits (kind_of known register) (register_value state register)
   pub frame : map.Admits known.frame state.frame
 
--- what is known lies within what else is known where each of its kinds does, and what is known of the frame does
+-- a state lies within another one: each register's kind does, and so does what is known of the frame
 pub record IsWithinKnown (known other : Known) : Type 0 where
   pub registers : (register : ℕ) → kind.IsWithin (kind_of known register) (kind_of other register)
   pub frame : map.IsWithin known.frame other.frame
 
--- what is known is below what else is known, and both are proper
+-- one state is below another one, and both are proper
 pub record IsBelow (lower higher : Known) : Type 0 where
   pub proper : IsProperKnown lower
   pub proper_higher : IsProperKnown higher
   pub within : IsWithinKnown lower higher
 
--- the least that both lie within: kind by kind, and of the frame what is known of both
+-- the least upper bound of two states: kind by kind, and what is known of the frame in both
 abbrev pub join_known : Known → Known → Known
 join_known known other = record {
   registers = kind.join_kinds known.registers other.registers;
   frame = map.join known.frame other.frame;
 }
 
--- the bottom admits no state, and lies below every other
+-- the bottom admits no state, and is below every other one
 abbrev pub IsProper : AbstractState → Type 0
 IsProper Unreached = Unit {0}
 IsProper (Reached known) = IsProperKnown known
@@ -92,12 +91,12 @@ join Unreached other = other
 join (Reached known) Unreached = Reached known
 join (Reached known) (Reached other) = Reached (join_known known other)
 
--- what is known on both edges out of an instruction is proper
+-- the states on both edges out of an instruction are proper
 pub record AreProperEdges (edges : Edges) : Type 0 where
   pub next : IsProper edges.next
   pub target : IsProper edges.target
 
--- on both edges out of an instruction what is known lies within what else is known there
+-- on both edges out of an instruction, one state lies within the other
 pub record AreEdgesWithin (edges others : Edges) : Type 0 where
   pub next : IsWithin edges.next others.next
   pub target : IsWithin edges.target others.target

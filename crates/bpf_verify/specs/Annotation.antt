@@ -1,4 +1,4 @@
--- Annotations of a code: an abstract state for each place. Forward codes with one that is good to its end are those that are accepted, which
+-- Annotations of a code: an abstract state for each place. A code is accepted if it is forward and has an annotation that is good to its end, which
 -- is this project's own rule.
 use Rattle.std.specs.Prelude.{◌≡◌, ℕ, ℤ, pos, ◌+◌, ◌+ℤ◌, ◌<◌, ◌≤◌, List, [], ◌∷◌, length, Option, Some, None, option_and_then, Ok, Err}
 use Rattle.bpf_insn.specs.Code.{instruction_at, spelling, word_count}
@@ -19,7 +19,7 @@ use Rattle.bpf_verify.specs.declared.fault.VerifyFault.TheVariants.{Refused, Mem
 abbrev pub Annotation : Type 0
 Annotation = ℕ → AbstractState
 
--- at this place no check of the instruction fails, and the state on each edge is below the state where it leads
+-- no check of the instruction at this place fails, and the state on each edge is below the state that the edge leads to
 pub record PassesAt (annotation : Annotation) (place : ℕ) (insn : Insn) : Type 0 where
   pub edges : Edges
   pub passes : transfer (annotation place) insn ≡ Ok edges
@@ -27,7 +27,7 @@ pub record PassesAt (annotation : Annotation) (place : ℕ) (insn : Insn) : Type
   pub target : (distance : ℤ) (to : ℕ) → jump_distance insn ≡ Some distance → pos (place + 1) +ℤ distance ≡ pos to
       → IsWithin edges.target (annotation to)
 
--- what is known at the start is below the state at place 0, and each instruction before a place passes
+-- the entry state is below the state at place 0, and each instruction before a place passes its checks
 pub record IsGoodUpTo (code : List Insn) (end : ℕ) (annotation : Annotation) : Type 0 where
   pub proper : (place : ℕ) → IsProper (annotation place)
   pub entry : IsWithin (Reached entry) (annotation 0)
@@ -52,18 +52,18 @@ abbrev pub area_of : AbstractState → Insn → Option Area
 area_of Unreached insn = None
 area_of (Reached known) insn = option_and_then (λ base. area_of_kind (kind_of known base)) (base_of insn)
 
--- the areas of instructions that follow each other from a place on, by an annotation
+-- the areas of consecutive instructions from a place on, under an annotation
 abbrev pub areas_from : Annotation → ℕ → List Insn → List (Option Area)
 areas_from annotation place [] = []
 areas_from annotation place (insn ∷ code) =
     area_of (annotation place) insn ∷ areas_from annotation (place + length (spelling insn)) code
 
--- an annotation is good up to a place and is the least: up to there each of its states lies within that of every other that is good so far
+-- the least annotation that is good up to a place: up to there, each of its states lies within that of every other such annotation
 pub record IsLeastUpTo (code : List Insn) (end : ℕ) (annotation : Annotation) : Type 0 where
   pub good : IsGoodUpTo code end annotation
   pub least : (other : Annotation) → IsGoodUpTo code end other → (place : ℕ) → place ≤ end → IsWithin (annotation place) (other place)
 
--- a code is accepted with these areas: it has an annotation that is good to its end, and they are those of the bases by the least one
+-- a code is accepted with these areas: it has an annotation that is good to its end, and they are the areas of the bases under the least one
 pub record IsAccepted (code : List Insn) (areas : List (Option Area)) : Type 0 where
   pub annotation : Annotation
   pub is_least : IsLeastUpTo code (word_count code) annotation
@@ -73,8 +73,8 @@ pub record IsAccepted (code : List Insn) (areas : List (Option Area)) : Type 0 w
 abbrev pub Fails : AbstractState → Insn → Type 0
 Fails state insn = (cause : Cause) × (transfer state insn ≡ Err cause)
 
--- A code is refused at a place with a cause: by the least of the annotations that are good up to there, this check of the instruction there
--- is the first that fails; and by every other of them some check fails there too, so no annotation is good beyond.
+-- A code is refused at a place with a cause: under the least annotation that is good up to there, this check of the instruction is the first that
+-- fails. Under every other such annotation some check fails there too, so no annotation is good beyond that place.
 pub record IsRefusedAt (code : List Insn) (place : ℕ) (cause : Cause) : Type 0 where
   pub annotation : Annotation
   pub is_least : IsLeastUpTo code place annotation
@@ -83,7 +83,7 @@ pub record IsRefusedAt (code : List Insn) (place : ℕ) (cause : Cause) : Type 0
   pub fails : transfer (annotation place) insn ≡ Err cause
   pub always : (other : Annotation) → IsGoodUpTo code place other → Fails (other place) insn
 
--- why a code is refused
+-- the reason why a code is refused
 abbrev pub IsVerifyFault : List Insn → VerifyFault → Type 0
 IsVerifyFault code (Refused place cause) = IsRefusedAt code place cause
 IsVerifyFault code Memory = Unit {0}

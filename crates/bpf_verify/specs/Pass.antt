@@ -1,5 +1,5 @@
--- The one pass over a code: it goes over places upwards, takes the state at each, and propagates what the transfer function gives to where
--- the edges lead. What it keeps are states ahead of it: that at the place to which it has come, and those that wait at targets of jumps.
+-- The one pass over a code: it visits the places in ascending order, takes the state at each one, and propagates the states that the transfer
+-- function yields along the edges. It keeps the states ahead of it: the one at its current place, and those that wait at targets of jumps.
 use Rattle.std.specs.Prelude.{◌≡◌, ◌≢◌, ℕ, ℤ, pos, ◌+◌, ◌<◌, ◌≤◌, ◌==◌, if◌then◌else◌, List, [], length, map, Option, Some, None, option_map, Ok, Err}
 use Rattle.std.specs.Map.{lookup}
 use Rattle.std.specs.Option.{unwrap_or}
@@ -17,24 +17,24 @@ use Rattle.bpf_verify.specs.declared.fault.VerifyFault.TheVariants.{Refused, Mem
 use Rattle.bpf_verify.specs.declared.known.Known.{Known}
 use Rattle.bpf_verify.specs.Visit.{Visit}
 
--- the states ahead of the pass over a code: where it has come to, the state on the edge from the instruction before that place, and the
--- states that wait, by place
+-- the states ahead of the pass over a code: its current place, the state on the edge from the instruction before that place, and the states that
+-- wait, by place
 pub record Ahead : Type 0 where
   pub code : List Insn
   pub place : ℕ
   pub straight : AbstractState
   pub waiting : List (ℕ × AbstractState)
 
--- the state of what is known, if an edge is reached
+-- the state on an edge, which is the bottom if the edge isn't reached
 abbrev pub state_of : {A : Type 0} → Option (Box Known A) → AbstractState
 state_of None = Unreached
 state_of (Some known) = Reached known.value
 
--- the states of what is known by place
+-- the states by place, as abstract states
 abbrev pub states_in : {A : Type 0} → List (ℕ × Box Known A) → List (ℕ × AbstractState)
 states_in known = map (λ there. (there.0, Reached there.1.value)) known
 
--- the states ahead, by what is known on the edge from the instruction before the place and at targets of jumps
+-- the states ahead, from the state on the edge from the instruction before the place and the states at targets of jumps
 abbrev pub states_ahead : {A : Type 0} → List Insn → ℕ → Option (Box Known A) → List (ℕ × Box Known A) → Ahead
 states_ahead code place straight waiting = record { code = code; place = place; straight = state_of straight; waiting = states_in waiting }
 
@@ -46,7 +46,7 @@ waiting_at states place = unwrap_or (lookup (λ at. place == at) states) Unreach
 abbrev pub AreProper : Annotation → Type 0
 AreProper states = (place : ℕ) → IsProper (states place)
 
--- a state is joined into the one at a place, if it's known which
+-- a state is joined into the one at a place, if there is a place
 abbrev pub joined : Annotation → ℕ → AbstractState → Annotation
 joined states place state other = if other == place then join (states other) state else states other
 
@@ -54,12 +54,12 @@ abbrev pub joined_if : Annotation → Option ℕ → AbstractState → Annotatio
 joined_if states None state = states
 joined_if states (Some place) state = joined states place state
 
--- the states that are kept, as an annotation: at the place to which the pass has come, the one on the edge from the instruction before it
--- is joined into what waits there
+-- the states that are kept, as an annotation: at the current place of the pass, the state on the edge from the instruction before it is joined into
+-- the one that waits there
 abbrev pub kept : Ahead → Annotation
 kept ahead = joined (waiting_at ahead.waiting) ahead.place ahead.straight
 
--- at first place 0 is reached, and nothing waits
+-- at the start, place 0 is reached, and nothing waits
 abbrev pub first : List Insn → Ahead
 first code = record { code = code; place = 0; straight = Reached entry; waiting = [] }
 
@@ -72,23 +72,23 @@ pub record IsTargetAhead (code : List Insn) (place to : ℕ) : Type 0 where
   pub leads : target_of jump distance ≡ pos to
   pub ahead : place ≤ to
 
--- the code's jumps go forward, the states that are kept are proper, and those that wait do so at targets ahead of jumps that were passed
+-- the code's jumps go forward, the kept states are proper, and states wait only at targets ahead of jumps that were passed
 pub record AreAhead (ahead : Ahead) : Type 0 where
   pub forward : IsForward ahead.code
   pub straight : IsProper ahead.straight
   pub proper : AreProper (waiting_at ahead.waiting)
   pub wait : (to : ℕ) → waiting_at ahead.waiting to ≢ Unreached → IsTargetAhead ahead.code ahead.place to
 
--- what is known on the edges out of an instruction, as states
+-- the states on the edges out of an instruction, as abstract states
 abbrev pub edges_of : {A : Type 0} → KnownEdges A → Edges
 edges_of edges = record { next = state_of edges.next; target = state_of edges.target }
 
--- the states on the edges of an instruction are joined into those where they lead: at the target of a jump, and at the next place
+-- the states on the edges out of an instruction are joined into the states that the edges lead to: at the target of a jump, and at the next place
 abbrev pub propagated : Annotation → ℕ → Option ℕ → Edges → Annotation
 propagated states next target edges = joined (joined_if states target edges.target) next edges.next
 
--- A visit of the instruction at the place to which the pass has come: no check of it fails in the state there, and the pass goes on to the
--- next place, with the states on the edges propagated.
+-- A visit of the instruction at the current place of the pass: none of its checks fails in the state there, and the pass goes on to the next place,
+-- with the states on the edges propagated.
 pub record Visits (insn : Insn) (before after : Ahead) : Type 0 where
   pub edges : Edges
   pub passes : transfer (kept before before.place) insn ≡ Ok edges
@@ -99,16 +99,16 @@ pub record Visits (insn : Insn) (before after : Ahead) : Type 0 where
   pub code : after.code ≡ before.code
   pub states : (other : ℕ) → before.place < other → kept after other ≡ propagated (kept before) after.place target edges other
 
--- why a visit is refused: this check of the instruction is the first that fails, or want of memory
+-- why a visit fails: this check of the instruction is the first that fails, or memory runs out
 abbrev pub IsVisitFault : Ahead → Insn → VerifyFault → Type 0
 IsVisitFault before insn (Refused place cause) = (place ≡ before.place) × (transfer (kept before place) insn ≡ Err cause)
 IsVisitFault before insn Memory = Unit {0}
 
--- what the pass shows of the instruction to which it has come
+-- what the pass shows of the current instruction
 abbrev pub visit_of : Ahead → Insn → Visit
 visit_of ahead insn = record { place = ahead.place; insn = insn; state = kept ahead ahead.place }
 
--- a visitor was shown the instruction of which a check failed
+-- a visitor was shown the instruction whose check failed
 abbrev pub IsRefusedVisit : {V : Type 0} → (V → Visit → V) → Ahead → Insn → VerifyFault → V → V → Type 0
 IsRefusedVisit visited ahead insn (Refused place cause) old new = new ≡ visited old (visit_of ahead insn)
 IsRefusedVisit visited ahead insn Memory old new = Unit {0}

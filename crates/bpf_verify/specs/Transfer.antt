@@ -1,6 +1,5 @@
--- The transfer function, or abstract step: what is known behind an instruction, by what is known before it, or its first check that fails
--- for some of the values that are possible. It walks the instruction table with kinds in the place of values. What is known of results is
--- this project's own.
+-- The transfer function, or abstract step: the states after an instruction, from the state before it, or the first check that fails for some of the
+-- possible values. It walks the instruction table with kinds in place of values. How much is known of results is this project's own choice.
 use Rattle.std.specs.Prelude.{◌≡◌, ℕ, zero, suc, ◌+◌, ℤ, pos, ◌+ℤ◌, ◌&&◌, ◌==◌, Bool, true, false, IsTrue, int_le, nat_le, unsigned_abs, List, [], ◌∷◌, ◌++◌, drop, replicate, get_or, Option, Some, None, Result, Ok, Err, if◌then◌else◌}
 use Rattle.std.specs.Int.{w32}
 use Rattle.std.specs.Ordering.{int_eq}
@@ -55,28 +54,28 @@ use Rattle.bpf_verify.specs.declared.successors.Successors.TheVariants as succes
 use Rattle.bpf_verify.specs.declared.successors.Successors.TheVariants.{Next, Target, Branch}
 use Rattle.bpf_verify.specs.declared.memory.Pointers.{Pointers}
 
--- a kind that is read from a register
+-- the kind read from a register, if the register holds something
 abbrev pub read_kind : ℕ → Kind → Result Kind Cause
 read_kind register Nothing = Err (ReadsNothing register)
 read_kind register (Number x) = Ok (Number x)
 read_kind register (Record x) = Ok (Record x)
 read_kind register (Frame x) = Ok (Frame x)
 
--- what is known of a register that is read
+-- the kind of a register that is read
 abbrev pub read : Known → ℕ → Result Kind Cause
 read known register = read_kind register (kind_of known register)
 
--- the numbers that values of a kind are, or the cause where they are none
+-- the interval of a number kind, or the cause if the kind is no number
 abbrev pub number_or : Cause → Kind → Result Interval Cause
 number_or cause (Number x) = Ok x
 number_or cause kind = Err cause
 
--- a result, or the cause where there is none
+-- a result, or the cause if there is none
 abbrev pub or_cause : {A : Type 0} → Cause → Option A → Result A Cause
 or_cause cause (Some found) = Ok found
 or_cause cause None = Err cause
 
--- a kind by its tag
+-- a kind as a tagged one
 abbrev pub tagged_kind : Kind → tags.Tagged Interval Offsets
 tagged_kind Nothing = tags.Empty
 tagged_kind (Number x) = tags.Number x
@@ -88,7 +87,7 @@ abbrev pub kind_pointer : Area → Offsets → Kind
 kind_pointer area.Record x = Record x
 kind_pointer area.Frame x = Frame x
 
--- kinds, of intervals and ranges of offsets
+-- kinds, with intervals for numbers and ranges of offsets for pointers
 abbrev pub kind_tags : tags.Tags
 kind_tags = record {
   Values = Kind;
@@ -105,17 +104,17 @@ kind_tags = record {
   backwards = λ x distances. or_cause LeavesArea (move_back_by x distances);
 }
 
--- two registers are one
+-- the right operand is the same register as the left one
 abbrev pub is_register : ℕ → Source → Bool
 is_register left (Immediate value) = false
 is_register left (Register register) = left == register.number
 
--- what is known of a comparison's operands, on an edge
+-- a state with a comparison's operands narrowed, on an edge
 abbrev pub with_narrowed : Known → ℕ → Source → Narrowed → Known
 with_narrowed known left (Immediate value) both = with_kind known left (Number both.left)
 with_narrowed known left (Register right) both = with_kind (with_kind known left (Number both.left)) right.number (Number both.right)
 
--- what a conditional jump tells on an edge; a register that is compared with itself tells nothing
+-- what a conditional jump adds on an edge; comparing a register with itself adds nothing
 abbrev pub narrowed : Option Narrowed → Edge
 narrowed None = edge.Unreached
 narrowed (Some both) = Narrows both
@@ -126,26 +125,26 @@ branch comparison x y taken =
     then Unchanged
     else narrowed (refine comparison.condition comparison.width x y taken)
 
--- what is known on an edge, by what is known before the jump and what the jump tells
+-- the state on an edge, from the state before the jump and what the jump adds
 abbrev pub on_edge : Known → Comparison → Edge → AbstractState
 on_edge known comparison edge.Unreached = Unreached
 on_edge known comparison Unchanged = Reached known
 on_edge known comparison (Narrows both) = Reached (with_narrowed known comparison.left.number comparison.right both)
 
--- what is known on the edges out of an instruction, by what is known behind it and where control goes
+-- the states on the edges out of an instruction, from the state after it and where control goes
 abbrev pub edges_to : Known → Successors → Edges
 edges_to known successors.End = record { next = Unreached; target = Unreached }
 edges_to known Next = record { next = Reached known; target = Unreached }
 edges_to known Target = record { next = Unreached; target = Reached known }
 edges_to known (Branch comparison next target) = record { next = on_edge known comparison next; target = on_edge known comparison target }
 
--- both edges of a conditional jump: what it compares must be numbers, which is looked at when both operands were read
+-- both edges of a conditional jump: it must compare numbers, which is checked after both operands are read
 abbrev pub compare : Known → Comparison → Kind → Kind → Result Edges Cause
 compare known comparison (Number x) (Number y) =
     Ok (edges_to known (Branch comparison (branch comparison x y false) (branch comparison x y true)))
 compare known comparison x y = Err ComparesPointer
 
--- the pointers in a register that is the base of a load or a store
+-- the pointers in the base register of a load or a store
 abbrev pub only_pointers : Kind → Result Pointers Cause
 only_pointers (Record offsets) = Ok (record { area = area.Record; offsets = offsets })
 only_pointers (Frame offsets) = Ok (record { area = area.Frame; offsets = offsets })
@@ -159,7 +158,7 @@ pub record ArePointersWithin (pointers others : Pointers) : Type 0 where
   pub into : pointers.area ≡ others.area
   pub offsets : pointer_offsets.IsWithin pointers.offsets others.offsets
 
--- what is known of the registers; an immediate is compared with the low bits of a register, so many as the comparison has
+-- the registers' kinds; an immediate is truncated to the width of a comparison
 abbrev pub kind_registers : Known → Registers
 kind_registers known = record {
   Value = Kind;
@@ -183,7 +182,7 @@ abbrev pub branches : Known → Comparison → Result Edges Cause
 branches known comparison =
     read known comparison.left.number >>= λ x. compared_operand (kind_registers known) comparison.width comparison.right >>= λ y. compare known comparison x y
 
--- so many bytes from each offset on, with another offset added, lie within the first ones, so many, of an area
+-- `count` bytes from each of the offsets plus `offset` lie within the first `bytes` bytes of an area
 abbrev pub lie_within : Offsets → ℤ → ℕ → ℕ → Bool
 lie_within offsets offset count bytes =
     int_le (pos 0) (offsets.low +ℤ offset) && int_le ((offsets.high +ℤ offset) +ℤ pos count) (pos bytes)
@@ -192,31 +191,30 @@ abbrev pub area_length : Area → ℕ
 area_length area.Record = RECORD_LENGTH
 area_length area.Frame = FRAME_LENGTH
 
--- each byte of the frame that may be read has its mark, where so many are read at most, from each of the offsets on, with another offset
--- added
+-- every byte of the frame that may be read is marked, if at most the given number of bytes is read, starting at one of the offsets plus `offset`
 abbrev pub all_marked : Known → Offsets → ℤ → ℕ → Bool
 all_marked known offsets offset zero = true
 all_marked known offsets offset (suc more) =
     all_written known.frame.marks (unsigned_abs (offsets.low +ℤ offset)) (unsigned_abs (offsets.high +ℤ offset) + more)
 
--- the slot that so many bytes are, from the one known offset on, with another offset added; none where the offset isn't known, or the bytes
--- aren't the whole of a slot. That they lie within the frame is another check's.
+-- the slot that `count` bytes fill exactly, starting at the offsets plus `offset`; there is none if that isn't a single offset, or the bytes aren't
+-- a whole slot. Another check makes sure that they lie within the frame.
 abbrev pub known_slot : Offsets → ℤ → ℕ → Option ℕ
 known_slot offsets offset count = if int_eq offsets.low offsets.high then slot_at (unsigned_abs (offsets.low +ℤ offset)) count else None
 
--- the kind of what a slot holds, if there is one
+-- the kind in a slot, if there is one
 abbrev pub kept_kind : Known → Option ℕ → Kind
 kept_kind known None = Nothing
 kept_kind known (Some slot) = slot_kind known.frame slot
 
--- a kind, or else what is known where nothing is kept
+-- a kind, or the alternative if nothing is known
 abbrev pub kept_or : Result Kind Cause → Kind → Result Kind Cause
 kept_or otherwise Nothing = otherwise
 kept_or otherwise (Number x) = Ok (Number x)
 kept_or otherwise (Record x) = Ok (Record x)
 kept_or otherwise (Frame x) = Ok (Frame x)
 
--- bytes that are loaded: those of the record are written, and those of the frame must have their marks, or be a slot of which a kind is known
+-- a load from an area: bytes of the record are always written, and bytes of the frame must be marked, or be a slot whose kind is known
 abbrev pub load_area : Known → LoadFormat → Pointers → ℤ → Result Kind Cause
 load_area known format pointers offset = of_area pointers.area
   where
@@ -229,7 +227,7 @@ load_area known format pointers offset = of_area pointers.area
         kept_or (if all_marked known pointers.offsets offset (load_length format) then loaded else Err UnwrittenFrame)
         (kept_kind known (known_slot pointers.offsets offset (load_length format)))
 
--- a load: its bytes must lie within the area, and be written
+-- a load, whose bytes must lie within the area and be written
 abbrev pub load_from : Known → LoadFormat → Pointers → ℤ → Result Kind Cause
 load_from known format pointers offset =
     if lie_within pointers.offsets offset (load_length format) (area_length pointers.area) then load_area known format pointers offset else Err OutOfBounds
@@ -242,27 +240,27 @@ frame_offsets pointers = frame_only pointers.area pointers.offsets
     frame_only area.Record offsets = Err WritesRecord
     frame_only area.Frame offsets = Ok offsets
 
--- what is known where bytes of the frame may be written, so many at most, from each of the offsets on, with another offset added: nothing is
--- known anymore of what their slots hold
+-- the state after a possible write of at most the given number of bytes to the frame, starting at one of the offsets plus `offset`: nothing is
+-- known of the slots of these bytes any more
 abbrev pub touch_bytes : Known → Offsets → ℤ → ℕ → Known
 touch_bytes known offsets offset zero = known
 touch_bytes known offsets offset (suc more) = record known {
   frame = touch known.frame (unsigned_abs (offsets.low +ℤ offset)) (unsigned_abs (offsets.high +ℤ offset) + more);
 }
 
--- what is known where so many bytes of the frame are written in any case, from one of the offsets on, with another offset added: where that is
--- one known offset they get their marks, and otherwise none does
+-- the state after a certain write of `count` bytes to the frame, starting at one of the offsets plus `offset`: the bytes are marked if that is a
+-- single offset, and otherwise none are
 abbrev pub mark_bytes : Known → Offsets → ℤ → ℕ → Known
 mark_bytes known offsets offset count =
     if int_eq offsets.low offsets.high
     then record known { frame = mark known.frame (unsigned_abs (offsets.low +ℤ offset)) count }
     else known
 
--- the same where as many as this are written in any case, and as many as that at most
+-- the state after a write of at least `least` and at most `most` bytes
 abbrev pub write_bytes : Known → Offsets → ℤ → ℕ → ℕ → Known
 write_bytes known offsets offset least most = mark_bytes (touch_bytes known offsets offset most) offsets offset least
 
--- what is known behind a store of a value of a kind: a whole slot gets the kind, and any other bytes are written
+-- the state after a store of a value of a kind: a whole slot gets the kind, and any other bytes are written
 abbrev pub keep : Known → Offsets → ℤ → ℕ → Kind → Option ℕ → Known
 keep known offsets offset count kind None = write_bytes known offsets offset count count
 keep known offsets offset count kind (Some slot) = record known { frame = set_slot known.frame slot kind }
@@ -274,7 +272,7 @@ storable (Some slot) (Record x) = Ok (Record x)
 storable (Some slot) (Frame x) = Ok (Frame x)
 storable slot kind = Err StoresPointer
 
--- what is known behind a store: its bytes must lie within the frame
+-- the state after a store, whose bytes must lie within the frame
 abbrev pub store_at : Known → Offsets → ℤ → StoreSize → Kind → Result Known Cause
 store_at known offsets offset size kind =
     storable (known_slot offsets offset (store_length size)) kind >>= λ kind.
@@ -282,11 +280,11 @@ store_at known offsets offset size kind =
     then Ok (keep known offsets offset (store_length size) kind (known_slot offsets offset (store_length size)))
     else Err OutOfBounds
 
--- the numbers of an interval lie in one that a prototype allows
+-- all numbers of an interval lie in the interval that a prototype allows
 abbrev pub are_allowed : Interval → Interval → Bool
 are_allowed allowed x = nat_le allowed.low x.low && nat_le x.high allowed.high
 
--- what is known of an argument all of whose values are what a prototype wants
+-- the kind of an argument, if the prototype accepts all of its values
 abbrev pub argument_kind : ℕ → Argument → Kind → Result Kind Cause
 argument_kind number argument.Unused kind = Ok Nothing
 argument_kind number (argument.Number allowed) (Number x) = if are_allowed allowed x then Ok (Number x) else Err (BadArgument number)
@@ -297,45 +295,44 @@ argument_kind number wanted kind = Err (BadArgument number)
 abbrev pub AreProper : List Kind → Type 0
 AreProper arguments = (at : ℕ) → kind.IsProper (get_or arguments at Nothing)
 
--- the argument with a number, counted from 1, which the register of that number holds; one that isn't used isn't read
+-- the argument with a number, counted from 1, in the register of that number; an unused argument isn't read
 abbrev pub argument_in : Known → ℕ → Argument → Result Kind Cause
 argument_in known number argument.Unused = Ok Nothing
 argument_in known number (argument.Number allowed) = read known number >>= argument_kind number (argument.Number allowed)
 argument_in known number argument.Frame = read known number >>= argument_kind number argument.Frame
 
--- the arguments that a prototype wants, in their order
+-- the arguments that a prototype requires, in order
 abbrev pub arguments_in : Known → List Argument → Result (List Kind) Cause
 arguments_in known wanted =
     argument_in known 1 (get_or wanted 0 argument.Unused) >>= λ one.
     argument_in known 2 (get_or wanted 1 argument.Unused) >>= λ two.
     argument_in known 3 (get_or wanted 2 argument.Unused) >>= λ three. Ok (one ∷ two ∷ three ∷ [])
 
--- bytes of the frame that a call reads or writes, at the offsets of its second argument and as many as its third: they lie within the frame
--- from the least offset on, and with the greatest count from the greatest one on
+-- the bytes of the frame that a call reads or writes, which its second argument points to and its third one counts: they lie within the frame from
+-- the lowest offset on, and from the highest offset on with the highest count
 abbrev pub lend_bytes : Kind → Kind → Result LentBytes Cause
 lend_bytes (Frame offsets) (Number count) =
     if lie_within offsets (pos 0) count.high FRAME_LENGTH then Ok (record { offsets = offsets; count = count }) else Err OutOfBounds
 lend_bytes second third = Err OutOfBounds
 
--- bytes of the frame that a call may read or write lie within it, as many as they may be
+-- the bytes of the frame that a call may read or write lie within it, whatever their count
 pub record LieWithinFrame (bytes : LentBytes) : Type 0 where
   pub offsets : pointer_offsets.IsProper bytes.offsets
   pub count : interval.IsProper bytes.count
   pub within : IsTrue (lie_within bytes.offsets (pos 0) bytes.count.high FRAME_LENGTH)
 
--- bytes that a call reads must have their marks
+-- the bytes that a call reads must be marked
 abbrev pub lend_read : Known → LentBytes → Result Known Cause
 lend_read known bytes = if all_marked known bytes.offsets (pos 0) bytes.count.high then Ok known else Err UnwrittenFrame
 
--- what is known behind a call of the frame: of the bytes that it writes as many get their marks as are written in any case, and as many as may
--- be written are touched
+-- the state after a call's use of the frame: a call that writes marks the bytes that it writes in any case, and touches those that it may write
 abbrev pub lend_frame : Known → FrameUse → List Kind → Result Known Cause
 lend_frame known frame_use.Nothing arguments = Ok known
 lend_frame known Writes arguments =
     lend_bytes (get_or arguments 1 Nothing) (get_or arguments 2 Nothing) >>= λ bytes. Ok (write_bytes known bytes.offsets (pos 0) bytes.count.low bytes.count.high)
 lend_frame known Reads arguments = lend_bytes (get_or arguments 1 Nothing) (get_or arguments 2 Nothing) >>= lend_read known
 
--- what is known behind a call: register 0 has an answer of the prototype's interval, registers 1 to 5 hold nothing, and the others are kept
+-- the state after a call: register 0 holds an answer in the prototype's interval, registers 1 to 5 hold nothing, and the others are kept
 abbrev pub state_after : Interval → Known → Known
 state_after answer known = record known { registers = Number answer ∷ replicate 5 Nothing ++ drop 6 known.registers }
 
@@ -345,11 +342,11 @@ call known None = Err UnknownHelper
 call known (Some helper) =
     arguments_in known (signature helper).arguments >>= lend_frame known (frame_use (signature helper).shape) >>= λ after. Ok (state_after (signature helper).answer after)
 
--- on to the next instruction with a register written
+-- on to the next instruction with a register set
 abbrev pub set_register : Known → ℕ → Kind → Result Edges Cause
 set_register known register kind = Ok (edges_to (with_kind known register kind) Next)
 
--- what is known of values
+-- the domain of kinds: what is known of values
 abbrev pub kinds : Known → Domain
 kinds known = record {
   registers = kind_registers known;
@@ -367,8 +364,8 @@ kinds known = record {
   end = λ answer. Ok (edges_to known successors.End);
 }
 
--- The transfer function: what is known on the edges out of an instruction, by what is known before it, or its first check that fails. One
--- that isn't reached fails no check, and leads nowhere.
+-- The transfer function: the states on the edges out of an instruction, from the state before it, or the first check that fails. An instruction
+-- that isn't reached fails no check and leads nowhere.
 abbrev pub transfer : AbstractState → Insn → Result Edges Cause
 transfer Unreached insn = Ok (record { next = Unreached; target = Unreached })
 transfer (Reached known) insn = walk (kinds known) insn

@@ -13,25 +13,25 @@ use std::alloc::{AllocError, Allocator};
 use std::collections::BTreeMap;
 use std::marker::Model;
 
-/// What is known on the edges out of an instruction, where they are reached.
+/// The states on the edges out of an instruction; `None` for an edge that isn't reached.
 #[derive(Drop)]
 pub(crate) struct KnownEdges<A: Allocator> {
-    /// To the next one.
+    /// To the next instruction.
     pub next: Option<Box<Known, A>>,
     /// To a jump's target.
     pub target: Option<Box<Known, A>>,
 }
 
-/// What is known ahead of the pass: at the place to which it has come, and at targets of jumps that it has passed. Each state is dropped as the
-/// pass gets there, so the memory grows with the number of targets ahead, and not with the code.
+/// The states ahead of the pass: at its current place, and at targets of jumps that it has passed. Each state is dropped when the pass gets there,
+/// so memory grows with the number of targets ahead, not with the code.
 #[derive(Drop)]
 pub(crate) struct StatesAhead<'a, A: Allocator> {
     flow: &'a Flow<A>,
-    /// The place to which the pass has come.
+    /// The current place of the pass.
     place: usize,
-    /// What is known there on the edge from the instruction before it.
+    /// The state there on the edge from the instruction before it.
     straight: Option<Box<Known, A>>,
-    /// What is known at targets of jumps, by their places.
+    /// The states at targets of jumps, by place.
     waiting: BTreeMap<usize, Box<Known, A>, A>,
 }
 
@@ -46,7 +46,7 @@ impl<'a, A: Allocator> Model for StatesAhead<'a, A> {
 }
 
 impl<'a, A: Allocator + Copy> StatesAhead<'a, A> {
-    /// None but place 0 is reached: what is known there is what is known at the start.
+    /// Returns the states at the start of the pass: only place 0 is reached, with the entry state.
     pub fn first(alloc: A, flow: &'a Flow<A>) -> Result<Self, AllocError>
         requires { IsForward flow.now.code }
         ensures { IfOk result (λ ahead. ahead ≡ first flow.now.code) }
@@ -60,7 +60,7 @@ impl<'a, A: Allocator + Copy> StatesAhead<'a, A> {
         })
     }
 
-    /// Keeps what is known on the edges out of the instruction that was taken last: to the place behind it, and to its target, if it's a jump.
+    /// Records the states on the edges out of the instruction taken last: to the place after it and, if it's a jump, to its target.
     pub fn propagate(
         &mut self,
         target: Option<usize>,
@@ -88,14 +88,14 @@ impl<'a, A: Allocator + Copy> StatesAhead<'a, A> {
 }
 
 impl<'a, A: Allocator> StatesAhead<'a, A> {
-    /// The place to which the pass has come.
+    /// Returns the current place of the pass.
     pub fn place(&self) -> usize
         ensures { result ≡ self.now.place }
     {
         self.place
     }
 
-    /// Where the instruction there jumps, if it's a jump.
+    /// Returns the target of the instruction at the current place, if it's a jump.
     pub fn target(&self) -> Option<usize>
         requires { IsSome (instruction_at self.now.code self.now.place) }
         ensures value { IfSome (instruction_at self.now.code self.now.place)
@@ -106,7 +106,7 @@ impl<'a, A: Allocator> StatesAhead<'a, A> {
         self.flow.target(self.place)
     }
 
-    /// Takes what is known at the instruction to whose place the pass has come, if it's reached, and goes on to the place behind it.
+    /// Takes the state at the current place, if it's reached, and moves on to the place after the instruction there.
     pub fn take(&mut self, insn: Insn) -> Option<Box<Known, A>>
         requires sized { HasProgramSize (word_count self.old.code) }
         requires stands { instruction_at self.old.code self.old.place ≡ Some insn }
@@ -127,7 +127,7 @@ impl<'a, A: Allocator> StatesAhead<'a, A> {
     }
 }
 
-/// What is known on an edge, joined into what is known where it leads, if anything is.
+/// Joins the state on an edge into the state that the edge leads to, if there is one.
 fn meet<A: Allocator>(there: Option<Box<Known, A>>, known: Box<Known, A>) -> Box<Known, A>
     requires there { IfSome there (λ there. IsProperKnown there.value) }
     requires known { IsProperKnown known.value }

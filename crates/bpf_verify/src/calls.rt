@@ -1,4 +1,4 @@
-//! Calls of helper functions: their checks in order, and what is known behind them.
+//! Calls of helper functions: their checks in order, and the state after them.
 ghost use Rattle.std.specs.Prelude.{◌≡◌, ◌≤◌, IfErr, IfOk, OnOk, Err, Ok};
 ghost use Rattle.bpf_kinds.specs.Kind as kinds;
 ghost use Rattle.bpf_verify.specs.AbstractState.{IsProperKnown};
@@ -16,11 +16,11 @@ use bpf_meaning::Cause;
 pub(crate) struct LentBytes {
     /// Where they begin.
     pub offsets: Offsets,
-    /// How many they are.
+    /// How many there are.
     pub count: Interval,
 }
 
-/// Goes behind a call of a helper function, if there is one.
+/// Checks a call of a helper function and updates the state. `None` stands for an unknown function, which is an error.
 pub(crate) fn call(known: &mut Known, helper: Option<Helper>) -> Result<(), Cause>
     requires { IsProperKnown known.old }
     ensures ok { OnOk result (call known.old helper ≡ Ok known.new) }
@@ -34,7 +34,7 @@ pub(crate) fn call(known: &mut Known, helper: Option<Helper>) -> Result<(), Caus
     Ok(())
 }
 
-/// What is known of the arguments that a prototype wants, in their order: each is looked at before the next one.
+/// Returns the kinds of the arguments that a prototype requires, in order. Each one is checked before the next one is read.
 fn arguments_in(known: &Known, wanted: [Argument; 3]) -> Result<[Kind; 3], Cause>
     requires { IsProperKnown known.now }
     ensures value { result ≡ arguments_in known.now wanted }
@@ -47,7 +47,7 @@ fn arguments_in(known: &Known, wanted: [Argument; 3]) -> Result<[Kind; 3], Cause
     Ok([first, second, third])
 }
 
-/// The argument with a number, counted from 1. One that isn't used isn't read.
+/// Returns the kind of an argument, numbered from 1. An unused argument isn't read.
 fn argument_in(known: &Known, number: u8, wanted: Argument) -> Result<Kind, Cause>
     requires number { number ≤ 10 }
     requires proper { IsProperKnown known.now }
@@ -60,7 +60,7 @@ fn argument_in(known: &Known, number: u8, wanted: Argument) -> Result<Kind, Caus
     }
 }
 
-/// What is known of an argument all of whose values are what a prototype wants.
+/// Returns the kind of an argument if the prototype accepts all of its values.
 fn argument_kind(number: u8, wanted: Argument, kind: Kind) -> Result<Kind, Cause>
     requires { kinds.IsProper kind }
     ensures value { result ≡ argument_kind number wanted kind }
@@ -74,14 +74,14 @@ fn argument_kind(number: u8, wanted: Argument, kind: Kind) -> Result<Kind, Cause
     }
 }
 
-/// Whether the numbers of an interval lie in one that a prototype allows.
+/// Returns whether all numbers of an interval lie in the interval that a prototype allows.
 fn are_allowed(allowed: Interval, x: Interval) -> bool
     ensures { result ≡ are_allowed allowed x }
 {
     allowed.low <= x.low && x.high <= allowed.high
 }
 
-/// Goes behind what a call does with the frame.
+/// Checks a call's use of the frame and updates the state.
 fn lend_frame(known: &mut Known, frame: FrameUse, arguments: [Kind; 3]) -> Result<(), Cause>
     requires known { IsProperKnown known.old }
     requires arguments { AreProper arguments }
@@ -106,7 +106,7 @@ fn lend_frame(known: &mut Known, frame: FrameUse, arguments: [Kind; 3]) -> Resul
     }
 }
 
-/// The bytes of the frame at the offsets of the second argument, as many as the third one: all of them must lie within the frame.
+/// Returns the bytes of the frame that the second argument points to and the third one counts. All of them must lie within the frame.
 fn lend_bytes(second: Kind, third: Kind) -> Result<LentBytes, Cause>
     requires second { kinds.IsProper second }
     requires third { kinds.IsProper third }
@@ -123,7 +123,7 @@ fn lend_bytes(second: Kind, third: Kind) -> Result<LentBytes, Cause>
     Ok(LentBytes { offsets, count })
 }
 
-/// Whether a call may read bytes of the frame: each that it may read must be written. It changes nothing of what is known.
+/// Checks that every byte of the frame that a call may read is written.
 fn lend_read(known: &Known, bytes: LentBytes) -> Result<(), Cause>
     requires known { IsProperKnown known.now }
     requires within { LieWithinFrame bytes }

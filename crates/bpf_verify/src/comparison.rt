@@ -1,4 +1,4 @@
-//! Conditional jumps: what one tells on both of its edges.
+//! Conditional jumps, and what they add on each of their edges.
 ghost use Rattle.std.specs.Prelude.{◌≡◌, IfErr, IfOk, Err, Ok};
 ghost use Rattle.bpf_kinds.specs.Interval as interval;
 ghost use Rattle.bpf_kinds.specs.Kind as kinds;
@@ -12,7 +12,7 @@ use bpf_insn::{Condition, Register, Source, Width, immediate_operand};
 use bpf_kinds::{Interval, Kind, Narrowed, refine};
 use bpf_meaning::Cause;
 
-/// What a conditional jump asks, and of what.
+/// The condition of a conditional jump, and its operands.
 #[derive(Clone, Copy)]
 pub(crate) struct Comparison {
     pub condition: Condition,
@@ -22,7 +22,7 @@ pub(crate) struct Comparison {
 }
 
 impl Comparison {
-    /// Where control goes behind the jump.
+    /// Returns where control goes after the jump.
     pub fn successors(self, known: &Known) -> Result<Successors, Cause>
         requires { IsProperKnown known.now }
         ensures ok { IfOk result (λ successors. branches known.now self ≡ Ok (edges_to known.now successors)) }
@@ -34,7 +34,7 @@ impl Comparison {
         self.compare(known, x, y)
     }
 
-    /// What is compared with the left register. An immediate is compared with its low bits, so many as the comparison has.
+    /// Returns the kind of the right operand. An immediate is truncated to the width of the comparison.
     fn compared_operand(self, known: &Known) -> Result<Kind, Cause>
         requires { IsProperKnown known.now }
         ensures value { result ≡ compared_operand (kind_registers known.now) self.width self.right }
@@ -52,7 +52,7 @@ impl Comparison {
         }
     }
 
-    /// Where control goes, where these are the operands' kinds.
+    /// Returns where control goes, given the operands' kinds.
     fn compare(self, known: &Known, x: Kind, y: Kind) -> Result<Successors, Cause>
         requires known { IsProperKnown known.now }
         requires left { kinds.IsProper x }
@@ -71,7 +71,7 @@ impl Comparison {
         }
     }
 
-    /// What the jump tells on an edge. A register that is compared with itself tells nothing.
+    /// Returns what the jump adds on an edge. Comparing a register with itself adds nothing.
     fn branch(self, known: &Known, x: Interval, y: Interval, taken: bool) -> Edge
         requires known { IsProperKnown known.now }
         requires left { interval.IsProper x }

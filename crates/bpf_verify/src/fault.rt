@@ -1,4 +1,4 @@
-//! Why a code is refused.
+//! The reasons why a code is refused.
 ghost use Rattle.std.specs.Prelude.{◌≡◌};
 ghost use Rattle.bpf_verify.specs.declared.fault.VerifyFault.TheVariants.{Memory};
 
@@ -7,10 +7,10 @@ use refusals::{Fault, Refusal};
 use std::alloc::AllocError;
 use thiserror::Error;
 
-/// Why a code is refused. The derived text is for people.
+/// The reason why a code is refused. The derived text is for people.
 #[derive(Clone, Copy, Debug, PartialEq, Eq, Error)]
 pub enum VerifyFault {
-    /// The instruction at this place, which counts words from 0, may be stuck for this cause.
+    /// The instruction at this place may get stuck for this cause. Places count words from 0.
     #[error("the instruction at place {place} may be stuck: {cause:?}")]
     Refused { place: usize, cause: Cause },
     #[error("out of memory")]

@@ -1,4 +1,4 @@
-//! What is known of the registers and of the frame before an instruction.
+//! The abstract state of the registers and the frame before an instruction.
 ghost use Rattle.std.specs.Prelude.{◌≡◌, ◌≤◌, ◌<◌, ◌≤ℤ◌, ◌+ℤ◌, pos, unsigned_abs, IsTrue, IfOk};
 ghost use Rattle.bpf_insn.specs.declared.memory.TheConstants.{FRAME_LENGTH, SLOTS};
 ghost use Rattle.bpf_frame.specs.FrameMap.{set_slot};
@@ -13,17 +13,17 @@ use bpf_insn::FRAME_LENGTH;
 use bpf_kinds::{Interval, Kind, Offsets, Order};
 use bpf_meaning::{Cause, REGISTERS};
 
-/// What is known before an instruction that is reached, whatever the segment. It's changed in place along the straight path of a code, and
-/// copied only where two edges leave an instruction.
+/// What is known before an instruction that is reached, whatever the segment. It is updated in place along straight-line code, and copied only
+/// where two edges leave an instruction.
 #[derive(Drop)]
 pub struct Known {
     /// Registers 0 to 10.
     pub registers: [Kind; REGISTERS],
-    /// Which bytes of the frame are written, and what its slots hold.
+    /// The bytes of the frame that are written, and the kinds in its slots.
     pub frame: FrameMap,
 }
 
-/// The frame's byte where a pointer points, with another offset added.
+/// Returns the index of the frame's byte at a pointer's offset plus another offset.
 fn byte_at(pointer: i16, offset: i16) -> usize
     requires { pos 0 ≤ℤ (pointer +ℤ offset) }
     ensures { result ≡ unsigned_abs (pointer +ℤ offset) }
@@ -32,7 +32,7 @@ fn byte_at(pointer: i16, offset: i16) -> usize
 }
 
 impl Known {
-    /// What is known at the start: register 1 points to the record's first byte, register 10 behind the frame's last.
+    /// Returns the state at the start: register 1 points to the record's first byte, register 10 past the end of the frame.
     pub(crate) fn entry() -> Self
         ensures value { result ≡ entry }
         ensures proper { IsProperKnown result }
@@ -53,7 +53,7 @@ impl Known {
         }
     }
 
-    /// Returns what is known where nothing is: neither of a register nor of a byte of the frame.
+    /// Returns the state in which nothing is known of any register or of any byte of the frame.
     pub fn unknown() -> Self
         ensures value { result ≡ unknown }
         ensures proper { IsProperKnown result }
@@ -74,7 +74,7 @@ impl Known {
         }
     }
 
-    /// What is known of a register that is read.
+    /// Returns the kind of a register, or an error if the register holds nothing.
     pub(crate) fn read(&self, register: u8) -> Result<Kind, Cause>
         requires in_range { register ≤ 10 }
         requires proper { IsProperKnown self.now }
@@ -87,7 +87,7 @@ impl Known {
         }
     }
 
-    /// Writes a register's kind.
+    /// Sets a register's kind.
     pub(crate) fn set(&mut self, register: u8, kind: Kind)
         requires in_range { register ≤ 10 }
         requires proper { IsProperKnown self.old }
@@ -98,7 +98,7 @@ impl Known {
         self.registers[usize::from(register)] = kind;
     }
 
-    /// Writes bytes of the frame from one of the offsets on, with another offset added: so many in any case, and so many at most.
+    /// Records a write of at least `least` and at most `most` bytes to the frame, starting at one of `offsets` plus `offset`.
     pub(crate) fn write_bytes(&mut self, offsets: Offsets, offset: i16, least: usize, most: usize)
         requires proper { IsProperKnown self.old }
         requires offsets { pointer_offsets.IsProper offsets }
@@ -111,7 +111,7 @@ impl Known {
         self.mark_bytes(offsets, offset, least);
     }
 
-    /// Forgets what slots hold that have one of so many bytes from each of the offsets on, with another offset added.
+    /// Forgets the kinds of all slots that a write of `count` bytes may touch, starting at one of `offsets` plus `offset`.
     fn touch_bytes(&mut self, offsets: Offsets, offset: i16, count: usize)
         requires proper { IsProperKnown self.old }
         requires offsets { pointer_offsets.IsProper offsets }
@@ -125,8 +125,8 @@ impl Known {
         }
     }
 
-    /// Marks so many bytes of the frame as written, from one of the offsets on, with another offset added. Only where that is one known offset
-    /// it's known which ones.
+    /// Marks `count` bytes of the frame as written, starting at `offsets` plus `offset`. Marks nothing unless `offsets` is a single offset, because
+    /// it isn't known which bytes were written then.
     fn mark_bytes(&mut self, offsets: Offsets, offset: i16, count: usize)
         requires proper { IsProperKnown self.old }
         requires within { IsTrue (lie_within offsets offset count FRAME_LENGTH) }
@@ -138,7 +138,7 @@ impl Known {
         }
     }
 
-    /// Keeps a kind in a slot of the frame.
+    /// Sets the kind of a slot of the frame.
     pub(crate) fn keep(&mut self, slot: usize, kind: Kind)
         requires slot { slot < SLOTS }
         requires proper { IsProperKnown self.old }
@@ -149,8 +149,8 @@ impl Known {
         self.frame.set_slot(slot, kind);
     }
 
-    /// Whether each byte of the frame that may be read is written, where so many are read at most, from each of the offsets on, with another
-    /// offset added.
+    /// Returns whether every byte of the frame that may be read is written, if at most `count` bytes are read, starting at one of `offsets` plus
+    /// `offset`.
     pub(crate) fn all_marked(&self, offsets: Offsets, offset: i16, count: usize) -> bool
         requires proper { IsProperKnown self.now }
         requires offsets { pointer_offsets.IsProper offsets }
@@ -164,7 +164,7 @@ impl Known {
         self.frame.all_written(byte_at(offsets.low, offset), last)
     }
 
-    /// Goes behind a call: register 0 has an answer of the interval, registers 1 to 5 hold nothing.
+    /// Updates the state for a call: register 0 holds an answer in the interval, registers 1 to 5 hold nothing.
     pub(crate) fn go_behind_call(&mut self, answer: Interval)
         requires proper { IsProperKnown self.old }
         requires answer { interval.IsProper answer }
@@ -175,7 +175,7 @@ impl Known {
         self.registers[1..6].fill(Kind::Nothing);
     }
 
-    /// Joins what else is known: what holds of both is left.
+    /// Joins another state into this one, which keeps what is known in both.
     pub(crate) fn join_with(&mut self, other: &Known)
         requires proper { IsProperKnown self.old }
         requires other { IsProperKnown other.now }

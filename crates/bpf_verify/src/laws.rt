@@ -1,4 +1,4 @@
-//! What holds of the definitions themselves. The functions do nothing: each one's contract is the law.
+//! Laws of the definitions themselves. The functions do nothing: each contract is a law.
 ghost use Rattle.std.specs.Prelude.{◌≡◌, ℕ, ℤ, List, Option, Ok, Some};
 ghost use Rattle.bpf_insn.specs.Immediates.{HaveImmediates};
 ghost use Rattle.bpf_insn.specs.declared.instruction.Insn.{Insn};
@@ -24,21 +24,21 @@ ghost use Rattle.bpf_verify.specs.declared.memory.Pointers.{Pointers};
 ghost use Rattle.bpf_verify.specs.declared.known.Known.{Known};
 ghost use Rattle.bpf_verify.specs.Verified.{HasBaseAreas};
 
-/// Soundness: a code whose jumps go forward, that ends in EXIT, whose immediates have 32 bits and that has an annotation which is good to its
-/// end, is stuck on no segment, and exits in at most as many steps as it has instructions.
+/// Soundness: a code never gets stuck on a segment, and exits in no more steps than it has instructions, if its jumps go forward, it ends in EXIT,
+/// its immediates have 32 bits, and it has an annotation that is good to its end.
 pub fn accepted_is_safe()
     ensures { (code : List Insn) → IsForward code → HaveImmediates code → HasGoodAnnotation code → IsSafe code }
 {}
 
-/// Areas are sound: a code that is accepted with them has in every run, on any segment, pointers into them in the bases of the loads and the
-/// stores to which the run comes.
+/// Areas are sound: if a code is accepted with these areas, then in every run on any segment, the bases of the loads and stores that the run
+/// reaches point into them.
 pub fn accepted_areas_hold()
     ensures { (code : List Insn) (areas : List (Option Area)) → IsForward code → HaveImmediates code → IsAccepted code areas
         → HasBaseAreas code areas }
 {}
 
-/// Abstract states stand in order with that which isn't reached at the bottom, a join is the least above two, and what is possible stays so
-/// upwards.
+/// Abstract states are partially ordered, with the unreached state at the bottom. A join is the least upper bound of two states, and a higher state
+/// admits everything that a lower one admits.
 pub fn states_stand_in_order()
     ensures reflexive { (x : AbstractState) → IsWithin x x }
     ensures transitive { (x y z : AbstractState) → IsWithin x y → IsWithin y z → IsWithin x z }
@@ -51,8 +51,8 @@ pub fn states_stand_in_order()
     ensures admits_more { (x y : AbstractState) (state : State) → IsWithin x y → Admits x state → Admits y state }
 {}
 
-/// Each check goes upwards: what passes it by what is known passes it by what is known lower, and what it gives is lower. What operations,
-/// narrowing, moves of pointers and marks give goes upwards by the laws of `bpf_kinds` and `bpf_frame`.
+/// Each check is monotone: a lower state passes every check that a higher one passes, with a lower result. Results of operations, narrowing, moves
+/// of pointers and marks are monotone by the laws of `bpf_kinds` and `bpf_frame`.
 pub fn checks_rise()
     ensures read { (lower higher : Known) (register : ℕ) → IsBelow lower higher
         → Sound (λ x n. kinds.IsWithin n x) (read higher register) (read lower register) }
@@ -73,15 +73,15 @@ pub fn checks_rise()
         → Sound (λ x n. AreEdgesWithin n x) (compare higher comparison x y) (compare lower comparison m n) }
 {}
 
-/// What is known lower before an instruction gives what is known lower behind it: where no check of an instruction fails in a state, none
-/// fails in a state below it, and what is known on the edges lies below too.
+/// The transfer function is monotone: if no check of an instruction fails in a state, none fails in a state below it, and the states on its edges
+/// are lower too.
 pub fn upward()
     ensures { (insn : Insn) (lower higher : AbstractState) (edges : Edges) → IsProper lower → IsProper higher → IsWithin lower higher
         → transfer higher insn ≡ Ok edges → (below : Edges) × (transfer lower insn ≡ Ok below) × AreEdgesWithin below edges }
 {}
 
-/// A code has at most one verdict: with an annotation that is good to its end it isn't refused, and it is refused at one place with one cause,
-/// or accepted with one list of areas.
+/// A code has at most one verdict: a code with an annotation that is good to its end isn't refused, the place and the cause of a refusal are
+/// unique, and so are the areas of an accepted code.
 pub fn verdicts()
     ensures accepted { (code : List Insn) (place : ℕ) (cause : Cause) → HasGoodAnnotation code → IsRefusedAt code place cause → ⊥ }
     ensures refused { (code : List Insn) (place other : ℕ) (cause why : Cause) → IsRefusedAt code place cause → IsRefusedAt code other why

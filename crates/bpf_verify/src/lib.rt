@@ -1,4 +1,4 @@
-//! The verifier: which programs can be stuck on no segment, found in one pass over what is known before each instruction.
+//! The verifier, which proves in one pass of abstract interpretation that a program can't get stuck on any segment.
 #![tactic(auto)]
 
 mod ahead;

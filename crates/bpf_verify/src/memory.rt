@@ -22,14 +22,14 @@ use bpf_kinds::{Kind, Offsets, load};
 use bpf_meaning::Cause;
 use tl_segments::RECORD_LENGTH;
 
-/// What is known of a pointer.
+/// The area and the possible offsets of a pointer.
 #[derive(Clone, Copy)]
 pub(crate) struct Pointers {
     pub area: Area,
     pub offsets: Offsets,
 }
 
-/// The register from which a load or a store counts its offset.
+/// Returns the base register of a load or a store, from which its offset counts.
 fn base_of(insn: Insn) -> Option<Register>
     ensures { option_map (λ base. base.number) result ≡ base_of insn }
 {
@@ -41,7 +41,7 @@ fn base_of(insn: Insn) -> Option<Register>
     }
 }
 
-/// The area into which pointers of a kind point.
+/// Returns the area that pointers of a kind point into.
 fn area_of_kind(kind: Kind) -> Option<Area>
     ensures { result ≡ area_of_kind kind }
 {
@@ -52,7 +52,7 @@ fn area_of_kind(kind: Kind) -> Option<Area>
     }
 }
 
-/// The area into which the base of an instruction points, if it's a load or a store.
+/// Returns the area that the base of an instruction points into, if it's a load or a store.
 pub(crate) fn area_of(known: &Known, insn: Insn) -> Option<Area>
     requires { IsProperKnown known.now }
     ensures { result ≡ area_of (Reached known.now) insn }
@@ -61,7 +61,7 @@ pub(crate) fn area_of(known: &Known, insn: Insn) -> Option<Area>
     area_of_kind(known.registers[usize::from(base.number)])
 }
 
-/// The pointers in a register that is the base of a load or a store.
+/// Returns the pointers in the base register of a load or a store.
 fn pointers_in(known: &Known, register: Register) -> Result<Pointers, Cause>
     requires { IsProperKnown known.now }
     ensures value { result ≡ pointers_in known.now register.number }
@@ -80,7 +80,7 @@ fn pointers_in(known: &Known, register: Register) -> Result<Pointers, Cause>
     }
 }
 
-/// Whether so many bytes from each offset on, with another offset added, lie within the first ones, so many, of an area.
+/// Returns whether `count` bytes from each of `offsets` plus `offset` lie within the first `bytes` bytes of an area.
 pub(crate) fn lie_within(offsets: Offsets, offset: i16, count: usize, bytes: usize) -> bool
     requires count { count ≤ 512 }
     requires bytes { bytes ≤ 512 }
@@ -91,7 +91,7 @@ pub(crate) fn lie_within(offsets: Offsets, offset: i16, count: usize, bytes: usi
     first >= 0 && end <= bytes as i32
 }
 
-/// How many bytes an area has.
+/// Returns the length of an area, in bytes.
 fn area_length(area: Area) -> usize
     ensures value { result ≡ area_length area }
     ensures short { result ≤ 512 }
@@ -102,7 +102,7 @@ fn area_length(area: Area) -> usize
     }
 }
 
-/// What a load gives.
+/// Returns the kind of a load's result.
 pub(crate) fn load_kind(
     known: &Known,
     format: LoadFormat,
@@ -117,7 +117,7 @@ pub(crate) fn load_kind(
     load_from(known, format, pointers, offset)
 }
 
-/// What a load gives whose base holds these pointers.
+/// Returns the kind of a load's result, given the pointers in its base register.
 fn load_from(
     known: &Known,
     format: LoadFormat,
@@ -140,7 +140,7 @@ fn load_from(
     }
 }
 
-/// What a load of bytes within the frame gives: the kind that a slot keeps, or a number of bytes that are all written.
+/// Returns the kind of a load within the frame: the kind in a slot, or a number if all of the bytes are written.
 fn load_frame(
     known: &Known,
     format: LoadFormat,
@@ -161,7 +161,7 @@ fn load_frame(
     }
 }
 
-/// The slot of the frame that so many bytes are, from the one known offset on, with another offset added.
+/// Returns the slot of the frame that `count` bytes fill exactly, starting at `offsets` plus `offset`, if that is a single offset.
 fn known_slot(offsets: Offsets, offset: i16, count: usize) -> Option<usize>
     ensures { result ≡ known_slot offsets offset count }
 {
@@ -172,7 +172,7 @@ fn known_slot(offsets: Offsets, offset: i16, count: usize) -> Option<usize>
     slot_at(at.unsigned_abs() as usize, count)
 }
 
-/// The kind of what a slot holds, if there is one.
+/// Returns the kind in a slot, or `Kind::Nothing` if there is no slot.
 fn kept_kind(known: &Known, slot: Option<usize>) -> Kind
     requires known { IsProperKnown known.now }
     requires within { IfSome slot (λ slot. slot < SLOTS) }
@@ -185,7 +185,7 @@ fn kept_kind(known: &Known, slot: Option<usize>) -> Kind
     }
 }
 
-/// Goes behind a store.
+/// Checks a store and updates the state.
 pub(crate) fn store(
     known: &mut Known,
     size: StoreSize,
@@ -206,7 +206,7 @@ pub(crate) fn store(
     store_at(known, pointers.offsets, offset, size, kind)
 }
 
-/// Goes behind a store of a value of a kind in the frame.
+/// Checks a store of a value of a kind to the frame and updates the state.
 fn store_at(
     known: &mut Known,
     offsets: Offsets,
@@ -234,7 +234,7 @@ fn store_at(
     Ok(())
 }
 
-/// A kind whose values may be stored: pointers only in a whole slot.
+/// Returns the kind if its values may be stored. A pointer may only be stored in a whole slot.
 fn storable(slot: Option<usize>, kind: Kind) -> Result<Kind, Cause>
     ensures { result ≡ storable slot kind }
 {

@@ -1,4 +1,4 @@
-//! What instructions make of what is known of registers and immediates.
+//! Operands and results of instructions, as kinds.
 ghost use Rattle.std.specs.Prelude.{◌≡◌, ◌≤◌, IfOk};
 ghost use Rattle.bpf_kinds.specs.Interval as interval;
 ghost use Rattle.bpf_kinds.specs.Kind as kinds;
@@ -13,7 +13,7 @@ use bpf_insn::{Operation, Source, Width, WritableRegister};
 use bpf_kinds::{Interval, Kind, NumberWidth, Offsets, alu, immediate_operand, near_distances};
 use bpf_meaning::Cause;
 
-/// The numbers that values of a kind are, or the cause where they are none.
+/// Returns the interval of a number kind, or `cause` if the kind is no number.
 pub(crate) fn number_or(cause: Cause, kind: Kind) -> Result<Interval, Cause>
     ensures { result ≡ number_or cause kind }
 {
@@ -23,7 +23,7 @@ pub(crate) fn number_or(cause: Cause, kind: Kind) -> Result<Interval, Cause>
     }
 }
 
-/// The numbers in a register, of which an instruction makes others.
+/// Returns the interval of a register that an instruction computes with.
 pub(crate) fn number_in(known: &Known, register: u8) -> Result<Interval, Cause>
     requires in_range { register ≤ 10 }
     requires proper { IsProperKnown known.now }
@@ -33,7 +33,7 @@ pub(crate) fn number_in(known: &Known, register: u8) -> Result<Interval, Cause>
     number_or(Cause::PointerArithmetic, known.read(register)?)
 }
 
-/// The second operand.
+/// Returns the kind of the second operand.
 pub(crate) fn operand(known: &Known, source: Source) -> Result<Kind, Cause>
     requires { IsProperKnown known.now }
     ensures value { result ≡ operand (kind_registers known.now) source }
@@ -45,7 +45,7 @@ pub(crate) fn operand(known: &Known, source: Source) -> Result<Kind, Cause>
     }
 }
 
-/// What an arithmetic instruction gives. A move doesn't read its destination.
+/// Returns the kind of an arithmetic instruction's result. A move doesn't read its destination.
 pub(crate) fn operation_kind(
     known: &Known,
     operation: Operation,
@@ -67,7 +67,7 @@ pub(crate) fn operation_kind(
     }
 }
 
-/// What a move gives: any kind with 64 bits, the low halves of numbers with 32.
+/// Returns the kind of a move's result: any kind with 64 bits, the low halves of numbers with 32.
 fn move_kind(width: Width, kind: Kind) -> Result<Kind, Cause>
     requires { kinds.IsProper kind }
     ensures value { result ≡ move kind_tags width kind }
@@ -80,7 +80,7 @@ fn move_kind(width: Width, kind: Kind) -> Result<Kind, Cause>
     }
 }
 
-/// An operation on two kinds.
+/// Returns the kind of an operation's result on two operands.
 fn operate(operation: Operation, width: Width, x: Kind, y: Kind) -> Result<Kind, Cause>
     requires left { kinds.IsProper x }
     requires right { kinds.IsProper y }
@@ -105,7 +105,7 @@ fn operate(operation: Operation, width: Width, x: Kind, y: Kind) -> Result<Kind,
     }
 }
 
-/// An operation on pointers and numbers.
+/// Returns the offsets that an operation on pointers and numbers yields.
 fn operate_on_pointer(operation: Operation, offsets: Offsets, y: Interval) -> Result<Offsets, Cause>
     requires offsets { offset.IsProper offsets }
     requires number { interval.IsProper y }
@@ -119,7 +119,7 @@ fn operate_on_pointer(operation: Operation, offsets: Offsets, y: Interval) -> Re
     }
 }
 
-/// An operation on numbers and pointers.
+/// Returns the offsets that an operation on numbers and pointers yields.
 fn operate_with_pointer(
     operation: Operation,
     x: Interval,
@@ -136,7 +136,7 @@ fn operate_with_pointer(
     }
 }
 
-/// Pointers moved forwards by numbers of bytes.
+/// Moves pointers forward by numbers of bytes.
 fn move_pointer(offsets: Offsets, x: Interval) -> Result<Offsets, Cause>
     requires offsets { offset.IsProper offsets }
     requires number { interval.IsProper x }
@@ -147,7 +147,7 @@ fn move_pointer(offsets: Offsets, x: Interval) -> Result<Offsets, Cause>
     offsets.move_by(distances).ok_or(Cause::LeavesArea)
 }
 
-/// The same backwards.
+/// Moves pointers backward by numbers of bytes.
 fn move_pointer_back(offsets: Offsets, x: Interval) -> Result<Offsets, Cause>
     requires offsets { offset.IsProper offsets }
     requires number { interval.IsProper x }

@@ -22,22 +22,22 @@ use bpf_flow::Flow;
 use bpf_insn::{Area, Insn};
 use std::alloc::{AllocError, Allocator};
 
-/// Finds the verdict on a code, in one pass over its instructions in order: it refuses at the first place where a check fails by what is
-/// known before it. By the rules no more can be known: no other annotation goes further. It looks at each instruction once, and copies
-/// what is known only where two edges leave one. It takes memory for what is kept of each instruction, and for what is known at the place
-/// to which it has come and at targets ahead of jumps that it has passed.
+/// Returns the verdict on a code, found in one pass over its instructions in order. The code is refused at the first place where a check fails in
+/// the state before it. The rules allow no better verdict: no other annotation goes further. The pass looks at each instruction once, and copies a
+/// state only where two edges leave an instruction. It allocates memory for what is kept of each instruction, for the state at the current place,
+/// and for the states at targets ahead of the jumps it has passed.
 pub fn verify<A: Allocator + Copy>(alloc: A, flow: Flow<A>) -> Result<Verified<A>, VerifyFault>
     ensures ok { IfOk result (λ verified. (verified.code ≡ flow.code) × HasGoodAnnotation flow.code) }
     ensures areas { IfOk result (λ verified. IsAccepted flow.code verified.areas) }
     ensures safe { OnOk result (IsSafe flow.code) }
     ensures err { IfErr result (IsVerifyFault flow.code) }
-    // A code that has such an annotation is refused for want of memory alone.
+    // A code with such an annotation fails only if memory runs out.
     ensures only { HasGoodAnnotation flow.code → IfErr result (λ fault. fault ≡ Memory) }
 {
     verify_with(alloc, flow, &mut ())
 }
 
-/// Returns what [`verify`] does, and shows the visitor each instruction with what is known before it, the refused one included. It ends with the
+/// Returns what [`verify`] returns, and shows the visitor each instruction with the state before it, including the refused one. Stops at the
 /// visitor's first error.
 pub fn verify_with<A: Allocator + Copy, V: Visitor>(
     alloc: A,
@@ -67,7 +67,7 @@ pub fn check<A: Allocator + Copy>(alloc: A, flow: &Flow<A>) -> Result<(), Verify
     Ok(())
 }
 
-/// Visits each instruction in order. The answer is what each one's base points into.
+/// Visits each instruction in order, and returns the areas of their bases.
 fn pass<A: Allocator + Copy, V: Visitor>(
     alloc: A,
     flow: &Flow<A>,
@@ -88,8 +88,8 @@ fn pass<A: Allocator + Copy, V: Visitor>(
     Ok(areas)
 }
 
-/// Takes what is known at the instruction to which the pass has come, and propagates what is known behind it, unless one of its checks fails.
-/// The answer is what its base points into, where it's a load or a store that is reached.
+/// Takes the state before the current instruction, checks the instruction, and propagates the state after it unless a check fails. Returns the area
+/// of the instruction's base, if it's a load or a store that is reached.
 fn visit<A: Allocator + Copy, V: Visitor>(
     alloc: A,
     insn: Insn,
@@ -122,7 +122,7 @@ fn visit<A: Allocator + Copy, V: Visitor>(
     Ok(area)
 }
 
-/// What is known on the edges out of an instruction, by what is known behind it and where control goes.
+/// Returns the states on the edges out of an instruction, from the state after it and where control goes.
 fn follow<A: Allocator + Copy>(
     alloc: A,
     known: Box<Known, A>,
@@ -151,7 +151,7 @@ fn follow<A: Allocator + Copy>(
     }
 }
 
-/// The same behind a conditional jump. What is known is copied only here, where two edges leave.
+/// Returns the states on the edges of a conditional jump. A state is copied only here, where two edges leave an instruction.
 fn branch<A: Allocator + Copy>(
     alloc: A,
     known: Box<Known, A>,
@@ -181,7 +181,7 @@ fn branch<A: Allocator + Copy>(
     }
 }
 
-/// The same on one edge.
+/// Returns the state on one edge of a conditional jump.
 fn on_edge<A: Allocator>(
     mut known: Box<Known, A>,
     comparison: Comparison,

@@ -1,27 +1,27 @@
-//! Where control goes behind an instruction.
+//! Where control goes after an instruction.
 use crate::comparison::Comparison;
 use bpf_kinds::Narrowed;
 
-/// What a conditional jump tells on one of its edges, beside what is known before it.
+/// What a conditional jump adds, on one of its edges, to what is known before it.
 #[derive(Clone, Copy)]
 pub(crate) enum Edge {
-    /// It's never taken.
+    /// Never taken.
     Unreached,
     Unchanged,
-    /// The operands are these there.
+    /// The operands are narrowed to these.
     Narrows(Narrowed),
 }
 
-/// Where control goes behind an instruction.
+/// Where control goes after an instruction.
 #[derive(Clone, Copy)]
 pub(crate) enum Successors {
     /// Nowhere: the program ends.
     End,
-    /// To the next instruction alone.
+    /// Only to the next instruction.
     Next,
-    /// To a jump's target alone.
+    /// Only to a jump's target.
     Target,
-    /// To either, behind a conditional jump.
+    /// To either one, after a conditional jump.
     Branch {
         comparison: Comparison,
         next: Edge,

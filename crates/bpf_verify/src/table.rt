@@ -1,4 +1,4 @@
-//! The instruction table: the checks of each instruction in their order, and what is known behind it.
+//! The instruction table: the checks of each instruction in order, and the abstract state after it.
 ghost use Rattle.std.specs.Prelude.{◌≡◌, IfErr, IfOk, Err, Ok};
 ghost use Rattle.bpf_meaning.specs.Walk.{walk};
 ghost use Rattle.bpf_verify.specs.AbstractState.{AreProperEdges, IsProperKnown};
@@ -16,8 +16,8 @@ use bpf_insn::{Insn, Source};
 use bpf_kinds::{Kind, byte_swap, extend, negate, wide_number};
 use bpf_meaning::Cause;
 
-/// The transfer function: goes behind an instruction, and tells where control goes there, unless one of its checks fails for some of the
-/// values that are possible. Then the first such check is the answer, and what is known is no longer of use.
+/// Applies the transfer function: updates `known` to the state after the instruction, and returns where control goes next. Returns the first check
+/// that fails for some of the possible values; `known` is of no further use then.
 pub(crate) fn transfer(known: &mut Known, insn: Insn) -> Result<Successors, Cause>
     requires { IsProperKnown known.old }
     ensures ok { IfOk result (λ successors. walk (known_kinds known.old) insn ≡ Ok (edges_to known.new successors)) }

@@ -14,17 +14,17 @@ use bpf_meaning::instruction_reads_record_alone;
 use std::alloc::{AllocError, Allocator};
 use std::marker::Model;
 
-/// An instruction of a code that is safe to run, and what is known of it.
+/// An instruction of a code that is safe to run, with the area of its base.
 #[derive(Clone, Copy)]
 pub struct Entry {
     pub insn: Insn,
-    /// What the base of a load or a store points into, in whichever run comes to it. None for a load or a store that the verifier didn't reach,
-    /// and for every other instruction.
+    /// The area that the base of a load or a store points into, in every run that reaches it. `None` for a load or a store that the verifier didn't
+    /// reach, and for every other instruction.
     pub area: Option<Area>,
 }
 
-/// A code that is safe to run: on no segment is it stuck, and it exits in at most as many steps as it has instructions. Contracts see it as
-/// a record with the fields `code`, the list of its instructions, and `areas`, the list of what their bases point into.
+/// A code that is safe to run: it never gets stuck on a segment, and exits in no more steps than it has instructions. Contracts see it as a record
+/// with the fields `code`, the list of its instructions, and `areas`, the list of the areas of their bases.
 #[derive(Drop)]
 pub struct Verified<A: Allocator> {
     entries: Vec<Entry, A>,
@@ -48,14 +48,14 @@ impl<A: Allocator> Model for Verified<A> {
 }
 
 impl<A: Allocator + Copy> Verified<A> {
-    /// A code that is accepted, with the areas of its bases.
+    /// Builds the verified form of an accepted code, with the areas of its bases.
     pub(crate) fn of(alloc: A, flow: Flow<A>, areas: &[Option<Area>]) -> Result<Self, AllocError>
         requires { IsAccepted flow.code areas.now }
         ensures code { IfOk result (λ verified. verified.code ≡ flow.code) }
         ensures areas { IfOk result (λ verified. verified.areas ≡ areas.now) }
     {
         let flat_forms = flat_forms(alloc, &flow, areas)?;
-        // What finds instructions by place is freed before the entries take memory.
+        // The lookup by place is freed before the entries are allocated.
         let instructions = flow.into_code().into_instructions();
         let entries = entries_of(alloc, instructions.as_slice(), areas)?;
         Ok(Verified {
@@ -65,7 +65,7 @@ impl<A: Allocator + Copy> Verified<A> {
     }
 }
 
-/// The instructions, each with its area.
+/// Pairs each instruction with its area.
 fn entries_of<A: Allocator>(
     alloc: A,
     code: &[Insn],
@@ -84,7 +84,7 @@ fn entries_of<A: Allocator>(
 }
 
 impl<A: Allocator> Verified<A> {
-    /// The instructions in order, an entry each, lent.
+    /// Returns the instructions in order, one entry per instruction, borrowed.
     pub fn entries(&self) -> &[Entry]
         ensures value { result.now ≡ entries_of self.now.code self.now.areas }
         ensures safe { IsSafe self.now.code }
@@ -93,7 +93,7 @@ impl<A: Allocator> Verified<A> {
         self.entries.as_slice()
     }
 
-    /// The instructions in flat form, in order, lent: a machine dispatches on these.
+    /// Returns the instructions in flat form, in order, borrowed. A machine dispatches on these.
     pub fn flat_forms(&self) -> &[FlatInsn]
         ensures value { AreFlatForms self.now.code self.now.areas (length self.now.code) result.now }
         ensures safe { IsSafe self.now.code }
@@ -102,8 +102,8 @@ impl<A: Allocator> Verified<A> {
         self.flat_forms.as_slice()
     }
 
-    /// Whether the code asks for nothing of a segment but its type 1 record: it calls no helper function that reads alternate names or address
-    /// ranges. Such a code answers alike on all segments of the same record.
+    /// Returns whether the code reads nothing of a segment but its type 1 record: it calls no helper function that reads alternate names or address
+    /// ranges. Such a code gives the same answer on all segments with the same record.
     pub fn reads_record_alone(&self) -> bool
         ensures { result ≡ reads_record_alone self.now.code }
     {

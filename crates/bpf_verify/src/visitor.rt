@@ -1,4 +1,4 @@
-//! Who looks on as the pass goes over a code.
+//! Visitors, which observe the pass over a code.
 ghost use Rattle.std.specs.Prelude.{◌≡◌, OnOk};
 ghost use Rattle.bpf_verify.specs.AbstractState.{IsProperKnown, Reached, Unreached};
 ghost use Rattle.bpf_verify.specs.Visit.{Visit};
@@ -7,22 +7,22 @@ use crate::known::Known;
 use bpf_insn::Insn;
 use std::alloc::AllocError;
 
-/// Is shown each instruction of a code, in order, with what is known before it, as the pass leaves it. Places count words from 0.
+/// A visitor that is shown each instruction of a code, in order, with the state before it, as the pass goes over it. Places count words from 0.
 pub trait Visitor {
-    // What a visit makes of the visitor.
+    // The visitor after a visit.
     ghost visited: { Self → Visit → Self };
 
-    /// Is shown an instruction that is reached. The pass keeps nothing of what is known before it.
+    /// Visits an instruction that is reached. The pass doesn't keep the state before it.
     fn reached(&mut self, place: usize, insn: Insn, known: &Known) -> Result<(), AllocError>
         requires { IsProperKnown known.now }
         ensures { OnOk result (self.new ≡ visited self.old (record { place = place; insn = insn; state = Reached known.now })) };
 
-    /// Is shown an instruction to which no edge leads.
+    /// Visits an instruction that no edge leads to.
     fn unreached(&mut self, place: usize, insn: Insn) -> Result<(), AllocError>
         ensures { OnOk result (self.new ≡ visited self.old (record { place = place; insn = insn; state = Unreached })) };
 }
 
-/// Looks at nothing.
+/// A visitor that ignores every instruction.
 impl Visitor for () {
     ghost visited = { λ visitor visit. visitor };
 

@@ -2,12 +2,12 @@ use Rattle.std.proofs.Common.{◌≡◌, ℤ, pos, ◌+ℤ◌, ◌&&◌, int_le,
 use Rattle.std.proofs.lemmas.Int.{ints}
 use Rattle.bpf_verify.proofs.memory.lie_within.Goals as goal
 
--- both tests, the first of which holds
+-- both tests, if the first one holds
 both_tests : {first end limit first' end' limit' : ℤ} → first ≡ first' → end ≡ end' → limit ≡ limit' → int_le (pos 0) first ≡ true
     → int_le end limit ≡ (int_le (pos 0) first' && int_le end' limit')
 both_tests is-first is-end is-limit holds = rw (← is-first, ← is-end, ← is-limit, holds) refl
 
--- both tests, the first of which fails
+-- both tests, if the first one fails
 first_test : (first first' end' limit' : ℤ) → first ≡ first' → int_le (pos 0) first ≡ false
     → int_le (pos 0) first ≡ (int_le (pos 0) first' && int_le end' limit')
 first_test first first' end' limit' is-first fails = rw (← is-first, fails) refl

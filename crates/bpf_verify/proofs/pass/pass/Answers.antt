@@ -16,12 +16,12 @@ use Rattle.bpf_verify.proofs.pass.pass.Goals as goal
 
 module _ {code items : List Insn} (index : ℕ) {insn : Insn} (same : items ≡ code) (within : index < length items)
     (is : insn ≡ get_or items index insn) where
-  -- the instruction to which the pass has come
+  -- the current instruction of the pass
   comes_to : {ahead : Ahead} {areas : List (Option Area)} {visits : List Visit} → IsOnItsWay code (take index code) ahead areas visits
       → instruction_at code ahead.place ≡ Some insn
   comes_to {ahead} way = stands_at index ahead.place same within is way.at
 
-  -- the instructions that were passed, and one more
+  -- the instructions passed so far, and one more
   passed_more : take (index + 1) code ≡ take index code ++ insn ∷ []
   passed_more =
       ap (take (index + 1)) (sym same) ∙ take_more items index insn within ∙ ap (λ (next : Insn). take index items ++ next ∷ []) (sym is)

@@ -5,8 +5,8 @@ use Rattle.bpf_verify.proofs.AreaLemmas.{HaveImmediatesBefore}
 use Rattle.bpf_verify.proofs.PassLemmas.{IsOnItsWay}
 use Rattle.bpf_verify.proofs.pass.pass.Given as goal
 
--- an annotation is good up to the place to which the pass has come, from there on it is what is kept, and so many areas were found and
--- visits shown; the instructions that were visited have immediates, and there is room for all areas
+-- an annotation is good up to the current place of the pass and equals the kept states from there on, with the areas found and the visits shown so
+-- far; the instructions that were visited have immediates, and there is room for all areas
 abbrev pub invariant-loop-insn : goal.invariant-loop-insn
 invariant-loop-insn g l = record {
   visits : List Visit;

@@ -4,7 +4,7 @@ use Rattle.bpf_verify.specs.declared.verified.Entry.{Entry}
 use Rattle.bpf_verify.proofs.AreaLemmas.{entries_of-end}
 use Rattle.bpf_verify.proofs.verified.entries_of.Goals as goal
 
--- where nothing is left
+-- if nothing is left
 all_so_far : (entries rest all : List Entry) → rest ≡ [] → entries ++ rest ≡ all → entries ≡ all
 all_so_far entries rest all none is = sym (append-nil entries) ∙ ap (λ (rest : List Entry). entries ++ rest) (sym none) ∙ is
 

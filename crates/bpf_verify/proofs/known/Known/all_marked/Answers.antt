@@ -6,7 +6,7 @@ use Rattle.bpf_verify.specs.Transfer.{all_marked}
 use Rattle.bpf_verify.specs.declared.known.Known.{Known}
 use Rattle.bpf_verify.proofs.known.Known.all_marked.Goals as goal
 
--- the first and the last of some bytes, at least one
+-- the first and the last of some bytes, at least one of them
 marked_is : (known : Known) (offsets : Offsets) (offset : ℤ) {first last : ℕ} (count : ℕ) → 1 ≤ count
     → first ≡ unsigned_abs (offsets.low +ℤ offset) → last ≡ unsigned_abs (offsets.high +ℤ offset) + count - 1
     → all_written known.frame.marks first last ≡ all_marked known offsets offset count

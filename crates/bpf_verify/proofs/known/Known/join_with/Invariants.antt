@@ -4,7 +4,7 @@ use Rattle.bpf_meaning.specs.declared.state.TheConstants.{REGISTERS}
 use Rattle.bpf_verify.specs.AbstractState.{kind_of}
 use Rattle.bpf_verify.proofs.known.Known.join_with.Given as goal
 
--- the registers so far are joined, and the others are as they were
+-- the registers so far are joined, and the others are unchanged
 abbrev pub invariant-loop-register : goal.invariant-loop-register
 invariant-loop-register l = record {
   count : length l.self.registers ≡ REGISTERS;

@@ -8,7 +8,7 @@ use Rattle.bpf_verify.proofs.AreaLemmas.{length-areas_from}
 use Rattle.bpf_verify.proofs.SoundRuns.{good_is_safe}
 use Rattle.bpf_verify.proofs.verified.Verified.of.Goals as goal
 
--- what entries are made of that are those of a code and of its areas
+-- the parts of entries are those of a code and of its areas
 record AreMadeOf (entries : List Entry) (code : List Insn) (areas : List (Option Area)) : Type 0 where
   instructions : instructions_in entries ≡ code
   bases : areas_in entries ≡ areas
