@@ -1,11 +1,11 @@
--- The number of bytes, read byte by byte and at once.
+-- The number that bytes represent, read byte by byte and at once.
 use Rattle.std.proofs.Common.{◌≡◌, ℕ, zero, suc, ◌+◌, ◌*◌, ◌≤◌, List, [], ◌∷◌, length, take, drop, get_or, refl, sym, ap, ◌∙◌, arith}
 use Rattle.std.specs.Prelude.{slice_index}
 use Rattle.std.proofs.lemmas.List.{length-take-le, length-drop}
 use Rattle.byteorder.specs.Endian.{little_from, little_number}
 use Rattle.bpf_machine.specs.Words.{number_of}
 
--- bytes behind the first one
+-- bytes after the first one
 behind : (count at byte : ℕ) (bytes : List ℕ) → little_from (suc at) count (byte ∷ bytes) ≡ little_from at count bytes
 behind zero at byte bytes = refl
 behind (suc count) at byte bytes = ap (λ (n : ℕ). slice_index bytes at + 256 * n) (behind count (suc at) byte bytes)

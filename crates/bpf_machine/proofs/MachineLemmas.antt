@@ -1,4 +1,4 @@
--- What a run that is on its way comes to, and what a run that exits excludes.
+-- What a run in progress leads to, and what a run that exits excludes.
 use Rattle.std.proofs.Common.{◌≡◌, ℕ, ◌≤◌, List, [], ◌∷◌, length, Some, None, refl, sym, ap, subst, arith}
 use Rattle.bpf_insn.specs.Code.{place_of}
 use Rattle.bpf_insn.specs.declared.instruction.Insn.{Insn}
@@ -16,7 +16,7 @@ use Rattle.bpf_machine.specs.declared.bare.Bare.{Bare}
 use Rattle.bpf_meaning.proofs.RunLemmas.{goes_on, one_next, ends_there, IsOnItsWay, comes_to}
 
 module _ (code : List Insn) (segment : Contents) where
-  -- no way that exits is as short as one that is still running
+  -- a run that exits is longer than every run that is still in progress
   pub exits_first : (from : Configuration) (run others : List Configuration) {answer score : ℕ} {state : State}
       → FollowSteps code segment from run → FollowSteps code segment from others → last_of from run ≡ Exited answer score
       → last_of from others ≡ Running state → length run ≤ length others → ⊥
@@ -31,7 +31,7 @@ module _ (code : List Insn) (segment : Contents) where
       (subst (λ (c : Configuration). FollowSteps code segment c others) same g.1) e
       (subst (λ (c : Configuration). last_of c others ≡ Running state) same h) (omega arith)
 
-  -- what a run that is on its way comes to
+  -- what a run in progress leads to
 
   pub comes_to_answer : (steps : ℕ) (state : State) (answer score : ℕ) → IsOnItsWay code segment steps state
       → Exited answer score ≡ after code segment state → Answers code segment answer score
@@ -49,7 +49,7 @@ module _ (code : List Insn) (segment : Contents) where
       let short = exits.short in let long = way.long in
       exits_first (Running start) exits.run way.run exits.is_run way.is_run exits.exits way.ends (omega arith)
 
--- what a step that has gone on, or has ended, says of the next configuration
+-- what a step that goes on, or ends, says of the next configuration
 
 pub went_on : (code : List Insn) (configuration : Configuration) (old new : Bare) → Does code configuration None old new → (state : State)
     × (configuration ≡ Running state) × HoldsState code state new
@@ -67,7 +67,7 @@ pub reached_by : (code : List Insn) (segment : Contents) (steps : ℕ) (state : 
     → IsReached code segment state
 reached_by code segment steps state way = record { run = way.run; is_run = way.is_run; ends = way.ends }
 
--- a step that goes on leaves the machine on its way
+-- a step that goes on leaves the machine with a run in progress
 
 stays_reached : (code : List Insn) (segment : Contents) (state next : State) → IsReached code segment state
     → after code segment state ≡ Running next → IsReached code segment next

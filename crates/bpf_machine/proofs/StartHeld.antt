@@ -1,4 +1,4 @@
--- The words with which a program starts hold the state with which it starts.
+-- The words at the start of a program hold the state at its start.
 use Rattle.std.proofs.Common.{◌≡◌, ℕ, zero, suc, List, length, get_or, refl, ◌∙◌, arith}
 use Rattle.std.specs.Prelude.{slice_set}
 use Rattle.std.proofs.Math.ListN.{length-set}

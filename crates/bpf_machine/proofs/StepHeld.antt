@@ -1,4 +1,4 @@
--- A step of the bare machine on the words of a state to which a run comes: what it needs, and what it then does.
+-- A step of the bare machine on the words of a state that a run reaches: what it requires, and what it does.
 use Rattle.std.proofs.Common.{◌≡◌, ℕ, ◌+◌, ◌<◌, pos, List, length, get_or, Option, Some, None, IfSome, Result, Ok, Err, refl, sym, ap, ◌∙◌}
 use Rattle.std.proofs.Common.{subst}
 use Rattle.std.specs.Int.{cast_unsigned, w32}
@@ -52,7 +52,7 @@ points_there v = tt
 abbrev areas_in : State → ℕ → Area
 areas_in state register = pointed_into (register_value state register)
 
--- the base of a load points into the area that is known of it
+-- the base of a load points into the area that is known for it
 abbrev KnowsBase : (ℕ → Area) → Insn → Option Area → Type 0
 KnowsBase areas (Load format destination base offset) area = area ≡ Some (areas base.number)
 KnowsBase areas insn area = Unit {0}
@@ -84,7 +84,7 @@ passes_first : {A B : Type 0} (Q : Type 0) (first : Result A Cause) (others : A 
 passes_first Q (Ok x) others end all is = all
 passes_first Q (Err cause) others end all is = absurd (let no : ⊥ = cc in no)
 
--- where calls pass their checks, their words meet the prototype
+-- if calls pass their checks, their words meet the prototype
 abbrev CallsMeet : State → Words → Type 0
 CallsMeet state words =
     (helper : Helper)
@@ -110,7 +110,7 @@ sound_passes Holds (Ok first) (Err cause) x sound is = absurd sound
 sound_passes Holds (Err cause) other x sound is = absurd (let no : ⊥ = cc in no)
 
 module _ (code : List Insn) (segment : Contents) (is : IsSegment segment) (safe : IsSafe code) where
-  -- the instruction at the place of a state to which a run comes passes all its checks
+  -- the instruction at the place of a state that a run reaches passes all its checks
   record Stands (state : State) : Type 0 where
     insn : Insn
     stands : instruction_at code state.place ≡ Some insn
@@ -199,7 +199,7 @@ module _ (code : List Insn) (segment : Contents) (is : IsSegment segment) (safe 
         let stands = stands_at state reached in within_code code bare.at stands.insn
         (subst (λ (place : ℕ). instruction_at code place ≡ Some stands.insn) holds.at stands.stands)
 
--- where the machine has gone on, and where it has ended
+-- the machine has gone on, or has ended
 
 pub goes_on : (code : List Insn) (configuration : Configuration) (bare : Bare) (next : Next) → HoldsNext code configuration next
     → next ≡ Goes (words_of bare) bare.at → (old : Bare) → Does code configuration None old bare

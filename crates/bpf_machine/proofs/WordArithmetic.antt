@@ -1,4 +1,4 @@
--- Operations and moves on words stand for those on values.
+-- Operations and moves on words represent those on values.
 use Rattle.std.proofs.Common.{◌≡◌, ℕ, ◌+◌, ◌-◌, ◌^◌, ◌<◌, ◌%◌, ℤ, pos, negsuc, ◌+ℤ◌, ◌-ℤ◌, Bool, true, false, IsTrue, Ok, Err}
 use Rattle.std.proofs.Common.{if◌then◌else◌, refl, sym, ap, ◌∙◌, subst, arith}
 use Rattle.std.specs.Int.{cast_signed, cast_unsigned, w32, w64}
@@ -53,7 +53,7 @@ subtracted_is : (offset : ℤ) (word n : ℕ) → n < 2 ^ 64 → word ≡ cast_u
     → IsTrue (is_offset (cast_signed w64 n)) → result_of Subtract Bits64 word n ≡ cast_unsigned w64 (offset -ℤ cast_signed w64 n)
 subtracted_is offset word n fits is near by = difference_word offset word n fits is near by
 
--- a pointer that is moved by a near distance, if its offset stays in range
+-- a pointer moved by a near distance, if its offset stays in range
 moved_held : (near : Bool) (distance : ℤ) (move : ℤ → ℤ) (into : Area) (word : ℕ) → (near ≡ true → word ≡ cast_unsigned w64 (move distance))
     → Sound IsWordOf ((if near then Ok distance else Err PointerArithmetic) >>= (λ by. effect.offset_or (move by)) >>= λ offset.
     Ok (value.Pointer (record { area = into; offset = offset }))) (Ok word)
@@ -85,7 +85,7 @@ with_pointer_held Add pointer n word fits held =
     (added_to_is pointer.offset word n fits held.0 held.1)
 with_pointer_held operation pointer n word fits held = tt
 
--- What is made of numbers of 64 bits has 64 bits: the interval round the one number is proper, and so is that of the results.
+-- Results of 64-bit numbers have 64 bits: the interval of a single number is proper, and so is that of the results.
 
 pub single-proper : (n : ℕ) → n < 2 ^ 64 → interval.IsProper (single n)
 single-proper n fits = record { ordered = omega arith; fits = fits }

@@ -1,4 +1,4 @@
--- Calls of helper functions on words stand for those on values.
+-- Calls of helper functions on words represent those on values.
 use Rattle.std.proofs.Common.{◌≡◌, ℕ, zero, suc, ◌+◌, ◌^◌, ◌<◌, ℤ, Bool, true, false, List, [], ◌∷◌, length, take, drop, get_or, Some}
 use Rattle.std.proofs.Common.{Result, Ok, Err, if◌then◌else◌, refl, sym, ap, ◌∙◌, subst, arith}
 use Rattle.std.specs.Prelude.{slice_set}
@@ -54,7 +54,7 @@ number_argument number allowed n word is = by_test (effect.is_allowed allowed n)
     by_test true = sym is
     by_test false = tt
 
--- an argument that is read from a register
+-- an argument read from a register
 number_read : (number : ℕ) (allowed : Interval) (v : Value) (word : ℕ) → IsWordOf v word
     → IfPasses (λ argument. argument ≡ word) (effect.read_value number v >>= effect.argument_word number (argument.Number allowed))
 number_read number allowed (value.Number n) word held = number_argument number allowed n word held.0
@@ -84,7 +84,7 @@ arguments_held state words holds wanted =
     then_keeps (λ z. z ≡ argument_word words 3 c) (λ arguments. arguments ≡ argument_words words wanted) (effect.argument_in state 3 c) _
     (argument_held state words holds 3 c) (λ z three. cc)))
 
--- bytes of the frame are lent to the arguments as they are
+-- lending bytes of the frame keeps the arguments as they are
 
 lent_if : (test : Bool) (cause : Cause) (arguments : List ℕ)
     → IfPasses (λ lent. lent ≡ arguments) (if test then Ok arguments else Err cause)
@@ -104,7 +104,7 @@ lend_frame_held state frame_use.Reads words arguments same =
     (lend_bytes_held arguments words same)
     (λ lent is. subst (λ (w : List ℕ). IfPasses (λ other. other ≡ w) (effect.lend_written state lent)) is (lent_if _ UnwrittenFrame lent))
 
--- what a call reads: bytes that are written are those that stand for them
+-- what a call reads: written bytes equal the bytes that represent them
 
 front_read : (memory : List FrameByte) (bytes : List ℕ) (count : ℕ) → StandFor memory bytes → length bytes ≡ length memory
     → all_written (take count memory) ≡ true → take count bytes ≡ written_bytes (take count memory)
@@ -131,7 +131,7 @@ bytes_read_held memory bytes frame_use.Reads arguments stand same all =
     part_read memory bytes (second arguments) (third arguments) stand same all
 bytes_read_held memory bytes frame arguments stand same all = refl
 
--- what a call writes: it lies within the frame, if it's anything
+-- what a call writes, if anything, lies within the frame
 
 record HoldFrame (frame : FrameContents) (bytes : List ℕ) : Type 0 where
   whole : length bytes ≡ FRAME_LENGTH
@@ -160,7 +160,7 @@ module _ (frame : FrameContents) (bytes : List ℕ) (hold : HoldFrame frame byte
       }
   bytes_written new lent arguments long many within count = nothing_written new (second arguments) count
 
--- the registers behind a call
+-- the registers after a call
 
 registers_held : (values : List Value) (words : List ℕ) (answer : ℕ) → 0 < length words → answer < 2 ^ 64
     → ((register : ℕ) → IsWordOf (get_or values register value.Empty) (get_or words register 0))

@@ -1,4 +1,4 @@
--- Loads and stores on words stand for those on values.
+-- Loads and stores on words represent those on values.
 use Rattle.std.proofs.Common.{◌≡◌, ℕ, zero, suc, ◌+◌, ◌-◌, ◌*◌, ◌^◌, ◌<◌, ◌≤◌, ℤ, unsigned_abs, Bool, true, false, List, []}
 use Rattle.std.proofs.Common.{◌∷◌, length, map, take, drop, replicate, get_or, Option, Some, None, Result, Ok, Err, if◌then◌else◌, refl}
 use Rattle.std.proofs.Common.{sym, ap, ◌∙◌, subst, inl, inr, arith}
@@ -42,7 +42,7 @@ use Rattle.bpf_machine.specs.Words.{stored}
 use Rattle.bpf_machine.proofs.WordArithmetic.{admitted_fits}
 use Rattle.bpf_machine.proofs.WordSlots.{SlotsStandFor, all_alike, keep-stands, overwrite-stands}
 
--- bytes stand for memory, one by one
+-- bytes represent memory, one by one
 abbrev pub StandFor : List FrameByte → List ℕ → Type 0
 StandFor memory bytes = (at : ℕ) → IsByteOf (get_or memory at Unwritten) (get_or bytes at 0)
 
@@ -51,13 +51,13 @@ map-stands [] at = tt
 map-stands (byte ∷ bytes) zero = refl
 map-stands (byte ∷ bytes) (suc at) = map-stands bytes at
 
--- for bytes that are unwritten any will do
+-- any bytes represent unwritten ones
 pub unwritten-stands : (count : ℕ) (bytes : List ℕ) → StandFor (replicate count Unwritten) bytes
 unwritten-stands count bytes at = subst (λ (byte : FrameByte). IsByteOf byte (get_or bytes at 0)) (sym (all_alike count at Unwritten)) tt
 
 -- loads
 
--- bytes that are written have a number, and it is that of the bytes that stand for them
+-- written bytes have a number, which is that of the bytes that represent them
 abbrev IsNumberOf : ℕ → List ℕ → Option ℕ → Type 0
 IsNumberOf count bytes None = Unit {0}
 IsNumberOf count bytes (Some n) = (number_of bytes ≡ n) × (n < 256 ^ count)
@@ -90,7 +90,7 @@ part_number (byte ∷ memory) (other ∷ bytes) (suc at) count stand small withi
     part_number memory bytes at count (λ i. stand (suc i)) (λ i. small (suc i)) (omega arith) (omega arith)
 part_number memory bytes at count stand small within same = absurd (omega arith)
 
--- the number that a load gives has 64 bits
+-- the number that a load yields has 64 bits
 loaded_fits : (load_format : LoadFormat) (n : ℕ) → n < 256 ^ load_length load_format → arithmetic.load_extension load_format n < 2 ^ 64
 loaded_fits load_format n below = admitted_fits (load load_format) _ (load-proper load_format) (load-admits load_format n below)
 
@@ -117,7 +117,7 @@ bytes_loaded load_format memory bytes from stand small same =
         (inside_ends from (load_length load_format) (length memory) within) same)
     by_test false outside = tt
 
--- what a slot holds is loaded: the number of its bytes where they are written, and else the word that stands for its pointer
+-- the contents of a slot are loaded: the number of its bytes if they are written, and otherwise the word that represents its pointer
 slot_loaded : (found : Option ℕ) (pointer : Option PointerParts) (bytes : List ℕ) → IsNumberOf SLOT_LENGTH bytes found
     → IsWordOfSlot pointer (number_of bytes) → Sound IsWordOf (effect.load_slot (value_of found pointer)) (Ok (number_of bytes))
 slot_loaded (Some n) pointer bytes is held = is
@@ -181,13 +181,13 @@ module _ (state : State) (words : Words) (whole : IsWhole state) (small : HoldsB
 
 -- what is stored
 
--- words hold what a change leads to
+-- words hold the state after a change
 abbrev pub HoldsChange : Contents → State → Change → Words → Type 0
 HoldsChange segment state change words = Holds (carry_out segment state change) words
 
 module _ (memory : List FrameByte) (bytes new : List ℕ) (at : ℕ) (same : length bytes ≡ length memory)
     (within : at + length new ≤ length memory) (stand : StandFor memory bytes) where
-  -- what is written over both stands for one another, if it does so itself
+  -- bytes still represent memory after both are overwritten, if the new bytes represent the new memory
   written-stands : (fresh : List FrameByte) → length fresh ≡ length new → StandFor fresh new
       → StandFor (write memory at fresh) (write bytes at new)
   written-stands fresh long over i =
@@ -257,7 +257,7 @@ module _ (segment : Contents) (state : State) (words : Words) (whole : IsWhole s
         score = holds.score;
       }
 
-  -- a store of a value, by what it is
+  -- a store of a value, case by case
 
   number_held : (from : ℤ) (size : StoreSize) (number : ℕ)
       → Sound (HoldsChange segment state) (effect.store_number from size number) (store_at words from size number)

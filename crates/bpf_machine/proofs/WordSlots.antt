@@ -1,4 +1,4 @@
--- Slots of the frame on words: before a change and after it, the word of a slot stands for the pointer that the slot holds.
+-- Slots of the frame on words: before and after a change, the word of a slot represents the pointer in the slot.
 use Rattle.std.proofs.Common.{◌≡◌, ◌≢◌, ℕ, zero, suc, ◌+◌, ◌*◌, ◌/◌, ◌%◌, ◌^◌, ◌<◌, ◌≤◌, ◌⊎◌, List, [], ◌∷◌, ◌++◌, length, map, take, drop}
 use Rattle.std.proofs.Common.{replicate, get_or, slice_set, Option, Some, None, refl, sym, ap, ◌∙◌, subst, inl, inr, arith, append_assoc}
 use Rattle.std.specs.Int.{bytes_low_first}
@@ -16,11 +16,11 @@ use Rattle.bpf_meaning.proofs.SlotLemmas.{length-overwrite_slots, overwritten_ap
 use Rattle.bpf_machine.specs.Words.{IsWordOf, IsWordOfSlot, number_of}
 use Rattle.bpf_machine.proofs.WordArithmetic.{offset_kept}
 
--- the words of slots stand for the pointers that they hold, slot by slot
+-- the words of slots represent the pointers in them, slot by slot
 abbrev pub SlotsStandFor : List (Option PointerParts) → List ℕ → Type 0
 SlotsStandFor slots bytes = (slot : ℕ) → IsWordOfSlot (get_or slots slot None) (number_of (slot_bytes bytes slot))
 
--- where a slot holds no pointer, any word will do
+-- if a slot holds no pointer, any word will do
 no_pointer : (held : Option PointerParts) (word : ℕ) → held ≡ None → IsWordOfSlot held word
 no_pointer held word none = subst (λ (p : Option PointerParts). IsWordOfSlot p word) (sym none) tt
 
@@ -32,14 +32,14 @@ all_alike (suc count) (suc at) a = all_alike count at a
 pub none-stands : (count : ℕ) (bytes : List ℕ) → SlotsStandFor (replicate count None) bytes
 none-stands count bytes slot = no_pointer _ _ (all_alike count slot None)
 
--- where it holds the pointer that it held, and has the bytes that it had, its word still stands for it
+-- if a slot still holds the same pointer and the same bytes, its word still represents the pointer
 stays : (held before : Option PointerParts) (bytes old : List ℕ) → held ≡ before → bytes ≡ old → IsWordOfSlot before (number_of old)
     → IsWordOfSlot held (number_of bytes)
 stays held before bytes old same alike is =
     subst (λ (l : List ℕ). IsWordOfSlot held (number_of l)) (sym alike)
     (subst (λ (p : Option PointerParts). IsWordOfSlot p (number_of old)) (sym same) is)
 
--- of so many bytes from an offset on none lies in a slot, or one does: the first of them, or the slot's first
+-- either no byte of a range lies in a slot, or one does: the first of the range, or the slot's first
 
 abbrev IsTouched : ℕ → ℕ → ℕ → Type 0
 IsTouched slot at count = (i : ℕ) × (at ≤ i) × (i < at + count) × (i / SLOT_LENGTH ≡ slot)
@@ -60,7 +60,7 @@ apart_or_touched slot at (suc more) =
           ]
     ]
 
--- bytes that are written: a slot that has one of them holds no pointer anymore, and the others keep theirs and their bytes
+-- bytes that are written: a slot with one of them no longer holds a pointer, and the other slots keep their pointers and their bytes
 pub overwrite-stands : (slots : List (Option PointerParts)) (bytes new : List ℕ) (at : ℕ) → length bytes ≡ SLOT_LENGTH * length slots
     → at + length new ≤ length bytes → SlotsStandFor slots bytes
     → SlotsStandFor (overwrite_slots None slots at (length new)) (write bytes at new)
@@ -77,7 +77,7 @@ overwrite-stands slots bytes new at long within stand slot =
           ]
     ]
 
--- a word that is written into a slot
+-- a word written into a slot
 
 number_of-map : (bytes : List ℕ) → frame.number_of (map Byte bytes) ≡ Some (number_of bytes)
 number_of-map [] = refl
@@ -100,7 +100,7 @@ slot_written bytes slot word within =
     ap (λ (l : List ℕ). take SLOT_LENGTH (drop at l)) (append_assoc (take at bytes) low rest)
     ∙ ap (take SLOT_LENGTH) (drop_at (take at bytes) (low ++ rest) at (length-take-le at bytes (omega arith)))
 
--- a pointer that is kept: the word of its slot stands for it, and the other slots keep theirs and their bytes
+-- a stored pointer: the word of its slot represents it, and the other slots keep their pointers and their bytes
 
 module _ (slots : List (Option PointerParts)) (bytes : List ℕ) (kept : ℕ) (pointer : PointerParts) (word : ℕ)
     (within : SLOT_LENGTH * kept + SLOT_LENGTH ≤ length bytes) where

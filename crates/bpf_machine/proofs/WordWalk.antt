@@ -1,4 +1,4 @@
--- One instruction on words: where it passes its checks, what it leads to on words holds what it leads to.
+-- One instruction on words: if it passes its checks, its result on words holds its result.
 use Rattle.std.proofs.Common.{◌≡◌, ℕ, ◌+◌, ℤ, pos, ◌+ℤ◌, Bool, true, false, IsTrue, List, is_some}
 use Rattle.std.proofs.Common.{nat_lt, Result, Ok, Err, if◌then◌else◌, refl, sym, ap, subst, arith}
 use Rattle.std.specs.Prelude.{FitsSigned}
@@ -102,7 +102,7 @@ swapped_held order width n word is =
           (byte_swap-admits order width (single n) n proper (single-admits n)),
     )
 
--- a register is written
+-- a register is set
 
 register_held : (segment : Contents) (state : State) (words : Words) → Holds state words
     → (destination : WritableRegister) (v : Value) (word : ℕ) → IsWordOf v word
@@ -157,7 +157,7 @@ module _ (code : List Insn) (segment : Contents) (state : State) where
       subst (λ (z : ℤ). Sound (HoldsEffect code segment state) (effect.go_to code z) (Ok (Goes words at))) (sym leads)
       (goes_on_held (place_of code at) at Nothing words refl holds)
 
-  -- words that hold the state, and where the instruction there goes on and jumps
+  -- words that hold the state, the entry of the next instruction, and the entry that the instruction jumps to
   module _ (words : Words) (holds : Holds state words) (next next_at target : ℕ) (same : next ≡ place_of code next_at) where
     branch_held : (jump : ConditionalJump) → pos (state.place + 1) +ℤ jump.distance ≡ pos (place_of code target) → (v w : Value) (m n : ℕ)
         → IsWordOf v m → IsWordOf w n

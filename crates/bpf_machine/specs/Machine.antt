@@ -1,4 +1,4 @@
--- Steps of the bare machine, against those of what a code means: it holds the words of a state to which some run comes.
+-- Steps of the bare machine, compared with the meaning of a code: the machine holds the words of a state that some run reaches.
 use Rattle.std.specs.Prelude.{◌≡◌, List, Option, Some, None}
 use Rattle.bpf_insn.specs.Code.{place_of}
 use Rattle.bpf_insn.specs.declared.instruction.Insn.{Insn}
@@ -15,19 +15,19 @@ pub record HoldsState (code : List Insn) (state : State) (bare : Bare) : Type 0 
   pub at : state.place ≡ place_of code bare.at
   pub words : Holds state (words_of bare)
 
--- some run of a code on a segment comes to a state
+-- some run of a code on a segment reaches a state
 pub record IsReached (code : List Insn) (segment : Contents) (state : State) : Type 0 where
   pub run : List Configuration
   pub is_run : IsRun code segment run
   pub ends : end_of run ≡ Running state
 
--- the machine holds a state to which some run of the code on the segment comes
+-- the machine holds a state that some run of the code on the segment reaches
 pub record IsOnItsWay (code : List Insn) (segment : Contents) (bare : Bare) : Type 0 where
   pub state : State
   pub reached : IsReached code segment state
   pub holds : HoldsState code state bare
 
--- a step does what the next configuration says: it holds the next state, or answers at the end, and then leaves the machine as it was
+-- a step agrees with the next configuration: it goes on with its state, or ends with its answer and leaves the machine unchanged
 abbrev pub Does : List Insn → Configuration → Option Answer → Bare → Bare → Type 0
 Does code (Running state) None old new = HoldsState code state new
 Does code (Exited r0 score) (Some answer) old new = (answer.r0 ≡ r0) × (answer.score ≡ score) × (new ≡ old)

@@ -1,6 +1,6 @@
--- A machine over bare words: registers 0 to 10 (RFC 9669, section 3.1), of 64 bits each, and a frame of plain bytes. A word
--- doesn't tell whether it stands for a number or for a pointer, nor a byte whether it was written. So nothing is checked here but that
--- bytes lie within their area: the words are right where the checks of what an instruction means pass.
+-- A machine over bare words: registers 0 to 10 (RFC 9669, section 3.1), of 64 bits each, and a frame of plain bytes. A word doesn't show whether it
+-- represents a number or a pointer, nor a byte whether it was written. So the machine only checks that bytes lie within their area: its words are
+-- right if the checks of the instruction's meaning pass.
 use Rattle.std.specs.Prelude.{◌≡◌, ℕ, ◌+◌, ◌*◌, ◌^◌, ◌<◌, ℤ, ◌+ℤ◌, unsigned_abs, IsTrue, List, [], ◌∷◌, length, take, drop, get_or, slice_set, Option, Some, None, IfSome, Result, Ok, Err, if◌then◌else◌}
 use Rattle.std.specs.Int.{bytes_low_first, cast_signed, cast_unsigned, w32, w64}
 use Rattle.tl_segments.specs.Segment.{Contents}
@@ -41,7 +41,7 @@ pub record Words : Type 0 where
   pub frame : List ℕ
   pub score : ℕ
 
--- what an instruction leads to: words at an entry, or the end with an answer
+-- the result of an instruction: words at an entry, or the end with an answer
 pub data Next : Type 0 where
   Goes : (words : Words) (at : ℕ) → Next
   Ends : (answer score : ℕ) → Next
@@ -54,24 +54,24 @@ words_of bare = record { registers = bare.registers.words; frame = bare.frame; s
 abbrev pub word_in : Words → ℕ → ℕ
 word_in words register = get_or words.registers register 0
 
--- the same with a register written
+-- words with a register set
 abbrev pub with_word : Words → ℕ → ℕ → Words
 with_word words register word = record words { registers = slice_set words.registers register word }
 
--- the pointer into an area that a word stands for
+-- the pointer into an area that a word represents
 abbrev pub pointer_of : Area → ℕ → PointerParts
 pointer_of area word = record { area = area; offset = cast_signed w64 word }
 
--- the end with the words
+-- the end of a program with these words
 abbrev pub end_of : Words → Next
 end_of words = Ends (word_in words 0) words.score
 
--- where an instruction has led to, with the words behind it: to an entry, or to the end
+-- the result of an instruction, with the words after it: at an entry, or at the end
 abbrev pub next_of : Option ℕ → Words → Next
 next_of (Some at) words = Goes words at
 next_of None words = end_of words
 
--- what registers hold, where they hold words and point into these areas: each word will do, and is its own number
+-- the registers as words that point into these areas: every word can be read, and is its own number
 abbrev pub word_registers : (ℕ → Area) → Words → Registers
 word_registers areas words = record {
   Value = ℕ;
@@ -91,7 +91,7 @@ word_registers areas words = record {
   operate = λ operation width x y. Ok (result_of operation width x y);
 }
 
--- the little-endian number of bytes
+-- the little-endian number that bytes represent
 abbrev pub number_of : List ℕ → ℕ
 number_of [] = 0
 number_of (byte ∷ bytes) = byte + 256 * number_of bytes
@@ -113,7 +113,7 @@ abbrev pub load_bytes : LoadFormat → List ℕ → ℤ → Result ℕ Cause
 load_bytes format bytes from =
     if lie_within from (load_length format) (length bytes) then Ok (loaded format bytes (unsigned_abs from)) else Err OutOfBounds
 
--- the low bytes of a number stored in the frame from an offset on, the lowest first
+-- the low bytes of a number stored in the frame from an offset on, lowest first
 abbrev pub stored : Words → ℕ → StoreSize → ℕ → Words
 stored words at size number = record words { frame = write words.frame at (bytes_low_first 0 (store_length size) number) }
 
@@ -121,21 +121,22 @@ abbrev pub store_at : Words → ℤ → StoreSize → ℕ → Result Words Cause
 store_at words from size number =
     if lie_within from (store_length size) FRAME_LENGTH then Ok (stored words (unsigned_abs from) size number) else Err OutOfBounds
 
--- an argument, which the register of its number holds; one that isn't used is 0
+-- an argument, in the register of its number; an unused one is 0
 abbrev pub argument_word : Words → ℕ → Argument → ℕ
 argument_word words number argument.Unused = 0
 argument_word words number wanted = word_in words number
 
--- the arguments that a prototype wants, in their order
+-- the arguments that a prototype requires, in order
 abbrev pub argument_words : Words → List Argument → List ℕ
 argument_words words wanted =
     argument_word words 1 (get_or wanted 0 argument.Unused) ∷ argument_word words 2 (get_or wanted 1 argument.Unused) ∷ argument_word words 3 (get_or wanted 2 argument.Unused) ∷ []
 
--- what a call with these arguments does on the segment, with what it reads of the frame
+-- what a call with these arguments does on the segment, with the bytes that it reads of the frame
 abbrev pub called : Contents → Words → Helper → List ℕ → Called
 called segment words helper arguments = call helper segment arguments (bytes_read (frame_use (signature helper).shape) arguments words.frame) words.score
 
--- The words after a call whose bytes are written at a place. Only register 0 is written: the others that a call empties may hold anything.
+-- The words after a call whose bytes are written from an offset on. Only register 0 is set: the other registers that a call empties may hold
+-- anything.
 abbrev pub words_after : Words → ℕ → Called → Words
 words_after words at called = record {
   registers = slice_set words.registers 0 called.answer;
@@ -148,14 +149,14 @@ abbrev pub call_helper : Contents → Words → Helper → Words
 call_helper segment words helper =
     let arguments = argument_words words (signature helper).arguments in words_after words (second arguments) (called segment words helper arguments)
 
--- the arguments of a call are what the prototype of its helper function wants, if there is one
+-- the arguments of a call meet the prototype of its helper function, if there is one
 abbrev pub MeetsCall : Words → Insn → Type 0
 MeetsCall words (Call immediate) =
     IfSome (by_number (cast_unsigned w32 immediate)) (λ helper. MeetsSignature helper (argument_words words (signature helper).arguments))
 MeetsCall words insn = Unit {0}
 
--- What an instruction sees and can do where registers hold words, with the areas that they point into, the entry of the next instruction, and
--- the entry where it jumps, if it jumps: an entry is an instruction's index.
+-- What an instruction sees and can do if registers hold words, with the areas that they point into, the entry of the next instruction, and the
+-- entry that it jumps to, if it jumps. An entry is an instruction's index.
 abbrev pub bare_words : Contents → (ℕ → Area) → Words → ℕ → ℕ → Domain
 bare_words segment areas words next target = record {
   registers = word_registers areas words;
@@ -173,22 +174,22 @@ bare_words segment areas words next target = record {
   end = λ answer. Ok (Ends answer words.score);
 }
 
--- what an instruction leads to on bare words; nothing fails but an access outside of an area, and a call of a number that no helper has
+-- the result of an instruction on bare words; it fails only if it accesses memory outside an area, or calls a number that no helper has
 unfoldable pub next_words : Contents → (ℕ → Area) → Words → ℕ → ℕ → Insn → Result Next Cause
 next_words segment areas words next target insn = walk (bare_words segment areas words next target) insn
 
--- A word stands for a value: for a number of 64 bits, or for a pointer by its offset in two's complement. Where there is no value, any will do.
+-- A word represents a value: a number of 64 bits, or a pointer by its offset in two's complement. If there is no value, any word will do.
 abbrev pub IsWordOf : Value → ℕ → Type 0
 IsWordOf Empty word = Unit {0}
 IsWordOf (Number n) word = (word ≡ n) × (n < 2 ^ 64)
 IsWordOf (Pointer pointer) word = (word ≡ cast_unsigned w64 pointer.offset) × IsTrue (is_offset pointer.offset)
 
--- a byte stands for a byte of a frame: for the one that is written, and where none is, any will do
+-- a byte represents a byte of a frame: the one that is written, or any if none is
 abbrev pub IsByteOf : FrameByte → ℕ → Type 0
 IsByteOf Unwritten byte = Unit {0}
 IsByteOf (Byte written) byte = byte ≡ written
 
--- a word stands for the pointer that a slot holds, by its offset in two's complement; where it holds none, any will do
+-- a word represents the pointer in a slot, by its offset in two's complement; if there is none, any word will do
 abbrev pub IsWordOfSlot : Option PointerParts → ℕ → Type 0
 IsWordOfSlot None word = Unit {0}
 IsWordOfSlot (Some pointer) word = IsWordOf (Pointer pointer) word
@@ -202,17 +203,18 @@ pub record Holds (state : State) (words : Words) : Type 0 where
   pub slots : (slot : ℕ) → IsWordOfSlot (slot_pointer state.frame slot) (number_of (slot_bytes words.frame slot))
   pub score : words.score ≡ state.score
 
--- what words lead to holds a configuration: words at the entry of its place hold its state, or the end has its answer and its score
+-- a result holds a configuration: its words are at the entry of the state's place and hold the state, or it is the end with the same answer and
+-- score
 abbrev pub HoldsNext : List Insn → Configuration → Next → Type 0
 HoldsNext code (Running state) (Goes words at) = (state.place ≡ place_of code at) × Holds state words
 HoldsNext code (Exited answer score) (Ends word word_score) = (word ≡ answer) × (word_score ≡ score)
 HoldsNext code configuration next = ⊥
 
--- what words lead to holds what an effect leads to
+-- a result holds what an effect leads to
 abbrev pub HoldsEffect : List Insn → Contents → State → Effect → Next → Type 0
 HoldsEffect code segment state effect next = HoldsNext code (apply segment state effect) next
 
--- a value points into an area, if it's a pointer
+-- a value points into this area, if it's a pointer
 abbrev pub PointsOnlyInto : Value → Area → Type 0
 PointsOnlyInto (Pointer pointer) area = area ≡ pointer.area
 PointsOnlyInto value area = Unit {0}

@@ -1,4 +1,4 @@
-//! The state of a bare machine, and what an instruction does to it.
+//! The state of a bare machine, and what each instruction does to it.
 ghost use Rattle.std.specs.Prelude.{◌≡◌, ◌≤◌, ◌≤ℤ◌, ◌+◌, ℕ, pos, List, length, Ok, IsOk, unsigned_abs};
 ghost use Rattle.std.specs.Int.{bytes_low_first};
 ghost use Rattle.tl_segments.specs.Segment.{Contents};
@@ -26,36 +26,36 @@ use byteorder::{ByteOrder as _, LittleEndian};
 use std::alloc::Allocator;
 use tl_segments::Segment;
 
-/// What a program ends with on a segment.
+/// The result of a program on a segment.
 #[derive(Clone, Copy)]
 pub struct Answer {
-    /// Register 0 at the end: 0 where the segment isn't chosen.
+    /// Register 0 at the end: 0 if the segment isn't selected.
     pub r0: u64,
-    /// The score that the program gave the segment, 0 where it gave none.
+    /// The score that the program gave the segment, or 0 if it gave none.
     pub score: u64,
 }
 
-/// Registers 0 to 10 (RFC 9669, section 3.1), each of which holds a number, or a pointer as its offset in two's complement.
+/// Registers 0 to 10 (RFC 9669, section 3.1). Each holds a number, or a pointer as its offset in two's complement.
 #[derive(Clone, Copy)]
 pub struct Registers {
     pub words: [u64; REGISTERS],
 }
 
-/// A program on its way, as bare words.
+/// A running program, as bare words.
 #[derive(Drop)]
 pub struct Bare {
-    /// The entry of the next instruction: its index, from 0.
+    /// The index of the next instruction's entry, from 0.
     pub at: usize,
     pub registers: Registers,
     /// The program's own memory, by offset from 0.
     pub frame: [u8; FRAME_LENGTH],
-    /// The score that the segment's row gets if the program chooses it.
+    /// The score of the segment's row if the program selects the segment.
     pub score: u64,
 }
 
 impl Bare {
-    /// The machine with which a program starts, the same on every segment: register 1 points to the record's first byte, register 10 behind the
-    /// frame's last. What else it holds is read by no program before it's written.
+    /// Returns the machine at the start of a program, which is the same on every segment: register 1 points to the record's first byte, register 10
+    /// past the end of the frame. No program reads the rest before writing it.
     pub fn start() -> Self
         ensures entry { result.at ≡ 0 }
         ensures words { Holds start (words_of result) }
@@ -73,7 +73,7 @@ impl Bare {
         bare
     }
 
-    /// Makes of it a machine with which a program starts, whatever it held.
+    /// Resets the machine to the start of a program, whatever it held.
     pub(crate) fn restart(&mut self)
         ensures entry { self.new.at ≡ 0 }
         ensures words { Holds start (words_of self.new) }
@@ -84,7 +84,7 @@ impl Bare {
         self.score = 0;
     }
 
-    /// The word in a register.
+    /// Returns the word in a register.
     #[inline(always)]
     fn word(&self, register: u8) -> u64
         requires { register ≤ 10 }
@@ -93,7 +93,7 @@ impl Bare {
         self.registers.words[usize::from(register)]
     }
 
-    /// Writes a register.
+    /// Sets a register.
     #[inline(always)]
     fn set(&mut self, destination: WritableRegister, word: u64)
         ensures { words_of self.new ≡ with_word (words_of self.old) destination.number word }
@@ -101,7 +101,7 @@ impl Bare {
         self.registers.words[usize::from(destination.number)] = word;
     }
 
-    /// An operation with an immediate as the second operand (RFC 9669, section 4.1).
+    /// Applies an operation with an immediate as the second operand (RFC 9669, section 4.1).
     #[inline(always)]
     #[tactic(auto, unfolding(crate::specs::Words::next_words))]
     pub(crate) fn alu_immediate(
@@ -120,7 +120,7 @@ impl Bare {
         next
     }
 
-    /// An operation with a register as the second operand.
+    /// Applies an operation with a register as the second operand.
     #[inline(always)]
     #[tactic(auto, unfolding(crate::specs::Words::next_words))]
     pub(crate) fn alu_register(
@@ -139,7 +139,7 @@ impl Bare {
         next
     }
 
-    /// A move that extends a sign.
+    /// Moves a register with sign extension.
     #[inline(always)]
     #[tactic(auto, unfolding(crate::specs::Words::next_words))]
     pub(crate) fn extend(
@@ -156,7 +156,7 @@ impl Bare {
         next
     }
 
-    /// A register's negative.
+    /// Negates a register.
     #[inline(always)]
     #[tactic(auto, unfolding(crate::specs::Words::next_words))]
     pub(crate) fn negate(
@@ -173,7 +173,7 @@ impl Bare {
         next
     }
 
-    /// A register's bytes in another order (section 4.2).
+    /// Changes the byte order of a register (section 4.2).
     #[inline(always)]
     #[tactic(auto, unfolding(crate::specs::Words::next_words))]
     pub(crate) fn byte_swap(
@@ -191,7 +191,7 @@ impl Bare {
         next
     }
 
-    /// A number of 64 bits (section 5.4).
+    /// Loads a 64-bit immediate (section 5.4).
     #[inline(always)]
     #[tactic(auto, unfolding(crate::specs::Words::next_words))]
     pub(crate) fn wide_load(
@@ -209,7 +209,7 @@ impl Bare {
         next
     }
 
-    /// A conditional jump that compares with an immediate (section 4.3).
+    /// Evaluates a conditional jump that compares with an immediate (section 4.3), and returns the next entry.
     #[inline(always)]
     #[tactic(auto, unfolding(crate::specs::Words::next_words))]
     pub(crate) fn jump_immediate(
@@ -230,7 +230,7 @@ impl Bare {
         next
     }
 
-    /// A conditional jump that compares with a register.
+    /// Evaluates a conditional jump that compares with a register, and returns the next entry.
     #[inline(always)]
     #[tactic(auto, unfolding(crate::specs::Words::next_words))]
     pub(crate) fn jump_register(
@@ -251,7 +251,7 @@ impl Bare {
         next
     }
 
-    /// What the program ends with, at its end.
+    /// Returns the program's result, at its end.
     #[inline(always)]
     pub(crate) fn answer(&self) -> Answer
         ensures { Ends result.r0 result.score ≡ end_of (words_of self.now) }
@@ -262,7 +262,7 @@ impl Bare {
         }
     }
 
-    /// A load from the record (sections 5.1 and 5.2).
+    /// Loads a register from the record (sections 5.1 and 5.2).
     #[inline(always)]
     #[tactic(auto, unfolding(crate::specs::Words::next_words))]
     pub(crate) fn load_record<A: Allocator>(
@@ -282,7 +282,7 @@ impl Bare {
         next
     }
 
-    /// A load from the frame.
+    /// Loads a register from the frame.
     #[inline(always)]
     #[tactic(auto, unfolding(crate::specs::Words::next_words))]
     pub(crate) fn load_frame<A: Allocator>(
@@ -301,7 +301,7 @@ impl Bare {
         next
     }
 
-    /// A store of an immediate in the frame (section 5.1).
+    /// Stores an immediate in the frame (section 5.1).
     #[inline(always)]
     #[tactic(auto, unfolding(crate::specs::Words::next_words))]
     pub(crate) fn store_immediate<A: Allocator>(
@@ -325,7 +325,7 @@ impl Bare {
         next
     }
 
-    /// A store of a register in the frame.
+    /// Stores a register in the frame.
     #[inline(always)]
     #[tactic(auto, unfolding(crate::specs::Words::next_words))]
     pub(crate) fn store_register<A: Allocator>(
@@ -345,7 +345,7 @@ impl Bare {
         next
     }
 
-    /// Where a base register plus an offset points, within an area.
+    /// Returns the offset within an area that a base register plus an offset points to.
     #[inline(always)]
     fn address(&self, base: Register, offset: i16) -> usize
         requires from_start { pos 0 ≤ℤ address (words_of self.now) base.number offset }
@@ -355,7 +355,7 @@ impl Bare {
         (self.word(base.number).cast_signed() + i64::from(offset)) as usize
     }
 
-    /// A call by the number of a helper function.
+    /// Calls a helper function by its number.
     #[cold]
     #[inline(never)]
     #[tactic(auto, unfolding(crate::specs::Words::next_words))]
@@ -377,8 +377,7 @@ impl Bare {
         next
     }
 
-    /// Calls a helper function with the words in registers 1 to 3. Of the registers only register 0 is written: what a call leaves in
-    /// registers 1 to 5 is never read.
+    /// Calls a helper function with the words in registers 1 to 3. Sets only register 0: whatever a call leaves in registers 1 to 5 is never read.
     fn call<A: Allocator>(&mut self, segment: &Segment<A>, helper: Helper)
         requires { MeetsSignature helper (argument_words (words_of self.old) (signature helper).arguments) }
         ensures { words_of self.new ≡ call_helper segment.now (words_of self.old) helper }
@@ -398,7 +397,7 @@ impl Bare {
         );
     }
 
-    /// The argument with a number, counted from 1. One that isn't used isn't read.
+    /// Returns an argument, numbered from 1. An unused argument isn't read.
     fn argument(&self, number: u8, wanted: Argument) -> u64
         requires { number ≤ 10 }
         ensures { result ≡ argument_word (words_of self.now) number wanted }
@@ -410,7 +409,7 @@ impl Bare {
     }
 }
 
-/// What a load gives from an offset on.
+/// Loads a number from the bytes at an offset.
 #[inline(always)]
 #[tactic(auto, using(crate::proofs::LoadLemmas::one_byte, crate::proofs::LoadLemmas::some_bytes))]
 fn load_number(bytes: &[u8], format: LoadFormat, at: usize) -> u64
@@ -429,7 +428,7 @@ fn load_number(bytes: &[u8], format: LoadFormat, at: usize) -> u64
     }
 }
 
-/// Writes the low bytes of a number from an offset on, the lowest first.
+/// Writes the low bytes of a number at an offset, lowest first.
 #[inline(always)]
 fn store_number(frame: &mut [u8; FRAME_LENGTH], size: StoreSize, at: usize, number: u64)
     requires { at + store_length size ≤ FRAME_LENGTH }

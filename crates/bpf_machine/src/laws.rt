@@ -1,4 +1,4 @@
-//! What holds of the definitions themselves. The functions do nothing: each one's contract is the law.
+//! Laws of the definitions themselves. The functions do nothing: each contract is a law.
 ghost use Rattle.std.specs.Prelude.{◌≡◌, ℕ, List};
 ghost use Rattle.bpf_insn.specs.Code.{place_of};
 ghost use Rattle.bpf_insn.specs.declared.instruction.Insn.{Insn};
@@ -12,8 +12,8 @@ ghost use Rattle.bpf_meaning.specs.State.{HoldsBytes, IsWhole};
 ghost use Rattle.bpf_meaning.specs.declared.state.State.{State};
 ghost use Rattle.bpf_machine.specs.Words.{HasAreas, Holds, HoldsEffect, Words, next_words};
 
-/// The words are held: where words hold a state, and an instruction passes all its checks there, what it leads to on bare words holds what it
-/// leads to, at the entry of the place where it goes on.
+/// The words are held: if words hold a state, and an instruction passes all its checks there, then what the instruction leads to on bare words
+/// holds what it leads to from the state, at the entry of the place where it goes on.
 pub fn words_are_held()
     ensures { (code : List Insn) (segment : Contents) (state : State) (areas : ℕ → Area) (words : Words) (insn : Insn) (next at target : ℕ)
         → IsSegment segment → IsWhole state → HoldsBytes state → HasImmediates insn → HasAreas state areas → Holds state words

@@ -11,7 +11,7 @@ use bpf_verify::Verified;
 use std::alloc::Allocator;
 use tl_segments::Segment;
 
-/// Carries out the instruction at the machine's entry. Nothing is tested that the verifier established.
+/// Executes the instruction at the machine's entry, and returns the answer if the program ends there. Doesn't repeat the verifier's checks.
 #[inline(always)]
 pub fn step<A: Allocator, B: Allocator>(
     verified: &Verified<A>,
@@ -24,7 +24,7 @@ pub fn step<A: Allocator, B: Allocator>(
     ensures goes_on { result ≡ None → IsOnItsWay verified.now.code segment.now bare.new }
 {
     let flat_forms = verified.flat_forms();
-    // Not read: that the segment is whole is what a safe code needs.
+    // Never read: the call only shows that the segment is whole, which a safe code requires.
     let _bytes = segment.bytes();
     let at = bare.at;
     match execute(bare, segment, &flat_forms[at], at + 1) {
@@ -36,15 +36,14 @@ pub fn step<A: Allocator, B: Allocator>(
     }
 }
 
-/// The answer of a verified program on a segment, whatever the segment. It takes no memory, and at most as many steps as the program has
-/// instructions.
+/// Returns the answer of a verified program on a segment. Allocates nothing, and takes no more steps than the program has instructions.
 pub fn run<A: Allocator, B: Allocator>(verified: &Verified<A>, segment: &Segment<B>) -> Answer
     ensures { Answers verified.now.code segment.now result.r0 result.score }
 {
     run_in(&mut Bare::start(), verified, segment)
 }
 
-/// The same in a machine that is used again, whatever it holds: nothing is cleared but what a program may read before it writes it.
+/// Returns the answer of [`run`], reusing a machine whatever it holds. Clears only what a program may read before writing it.
 pub fn run_in<A: Allocator, B: Allocator>(
     bare: &mut Bare,
     verified: &Verified<A>,

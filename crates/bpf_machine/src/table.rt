@@ -1,4 +1,4 @@
-//! One instruction on bare words: a row for each flat form.
+//! One instruction on bare words: one row per flat form.
 ghost use Rattle.std.specs.Prelude.{◌≡◌, None, Ok, IsOk};
 ghost use Rattle.bpf_flat.specs.Flat.{area_of, insn_of, target_of};
 ghost use Rattle.bpf_machine.specs.Words.{MeetsCall, next_of, next_words, words_of};
@@ -10,7 +10,7 @@ use bpf_insn::{ByteOrder, Condition, LoadFormat, Operation, SignExtension, Store
 use std::alloc::Allocator;
 use tl_segments::Segment;
 
-/// Writes the match over the flat forms.
+/// Expands to the match over the flat forms.
 macro_rules! dispatch {
     (
         ($flat:expr, $bare:ident, $segment:ident, $next:ident)
@@ -60,8 +60,8 @@ macro_rules! dispatch {
     };
 }
 
-/// Carries out an instruction, and answers where it leads: `next`, the entry behind it, or the entry that it jumps to; None at the end of the
-/// program.
+/// Executes an instruction and returns the entry that it leads to: `next`, the entry after it, or the entry that it jumps to. Returns `None` at the
+/// end of the program.
 #[inline(always)]
 #[tactic(auto, unfolding(bpf_flat::specs::Flat::parts_of))]
 pub(crate) fn execute<A: Allocator>(
