@@ -1,4 +1,4 @@
--- Calls of helper functions: what holds once their checks have passed, and what they leave of the frame.
+-- Calls of helper functions: what holds if their checks pass, and how they change the frame.
 use Rattle.std.proofs.Common.{◌≡◌, ltb, ℕ, zero, suc, ◌+◌, ◌≤◌, ◌^◌, inl, inr, pos, Bool, true, false, ◌⊎◌, List, [], ◌∷◌, map, length}
 use Rattle.std.proofs.Common.{get_or, Option, Some, None, Result, Ok, Err, if◌then◌else◌, refl, sym, ◌∙◌, subst, arith}
 use Rattle.std.specs.Prelude.{IsTrue}
@@ -37,7 +37,7 @@ use Rattle.bpf_meaning.specs.declared.state.State.{State}
 use Rattle.bpf_meaning.proofs.FrameLemmas.{HoldBytes, bytes-map, bytes-write}
 use Rattle.bpf_meaning.proofs.SlotLemmas.{PointersApart, apart-write_bytes, length-overwrite_slots}
 
--- a fact of what the checks give, if they pass
+-- a fact about the result of checks, if they pass
 
 abbrev pub IfPasses : {A : Type 0} → (A → Type 0) → Result A Cause → Type 0
 IfPasses P (Ok x) = P x
@@ -48,13 +48,13 @@ pub then_passes : {A B : Type 0} (P : B → Type 0) (result : Result A Cause) (f
 then_passes P (Ok x) f all = all x
 then_passes P (Err cause) f all = tt
 
--- the same where the first checks say something, too
+-- the same, if the first checks also establish a fact
 pub then_keeps : {A B : Type 0} (P : A → Type 0) (Q : B → Type 0) (result : Result A Cause) (f : A → Result B Cause) → IfPasses P result
     → ((x : A) → P x → IfPasses Q (f x)) → IfPasses Q (result >>= f)
 then_keeps P Q (Ok x) f one all = all x one
 then_keeps P Q (Err cause) f one all = tt
 
--- an argument that was checked is what the prototype wants
+-- an argument that was checked meets the prototype
 
 allowed_admits : (x : Interval) (n : ℕ) → is_allowed x n ≡ true → Admits x n
 allowed_admits x n is = record { above = grind (arith, nat_tests); below = grind (arith, nat_tests) }
@@ -79,7 +79,7 @@ argument_meets state number argument.Frame = then_passes (Meets argument.Frame) 
 argument_meets state number (argument.Number allowed) = then_passes (Meets (argument.Number allowed)) (read state number) _
     (word_meets number (argument.Number allowed))
 
--- arguments are what is wanted of each
+-- each argument meets its requirement
 pub record AreMet (wanted : List Argument) (arguments : List ℕ) : Type 0 where
   pub count : length arguments ≡ 3
   pub each : (at : ℕ) → Meets (get_or wanted at argument.Unused) (get_or arguments at 0)
@@ -100,7 +100,7 @@ arguments_met state a b c =
     then_keeps (Meets c) _ (argument_in state 3 c) _ (argument_meets state 3 c) (λ z three.
     three_met one two three)))
 
--- bytes that are lent lie within the frame, and those that are read are written
+-- lent bytes lie within the frame, and those that are read are written
 
 pub word_inside : (at count bytes : ℕ) → lie_within (cast_signed w64 at) count bytes ≡ true → at + count ≤ bytes
 word_inside at count bytes inside =
@@ -115,7 +115,7 @@ word_inside at count bytes inside =
     negative_outside : 2 ^ 63 ≤ at → lie_within (cast_signed w64 at) count bytes ≡ false
     negative_outside above = let test : ltb at (2 ^ 63) ≡ false = grind (arith, nat_tests) in rw test refl
 
--- what a call takes, once it's checked
+-- the arguments of a call whose checks passed
 pub record IsLent (state : State) (wanted : List Argument) (frame : FrameUse) (arguments : List ℕ) : Type 0 where
   pub met : AreMet wanted arguments
   pub within : LieWithin frame arguments
@@ -147,7 +147,7 @@ frame_lent state wanted frame_use.Reads arguments met =
     then_keeps (IsLent state wanted frame_use.Writes) _ (lend_bytes arguments) _ (bytes_lent state wanted arguments met)
     (written_lent state wanted)
 
--- so a call whose checks have passed can be made
+-- so a call whose checks passed can be made
 
 abbrev wanted : Helper → ℕ → Argument
 wanted helper at = get_or (signature helper).arguments at argument.Unused
@@ -175,7 +175,7 @@ pub called_can_be_made : (state : State) (found : Option Helper) → IfPasses (C
 called_can_be_made state None = tt
 called_can_be_made state (Some helper) = call_can_be_made state helper
 
--- what a call writes lies within the frame, if it writes anything
+-- what a call writes, if anything, lies within the frame
 
 short_bytes : (count : ℕ) (name : Option (List ℕ)) → length (first_bytes count name) ≤ count
 short_bytes count None = let long : length (first_bytes count None) ≡ count = length-replicate count 32 in omega arith
@@ -200,7 +200,7 @@ abbrev pub frame_after : Contents → State → Helper → List ℕ → List Fra
 frame_after segment state helper arguments = write state.frame.bytes (second arguments)
     (map Byte (called segment state helper arguments).written)
 
--- a frame after a call has a fact that the one before has, if it keeps it where bytes are written within it
+-- a fact about a frame still holds after a call, if writing bytes within the frame preserves it
 after_call : (P : FrameContents → Type 0) (segment : Contents) (state : State) (helper : Helper) (arguments : List ℕ)
     → CanBeCalled state helper arguments → P state.frame
     → ((at : ℕ) (bytes : List ℕ) → at + length bytes ≤ FRAME_LENGTH → P (write_bytes state.frame at bytes))
@@ -228,7 +228,7 @@ length-slots_after segment state helper arguments can long =
     after_call (λ frame. length frame.slots ≡ SLOTS) segment state helper arguments can long
     (λ at bytes within. length-overwrite_slots None state.frame.slots at (length bytes) (omega arith) ∙ long)
 
--- where pointers stood apart from written bytes, they do after a call
+-- if pointers are kept apart from written bytes, they are so after a call
 pub apart-frame_after : (segment : Contents) (state : State) (helper : Helper) (arguments : List ℕ) → CanBeCalled state helper arguments
     → length state.frame.bytes ≡ FRAME_LENGTH → length state.frame.slots ≡ SLOTS → PointersApart state.frame
     → PointersApart (state_after state (second arguments) (called segment state helper arguments)).frame
@@ -236,7 +236,7 @@ apart-frame_after segment state helper arguments can whole long apart =
     after_call PointersApart segment state helper arguments can apart
     (λ at bytes within. apart-write_bytes state.frame at bytes (omega arith) (omega arith) apart)
 
--- where it held bytes, it does after a call
+-- if the frame holds bytes, it does so after a call
 pub bytes-frame_after : (segment : Contents) (state : State) (helper : Helper) (arguments : List ℕ) → IsSegment segment
     → CanBeCalled state helper arguments → HoldBytes state.frame.bytes → HoldBytes (frame_after segment state helper arguments)
 bytes-frame_after segment state helper arguments is can all =

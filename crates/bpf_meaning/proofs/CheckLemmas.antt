@@ -4,7 +4,7 @@ use Rattle.std.proofs.lemmas.Bool.{false≢true}
 use Rattle.bpf_meaning.specs.Checks.{◌>>=◌, Sound}
 use Rattle.bpf_meaning.specs.declared.cause.Cause.{Cause}
 
--- one check after the other
+-- checks in sequence
 pub then_sound : {A B C D : Type 0} (First : A → B → Type 0) (Second : C → D → Type 0) (checks : Result A Cause) (others : Result B Cause)
     (f : A → Result C Cause) (g : B → Result D Cause) → Sound First checks others → ((x : A) (y : B) → First x y → Sound Second (f x) (g y))
     → Sound Second (checks >>= f) (others >>= g)
@@ -18,7 +18,7 @@ pub passes_if : {A B : Type 0} (Holds : A → B → Type 0) (checks : Result A C
 passes_if Holds checks others true cause holds sound = sound
 passes_if Holds checks others false cause holds sound = absurd (false≢true holds)
 
--- what holds of the parts of a fact
+-- weaker facts about the results
 pub weaker : {A B : Type 0} (First Second : A → B → Type 0) (checks : Result A Cause) (others : Result B Cause)
     → ((x : A) (y : B) → First x y → Second x y) → Sound First checks others → Sound Second checks others
 weaker First Second (Err cause) others all sound = tt

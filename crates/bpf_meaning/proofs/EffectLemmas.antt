@@ -1,4 +1,4 @@
--- What is so of each change that an instruction may make is so of its effect.
+-- What holds of each change that an instruction may make holds of its effect.
 use Rattle.std.proofs.Common.{◌≡◌, ℕ, ◌+◌, ℤ, pos, negsuc, ◌+ℤ◌, nat_lt, unsigned_abs, Bool, true, false, IsTrue, is_some, List, Option}
 use Rattle.std.proofs.Common.{Some, None, Result, Ok, Err, if◌then◌else◌, refl, sym, subst}
 use Rattle.std.specs.Int.{cast_unsigned, w32}
@@ -32,7 +32,7 @@ use Rattle.bpf_meaning.specs.declared.state.State.{State}
 use Rattle.bpf_meaning.proofs.CallLemmas.{IfPasses, then_passes, then_keeps}
 use Rattle.bpf_meaning.proofs.SlotLemmas.{store_pointer-none, store_pointer-slot}
 
--- an effect that goes on does so with such a change
+-- an effect that goes on has such a change
 abbrev pub GoesOnWith : (Change → Type 0) → Effect → Type 0
 GoesOnWith Such (GoOn change place) = Such change
 GoesOnWith Such (End answer) = Unit {0}
@@ -47,7 +47,7 @@ goes_on_with Such code place change such = by_test (is_some (instruction_at code
     by_test false true = tt
     by_test false false = tt
 
--- each change that an instruction may make is such a one
+-- each change that an instruction may make is such a change
 pub record AreSuch (state : State) (insn : Insn) (Such : Change → Type 0) : Type 0 where
   pub nothing : Such Nothing
   pub set : (register : WritableRegister) (value : Value) → Such (SetRegister register value)
@@ -58,7 +58,7 @@ pub record AreSuch (state : State) (insn : Insn) (Such : Change → Type 0) : Ty
       → Such (StorePointer slot pointer)
   pub call : (immediate : ℤ) → insn ≡ Call immediate → IfPasses Such (call_change state (by_number (cast_unsigned w32 immediate)))
 
--- a change is such a one where it's made behind a test that holds
+-- a change that is made only if a test holds is such a change
 tested : (Such : Change → Type 0) (change : Change) (cause : Cause) (test : Bool) → (IsTrue test → Such change)
     → IfPasses Such (if test then Ok change else Err cause)
 tested Such change cause true such = such refl

@@ -30,7 +30,7 @@ one_answers segment = record {
   exits = refl;
 }
 
--- so its extract of two segments has both rows, in order
+-- so its extract of two segments consists of both rows, in order
 two_rows : (first second : Contents) → IsExtract (move 1 ∷ Exit ∷ []) (first ∷ second ∷ []) (row_of 0 first ++ row_of 0 second) 2
 two_rows first second = (
   1,
@@ -43,7 +43,7 @@ two_rows first second = (
   (1, 0, [], 0, one_answers second, sym (append-nil (row_of 0 second)), refl, (refl, refl)),
 )
 
--- with 0 in place of 1 no segment is chosen
+-- with 0 in place of 1, no segment is selected
 zero_answers : (segment : Contents) → Answers (move 0 ∷ Exit ∷ []) segment 0 0
 unfolding after
 zero_answers segment = record {
@@ -55,12 +55,12 @@ zero_answers segment = record {
 no_row : (segment : Contents) → IsExtract (move 0 ∷ Exit ∷ []) (segment ∷ []) [] 0
 no_row segment = (0, 0, [], 0, zero_answers segment, refl, refl, (refl, refl))
 
--- without its end it is stuck where it leaves the code
+-- without its end, it is stuck at the end of the code
 leaves_code : (segment : Contents) → IsRun (move 1 ∷ []) segment (Stuck 0 OutOfProgram ∷ [])
 unfolding after
 leaves_code segment = (refl, tt)
 
--- an end alone answers with a register that holds nothing
+-- an end alone reads a register that holds nothing
 exit_alone : (segment : Contents) → IsRun (Exit ∷ []) segment (Stuck 0 (ReadsNothing 0) ∷ [])
 unfolding after
 exit_alone segment = (refl, tt)

@@ -1,4 +1,4 @@
--- Extracts of segments: one behind the other, and that there is only one.
+-- Extracts of segments: they can be concatenated, and there is only one.
 use Rattle.std.proofs.Common.{◌≡◌, ℕ, ◌+◌, List, [], ◌∷◌, ◌++◌, refl, sym, ap, subst, ◌∙◌, append_assoc, arith}
 use Rattle.std.proofs.lemmas.List.{append-nil}
 use Rattle.bpf_insn.specs.declared.instruction.Insn.{Insn}
@@ -8,7 +8,7 @@ use Rattle.bpf_meaning.specs.Run.{Answers}
 use Rattle.bpf_meaning.proofs.RunLemmas.{one_answer_lem}
 
 module _ (code : List Insn) where
-  -- the extract of segments, one after the other
+  -- the extract of two lists of segments, one after the other
   pub extract_append : (front back : List Contents) (text more : List ℕ) (rows others : ℕ) → IsExtract code front text rows
       → IsExtract code back more others → IsExtract code (front ++ back) (text ++ more) (rows + others)
   extract_append [] back text more rows others is next =
@@ -30,7 +30,7 @@ module _ (code : List Insn) where
   extract_of_one segment answer score answers =
       (answer, score, [], 0, answers, sym (append-nil (row_if_chosen answer score segment)), (omega arith), (refl, refl))
 
-  -- one segment more
+  -- one more segment
   pub extract_push : (segments : List Contents) (segment : Contents) (text : List ℕ) (rows answer score : ℕ)
       → IsExtract code segments text rows → Answers code segment answer score
       → IsExtract code (segments ++ segment ∷ []) (text ++ row_if_chosen answer score segment) (rows + chosen_count answer)
@@ -38,7 +38,7 @@ module _ (code : List Insn) where
       extract_append segments (segment ∷ []) text (row_if_chosen answer score segment) rows (chosen_count answer) is
       (extract_of_one segment answer score answers)
 
-  -- a code and a list of segments have one extract
+  -- a code and a list of segments have only one extract
   pub one_extract_lem : (segments : List Contents) (text other : List ℕ) (rows others : ℕ) → IsExtract code segments text rows
       → IsExtract code segments other others → (text ≡ other) × (rows ≡ others)
   one_extract_lem [] text other rows others is also = (is.0 ∙ sym also.0, is.1 ∙ sym also.1)

@@ -1,4 +1,4 @@
--- What is written into a frame: which of its bytes are written then, that they are bytes, and what number they are.
+-- Writes to a frame: which bytes are written after them, that they are bytes, and what number they represent.
 use Rattle.std.proofs.Common.{◌≡◌, ℕ, zero, suc, ◌+◌, ◌-◌, ◌*◌, ◌<◌, ◌≤◌, ◌^◌, List, [], ◌∷◌, ◌++◌, length, map, take, drop, get_or, Some}
 use Rattle.std.proofs.Common.{refl, sym, ap, ◌∙◌, subst, inl, inr, arith}
 use Rattle.std.specs.Prelude.{IsTrue, slice_index}
@@ -12,7 +12,7 @@ use Rattle.bpf_insn.specs.Frame.{FrameByte, Unwritten, Byte, IsByte, is_byte, is
 use Rattle.bpf_meaning.specs.Memory.{all_written, store}
 use Rattle.bpf_meaning.proofs.MemoryLemmas.{length-bytes_low_first, fits_more, store_is_write}
 
--- bytes that were written are, and no byte is unwritten again
+-- bytes that were written are marked so, and no byte becomes unwritten
 
 pub is_written-write_inside : (memory : List FrameByte) (at : ℕ) (bytes : List ℕ) (i : ℕ) → at + length bytes ≤ length memory → at ≤ i
     → i < at + length bytes → IsTrue (is_written (write memory at (map Byte bytes)) i)
@@ -45,7 +45,7 @@ written_stays memory at bytes i within written =
           ]
     ]
 
--- the same of a number's low bytes
+-- the same for a number's low bytes
 
 stores_within : (memory : List FrameByte) (at count number : ℕ) → at + count ≤ length memory
     → at + length (bytes_low_first 0 count number) ≤ length memory
@@ -112,7 +112,7 @@ bytes-store memory at count number all =
     (bytes-write memory at (map Byte (bytes_low_first 0 count number)) all
     (bytes-map (bytes_low_first 0 count number) (low_bytes 0 count number)))
 
--- bytes that are all written are a number
+-- bytes that are all written represent a number
 
 pub all_written-part : (memory : List FrameByte) (at count : ℕ) → ((i : ℕ) → at ≤ i → i < at + count → IsTrue (is_written memory i))
     → IsTrue (all_written (take count (drop at memory)))
@@ -126,7 +126,7 @@ all_written-part [] (suc at) (suc count) written = refl
 all_written-part (byte ∷ memory) (suc at) count written = all_written-part memory at count
     (λ i above below. written (suc i) (omega arith) (omega arith))
 
--- some bytes, so many, have a number of as many bytes
+-- `count` bytes represent a number of that length
 pub record HaveNumber (bytes : List FrameByte) (count : ℕ) : Type 0 where
   pub number : ℕ
   pub is : number_of bytes ≡ Some number

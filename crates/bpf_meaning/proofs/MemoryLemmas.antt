@@ -1,4 +1,4 @@
--- Marks beside bytes, and what is read and written of them.
+-- Bytes and their marks, and how they are read and written.
 use Rattle.std.proofs.Common.{◌≡◌, ℕ, zero, suc, ◌+◌, ◌-◌, ◌*◌, ◌/◌, ◌%◌, ◌<◌, ◌≤◌, ◌^◌, Bool, true, false, List, [], ◌∷◌, ◌++◌, length}
 use Rattle.std.proofs.Common.{map, take, drop, replicate, slice_set, Option, Some, None, refl, sym, ap, ◌∙◌, arith, lit<, min, append_assoc}
 use Rattle.std.proofs.Common.{length-append}
@@ -22,7 +22,7 @@ use Rattle.bpf_insn.specs.declared.memory.TheConstants.{SLOT_LENGTH}
 use Rattle.bpf_insn.specs.declared.value.Pointer.{Pointer}
 use Rattle.bpf_meaning.specs.Memory.{all_written, frame_bytes, keep_pointer, store, write_bytes, written_bytes}
 
--- as many bytes as marks
+-- the same number of bytes and of marks
 
 pub frame_bytes-nil : (marks : List Bool) → frame_bytes marks [] ≡ []
 frame_bytes-nil [] = refl
@@ -84,7 +84,7 @@ low_fits number n below small = let most = power_grows n small in omega (arith, 
 pub fits_more : (byte number n : ℕ) → byte < 256 → number < 256 ^ n → byte + 256 * number < 256 ^ (n + 1)
 fits_more byte number n small below = rw pow-add (omega (arith, below))
 
--- what is read: a byte without a mark makes the number none, and with marks alone it's that of the bytes
+-- reads: a byte without a mark results in no number, and if all are marked, the number is that of the bytes
 
 pub number_of-unmarked : (is_unmarked : Bool → Bool) (marks : List Bool) (bytes : List ℕ) → is_unmarked true ≡ false
     → length marks ≡ length bytes → list_any is_unmarked marks ≡ true → number_of (frame_bytes marks bytes) ≡ None
@@ -105,7 +105,7 @@ frame_bytes-all is_unmarked (true ∷ marks) (byte ∷ bytes) test other same an
     ap (λ (l : List FrameByte). Byte byte ∷ l) (frame_bytes-all is_unmarked marks bytes test other (omega arith) later)
 frame_bytes-all is_unmarked marks bytes test other same any = absurd (omega arith)
 
--- what is written
+-- writes
 
 pub take-bytes_low_first : (i k n number : ℕ) → n ≤ k → take n (bytes_low_first i k number) ≡ bytes_low_first i n number
 take-bytes_low_first i k zero number less = refl
@@ -117,13 +117,13 @@ pub length-bytes_low_first : (i n number : ℕ) → length (bytes_low_first i n 
 length-bytes_low_first i zero number = refl
 length-bytes_low_first i (suc n) number = let more = length-bytes_low_first (suc i) n number in omega arith
 
--- a part of memory that was written in place
+-- writing a part of memory in place
 put_mid_is_write : {A : Type 0} (memory new : List A) (at k : ℕ) → k ≡ length new → put_mid at k memory new ≡ write memory at new
 put_mid_is_write memory new at k is =
     ap (λ rest. take at memory ++ (new ++ rest)) (ap (λ (n : ℕ). drop n (drop at memory)) is ∙ drop-drop (length new) at memory)
     ∙ sym (append_assoc (take at memory) new (drop (at + length new) memory))
 
--- what is stored is a number's low bytes, written from an offset on
+-- a store writes a number's low bytes from an offset on
 pub store_is_write : (memory : List FrameByte) (at count number : ℕ)
     → store memory at count number ≡ write memory at (map Byte (bytes_low_first 0 count number))
 store_is_write memory at count number =
@@ -134,7 +134,7 @@ store_is_write memory at count number =
 contents : List FrameByte → List (Option Pointer) → FrameContents
 contents bytes slots = record { bytes = bytes; slots = slots }
 
--- bytes of a frame that are all written are those that a call reads
+-- bytes of a frame that are all written are the ones that a call reads
 
 written-frame_bytes : (marks : List Bool) (bytes : List ℕ) → length marks ≡ length bytes → all_written (frame_bytes marks bytes) ≡ true
     → written_bytes (frame_bytes marks bytes) ≡ bytes
@@ -144,7 +144,7 @@ written-frame_bytes (true ∷ marks) (byte ∷ bytes) same all =
 written-frame_bytes (false ∷ marks) (byte ∷ bytes) same all = absurd (false≢true all)
 written-frame_bytes marks bytes same all = absurd (omega arith)
 
--- they are all written where each has its mark
+-- they are all written if each one has its mark
 written-marks : (is_unmarked : Bool → Bool) (marks : List Bool) (bytes : List ℕ) → is_unmarked false ≡ true → is_unmarked true ≡ false
     → length marks ≡ length bytes → not (list_any is_unmarked marks) ≡ all_written (frame_bytes marks bytes)
 written-marks is_unmarked [] [] test other same = refl
@@ -153,12 +153,12 @@ written-marks is_unmarked (true ∷ marks) (byte ∷ bytes) test other same =
 written-marks is_unmarked (false ∷ marks) (byte ∷ bytes) test other same = rw test refl
 written-marks is_unmarked marks bytes test other same = absurd (omega arith)
 
--- as many marks as bytes, at a frame's contents
+-- a frame's contents, with the same number of marks and of bytes
 module _ (marks : List Bool) (bytes : List ℕ) (same : length marks ≡ length bytes) where
   same_parts : (at k : ℕ) → length (mid_of at k marks) ≡ length (mid_of at k bytes)
   same_parts at k = simp (length-take, length-drop) (ap (λ (n : ℕ). min k (n - at)) same)
 
-  -- marks and bytes put in place
+  -- marks and bytes are put in place
   frame_bytes-put_mid : (middle : List Bool) (new : List ℕ) (at k : ℕ) → length middle ≡ length new
       → frame_bytes (put_mid at k marks middle) (put_mid at k bytes new) ≡ put_mid at k (frame_bytes marks bytes) (frame_bytes middle new)
   frame_bytes-put_mid middle new at k long =
@@ -173,7 +173,7 @@ module _ (marks : List Bool) (bytes : List ℕ) (same : length marks ≡ length 
       (sym (drop-frame_bytes k (drop at marks) (drop at bytes))
       ∙ ap (λ (l : List FrameByte). drop k l) (sym (drop-frame_bytes at marks bytes))))
 
-  -- a part of a memory, by its marks and bytes
+  -- a part of a memory, from its marks and bytes
   module _ {memory : List FrameByte} (view : frame_bytes marks bytes ≡ memory) (at count k : ℕ) (is : k ≡ count) where
     part_of : take count (drop at memory) ≡ frame_bytes (mid_of at k marks) (mid_of at k bytes)
     part_of =
@@ -196,7 +196,7 @@ module _ (marks : List Bool) (bytes : List ℕ) (same : length marks ≡ length 
     all_written-marks is_unmarked test other =
         written-marks is_unmarked (mid_of at k marks) (mid_of at k bytes) test other (same_parts at k) ∙ sym (ap all_written part_of)
 
-  -- bytes written over those of a frame, and their marks
+  -- bytes written over those of a frame, with their marks
   pub call_writes : {slots : List (Option Pointer)} {frame : FrameContents} (at k : ℕ) (written : List ℕ) {new_bytes : List ℕ}
       {new_marks : List Bool}
       → k ≡ length written → length (mid_of at k marks) ≡ length written → record { bytes = frame_bytes marks bytes; slots = slots } ≡ frame
@@ -216,7 +216,7 @@ module _ (marks : List Bool) (bytes : List ℕ) (same : length marks ≡ length 
       ∙ put_mid_is_write (frame_bytes marks bytes) (map Byte written) at k many)
       ∙ ap (λ (f : FrameContents). contents (write f.bytes at (map Byte written)) f.slots) view
 
-  -- the low bytes of a number, and their marks
+  -- the low bytes of a number, with their marks
   module _ (at count k : ℕ) (is : k ≡ count) (long : length (mid_of at k marks) ≡ count) (short : count ≤ 8) where
     pub store_writes : {slots : List (Option Pointer)} {frame : FrameContents} (number : ℕ) {new_bytes : List ℕ} {new_marks : List Bool}
         → record { bytes = frame_bytes marks bytes; slots = slots } ≡ frame → new_bytes ≡ take count (bytes_low_first 0 8 number)
@@ -235,7 +235,7 @@ module _ (marks : List Bool) (bytes : List ℕ) (same : length marks ≡ length 
         (ap (put_mid at k bytes) low_is ∙ put_mid_is_write bytes written at k (is ∙ sym number_long)) all
         ∙ ap (λ (l : List FrameByte). contents l frame.slots) (sym (store_is_write frame.bytes at count number))
 
-  -- a pointer that is kept, and the marks of its slot
+  -- a stored pointer, and the marks of its slot
   pub keep_writes : {slots : List (Option Pointer)} {frame : FrameContents} (slot k : ℕ) (pointer : Pointer) {new_marks : List Bool}
       → k ≡ SLOT_LENGTH
       → length (mid_of (SLOT_LENGTH * slot) k marks) ≡ SLOT_LENGTH → record { bytes = frame_bytes marks bytes; slots = slots } ≡ frame
@@ -275,7 +275,7 @@ module _ (marks : List Bool) (bytes : List ℕ) (same : length marks ≡ length 
       ∙ written-frame_bytes (mid_of at count marks) (mid_of at count bytes) (same_parts at count) (sym (ap all_written part) ∙ all))
   read_alike lent arguments view all = refl
 
--- a frame over which nothing is written
+-- a frame to which nothing is written
 pub call_writes_nothing : (marks : List Bool) (bytes : List ℕ) {slots : List (Option Pointer)} {frame : FrameContents} (at : ℕ)
     {written new_bytes : List ℕ} → record { bytes = frame_bytes marks bytes; slots = slots } ≡ frame → written ≡ []
     → new_bytes ≡ write bytes at written
@@ -285,13 +285,13 @@ call_writes_nothing marks bytes {slots} {frame} at view none low =
     ap (λ (l : List ℕ). contents (frame_bytes marks l) slots) (low ∙ ap (write bytes at) none ∙ write-nothing bytes at) ∙ view
     ∙ ap (λ (l : List FrameByte). contents l frame.slots) (sym (write-nothing frame.bytes at)) ∙ ap (write_bytes frame at) (sym none)
 
--- what was stored is loaded, and other bytes stay
+-- stored bytes are loaded, and other bytes are unchanged
 
 byte_at-is : (i number : ℕ) → byte_at i number ≡ number / 256 ^ i % 256
 byte_at-is zero number = sym (ap (λ (n : ℕ). n % 256) (div-one number))
 byte_at-is (suc i) number = refl
 
--- the byte i of a number and those above it, so many
+-- byte i of a number and the `count` bytes above it
 one_byte_more : (i count number : ℕ) → byte_at i number + 256 * (number / 256 ^ suc i % 256 ^ count) ≡ number / 256 ^ i % 256 ^ suc count
 one_byte_more i count number =
     let above : number / 256 ^ suc i ≡ number / 256 ^ i / 256 = ap (λ (n : ℕ). number / n) (pow-suc 256 i) ∙ sym
@@ -308,7 +308,7 @@ number_of-low i (suc count) number =
     ap (option_map (λ rest. byte_at i number + 256 * rest)) (number_of-low (suc i) count number)
     ∙ ap (λ (n : ℕ). Some n) (one_byte_more i count number)
 
--- the parts of a memory that was written
+-- the parts of a memory after a write
 front_is : (memory : List FrameByte) (at count : ℕ) → at + count ≤ length memory → length (take at memory) ≡ at
 front_is memory at count within = length-take-le at memory (omega arith)
 
@@ -325,7 +325,7 @@ stored_is_loaded memory at count number within =
     ∙ ap number_of (take_at low behind count (low_is count number))
     ∙ number_of-low 0 count number ∙ ap (λ (n : ℕ). Some (n % 256 ^ count)) (div-one number)
 
--- what lies before the bytes written, and what lies behind them
+-- the bytes before and after the written ones
 
 pub before_stays : (memory : List FrameByte) (at count number : ℕ) → at + count ≤ length memory
     → take at (store memory at count number) ≡ take at memory

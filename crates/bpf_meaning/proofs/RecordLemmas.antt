@@ -1,4 +1,4 @@
--- A code that reads the record alone answers alike on segments of the same record: each step leads to the same configuration.
+-- A code that reads only the record gives the same answer on segments with the same record: each step leads to the same configuration.
 use Rattle.std.proofs.Common.{◌≡◌, ℕ, ◌+◌, ◌-◌, ◌==◌, Bool, true, false, IsTrue, List, [], ◌∷◌, length, nat_lt, Option, Some, None}
 use Rattle.std.proofs.Common.{IfSome, Result, Ok, if◌then◌else◌, refl, ap, ◌∙◌, subst}
 use Rattle.std.specs.Int.{cast_unsigned, w32}
@@ -27,7 +27,7 @@ use Rattle.bpf_meaning.specs.declared.state.State.{State}
 use Rattle.bpf_meaning.proofs.EffectLemmas.{GoesOnWith, AreSuch, effect_is_such}
 use Rattle.bpf_meaning.proofs.CallLemmas.{IfPasses, then_passes}
 
--- an instruction of a code that reads the record alone does, too
+-- an instruction of a code that reads only the record reads only the record
 
 abbrev FoundAlone : Option Insn → Type 0
 FoundAlone found = IfSome found (λ insn. IsTrue (instruction_reads_record_alone insn))
@@ -46,7 +46,7 @@ found_alone (insn ∷ code) place alone =
     first_or_later insn (instruction_at code later) (place == 0) (nat_lt place (length (spelling insn))) each.0
     (found_alone code later each.1)
 
--- a change by an instruction that reads the record alone: a helper function that it calls does, too
+-- a change by such an instruction: a helper function that it calls reads only the record
 abbrev IsOfRecord : Change → Type 0
 IsOfRecord (CallHelper called arguments) = IsTrue (helper.reads_record_alone called)
 IsOfRecord change = Unit {0}
@@ -68,14 +68,14 @@ changes_of_record state insn alone = record {
       (subst (λ (x : Insn). IsTrue (instruction_reads_record_alone x)) is alone);
 }
 
--- an instruction has the same effect on segments of the same record: but for loads, which read the record, no check reads the segment
+-- an instruction has the same effect on segments with the same record: no check reads the segment, except for loads, which read the record
 
 rows_alike : (code : List Insn) (segment other : Contents) (state : State) (next : ℕ) (insn : Insn) → segment.bytes ≡ other.bytes
     → instruction_effect code segment state next insn ≡ instruction_effect code other state next insn
 rows_alike code segment other state next insn same = ap
     (λ (bytes : List ℕ). instruction_effect code (record segment { bytes = bytes }) state next insn) same
 
--- a change that is of the record is carried out alike
+-- such a change results in the same state on both segments
 
 changes_alike : (segment other : Contents) (state : State) (change : Change) → IsOfRecord change → segment.bytes ≡ other.bytes
     → carry_out segment state change ≡ carry_out other state change

@@ -1,4 +1,4 @@
--- Which registers a call empties, and which it keeps.
+-- The registers that a call empties, and those that it keeps.
 use Rattle.std.proofs.Common.{◌≡◌, ℕ, zero, suc, ◌≤◌, ℤ, List, get_or, Option, Some, None, Result, Ok, refl, sym, ap, ◌∙◌, subst}
 use Rattle.std.proofs.Common.{arith}
 use Rattle.std.specs.Int.{cast_unsigned, w32}
@@ -26,7 +26,7 @@ use Rattle.bpf_meaning.proofs.WholeLemmas.{IfRunning}
 use Rattle.bpf_meaning.proofs.EffectLemmas.{GoesOnWith, goes_on_with}
 use Rattle.bpf_meaning.proofs.CallLemmas.{IfPasses, then_passes, then_keeps}
 
--- registers before a call and after it
+-- registers before and after a call
 pub record IsAfterCall (old new : State) : Type 0 where
   pub empty : (register : ℕ) → 1 ≤ register → register ≤ 5 → register_value new register ≡ Empty
   pub kept : (register : ℕ) → 6 ≤ register → register_value new register ≡ register_value old register

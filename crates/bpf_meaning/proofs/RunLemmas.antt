@@ -11,7 +11,7 @@ use Rattle.bpf_meaning.specs.declared.outcome.Outcome.TheVariants as outcome
 use Rattle.bpf_meaning.specs.declared.state.State.{State}
 
 module _ (code : List Insn) (segment : Contents) where
-  -- a configuration that has a next isn't ended, and has one next
+  -- a configuration with a next one hasn't ended, and has only one
   pub one_next : (from next other : Configuration) → Step code segment from next → Step code segment from other → next ≡ other
   one_next (Running state) next other a b = a ∙ sym b
   one_next ended next other a b = absurd a
@@ -25,7 +25,7 @@ module _ (code : List Insn) (segment : Contents) where
   pub stuck_ends : (place : ℕ) (cause : Cause) → HasNoNext code segment (Stuck place cause)
   stuck_ends place cause next step = step
 
-  -- two ways from one configuration agree as far as both go
+  -- two sequences of steps from one configuration agree as far as both go
   pub agree_from : (from : Configuration) (run longer : List Configuration) → FollowSteps code segment from run
       → FollowSteps code segment from longer → length run ≤ length longer → (rest : List Configuration) × (longer ≡ run ++ rest)
   agree_from from [] longer f g short = (longer, refl)
@@ -39,13 +39,13 @@ module _ (code : List Insn) (segment : Contents) where
       → (rest : List Configuration) × (longer ≡ run ++ rest)
   runs_agree_lem run longer f g short = agree_from (Running start) run longer f g short
 
-  -- from an ended configuration nothing follows
+  -- nothing follows a configuration that has ended
   pub ends_there : (answer score : ℕ) (run : List Configuration) → FollowSteps code segment (Exited answer score) run
       → last_of (Exited answer score) run ≡ Exited answer score
   ends_there answer score [] follow = refl
   ends_there answer score (next ∷ run) follow = absurd follow.0
 
-  -- two ways that both exit, exit alike
+  -- two sequences of steps that both exit have the same exit
   pub same_exit : (from : Configuration) (run others : List Configuration) {answer score other other_score : ℕ}
       → FollowSteps code segment from run → FollowSteps code segment from others → last_of from run ≡ Exited answer score
       → last_of from others ≡ Exited other other_score → Exited answer score ≡ Exited other other_score
@@ -68,7 +68,7 @@ module _ (code : List Insn) (segment : Contents) where
 
   -- runs that grow at their end
 
-  -- one step more
+  -- one more step
   pub follow_more : (from : Configuration) (run : List Configuration) (state : State) (next : Configuration)
       → FollowSteps code segment from run → last_of from run ≡ Running state → next ≡ after code segment state
       → FollowSteps code segment from (run ++ next ∷ [])
@@ -79,14 +79,14 @@ pub last_of-more : (from : Configuration) (run : List Configuration) (next : Con
 last_of-more from [] next = refl
 last_of-more from (there ∷ run) next = last_of-more there run next
 
--- some run of so many steps is on its way in this state
+-- some run of this many steps is in this state and hasn't ended
 pub record IsOnItsWay (code : List Insn) (segment : Contents) (steps : ℕ) (state : State) : Type 0 where
   pub run : List Configuration
   pub is_run : IsRun code segment run
   pub ends : end_of run ≡ Running state
   pub long : length run ≡ steps
 
--- a run that is on its way, and the configuration that it comes to next
+-- such a run, and the configuration after it
 pub record ComesTo (code : List Insn) (segment : Contents) (steps : ℕ) (next : Configuration) : Type 0 where
   pub run : List Configuration
   pub is_run : IsRun code segment run
@@ -108,7 +108,7 @@ goes_on code segment steps state next way is =
     let way = comes_to code segment steps state (Running next) way is in
     record { run = way.run; is_run = way.is_run; ends = way.ends; long = way.long }
 
--- what a trace tells of a run that has ended, and of one that hasn't
+-- the outcome of a trace whose run has ended, and of one whose run hasn't
 pub traces_end : {code : List Insn} {segment : Contents} {steps : ℕ} (limit : ℕ) {state : State} (next : State) (ended : Outcome)
     → IsOnItsWay code segment steps state → steps < limit → configuration_of ended next ≡ after code segment state
     → (ended ≡ outcome.Running → ⊥) → IsTraced code segment limit ended

@@ -1,4 +1,4 @@
--- Slots of the frame: what they hold before and after a change.
+-- Slots of the frame: their contents before and after a change.
 use Rattle.std.proofs.Common.{◌≡◌, ◌≢◌, ℕ, zero, suc, ◌+◌, ◌-◌, ◌*◌, ◌/◌, ◌%◌, ◌^◌, ◌<◌, ◌≤◌, ℤ, unsigned_abs, ◌⊎◌, false, IsTrue, List, []}
 use Rattle.std.proofs.Common.{◌∷◌, ◌++◌, length, map, take, drop, replicate, get_or, Option, Some, None, Ok, Err, if◌then◌else◌, refl, sym}
 use Rattle.std.proofs.Common.{ap, ◌∙◌, subst, inl, inr, arith, append_assoc, length-append}
@@ -29,7 +29,7 @@ use Rattle.bpf_meaning.specs.declared.effect.Change.TheVariants.{StorePointer}
 use Rattle.bpf_meaning.proofs.FrameLemmas.{is_written-write_before, is_written-write_behind}
 use Rattle.bpf_meaning.proofs.MemoryLemmas.{length-bytes_low_first, store_is_write, stored_is_loaded}
 
--- bytes of which none lies in a slot lie before it, or behind it
+-- if none of some bytes lies in a slot, they lie before it or after it
 lies_apart : (slot at count : ℕ) → 0 < count → IsApart slot at count → (at + count ≤ SLOT_LENGTH * slot)
     ⊎ (SLOT_LENGTH * slot + SLOT_LENGTH ≤ at)
 lies_apart slot at count some apart =
@@ -52,7 +52,7 @@ whole_slot_is_loaded SignedHalfWord n is = absurd (omega (arith, is))
 whole_slot_is_loaded SignedWord n is = absurd (omega (arith, is))
 whole_slot_is_loaded format n is = refl
 
--- a pointer that is stored, by whether it's stored in a whole slot
+-- a store of a pointer, with and without a whole slot
 
 pub store_pointer-slot : (offset : ℤ) (size : StoreSize) (pointer : Pointer) (slot : ℕ)
     → slot_at (unsigned_abs offset) (store_length size) ≡ Some slot
@@ -64,7 +64,7 @@ pub store_pointer-none : (offset : ℤ) (size : StoreSize) (pointer : Pointer) �
     → store_pointer offset size pointer ≡ Err StoresPointer
 store_pointer-none offset size pointer is = rw is refl
 
--- slots of which some are cleared: those before them, those behind them, and themselves
+-- clearing a range of slots: the slots before it, after it, and in it
 
 module _ {A : Type 0} (nothing : A) (slots : List A) (from to : ℕ) where
   cleared_before : (slot : ℕ) → slot < length slots → slot < from / SLOT_LENGTH
@@ -82,7 +82,7 @@ module _ {A : Type 0} (nothing : A) (slots : List A) (from to : ℕ) where
   length-clear_slots : from ≤ to → to / SLOT_LENGTH < length slots → length (clear_slots nothing slots from to) ≡ length slots
   length-clear_slots ordered within = grind (arith, common_steps)
 
--- the same of those that have one of so many bytes from an offset on
+-- clearing the slots with one of `count` bytes from an offset on
 
 module _ {A : Type 0} (nothing : A) (slots : List A) (at : ℕ) where
   pub overwritten_apart : (count slot : ℕ) → slot < length slots → IsApart slot at count
@@ -100,7 +100,7 @@ module _ {A : Type 0} (nothing : A) (slots : List A) (at : ℕ) where
   overwritten_within (suc more) slot i inside above below is =
       cleared_within nothing slots at (at + more) slot inside (omega arith) (omega arith)
 
-  -- one that holds nothing holds nothing then either
+  -- an empty slot stays empty
   overwritten_none : (count slot : ℕ) → slot < length slots → get_or slots slot nothing ≡ nothing
       → get_or (overwrite_slots nothing slots at count) slot nothing ≡ nothing
   overwritten_none zero slot inside none = none
@@ -119,7 +119,7 @@ module _ {A : Type 0} (nothing : A) (slots : List A) (at : ℕ) where
   length-overwrite_slots zero within = refl
   length-overwrite_slots (suc more) within = length-clear_slots nothing slots at (at + more) (omega arith) (omega arith)
 
--- the bytes of a slot that stands apart from those that are written stay
+-- the bytes of a slot apart from those that are written are unchanged
 
 module _ {A : Type 0} (memory bytes : List A) (at from count : ℕ) (within : at + length bytes ≤ length memory) where
   part-behind : at + length bytes ≤ from → take count (drop from (write memory at bytes)) ≡ take count (drop from memory)
@@ -152,7 +152,7 @@ slot_bytes-apart memory (byte ∷ bytes) at slot within apart =
       | inr before ↦ part-before memory (byte ∷ bytes) at (SLOT_LENGTH * slot) SLOT_LENGTH within before
     ]
 
--- a number that is stored is its low bytes that are written
+-- storing a number is writing its low bytes
 stored_is_written : (frame : FrameContents) (at count number : ℕ)
     → write_bytes frame at (bytes_low_first 0 count number) ≡ store_number frame at count number
 stored_is_written frame at count number =
@@ -165,13 +165,13 @@ stored_is_written frame at count number =
           overwrite_slots None frame.slots at n;
     } in new) (length-bytes_low_first 0 count number)
 
--- what a slot holds, by its bytes and its pointer
+-- the contents of a slot, from its bytes and its pointer
 held_alike : (frame other : FrameContents) (slot : ℕ) → slot_bytes frame.bytes slot ≡ slot_bytes other.bytes slot
     → slot_pointer frame slot ≡ slot_pointer other slot → slot_value frame slot ≡ slot_value other slot
 held_alike frame other slot bytes pointer = ap (λ (l : List FrameByte). value_of (number_of l) (slot_pointer frame slot)) bytes
     ∙ ap (value_of (number_of (slot_bytes other.bytes slot))) pointer
 
--- pointers that slots hold once bytes are written
+-- the pointers in slots after bytes are written
 
 module _ (frame : FrameContents) (at : ℕ) where
   pub slot_pointer-write_apart : (bytes : List ℕ) (slot : ℕ) → slot < length frame.slots → IsApart slot at (length bytes)
@@ -192,7 +192,7 @@ module _ (frame : FrameContents) (at : ℕ) where
   slot_pointer-store_within count number slot i inside above below is =
       overwritten_within None frame.slots at count slot i inside above below is
 
-  -- what slots hold once bytes are written, or a number's low bytes
+  -- the contents of slots after bytes, or a number's low bytes, are written
 
   pub slot_value-write_bytes_apart : (bytes : List ℕ) (slot : ℕ) → at + length bytes ≤ length frame.bytes → slot < SLOTS
       → length frame.slots ≡ SLOTS → IsApart slot at (length bytes) → slot_value (write_bytes frame at bytes) slot ≡ slot_value frame slot
@@ -219,7 +219,7 @@ slot_value-store_slot frame slot number within small =
     (stored_is_loaded frame.bytes (SLOT_LENGTH * slot) SLOT_LENGTH number within)
     ∙ ap (λ (n : ℕ). let v : Value = value.Number n in v) low
 
--- a pointer that is kept
+-- a stored pointer
 
 apart_slots : (slot kept : ℕ) → slot ≢ kept → IsApart slot (SLOT_LENGTH * kept) SLOT_LENGTH
 apart_slots slot kept other i above below is = other (omega arith)
@@ -256,7 +256,7 @@ slot_value-keep_pointer_apart frame kept pointer slot within other =
     (slot_bytes-apart frame.bytes (replicate SLOT_LENGTH Unwritten) (SLOT_LENGTH * kept) slot within (apart_slots slot kept other))
     (slot_pointer-keep_pointer_apart frame kept pointer slot other)
 
--- the bytes before the slot and behind it stay, and its own are unwritten
+-- the bytes before and after the slot are unchanged, and its own are unwritten
 
 pub is_written-keep_before : (frame : FrameContents) (slot : ℕ) (pointer : Pointer) (i : ℕ)
     → SLOT_LENGTH * slot + SLOT_LENGTH ≤ length frame.bytes → i < SLOT_LENGTH * slot

@@ -1,4 +1,4 @@
--- Loads from the record, from what the code reads to what they mean.
+-- Loads from the record, from what the code reads to their meaning.
 use Rattle.std.proofs.Common.{◌≡◌, ℕ, ℤ, List, length, map, take, drop, sym, ap, ◌∙◌, unsigned_abs, Bool, true, IsTrue, Option}
 use Rattle.std.proofs.Common.{if◌then◌else◌, Err}
 use Rattle.std.proofs.lemmas.List.{take-map, drop-map}

@@ -1,4 +1,4 @@
--- What operations make of values with tags, on both sides, where what they make of numbers and offsets agrees.
+-- Operations on tagged values of two kinds agree, if the operations on their numbers and offsets agree.
 use Rattle.std.proofs.Common.{◌≡◌, Result, Ok, sym, subst}
 use Rattle.bpf_insn.specs.declared.instruction.Operation.{Operation}
 use Rattle.bpf_insn.specs.declared.instruction.Operation.TheVariants.{Add, Subtract}
@@ -11,7 +11,7 @@ use Rattle.bpf_meaning.proofs.CheckLemmas.{then_sound}
 use Rattle.bpf_meaning.specs.Tags.{Tagged, Empty, Number, Pointer, Tags, operate_on_pointer, operate_with_pointer, operate_tagged, operate}
 use Rattle.bpf_meaning.specs.Tags.{move_tagged, move}
 
--- of nothing anything may be so; a number and a pointer into an area are the like
+-- Empty is related to every value; otherwise numbers are related to numbers, and pointers to pointers into the same area
 abbrev pub Relate : {N O M P : Type 0} → (N → M → Type 0) → (O → P → Type 0) → Tagged N O → Tagged M P → Type 0
 Relate Numbers Offsets Empty held = Unit {0}
 Relate Numbers Offsets (Number x) (Number n) = Numbers x n

@@ -1,5 +1,5 @@
--- One domain foresees another: where each step of an instruction over the first is sound for that over the second, so is the whole walk.
--- The checks of an instruction are gone through here alone.
+-- One domain foresees another: if each step of an instruction over the first is sound for that over the second, so is the whole walk. Only this
+-- module goes through the checks of each instruction.
 use Rattle.std.proofs.Common.{◌≡◌, ℕ, ℤ, Option, Some, None, Result, refl}
 use Rattle.std.specs.Int.{cast_unsigned, w32}
 use Rattle.bpf_insn.specs.Jump.{jump_distance, words}
@@ -29,7 +29,7 @@ use Rattle.bpf_meaning.specs.Walk.{Domain, ConditionalJump, number_in, operand, 
 abbrev pub GoesOn : Insn → Type 0
 GoesOn insn = insn ≡ Exit → ⊥
 
--- this holds of the immediates of an instruction that become operands
+-- the immediates of an instruction that become operands fit
 abbrev pub SourceFits : (ℤ → Type 0) → Source → Type 0
 SourceFits Fits (Immediate immediate) = Fits immediate
 SourceFits Fits (Register register) = Unit {0}
@@ -41,7 +41,7 @@ InsnFits Fits (StoreImmediate size base offset immediate) = Fits immediate
 InsnFits Fits (WideLoad destination immediate next) = Fits immediate × Fits next
 InsnFits Fits insn = Unit {0}
 
--- an instruction goes on at the next one, or by as many words as a conditional jump says
+-- an instruction goes on at the next one, or jumps by the distance of a conditional jump
 pub record MayJump (insn : Insn) (jump : ConditionalJump) : Type 0 where
   pub goes_on : GoesOn insn
   pub leads : jump_distance insn ≡ Some jump.distance
@@ -56,10 +56,10 @@ pub record IsRead {X Y : Type 0} (Read : ℕ → X → Y → Type 0) (register :
   pub second : Y
   pub is : Read register first second
 
--- A domain foresees another at an instruction: their parts are related, and each step of the instruction keeps that.
+-- A domain foresees another one at an instruction: their parts are related, and each step of the instruction preserves that.
 pub record Foresees (A B : Domain) (insn : Insn) : Type 1 where
-  -- immediates of which this is so; what is read from a register, of which more is known than of any value; and what is stored, which is
-  -- read or an immediate
+  -- immediates that fit; what is read from a register, which is a stronger relation than that of any values; and what is stored, which is read from
+  -- a register or an immediate
   pub Fits : ℤ → Type 0
   pub Read : ℕ → A.Value → B.Value → Type 0
   pub Values : A.Value → B.Value → Type 0
@@ -176,7 +176,7 @@ module _ (A B : Domain) (insn : Insn) (f : Foresees A B insn) where
       → Sound f.Outcomes (a >>= A.go_on) (b >>= B.go_on)
   change_made goes_on a b sound = then_sound f.Changes f.Outcomes _ _ _ _ sound (f.go_on goes_on)
 
--- where one domain foresees another, the walk over it is sound for that over the other: each row of the instruction table
+-- if one domain foresees another, the walk over it is sound for the walk over the other: each row of the instruction table
 pub walk_foreseen : (A B : Domain) (insn : Insn) (f : Foresees A B insn) → InsnFits f.Fits insn
     → Sound f.Outcomes (walk A insn) (walk B insn)
 walk_foreseen A B (Alu operation width destination source) f fits =
@@ -202,7 +202,7 @@ walk_foreseen A B (Store size base offset source) f fits = change_made A B _ f (
     (store_foreseen A B _ f size base.number offset (Register source) tt)
 walk_foreseen A B (WideLoad destination immediate next) f fits = f.set (λ e. cc) destination _ _ (f.wide immediate next fits)
 
--- any immediates will do
+-- all immediates fit
 pub any_fits : (insn : Insn) → InsnFits (λ immediate. Unit {0}) insn
 any_fits (Alu operation width destination (Immediate immediate)) = tt
 any_fits (JumpIf condition width left (Immediate immediate) offset) = tt

@@ -1,5 +1,5 @@
--- An effect whose checks have passed can be carried out. A state that has all its registers and a whole frame keeps them, and so does one
--- whose frame holds bytes, or keeps pointers apart from bytes that are written.
+-- An effect whose checks passed can be applied. A step preserves that a state has all its registers and a whole frame, that its frame holds bytes,
+-- and that its pointers are kept apart from written bytes.
 use Rattle.std.proofs.Common.{◌≡◌, ℕ, zero, suc, ◌+◌, ◌*◌, ◌/◌, ◌≤◌, ◌<◌, ℤ, pos, negsuc, true, List, [], ◌∷◌, length, map, get_or}
 use Rattle.std.proofs.Common.{replicate, unsigned_abs, Option, Some, None, Result, Ok, refl, sym, ap, ◌∙◌, subst, arith, length-set}
 use Rattle.std.specs.Int.{bytes_low_first, cast_unsigned, w32}
@@ -35,7 +35,7 @@ use Rattle.bpf_meaning.proofs.EffectLemmas.{GoesOnWith, AreSuch, effect_is_such}
 use Rattle.bpf_meaning.proofs.CallLemmas.{IfPasses, apart-frame_after, bytes-frame_after, called_can_be_made, length-frame_after}
 use Rattle.bpf_meaning.proofs.CallLemmas.{length-slots_after}
 
--- effects can be carried out
+-- effects can be applied
 
 pub inside_ends : (from : ℤ) (count bytes : ℕ) → lie_within from count bytes ≡ true → unsigned_abs from + count ≤ bytes
 inside_ends (pos n) count bytes inside = grind (arith, nat_tests)
@@ -75,7 +75,7 @@ pub effect_within : (code : List Insn) (segment : Contents) (state : State) (doe
 effect_within code segment state does is = subst (IfPasses (CanBeCarriedOut state)) (sym is)
     (found_within code segment state (instruction_at code state.place))
 
--- a frame that is written keeps its length
+-- a frame keeps its length when it is written
 length-store : (memory : List FrameByte) (at count number : ℕ) → at + count ≤ length memory
     → length (store memory at count number) ≡ length memory
 length-store memory at count number within =
@@ -84,17 +84,17 @@ length-store memory at count number within =
     ap (λ (m : List FrameByte). length m) (store_is_write memory at count number)
     ∙ length-write memory (map Byte (bytes_low_first 0 count number)) at (omega arith)
 
--- where it goes on, the state is such
+-- if a configuration is running, its state is such a state
 abbrev pub IfRunning : (State → Type 0) → Configuration → Type 0
 IfRunning Such (Running state) = Such state
 IfRunning Such configuration = Unit {0}
 
--- what is so of a state once a change is made, wherever the program goes on, if it was so before
+-- a property of states that each change preserves, wherever the program goes on
 abbrev IsKept : (State → Type 0) → Contents → Type 0
 IsKept Such segment = (state : State) (change : Change) (place : ℕ) → CanBeMade state change → Such state
     → Such (record (carry_out segment state change) { place = place })
 
--- what each change keeps, each step keeps, and what holds at first holds all along a run
+-- each step preserves what each change preserves, and what holds at the start holds throughout a run
 module _ (Such : State → Type 0) (segment : Contents) (kept : IsKept Such segment) (code : List Insn) where
   applies : (state : State) (result : Result Effect Cause) → IfPasses (CanBeCarriedOut state) result → Such state
       → IfRunning Such (next_of segment state result)
@@ -118,7 +118,7 @@ module _ (Such : State → Type 0) (segment : Contents) (kept : IsKept Such segm
   run_keeps : (run : List Configuration) (state : State) → Such start → IsRun code segment run → end_of run ≡ Running state → Such state
   run_keeps run state such is_run end = subst (IfRunning Such) end (along_run (Running start) run such is_run)
 
--- a state that has all its registers and a whole frame keeps them
+-- a state with all its registers and a whole frame keeps them
 
 carries_out_whole : (segment : Contents) → IsKept IsWhole segment
 carries_out_whole segment state Nothing place can whole =
@@ -142,7 +142,7 @@ carries_out_whole segment state (CallHelper helper arguments) place can whole = 
   slots = length-slots_after segment state helper arguments can whole.slots;
 }
 
--- a step from a whole state leads to a whole one
+-- a step from a whole state leads to a whole state
 pub step_whole : (code : List Insn) (segment : Contents) (state there : State) → IsWhole state
     → Step code segment (Running state) (Running there) → IsWhole there
 step_whole code segment = step_keeps IsWhole segment (carries_out_whole segment) code
@@ -150,12 +150,12 @@ step_whole code segment = step_keeps IsWhole segment (carries_out_whole segment)
 start_whole : IsWhole start
 start_whole = record { registers = refl; frame = refl; slots = refl }
 
--- so is each state that a run comes to
+-- each state that a run reaches is whole
 pub run_whole : (code : List Insn) (segment : Contents) (run : List Configuration) (state : State) → IsRun code segment run
     → end_of run ≡ Running state → IsWhole state
 run_whole code segment run state = run_keeps IsWhole segment (carries_out_whole segment) code run state start_whole
 
--- the frame of a state holds bytes, and a step on a segment keeps it so
+-- the frame of a state holds bytes, and a step on a segment preserves this
 
 unwritten_bytes : (count at : ℕ) → IsByte (get_or (replicate count Unwritten) at Unwritten)
 unwritten_bytes zero at = tt
@@ -185,7 +185,7 @@ pub run_bytes : (code : List Insn) (segment : Contents) (run : List Configuratio
     → IsRun code segment run → end_of run ≡ Running state → HoldsBytes state
 run_bytes code segment run state is = run_keeps HoldsBytes segment (carries_out_bytes segment is) code run state start_bytes
 
--- written bytes lie in slots that hold no pointer, and a step from a whole state keeps it so
+-- written bytes lie in slots that hold no pointer, and a step from a whole state preserves this
 
 abbrev IsWholeAndApart : State → Type 0
 IsWholeAndApart state = IsWhole state × KeepsPointersApart state

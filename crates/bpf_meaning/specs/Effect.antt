@@ -1,5 +1,4 @@
--- The effects of instructions (RFC 9669, sections 4 and 5). What is checked before one is carried out, in which order, is this
--- project's own.
+-- The effects of instructions (RFC 9669, sections 4 and 5). Which checks precede an effect, and in which order, is this project's own choice.
 use Rattle.std.specs.Prelude.{ℕ, ◌+◌, ◌≤◌, ◌<◌, ℤ, pos, negsuc, ◌+ℤ◌, ◌-ℤ◌, ◌&&◌, Bool, List, [], ◌∷◌, map, take, drop, get_or, length, unsigned_abs, int_le, nat_le, nat_lt, Option, Some, None, Result, Ok, Err, is_some, IsTrue, if◌then◌else◌}
 use Rattle.std.specs.Int.{cast_signed, cast_unsigned, w32, w64}
 use Rattle.bpf_insn.specs.Arithmetic.{result_of, negate, extension_of, byte_swap, low_bits, is_met, immediate_operand, wide_number, load_extension}
@@ -46,17 +45,17 @@ use Rattle.bpf_insn.specs.declared.memory.TheConstants.{FRAME_LENGTH, SLOTS}
 use Rattle.bpf_meaning.specs.declared.state.State.{State}
 pub use Rattle.bpf_meaning.specs.Checks.{◌>>=◌}
 
--- a value that is read from a register
+-- the value read from a register, if the register holds one
 abbrev pub read_value : ℕ → Value → Result Value Cause
 read_value register Empty = Err (ReadsNothing register)
 read_value register (Number n) = Ok (Number n)
 read_value register (Pointer pointer) = Ok (Pointer pointer)
 
--- what a register that is read holds
+-- the value of a register that is read
 abbrev pub read : State → ℕ → Result Value Cause
 read state register = read_value register (register_value state register)
 
--- the number that a value is, or the cause where it's none
+-- the number that a value is, or the cause if it is none
 abbrev pub number_or : Cause → Value → Result ℕ Cause
 number_or cause (Number n) = Ok n
 number_or cause value = Err cause
@@ -65,17 +64,17 @@ number_or cause value = Err cause
 abbrev pub offset_or : ℤ → Result ℤ Cause
 offset_or offset = if is_offset offset then Ok offset else Err LeavesArea
 
--- a number that a pointer may be moved by, read as two's complement: it must lie in the range of offsets, too
+-- a number that a pointer may be moved by, read as two's complement: it must lie in the range of offsets too
 abbrev pub near_distance : ℕ → Result ℤ Cause
 near_distance number = if is_offset (cast_signed w64 number) then Ok (cast_signed w64 number) else Err PointerArithmetic
 
--- a value by its tag
+-- a value as a tagged one
 abbrev pub tagged_value : Value → tags.Tagged ℕ ℤ
 tagged_value Empty = tags.Empty
 tagged_value (Number n) = tags.Number n
 tagged_value (Pointer pointer) = tags.Pointer pointer.area pointer.offset
 
--- values, of numbers and offsets
+-- values, with numbers and offsets
 abbrev pub value_tags : tags.Tags
 value_tags = record {
   Values = Value;
@@ -97,7 +96,7 @@ abbrev pub compare : Condition → Width → Value → Value → Result Bool Cau
 compare condition width (Number x) (Number y) = Ok (is_met condition width x y)
 compare condition width x y = Err ComparesPointer
 
--- the pointer in a register that is the base of a load or a store
+-- the pointer in the base register of a load or a store
 abbrev pub only_pointer : Value → Result PointerParts Cause
 only_pointer (Pointer pointer) = Ok pointer
 only_pointer value = Err NotPointer
@@ -105,29 +104,29 @@ only_pointer value = Err NotPointer
 abbrev pub pointer_in : State → ℕ → Result PointerParts Cause
 pointer_in state register = read state register >>= only_pointer
 
--- so many bytes from an offset on lie within the first ones, so many, of an area
+-- `count` bytes from an offset on lie within the first `bytes` bytes of an area
 abbrev pub lie_within : ℤ → ℕ → ℕ → Bool
 lie_within offset count bytes = int_le (pos 0) offset && int_le (offset +ℤ pos count) (pos bytes)
 
--- what a load gives for the bytes' number, if they are all written
+-- the value that a load yields for the number in the bytes, if they are all written
 abbrev pub load_number : LoadFormat → Option ℕ → Result Value Cause
 load_number format None = Err UnwrittenFrame
 load_number format (Some n) = Ok (Number (load_extension format n))
 
--- a load of bytes from an offset on: they must lie within the area, and be written
+-- a load of bytes from an offset on, which must lie within the area and be written
 abbrev pub load_bytes : LoadFormat → List FrameByte → ℤ → Result Value Cause
 load_bytes format bytes offset =
     if lie_within offset (load_length format) (length bytes)
     then load_number format (number_of (take (load_length format) (drop (unsigned_abs offset) bytes)))
     else Err OutOfBounds
 
--- what a load of a whole slot gives, if it holds anything
+-- the value that a load of a whole slot yields, if the slot holds one
 abbrev pub load_slot : Value → Result Value Cause
 load_slot Empty = Err UnwrittenFrame
 load_slot (Number n) = Ok (Number n)
 load_slot (Pointer pointer) = Ok (Pointer pointer)
 
--- a load of bytes within the frame, from an offset on: of a whole slot it gives what that holds
+-- a load of bytes within the frame, from an offset on; a load of a whole slot yields the slot's contents
 abbrev pub load_within : LoadFormat → FrameContents → ℕ → Result Value Cause
 load_within format frame at = by_slot (slot_at at (load_length format))
   where
@@ -140,17 +139,17 @@ abbrev pub load_frame : LoadFormat → FrameContents → ℤ → Result Value Ca
 load_frame format frame offset =
     if lie_within offset (load_length format) (length frame.bytes) then load_within format frame (unsigned_abs offset) else Err OutOfBounds
 
--- a load from an area, from an offset on; the bytes of the record are all written
+-- a load from an area, from an offset on; all bytes of the record are written
 abbrev pub load_from : Contents → State → LoadFormat → Area → ℤ → Result Value Cause
 load_from segment state format Record offset = load_bytes format (map memory.Byte segment.bytes) offset
 load_from segment state format Frame offset = load_frame format state.frame offset
 
--- what a load gives: it begins where its base points, plus an offset
+-- the value that a load yields; it begins where its base points, plus an offset
 abbrev pub load_value : Contents → State → LoadFormat → ℕ → ℤ → Result Value Cause
 load_value segment state format base offset =
     pointer_in state base >>= λ pointer. load_from segment state format pointer.area (pointer.offset +ℤ offset)
 
--- what registers hold, where they hold values
+-- what registers hold, if they hold values
 abbrev pub value_registers : State → Registers
 value_registers state = record {
   Value = Value;
@@ -178,12 +177,12 @@ abbrev pub frame_offset : Area → ℤ → Result ℤ Cause
 frame_offset Frame offset = Ok offset
 frame_offset Record offset = Err WritesRecord
 
--- a number stored in the frame from an offset on: the bytes must lie within it
+-- a number stored in the frame from an offset on, whose bytes must lie within it
 abbrev pub store_number : ℤ → StoreSize → ℕ → Result Change Cause
 store_number offset size number =
     if lie_within offset (store_length size) FRAME_LENGTH then Ok (StoreBytes (unsigned_abs offset) size number) else Err OutOfBounds
 
--- a pointer stored in the frame from an offset on: only a whole slot keeps one, and it must lie within the frame
+-- a pointer stored in the frame from an offset on: only a whole slot can hold one, and it must lie within the frame
 abbrev pub store_pointer : ℤ → StoreSize → PointerParts → Result Change Cause
 store_pointer offset size pointer = by_slot (slot_at (unsigned_abs offset) (store_length size))
   where
@@ -197,7 +196,7 @@ store_at offset size Empty = Err StoresPointer
 store_at offset size (Number n) = store_number offset size n
 store_at offset size (Pointer pointer) = store_pointer offset size pointer
 
--- what a store changes of the frame: it begins where its base points, plus an offset
+-- the change that a store makes to the frame; it begins where its base points, plus an offset
 abbrev pub store_change : State → StoreSize → ℕ → ℤ → Source → Result Change Cause
 store_change state size base offset source =
     pointer_in state base >>= λ pointer. frame_offset pointer.area (pointer.offset +ℤ offset) >>= λ from. operand state source >>= store_at from size
@@ -206,8 +205,8 @@ store_change state size base offset source =
 abbrev pub is_allowed : Interval → ℕ → Bool
 is_allowed x n = nat_le x.low n && nat_le n x.high
 
--- A word for an argument: a number that its prototype allows, or a pointer into the frame as its offset in two's complement. Anything else is
--- no such argument.
+-- The word for an argument: a number that the prototype allows, or a pointer into the frame as its offset in two's complement. Any other value is a
+-- bad argument.
 abbrev pub argument_word : ℕ → Argument → Value → Result ℕ Cause
 argument_word number argument.Unused value = Ok 0
 argument_word number (argument.Number allowed) (Number n) = if is_allowed allowed n then Ok n else Err (BadArgument number)
@@ -218,13 +217,13 @@ argument_word number argument.Frame (Pointer pointer) = frame_word pointer.area
     frame_word Record = Err (BadArgument number)
 argument_word number wanted value = Err (BadArgument number)
 
--- the argument with a number, counted from 1, which the register of that number holds; one that isn't used isn't read
+-- the argument with a number, counted from 1, in the register of that number; an unused argument isn't read
 abbrev pub argument_in : State → ℕ → Argument → Result ℕ Cause
 argument_in state number argument.Unused = Ok 0
 argument_in state number (argument.Number allowed) = read state number >>= argument_word number (argument.Number allowed)
 argument_in state number argument.Frame = read state number >>= argument_word number argument.Frame
 
--- the arguments that a prototype wants, in their order
+-- the arguments that a prototype requires, in order
 abbrev pub arguments_in : State → List Argument → Result (List ℕ) Cause
 arguments_in state wanted =
     argument_in state 1 (get_or wanted 0 argument.Unused) >>= λ one.
@@ -236,7 +235,7 @@ abbrev pub lend_bytes : List ℕ → Result (List ℕ) Cause
 lend_bytes arguments =
     if lie_within (cast_signed w64 (second arguments)) (third arguments) FRAME_LENGTH then Ok arguments else Err OutOfBounds
 
--- bytes that it reads are written
+-- the bytes that it reads are written
 abbrev pub lend_written : State → List ℕ → Result (List ℕ) Cause
 lend_written state arguments = if all_written (bytes_read Reads arguments state.frame.bytes) then Ok arguments else Err UnwrittenFrame
 
@@ -245,7 +244,7 @@ lend_frame state frame_use.Nothing arguments = Ok arguments
 lend_frame state Writes arguments = lend_bytes arguments
 lend_frame state Reads arguments = lend_bytes arguments >>= lend_written state
 
--- the call of a helper function, once its arguments are what its prototype wants
+-- the call of a helper function whose arguments meet its prototype
 abbrev pub call_helper : State → Helper → Result Change Cause
 call_helper state helper =
     arguments_in state (signature helper).arguments >>= lend_frame state (frame_use (signature helper).shape) >>= λ arguments. Ok (CallHelper helper arguments)
@@ -255,17 +254,17 @@ abbrev pub call_change : State → Option Helper → Result Change Cause
 call_change state None = Err UnknownHelper
 call_change state (Some helper) = call_helper state helper
 
--- The program goes on at a place, with a change, if an instruction begins there. A place within the code where none begins is a wide
--- load's second word.
+-- The program goes on at a place, with a change, if an instruction begins there. A place within the code at which none begins is the second word of
+-- a wide load.
 abbrev pub go_on : List Insn → ℕ → Change → Result Effect Cause
 go_on code place change =
     if is_some (instruction_at code place) then Ok (GoOn change place) else (if nat_lt place (word_count code) then Err IntoWide else Err OutOfProgram)
 
--- the same with a register written
+-- going on with a register set
 abbrev pub set_register : List Insn → ℕ → WritableRegister → Value → Result Effect Cause
 set_register code place register value = go_on code place (SetRegister register value)
 
--- the same with no change, where the place may lie before the code
+-- going on without a change, at a place that may lie before the code
 abbrev pub go_to : List Insn → ℤ → Result Effect Cause
 go_to code (pos place) = go_on code place Nothing
 go_to code (negsuc before) = Err OutOfProgram
@@ -274,7 +273,7 @@ go_to code (negsuc before) = Err OutOfProgram
 abbrev pub jump : List Insn → ℕ → ℤ → Result Effect Cause
 jump code place distance = go_to code (pos (place + 1) +ℤ distance)
 
--- what an instruction sees and can do where registers hold values, at a state behind whose instruction the next one begins at this place
+-- what an instruction sees and can do if registers hold values, in a state whose next instruction begins at this place
 abbrev pub values : List Insn → Contents → State → ℕ → Domain
 values code segment state next = record {
   registers = value_registers state;
@@ -293,11 +292,11 @@ values code segment state next = record {
   end = λ answer. Ok (End answer);
 }
 
--- the effect of an instruction behind which the next one begins at this place
+-- the effect of an instruction, with the next one beginning at this place
 abbrev pub instruction_effect : List Insn → Contents → State → ℕ → Insn → Result Effect Cause
 instruction_effect code segment state next insn = walk.walk (values code segment state next) insn
 
--- the effect by what stands at the place
+-- the effect of the instruction at the place, if there is one
 abbrev pub effect_of : List Insn → Contents → State → Option Insn → Result Effect Cause
 effect_of code segment state None = Err OutOfProgram
 effect_of code segment state (Some insn) = instruction_effect code segment state (state.place + length (spelling insn)) insn
@@ -306,12 +305,12 @@ effect_of code segment state (Some insn) = instruction_effect code segment state
 abbrev pub effect : List Insn → Contents → State → Result Effect Cause
 effect code segment state = effect_of code segment state (instruction_at code state.place)
 
--- a call can be carried out: its arguments are what its prototype wants, and what it reads of the frame is written
+-- a call can be made: its arguments meet its prototype, and what it reads of the frame is written
 pub record CanBeCalled (state : State) (helper : Helper) (arguments : List ℕ) : Type 0 where
   pub meets : MeetsSignature helper arguments
   pub written : IsTrue (all_written (bytes_read (frame_use (signature helper).shape) arguments state.frame.bytes))
 
--- a change can be carried out: bytes that are stored lie within the frame, as does the slot of a pointer, and a call can be carried out
+-- a change can be made: stored bytes lie within the frame, so does the slot of a pointer, and a call can be made
 abbrev pub CanBeMade : State → Change → Type 0
 CanBeMade state Nothing = Unit {0}
 CanBeMade state (SetRegister register value) = Unit {0}

@@ -1,5 +1,5 @@
--- States of a program on its way. Registers are numbered 0 to 10 (RFC 9669, section 3.1) and hold 64 bits, or a pointer; the state
--- in which a program starts is this project's own.
+-- States of a running program. Registers are numbered 0 to 10 (RFC 9669, section 3.1) and hold 64 bits, or a pointer. The state at the start is
+-- this project's own choice.
 use Rattle.std.specs.Prelude.{◌≡◌, ℕ, ◌/◌, pos, IsTrue, [], ◌∷◌, length, replicate, get_or, None}
 use Rattle.bpf_insn.specs.declared.value.Area.TheVariants as area
 use Rattle.bpf_insn.specs.declared.value.Value.{Value}
@@ -9,7 +9,7 @@ use Rattle.bpf_insn.specs.declared.memory.TheConstants.{FRAME_LENGTH, SLOT_LENGT
 use Rattle.bpf_meaning.specs.declared.state.State.{State}
 use Rattle.bpf_meaning.specs.declared.state.TheConstants.{REGISTERS}
 
--- at the start: register 1 points to the record's first byte, register 10 behind the frame's last, nothing else is written
+-- at the start: register 1 points to the record's first byte, register 10 past the end of the frame, and nothing else is written
 abbrev pub start : State
 start = record {
   place = 0;
@@ -19,20 +19,20 @@ start = record {
   score = 0;
 }
 
--- eleven registers and a whole frame, as every State of the code has them: a premise for laws over states that are only lists
+-- eleven registers and a whole frame, as every State in the code has: a premise of laws about states, whose parts are only lists here
 pub record IsWhole (state : State) : Type 0 where
   pub registers : length state.registers ≡ REGISTERS
   pub frame : length state.frame.bytes ≡ FRAME_LENGTH
   pub slots : length state.frame.slots ≡ SLOTS
 
--- the frame's bytes are bytes, as those of every State of the code are
+-- the frame's bytes are bytes, as in every State in the code
 pub record HoldsBytes (state : State) : Type 0 where
   pub frame : (at : ℕ) → IsByte (get_or state.frame.bytes at Unwritten)
 
--- a byte that is written lies in a slot that holds no pointer
+-- a written byte lies in a slot that holds no pointer
 pub record KeepsPointersApart (state : State) : Type 0 where
   pub written : (at : ℕ) → IsTrue (is_written state.frame.bytes at) → slot_pointer state.frame (at / SLOT_LENGTH) ≡ None
 
--- what a register holds
+-- the value in a register
 abbrev pub register_value : State → ℕ → Value
 register_value state number = get_or state.registers number value.Empty

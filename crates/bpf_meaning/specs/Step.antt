@@ -1,4 +1,4 @@
--- Steps: an effect is carried out, and gives the next configuration.
+-- Steps: an effect is applied, and results in the next configuration.
 use Rattle.std.specs.Prelude.{◌≡◌, ℕ, List, ◌∷◌, ◌++◌, drop, replicate, slice_set, Result, Ok, Err}
 use Rattle.bpf_insn.specs.declared.instruction.Insn.{Insn}
 use Rattle.tl_segments.specs.Segment.{Contents}
@@ -20,13 +20,14 @@ use Rattle.bpf_meaning.specs.declared.outcome.Outcome.{Outcome}
 use Rattle.bpf_meaning.specs.declared.outcome.Outcome.TheVariants as outcome
 use Rattle.bpf_meaning.specs.declared.state.State.{State}
 
--- a program on its way, at its end, or stuck at a place
+-- a program that is running, has exited, or is stuck at a place
 pub data Configuration : Type 0 where
   Running : (state : State) → Configuration
   Exited : (answer score : ℕ) → Configuration
   Stuck : (place : ℕ) (cause : Cause) → Configuration
 
--- the registers after a call, which is this project's own: register 0 has the answer, registers 1 to 5 hold nothing, and the others are kept
+-- the registers after a call, which are this project's own choice: register 0 has the answer, registers 1 to 5 hold nothing, and the others are
+-- kept
 abbrev pub registers_after : ℕ → List Value → List Value
 registers_after answer registers = Number answer ∷ replicate 5 Empty ++ drop 6 registers
 
@@ -38,12 +39,12 @@ state_after state at called = record state {
   score = called.score;
 }
 
--- what a call does on the segment, with what it reads of the frame
+-- what a call does on the segment, given what it reads of the frame
 abbrev pub called : Contents → State → Helper → List ℕ → Called
 called segment state helper arguments =
     call helper segment arguments (written_bytes (bytes_read (frame_use (signature helper).shape) arguments state.frame.bytes)) state.score
 
--- the state with a change
+-- the state after a change
 abbrev pub carry_out : Contents → State → Change → State
 carry_out segment state Nothing = state
 carry_out segment state (SetRegister register value) = record state { registers = slice_set state.registers register.number value }
@@ -51,27 +52,27 @@ carry_out segment state (StoreBytes at size number) = record state { frame = sto
 carry_out segment state (StorePointer slot pointer) = record state { frame = keep_pointer state.frame slot pointer }
 carry_out segment state (CallHelper helper arguments) = state_after state (second arguments) (called segment state helper arguments)
 
--- what an effect leads to
+-- the configuration that an effect leads to
 abbrev pub apply : Contents → State → Effect → Configuration
 apply segment state (GoOn change place) = Running (record (carry_out segment state change) { place = place })
 apply segment state (End answer) = Exited answer state.score
 
--- what a state leads to: its effect, or that the instruction at its place can't be carried out
+-- the configuration that a state leads to: by its effect, or stuck because the instruction at its place can't be executed
 abbrev pub next_of : Contents → State → Result Effect Cause → Configuration
 next_of segment state (Ok effect) = apply segment state effect
 next_of segment state (Err cause) = Stuck state.place cause
 
--- the configuration that comes after a running one
+-- the configuration after a running one
 unfoldable pub after : List Insn → Contents → State → Configuration
 after code segment state = next_of segment state (effect code segment state)
 
--- the configuration that an outcome stands for, with the state where it goes on
+-- the configuration for an outcome, with the state where it goes on
 abbrev pub configuration_of : Outcome → State → Configuration
 configuration_of outcome.Running state = Running state
 configuration_of (outcome.Exit answer score) state = Exited answer score
 configuration_of (outcome.Stuck place cause) state = Stuck place cause
 
--- a program that has ended leaves its state as it was
+-- a program that has ended leaves its state unchanged
 abbrev pub KeepsAtEnd : Outcome → State → State → Type 0
 KeepsAtEnd outcome.Running old new = Unit {0}
 KeepsAtEnd (outcome.Exit answer score) old new = new ≡ old

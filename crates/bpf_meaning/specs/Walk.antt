@@ -1,7 +1,7 @@
--- The instruction table (RFC 9669, sections 4 and 5): the checks of each instruction in their order, and what it does when they pass. It
--- stands once, over a domain, which says what a register holds and what each step of an instruction gives: with values it is what an
--- instruction means, with what is known of values it is the abstract step, and with bare words it is what a machine does. A domain has a
--- state within it, the one before the instruction. Which checks there are, and their order, is this project's own.
+-- The instruction table (RFC 9669, sections 4 and 5): the checks of each instruction in order, and what it does when they pass. It is defined once,
+-- over a domain, which defines what a register holds and what each step of an instruction yields. Over values it is the meaning of an instruction,
+-- over what is known of values it is the abstract step, and over bare words it is what a machine does. A domain contains a state, the one before
+-- the instruction. Which checks there are, and their order, is this project's own choice.
 use Rattle.std.specs.Prelude.{ℕ, ℤ, Option, Some, None, Result, Ok, Err}
 use Rattle.std.specs.Int.{cast_unsigned, w32}
 use Rattle.bpf_insn.specs.Jump.{words}
@@ -26,7 +26,7 @@ use Rattle.bpf_meaning.specs.Checks.{◌>>=◌}
 use Rattle.bpf_meaning.specs.declared.cause.Cause.{Cause}
 use Rattle.bpf_meaning.specs.declared.cause.Cause.TheVariants.{PointerArithmetic, UnknownHelper, ExitNotNumber}
 
--- a conditional jump: what it asks, of what, and by how many words it leads on where that is so
+-- a conditional jump: its condition, its operands, and how many words it skips if the condition holds
 pub record ConditionalJump : Type 0 where
   pub condition : Condition
   pub width : Width
@@ -34,19 +34,19 @@ pub record ConditionalJump : Type 0 where
   pub right : Source
   pub distance : ℤ
 
--- registers, and what is made of what they hold
+-- registers, and the operations on what they hold
 pub record Registers : Type 1 where
-  -- what a register holds, what stands for a number, and what stands for a pointer that memory is read or written through
+  -- what a register holds, what represents a number, and what represents a pointer for reading or writing memory
   pub Value : Type 0
   pub Number : Type 0
   pub Pointer : Type 0
-  -- what is read from a register with a number
+  -- the value read from the register with a number
   pub read : ℕ → Result Value Cause
-  -- numbers are values; of a value its number, or the cause where it is none; the pointer in a register
+  -- a number as a value; the number that a value is, or the cause if it is none; the pointer in a register
   pub number : Number → Value
   pub number_or : Cause → Value → Result Number Cause
   pub pointer_in : ℕ → Result Pointer Cause
-  -- an immediate as an operand, and as the operand of a comparison of a width; the two immediates of a wide load
+  -- an immediate as an operand, and as an operand of a comparison with a width; the two immediates of a wide load
   pub immediate : ℤ → Value
   pub compared : Width → ℤ → Value
   pub wide : ℤ → ℤ → Number
@@ -57,27 +57,27 @@ pub record Registers : Type 1 where
   pub move : Width → Value → Result Value Cause
   pub operate : Operation → Width → Value → Value → Result Value Cause
 
--- what an instruction sees, and what it can do
+-- what an instruction sees and can do
 pub record Domain : Type 1 where
   pub registers : Registers
   pub open registers use *
-  -- where a store begins, what an instruction changes beside a register, and what it comes to
+  -- where a store begins, what an instruction changes besides a register, and what it leads to
   pub Offset : Type 0
   pub Change : Type 0
   pub Outcome : Type 0
-  -- what a load gives; where a pointer with an offset added leads in the frame; a store of a value there; the call of a helper function
+  -- the value that a load yields; where a pointer plus an offset points in the frame; a store of a value there; a call of a helper function
   pub load : LoadFormat → Pointer → ℤ → Result Value Cause
   pub frame : Pointer → ℤ → Result Offset Cause
   pub store_at : Offset → ℤ → StoreSize → Value → Result Change Cause
   pub call : Helper → Result Change Cause
-  -- on to the next instruction with a register written, or with another change; to a jump's target; to either; to the end
+  -- on to the next instruction with a register set, or with another change; to a jump's target; to either one; to the end
   pub set : WritableRegister → Value → Result Outcome Cause
   pub go_on : Change → Result Outcome Cause
   pub jump : ℤ → Result Outcome Cause
   pub branch : ConditionalJump → Value → Value → Result Outcome Cause
   pub end : Number → Result Outcome Cause
 
--- the number in a register, of which an instruction makes another; nothing is made so of a pointer
+-- the number in a register that an instruction computes with; a pointer isn't allowed there
 abbrev pub number_in : (R : Registers) → ℕ → Result R.Number Cause
 number_in R register = R.read register >>= R.number_or PointerArithmetic
 
@@ -91,7 +91,7 @@ abbrev pub compared_operand : (R : Registers) → Width → Source → Result R.
 compared_operand R width (Immediate value) = Ok (R.compared width value)
 compared_operand R width (Register register) = R.read register.number
 
--- what an arithmetic instruction gives; a move doesn't read its destination
+-- the result of an arithmetic instruction; a move doesn't read its destination
 abbrev pub operation_value : (R : Registers) → Operation → Width → ℕ → Source → Result R.Value Cause
 operation_value R Move width destination source = operand R source >>= R.move width
 operation_value R operation width destination source = R.read destination >>= λ x. operand R source >>= λ y. R.operate operation width x y
@@ -115,7 +115,7 @@ abbrev pub call : (D : Domain) → Option Helper → Result D.Change Cause
 call D None = Err UnknownHelper
 call D (Some helper) = D.call helper
 
--- the instruction table, a row each
+-- the instruction table, one row per instruction
 abbrev pub walk : (D : Domain) → Insn → Result D.Outcome Cause
 walk D (Alu operation width destination source) = operation_value D.registers operation width destination.number source >>= D.set destination
 walk D (MoveSignExtended extension destination source) = number_in D.registers source.number >>= λ x. D.set destination (D.number (D.extend extension x))

@@ -1,4 +1,4 @@
-//! Calls of helper functions: what is checked before one is carried out.
+//! Calls of helper functions: the checks before a call.
 ghost use Rattle.std.specs.Prelude.{◌≡◌, ◌≤◌, ◌+◌, IfOk};
 ghost use Rattle.bpf_helpers.specs.Call.{second, third};
 ghost use Rattle.bpf_insn.specs.declared.memory.TheConstants.{FRAME_LENGTH};
@@ -11,7 +11,7 @@ use bpf_helpers::{Argument, FrameUse, Helper};
 use bpf_insn::{Area, FRAME_LENGTH, Value};
 use bpf_kinds::Interval;
 
-/// A call by the number of a helper function, if there is one.
+/// Returns the change that a call makes, or an error if there is no such helper function.
 pub(crate) fn call_change(state: &State, helper: Option<Helper>) -> Result<Change, Cause>
     ensures { result ≡ call_change state.now helper }
 {
@@ -21,7 +21,7 @@ pub(crate) fn call_change(state: &State, helper: Option<Helper>) -> Result<Chang
     }
 }
 
-/// The call of a helper function, once its arguments are what its prototype wants.
+/// Returns the call of a helper function, after checking its arguments against its prototype.
 fn call_helper(state: &State, helper: Helper) -> Result<Change, Cause>
     ensures { result ≡ call_helper state.now helper }
 {
@@ -31,7 +31,7 @@ fn call_helper(state: &State, helper: Helper) -> Result<Change, Cause>
     Ok(Change::CallHelper { helper, arguments })
 }
 
-/// The arguments that a prototype wants, in their order: each is read and looked at before the next one.
+/// Returns the arguments that a prototype requires, in order. Each one is read and checked before the next one.
 fn arguments_in(state: &State, wanted: [Argument; 3]) -> Result<[u64; 3], Cause>
     ensures { result ≡ arguments_in state.now wanted }
 {
@@ -42,7 +42,7 @@ fn arguments_in(state: &State, wanted: [Argument; 3]) -> Result<[u64; 3], Cause>
     Ok([first, second, third])
 }
 
-/// The argument with a number, counted from 1. One that isn't used isn't read.
+/// Returns an argument, numbered from 1. An unused argument isn't read.
 fn argument_in(state: &State, number: u8, wanted: Argument) -> Result<u64, Cause>
     requires { number ≤ 10 }
     ensures { result ≡ argument_in state.now number wanted }
@@ -53,7 +53,7 @@ fn argument_in(state: &State, number: u8, wanted: Argument) -> Result<u64, Cause
     }
 }
 
-/// A word for an argument: a number, or the offset of a pointer into the frame in two's complement.
+/// Returns the word for an argument: a number, or the offset of a pointer into the frame in two's complement.
 fn argument_word(number: u8, wanted: Argument, value: Value) -> Result<u64, Cause>
     ensures { result ≡ argument_word number wanted value }
 {
@@ -67,14 +67,15 @@ fn argument_word(number: u8, wanted: Argument, value: Value) -> Result<u64, Caus
     }
 }
 
-/// Whether a number lies in an interval that a prototype allows.
+/// Returns whether a number lies in the interval that a prototype allows.
 fn is_allowed(allowed: Interval, n: u64) -> bool
     ensures { result ≡ is_allowed allowed n }
 {
     allowed.low <= n && n <= allowed.high
 }
 
-/// The arguments, once the bytes of the frame that a call reads or writes lie within it, and those that it reads are written.
+/// Returns the arguments, after checking that the bytes of the frame that a call reads or writes lie within it, and that those it reads are
+/// written.
 fn lend_frame(state: &State, frame: FrameUse, arguments: [u64; 3]) -> Result<[u64; 3], Cause>
     ensures { result ≡ lend_frame state.now frame arguments }
 {
@@ -85,7 +86,7 @@ fn lend_frame(state: &State, frame: FrameUse, arguments: [u64; 3]) -> Result<[u6
     }
 }
 
-/// The arguments, once the bytes lie within the frame. An offset below 0 is a word above all others.
+/// Returns the arguments, after checking that the bytes lie within the frame. An offset below 0 is a word greater than all others.
 fn lend_bytes(arguments: [u64; 3]) -> Result<[u64; 3], Cause>
     ensures value { result ≡ lend_bytes arguments }
     ensures within { IfOk result (λ arguments. second arguments + third arguments ≤ FRAME_LENGTH) }
@@ -98,7 +99,7 @@ fn lend_bytes(arguments: [u64; 3]) -> Result<[u64; 3], Cause>
     Ok(arguments)
 }
 
-/// The arguments, once the bytes are written.
+/// Returns the arguments, after checking that the bytes are written.
 fn lend_written(state: &State, arguments: [u64; 3]) -> Result<[u64; 3], Cause>
     requires { second arguments + third arguments ≤ FRAME_LENGTH }
     ensures { result ≡ lend_written state.now arguments }

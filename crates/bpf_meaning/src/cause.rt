@@ -1,17 +1,17 @@
-//! Why a program is stuck.
+//! The causes for which a program is stuck.
 ghost use Rattle.std.specs.Prelude.{◌≡◌};
 ghost use Rattle.bpf_meaning.specs.Cause as cause;
 
 use refusals::Refusal;
 
-/// Why a program is stuck. A register is given by its number.
+/// The cause for which a program is stuck. A register is given by its number.
 #[derive(Clone, Copy, Debug, PartialEq, Eq)]
 pub enum Cause {
     /// The program goes on where it has no instruction.
     OutOfProgram,
     /// The program goes on at the second word of a wide load.
     IntoWide,
-    /// A register is read that holds nothing.
+    /// A register that holds nothing is read.
     ReadsNothing(u8),
     /// A pointer is used in arithmetic other than moving it by a near number.
     PointerArithmetic,
@@ -31,7 +31,7 @@ pub enum Cause {
     ComparesPointer,
     /// A helper function is called that isn't known.
     UnknownHelper,
-    /// The argument with this number, counted from 1, isn't what the helper function wants.
+    /// The argument with this number, counted from 1, isn't what the helper function requires.
     BadArgument(u8),
     /// The answer is a pointer.
     ExitNotNumber,

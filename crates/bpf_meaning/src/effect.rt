@@ -1,9 +1,9 @@
-//! What an instruction does once its checks have passed, as plain data.
+//! The effects of instructions whose checks have passed, as plain data.
 
 use bpf_helpers::Helper;
 use bpf_insn::{Pointer, StoreSize, Value, WritableRegister};
 
-/// What an instruction does to a state.
+/// The effect of an instruction on a state.
 #[derive(Clone, Copy, PartialEq, Eq)]
 pub enum Effect {
     /// The program goes on at a place, with a change.
@@ -12,27 +12,27 @@ pub enum Effect {
     End { answer: u64 },
 }
 
-/// What an instruction changes besides the place.
+/// What an instruction changes in a state besides its place.
 #[derive(Clone, Copy, PartialEq, Eq)]
 pub enum Change {
     Nothing,
-    /// A register holds a value.
+    /// A register is set to a value.
     SetRegister {
         register: WritableRegister,
         value: Value,
     },
-    /// A number's low bytes stand in the frame, from an offset on.
+    /// The low bytes of a number are stored in the frame, from an offset on.
     StoreBytes {
         at: usize,
         size: StoreSize,
         number: u64,
     },
-    /// A slot of the frame, all of its bytes, keeps a pointer.
+    /// A pointer is stored in a slot of the frame, and takes all of its bytes.
     StorePointer {
         slot: usize,
         pointer: Pointer,
     },
-    /// A helper function is called with words: a pointer into the frame is its offset.
+    /// A helper function is called with words. A pointer into the frame is passed as its offset.
     CallHelper {
         helper: Helper,
         arguments: [u64; 3],

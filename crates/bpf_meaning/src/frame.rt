@@ -18,9 +18,9 @@ use tl_segments::Segment;
 #[derive(Drop)]
 pub struct Frame {
     bytes: [u8; FRAME_LENGTH],
-    /// Which of the bytes were written.
+    /// Marks the bytes that were written.
     marks: [bool; FRAME_LENGTH],
-    /// The pointers that slots hold.
+    /// The pointers in slots.
     slots: [Option<Pointer>; SLOTS],
 }
 
@@ -34,7 +34,7 @@ impl Model for Frame {
 }
 
 impl Frame {
-    /// A frame of which nothing is written.
+    /// Returns a frame with nothing written.
     pub fn unwritten() -> Self
         ensures bytes { result.bytes ≡ replicate FRAME_LENGTH Unwritten }
         ensures slots { result.slots ≡ replicate SLOTS None }
@@ -46,7 +46,7 @@ impl Frame {
         }
     }
 
-    /// How many bytes the frame has.
+    /// Returns the length of the frame, in bytes.
     pub(crate) fn len(&self) -> usize
         ensures value { result ≡ length self.now.bytes }
         ensures whole { result ≡ FRAME_LENGTH }
@@ -54,7 +54,7 @@ impl Frame {
         self.bytes.as_slice().len()
     }
 
-    /// The little-endian number of so many bytes from an offset on. None where one of them is unwritten.
+    /// Returns the little-endian number in `count` bytes from an offset on, or `None` if one of them is unwritten.
     pub fn load(&self, at: usize, count: usize) -> Option<u64>
         requires count { count ≤ 8 }
         requires within { at + count ≤ FRAME_LENGTH }
@@ -66,7 +66,7 @@ impl Frame {
         Some(little_endian(&self.bytes[at..at + count]))
     }
 
-    /// What a slot holds: the number of its bytes where all of them are written, or else its pointer, if there is one.
+    /// Returns the contents of a slot: the number in its bytes if all of them are written, or else its pointer, if there is one.
     pub fn slot_value(&self, slot: usize) -> Value
         requires { slot < SLOTS }
         ensures { result ≡ slot_value self.now slot }
@@ -78,7 +78,7 @@ impl Frame {
         }
     }
 
-    /// Writes the low bytes of a number, so many, from an offset on, the lowest first.
+    /// Writes the low `count` bytes of a number from an offset on, lowest first.
     pub fn store(&mut self, at: usize, count: usize, number: u64)
         requires count { count ≤ 8 }
         requires within { at + count ≤ FRAME_LENGTH }
@@ -90,7 +90,7 @@ impl Frame {
         self.clear_slots(at, count);
     }
 
-    /// Keeps a pointer in a slot, all of whose bytes it takes.
+    /// Stores a pointer in a slot, where it takes all of the bytes.
     pub fn keep_pointer(&mut self, slot: usize, pointer: Pointer)
         requires { slot < SLOTS }
         ensures { self.new ≡ keep_pointer self.old slot pointer }
@@ -100,7 +100,7 @@ impl Frame {
         self.slots[slot] = Some(pointer);
     }
 
-    /// Takes the pointer out of each slot that has one of so many bytes from an offset on.
+    /// Removes the pointer from each slot with one of `count` bytes from an offset on.
     fn clear_slots(&mut self, at: usize, count: usize)
         requires { at + count ≤ FRAME_LENGTH }
         ensures { self.new ≡ record self.old { slots = overwrite_slots None self.old.slots at count } }
@@ -111,7 +111,7 @@ impl Frame {
         }
     }
 
-    /// Whether so many bytes from an offset on are written.
+    /// Returns whether `count` bytes from an offset on are written.
     pub(crate) fn all_written(&self, at: usize, count: usize) -> bool
         requires { at + count ≤ FRAME_LENGTH }
         ensures { result ≡ all_written (take count (drop at self.now.bytes)) }
@@ -119,7 +119,7 @@ impl Frame {
         !self.marks[at..at + count].contains(&false)
     }
 
-    /// Calls a helper function on a segment, which may read bytes that are written, and write others.
+    /// Calls a helper function on a segment. It may read bytes that are written, and write bytes.
     pub(crate) fn call<A: Allocator>(
         &mut self,
         helper: Helper,
@@ -138,7 +138,7 @@ impl Frame {
     {
         let answer = call(helper, arguments, segment, &mut self.bytes, score);
         if let FrameUse::Writes = helper.signature().shape.frame_use() {
-            // Not read: that its names are whole tells how many bytes were written.
+            // Never read: the call only shows that the segment's names are whole, which tells how many bytes were written.
             let _bytes = segment.bytes();
             let [_, at, count] = arguments;
             self.marks[at as usize..at as usize + count as usize].fill(true);

@@ -1,4 +1,4 @@
-//! Laws, each the contract of a function that does nothing.
+//! Laws, each of which is the contract of a function that does nothing.
 ghost use Rattle.std.specs.Prelude.{◌≡◌, ◌≢◌, ◌≤◌, ◌<◌, ◌+◌, ◌*◌, ◌/◌, ◌%◌, ◌^◌, ◌++◌, ℕ, ℤ, IsTrue, List, length, take, drop, Some, None, false};
 ghost use Rattle.bpf_insn.specs.Code.{instruction_at};
 ghost use Rattle.bpf_insn.specs.declared.instruction.Insn.{Insn};
@@ -23,14 +23,14 @@ pub fn registers()
     ensures { REGISTERS ≡ 11 }
 {}
 
-/// A running configuration has exactly one next, and one that has ended has none.
+/// A running configuration has exactly one successor, and one that has ended has none.
 pub fn one_step()
     ensures running { (code : List Insn) (segment : Contents) (state : State) → HasOneNext code segment (Running state) }
     ensures exited { (code : List Insn) (segment : Contents) (answer score : ℕ) → HasNoNext code segment (Exited answer score) }
     ensures stuck { (code : List Insn) (segment : Contents) (place : ℕ) (cause : Cause) → HasNoNext code segment (Stuck place cause) }
 {}
 
-/// Bytes that were stored are loaded as the number's low bytes; what lies before them and behind them stays.
+/// Stored bytes are loaded as the number's low bytes, and the bytes before and after them are unchanged.
 pub fn stores_are_loaded()
     ensures loaded { (memory : List FrameByte) (at count number : ℕ) → at + count ≤ length memory
         → number_of (take count (drop at (store memory at count number))) ≡ Some (number % 256 ^ count) }
@@ -40,8 +40,8 @@ pub fn stores_are_loaded()
         → drop (at + count) (store memory at count number) ≡ drop (at + count) memory }
 {}
 
-/// A number of eight bytes that was stored in a slot is what that holds. A slot that has none of the bytes that were stored, or written by a
-/// helper function, holds what it did.
+/// A number of eight bytes stored in a slot is the slot's contents. A slot with none of the bytes that were stored, or that a helper function
+/// wrote, keeps its contents.
 pub fn numbers_are_kept()
     ensures whole { (frame : FrameContents) (slot number : ℕ) → SLOT_LENGTH * slot + SLOT_LENGTH ≤ length frame.bytes → number < 2 ^ 64
         → slot_value (store_number frame (SLOT_LENGTH * slot) SLOT_LENGTH number) slot ≡ Number number }
@@ -51,8 +51,8 @@ pub fn numbers_are_kept()
         → length frame.slots ≡ SLOTS → IsApart slot at (length bytes) → slot_value (write_bytes frame at bytes) slot ≡ slot_value frame slot }
 {}
 
-/// A pointer that was kept in a slot is what that holds, its bytes are unwritten, and the other slots hold what they did. Bytes written into a
-/// slot take its pointer out.
+/// A pointer stored in a slot is the slot's contents, the slot's bytes are unwritten, and the other slots keep their contents. Writing bytes into a
+/// slot removes its pointer.
 pub fn pointers_are_loaded()
     ensures kept { (frame : FrameContents) (slot : ℕ) (pointer : PointerParts) → SLOT_LENGTH * slot + SLOT_LENGTH ≤ length frame.bytes
         → slot < length frame.slots → slot_value (keep_pointer frame slot pointer) slot ≡ Pointer pointer }
@@ -66,7 +66,7 @@ pub fn pointers_are_loaded()
         → at ≤ byte → byte < at + length bytes → byte / SLOT_LENGTH ≡ slot → slot_pointer (write_bytes frame at bytes) slot ≡ None }
 {}
 
-/// Each state that a run comes to has eleven registers and a whole frame, and a step keeps them.
+/// Each state that a run reaches has eleven registers and a whole frame, and a step preserves this.
 pub fn states_stay_whole()
     ensures step { (code : List Insn) (segment : Contents) (state there : State)
         → IsWhole state → Step code segment (Running state) (Running there) → IsWhole there }
@@ -74,7 +74,7 @@ pub fn states_stay_whole()
         → IsRun code segment run → end_of run ≡ Running state → IsWhole state }
 {}
 
-/// The frame of each state that a run on a segment comes to holds bytes, and a step keeps it so.
+/// The frame of each state that a run on a segment reaches holds bytes, and a step preserves this.
 pub fn states_hold_bytes()
     ensures step { (code : List Insn) (segment : Contents) (state there : State)
         → IsSegment segment → HoldsBytes state → Step code segment (Running state) (Running there) → HoldsBytes there }
@@ -82,7 +82,7 @@ pub fn states_hold_bytes()
         → IsSegment segment → IsRun code segment run → end_of run ≡ Running state → HoldsBytes state }
 {}
 
-/// No pointer stands in a slot of which a byte is written, in each state that a run comes to, and a step keeps it so.
+/// In each state that a run reaches, no slot with a written byte holds a pointer, and a step preserves this.
 pub fn pointers_stand_apart()
     ensures step { (code : List Insn) (segment : Contents) (state there : State)
         → IsWhole state → KeepsPointersApart state → Step code segment (Running state) (Running there) → KeepsPointersApart there }
@@ -90,7 +90,7 @@ pub fn pointers_stand_apart()
         → IsRun code segment run → end_of run ≡ Running state → KeepsPointersApart state }
 {}
 
-/// A step over a call leaves registers 1 to 5 empty, and keeps those above them.
+/// A step over a call leaves registers 1 to 5 empty, and keeps the registers above them.
 pub fn calls_empty_registers()
     ensures empty { (code : List Insn) (segment : Contents) (state there : State) (immediate : ℤ)
         → instruction_at code state.place ≡ Some (Call immediate) → Step code segment (Running state) (Running there)
@@ -100,7 +100,7 @@ pub fn calls_empty_registers()
         → (register : ℕ) → 6 ≤ register → register_value there register ≡ register_value state register }
 {}
 
-/// Two runs of a code on a segment agree as far as both go: the longer one begins with the other.
+/// Two runs of a code on a segment agree as far as both go: the shorter one is a prefix of the longer one.
 pub fn runs_agree()
     ensures { (code : List Insn) (segment : Contents) (run longer : List Configuration)
         → IsRun code segment run → IsRun code segment longer → length run ≤ length longer
@@ -114,14 +114,14 @@ pub fn one_answer()
         → (answer ≡ other) × (score ≡ other_score) }
 {}
 
-/// A code that reads the record alone answers alike on segments of the same record.
+/// A code that reads only the record gives the same answer on segments with the same record.
 pub fn record_decides()
     ensures { (code : List Insn) (segment other : Contents) (answer score : ℕ) → IsTrue (reads_record_alone code)
         → segment.bytes ≡ other.bytes → Answers code segment answer score → Answers code other answer score }
 {}
 
-/// The extract of segments one behind the other is that of the first ones and, behind it, that of the others. A code has at most one extract of a list
-/// of segments.
+/// The extract of two lists of segments, one after the other, is the extract of the first list followed by that of the second. A code has at most
+/// one extract of a list of segments.
 pub fn extracts_join()
     ensures join { (code : List Insn) (front back : List Contents) (text more : List ℕ) (rows others : ℕ)
         → IsExtract code front text rows → IsExtract code back more others → IsExtract code (front ++ back) (text ++ more) (rows + others) }

@@ -15,7 +15,7 @@ use bpf_insn::{
 use std::alloc::Allocator;
 use tl_segments::Segment;
 
-/// An offset from which on so many bytes lie within the first ones, so many, of an area.
+/// Returns an offset as an index if `count` bytes from it on lie within the first `bytes` bytes of an area.
 #[inline(always)]
 fn offset_within(offset: i32, count: usize, bytes: usize) -> Option<usize>
     requires { count ≤ 8 }
@@ -31,7 +31,7 @@ fn offset_within(offset: i32, count: usize, bytes: usize) -> Option<usize>
     Some(at)
 }
 
-/// The little-endian number of at most eight bytes. One byte, which most loads read, is looked at first.
+/// Returns the little-endian number in at most eight bytes. The case of one byte, which most loads read, is tested first.
 #[inline(always)]
 pub(crate) fn little_endian(bytes: &[u8]) -> u64
     requires { length bytes.now ≤ 8 }
@@ -43,7 +43,7 @@ pub(crate) fn little_endian(bytes: &[u8]) -> u64
     }
 }
 
-/// The number of bytes of which the lowest stands first.
+/// Returns the number in bytes, lowest first.
 fn lowest_first(bytes: &[u8]) -> u64
     requires { length bytes.now ≤ 8 }
     ensures value { Some result ≡ number_of (map Byte bytes.now) }
@@ -55,7 +55,7 @@ fn lowest_first(bytes: &[u8]) -> u64
     }
 }
 
-/// A load from the record, from an offset on.
+/// Loads a number from the record, from an offset on.
 #[inline(always)]
 fn load_record(bytes: &[u8], format: LoadFormat, offset: i32) -> Result<Value, Cause>
     ensures { result ≡ load_bytes format (map Byte bytes.now) offset }
@@ -68,7 +68,7 @@ fn load_record(bytes: &[u8], format: LoadFormat, offset: i32) -> Result<Value, C
     Ok(Value::Number(format.extend(number)))
 }
 
-/// A load from the frame, from an offset on: of a whole slot it gives what that holds.
+/// Loads a value from the frame, from an offset on. A load of a whole slot returns the slot's contents.
 fn load_frame(frame: &Frame, format: LoadFormat, offset: i32) -> Result<Value, Cause>
     ensures { result ≡ load_frame format frame.now offset }
 {
@@ -85,7 +85,7 @@ fn load_frame(frame: &Frame, format: LoadFormat, offset: i32) -> Result<Value, C
     }
 }
 
-/// What a load of a whole slot gives, if it holds anything.
+/// Returns the value that a load of a whole slot yields, if the slot holds one.
 fn load_slot(held: Value) -> Result<Value, Cause>
     ensures { result ≡ load_slot held }
 {
@@ -95,7 +95,7 @@ fn load_slot(held: Value) -> Result<Value, Cause>
     }
 }
 
-/// The pointer in a register that is the base of a load or a store.
+/// Returns the pointer in the base register of a load or a store.
 #[inline(always)]
 fn pointer_in(state: &State, register: u8) -> Result<Pointer, Cause>
     requires { register ≤ 10 }
@@ -107,14 +107,14 @@ fn pointer_in(state: &State, register: u8) -> Result<Pointer, Cause>
     }
 }
 
-/// Where a load or a store begins: so many bytes from where a pointer points.
+/// Returns where a load or a store begins: `offset` bytes from where the pointer points.
 fn offset_from(pointer: Pointer, offset: i16) -> i32
     ensures { result ≡ pointer.offset +ℤ offset }
 {
     i32::from(pointer.offset) + i32::from(offset)
 }
 
-/// What a load gives.
+/// Returns the value that a load yields.
 pub(crate) fn load_value<A: Allocator>(
     segment: &Segment<A>,
     state: &State,
@@ -132,7 +132,7 @@ pub(crate) fn load_value<A: Allocator>(
     }
 }
 
-/// What a store changes of the frame.
+/// Returns the change that a store makes to the frame.
 pub(crate) fn store_change(
     state: &State,
     size: StoreSize,
@@ -150,7 +150,7 @@ pub(crate) fn store_change(
     store_at(offset_from(pointer, offset), size, value)
 }
 
-/// A value stored in the frame from an offset on.
+/// Returns the change that storing a value in the frame makes, from an offset on.
 fn store_at(offset: i32, size: StoreSize, value: Value) -> Result<Change, Cause>
     ensures { result ≡ store_at offset size value }
 {
@@ -161,7 +161,7 @@ fn store_at(offset: i32, size: StoreSize, value: Value) -> Result<Change, Cause>
     }
 }
 
-/// A pointer stored in the frame from an offset on: only a whole slot keeps one.
+/// Returns the change that storing a pointer in the frame makes, from an offset on. A pointer can only be stored in a whole slot.
 fn store_pointer(offset: i32, size: StoreSize, pointer: Pointer) -> Result<Change, Cause>
     ensures { result ≡ store_pointer offset size pointer }
 {
@@ -175,7 +175,7 @@ fn store_pointer(offset: i32, size: StoreSize, pointer: Pointer) -> Result<Chang
     }
 }
 
-/// A number stored in the frame from an offset on.
+/// Returns the change that storing a number in the frame makes, from an offset on.
 fn store_number(offset: i32, size: StoreSize, number: u64) -> Result<Change, Cause>
     ensures { result ≡ store_number offset size number }
 {

@@ -1,4 +1,4 @@
-//! What instructions make of registers and immediates.
+//! Operands and results of instructions, as values.
 ghost use Rattle.std.specs.Prelude.{◌≡◌, ◌≤◌};
 ghost use Rattle.bpf_meaning.specs.Effect.{compare, near_distance, number_or, offset_or, value_registers, value_tags};
 ghost use Rattle.bpf_meaning.specs.Tags.{move, move_pointer, move_pointer_back, operate, operate_on_pointer, operate_with_pointer};
@@ -10,7 +10,7 @@ use bpf_insn::{
     Condition, Operation, Pointer, Source, Value, Width, WritableRegister, immediate_operand,
 };
 
-/// The number that a value is, or the cause where it's none.
+/// Returns the number that a value is, or `cause` if it is none.
 #[inline(always)]
 pub(crate) fn number_or(cause: Cause, value: Value) -> Result<u64, Cause>
     ensures { result ≡ number_or cause value }
@@ -21,7 +21,7 @@ pub(crate) fn number_or(cause: Cause, value: Value) -> Result<u64, Cause>
     }
 }
 
-/// The number in a register, of which an instruction makes another.
+/// Returns the number in a register that an instruction computes with.
 #[inline(always)]
 pub(crate) fn number_in(state: &State, register: u8) -> Result<u64, Cause>
     requires { register ≤ 10 }
@@ -30,7 +30,7 @@ pub(crate) fn number_in(state: &State, register: u8) -> Result<u64, Cause>
     number_or(Cause::PointerArithmetic, state.read(register)?)
 }
 
-/// The second operand.
+/// Returns the second operand.
 #[inline(always)]
 pub(crate) fn operand(state: &State, source: Source) -> Result<Value, Cause>
     ensures { result ≡ operand (value_registers state.now) source }
@@ -41,7 +41,7 @@ pub(crate) fn operand(state: &State, source: Source) -> Result<Value, Cause>
     }
 }
 
-/// What an arithmetic instruction gives. A move doesn't read its destination.
+/// Returns the result of an arithmetic instruction. A move doesn't read its destination.
 #[inline(always)]
 pub(crate) fn operation_value(
     state: &State,
@@ -62,7 +62,7 @@ pub(crate) fn operation_value(
     }
 }
 
-/// What a move gives: any value with 64 bits, the low half of a number with 32.
+/// Returns the result of a move: any value with 64 bits, the low half of a number with 32.
 #[inline(always)]
 fn move_value(width: Width, value: Value) -> Result<Value, Cause>
     ensures { result ≡ move value_tags width value }
@@ -74,7 +74,7 @@ fn move_value(width: Width, value: Value) -> Result<Value, Cause>
     }
 }
 
-/// An operation on two values.
+/// Returns the result of an operation on two values.
 #[inline(always)]
 fn operate(operation: Operation, width: Width, x: Value, y: Value) -> Result<Value, Cause>
     ensures { result ≡ operate value_tags operation width x y }
@@ -101,7 +101,7 @@ fn operate(operation: Operation, width: Width, x: Value, y: Value) -> Result<Val
     }
 }
 
-/// An operation on a pointer's offset and a number.
+/// Returns the offset that an operation on a pointer's offset and a number yields.
 fn operate_on_pointer(operation: Operation, offset: i16, y: u64) -> Result<i16, Cause>
     ensures { result ≡ operate_on_pointer value_tags operation offset y }
 {
@@ -112,7 +112,7 @@ fn operate_on_pointer(operation: Operation, offset: i16, y: u64) -> Result<i16, 
     }
 }
 
-/// An operation on a number and a pointer's offset.
+/// Returns the offset that an operation on a number and a pointer's offset yields.
 fn operate_with_pointer(operation: Operation, x: u64, offset: i16) -> Result<i16, Cause>
     ensures { result ≡ operate_with_pointer value_tags operation x offset }
 {
@@ -122,7 +122,7 @@ fn operate_with_pointer(operation: Operation, x: u64, offset: i16) -> Result<i16
     }
 }
 
-/// An offset moved forwards by a number of bytes.
+/// Moves an offset forward by a number of bytes.
 fn move_pointer(offset: i16, number: u64) -> Result<i16, Cause>
     ensures { result ≡ move_pointer value_tags offset number }
 {
@@ -130,7 +130,7 @@ fn move_pointer(offset: i16, number: u64) -> Result<i16, Cause>
     offset_or(i32::from(offset) + i32::from(distance))
 }
 
-/// The same backwards.
+/// Moves an offset backward by a number of bytes.
 fn move_pointer_back(offset: i16, number: u64) -> Result<i16, Cause>
     ensures { result ≡ move_pointer_back value_tags offset number }
 {
@@ -138,7 +138,7 @@ fn move_pointer_back(offset: i16, number: u64) -> Result<i16, Cause>
     offset_or(i32::from(offset) - i32::from(distance))
 }
 
-/// A number that a pointer may be moved by, read as two's complement.
+/// Returns the distance by which a number moves a pointer, read as two's complement.
 fn near_distance(number: u64) -> Result<i16, Cause>
     ensures { result ≡ near_distance number }
 {
@@ -148,7 +148,7 @@ fn near_distance(number: u64) -> Result<i16, Cause>
     }
 }
 
-/// An offset, which must lie in the range of offsets.
+/// Returns an offset if it lies in the range of offsets.
 fn offset_or(offset: i32) -> Result<i16, Cause>
     ensures { result ≡ offset_or offset }
 {
@@ -158,7 +158,7 @@ fn offset_or(offset: i32) -> Result<i16, Cause>
     }
 }
 
-/// Whether two values meet a condition.
+/// Returns whether two values meet a condition.
 #[inline(always)]
 pub(crate) fn compare(condition: Condition, width: Width, x: Value, y: Value) -> Result<bool, Cause>
     ensures { result ≡ compare condition width x y }

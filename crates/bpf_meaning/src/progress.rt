@@ -26,7 +26,7 @@ pub(crate) fn go_on<A: Allocator>(
     Err(Cause::OutOfProgram)
 }
 
-/// Goes on at a place with a register written.
+/// Goes on at a place with a register set.
 #[inline(always)]
 pub(crate) fn set_register<A: Allocator>(
     code: &Code<A>,
@@ -39,7 +39,7 @@ pub(crate) fn set_register<A: Allocator>(
     go_on(code, place, Change::SetRegister { register, value })
 }
 
-/// Jumps from a place over so many words, counted from the word after the jump.
+/// Jumps from a place by `distance` words, counted from the word after the jump.
 #[inline(always)]
 pub(crate) fn jump<A: Allocator>(
     code: &Code<A>,

@@ -1,12 +1,12 @@
-//! Codes that ask for nothing of a segment but its type 1 record.
+//! Codes that read nothing of a segment but its type 1 record.
 ghost use Rattle.std.specs.Prelude.{◌≡◌};
 ghost use Rattle.bpf_meaning.specs.RecordAlone.{instruction_reads_record_alone};
 
 use bpf_helpers::Helper;
 use bpf_insn::Insn;
 
-/// Whether an instruction asks for nothing of a segment but its type 1 record: it calls no helper function that reads alternate names or
-/// address ranges. A code of such instructions answers alike on all segments of the same record.
+/// Returns whether an instruction reads nothing of a segment but its type 1 record: it calls no helper function that reads alternate names or
+/// address ranges. A code of such instructions gives the same answer on all segments with the same record.
 pub fn instruction_reads_record_alone(insn: Insn) -> bool
     ensures { result ≡ instruction_reads_record_alone insn }
 {

@@ -1,4 +1,4 @@
-//! States of a program on its way, and the place where effects are carried out.
+//! States of a running program, and how effects change them.
 ghost use Rattle.std.specs.Prelude.{◌≡◌, ◌≤◌};
 ghost use Rattle.bpf_meaning.specs.State.{start};
 
@@ -11,18 +11,18 @@ use bpf_insn::{Area, FRAME_LENGTH, Pointer, Value, store_length};
 use std::alloc::Allocator;
 use tl_segments::Segment;
 
-/// How many registers there are.
+/// The number of registers.
 pub const REGISTERS: usize = 11;
 
-/// A program on its way.
+/// The state of a running program.
 #[derive(Drop)]
 pub struct State {
-    /// The next instruction's place, which counts words from 0.
+    /// The place of the next instruction, which counts words from 0.
     pub place: usize,
     /// Registers 0 to 10.
     pub registers: [Value; REGISTERS],
     pub frame: Frame,
-    /// The score that the segment's row gets if the program chooses it.
+    /// The score of the segment's row if the program selects the segment.
     pub score: u64,
 }
 
@@ -31,8 +31,8 @@ impl State {
     ghost use Rattle.bpf_helpers.specs.Call.{second};
     ghost use Rattle.bpf_meaning.specs.Step.{apply, called, carry_out, configuration_of, state_after, KeepsAtEnd};
 
-    /// The state in which a program starts, the same on every segment: register 1 points to the record's first byte, register 10
-    /// behind the frame's last, and nothing else was written. It holds no memory of its own.
+    /// Returns the state at the start of a program, which is the same on every segment: register 1 points to the record's first byte, register 10
+    /// past the end of the frame, and nothing else is written. Allocates nothing.
     pub fn start() -> Self
         ensures { result ≡ start }
     {
@@ -44,7 +44,7 @@ impl State {
         }
     }
 
-    /// What a register holds, if anything.
+    /// Returns the value in a register, or an error if it holds nothing.
     #[inline(always)]
     pub(crate) fn read(&self, register: u8) -> Result<Value, Cause>
         requires { register ≤ 10 }
@@ -56,7 +56,7 @@ impl State {
         }
     }
 
-    /// Carries out an effect on a segment.
+    /// Applies an effect on a segment.
     #[inline(always)]
     pub(crate) fn apply<A: Allocator>(&mut self, segment: &Segment<A>, effect: Effect) -> Outcome
         requires { CanBeCarriedOut self.old effect }
@@ -94,7 +94,7 @@ impl State {
         }
     }
 
-    /// Calls a helper function: register 0 gets its answer, and registers 1 to 5 hold nothing afterwards.
+    /// Calls a helper function: register 0 receives its answer, and registers 1 to 5 hold nothing afterwards.
     #[inline(never)]
     fn call<A: Allocator>(&mut self, segment: &Segment<A>, helper: Helper, arguments: [u64; 3])
         requires { CanBeCalled self.old helper arguments }
@@ -106,7 +106,7 @@ impl State {
     }
 }
 
-/// The registers of the state in which a program starts.
+/// Returns the registers at the start of a program.
 fn start_registers() -> [Value; REGISTERS]
     ensures { result ≡ start.registers }
 {

@@ -1,4 +1,4 @@
-//! Steps, and traces of them.
+//! Steps and traces.
 ghost use Rattle.std.specs.Prelude.{◌≡◌};
 ghost use Rattle.bpf_meaning.specs.Run.{IsTraced};
 ghost use Rattle.bpf_meaning.specs.Step.{after, configuration_of, KeepsAtEnd};
@@ -10,8 +10,8 @@ use bpf_insn::Code;
 use std::alloc::Allocator;
 use tl_segments::Segment;
 
-/// Runs a code on a segment for at most so many steps, and tells what the last one led to. It takes no memory, and its time grows with
-/// the steps that it takes.
+/// Runs a code on a segment for at most `limit` steps, and returns the outcome of the last one. Allocates nothing; the time grows with the steps
+/// taken.
 pub fn trace<A: Allocator, B: Allocator>(
     code: &Code<A>,
     segment: &Segment<B>,
@@ -29,9 +29,8 @@ pub fn trace<A: Allocator, B: Allocator>(
     Outcome::Running
 }
 
-/// Carries out the instruction at the state's place, after the checks of what it reads and of where it goes on. The state is then where
-/// the program goes on, or as it was where the program has ended, so that a further step ends alike. It may be any state, also one that
-/// no run comes to.
+/// Executes the instruction at the state's place, after checking what it reads and where it goes on. Afterwards the state is where the program goes
+/// on. If the program has ended, the state is unchanged, so another step ends in the same way. Any state is accepted, even one that no run reaches.
 #[inline(always)]
 #[tactic(auto, unfolding(crate::specs::Step::after))]
 pub fn step<A: Allocator, B: Allocator>(

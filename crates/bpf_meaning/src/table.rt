@@ -1,4 +1,4 @@
-//! The instruction table: the checks of each instruction in their order, and its effect.
+//! The instruction table: the checks of each instruction in order, and its effect.
 ghost use Rattle.std.specs.Prelude.{◌≡◌, ◌<◌};
 ghost use Rattle.bpf_insn.specs.declared.code.TheConstants.{WORD_LIMIT};
 ghost use Rattle.bpf_meaning.specs.Effect.{effect, values};
@@ -16,7 +16,7 @@ use bpf_insn::{Code, Insn, Source, Value, negate, wide_number};
 use std::alloc::Allocator;
 use tl_segments::Segment;
 
-/// The effect of the instruction at the state's place, or the first check that fails. Nothing is carried out.
+/// Returns the effect of the instruction at the state's place, or the first check that fails. Changes nothing.
 #[inline(always)]
 pub(crate) fn effect<A: Allocator, B: Allocator>(
     code: &Code<A>,
@@ -34,7 +34,7 @@ pub(crate) fn effect<A: Allocator, B: Allocator>(
     }
 }
 
-/// The effect of an instruction behind which the next one begins at this place: one arm a row.
+/// Returns the effect of an instruction, with the next one beginning at `next`. Each arm is one row of the table.
 #[inline(always)]
 fn instruction_effect<A: Allocator, B: Allocator>(
     code: &Code<A>,

@@ -1,6 +1,6 @@
 use Rattle.bpf_meaning.proofs.RunLemmas.{IsOnItsWay}
 use Rattle.bpf_meaning.proofs.stepper.trace.Given as goal
 
--- a run of so many steps is on its way in this state
+-- some run of this many steps is in this state and hasn't ended
 abbrev pub invariant-loop-steps : goal.invariant-loop-steps
 invariant-loop-steps g l = IsOnItsWay l.code l.segment l._steps l.state

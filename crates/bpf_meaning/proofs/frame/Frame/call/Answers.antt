@@ -1,4 +1,4 @@
--- What is called reads the bytes that are written, and those that it writes get their marks.
+-- The helper function reads written bytes, and the bytes that it writes are marked.
 use Rattle.std.proofs.Common.{◌≡◌, ℕ, ◌+◌, ◌-◌, ◌≤◌, List, None, length, take, drop, sym, ap, ◌∙◌, subst, arith}
 use Rattle.std.proofs.lemmas.List.{length-take, length-drop}
 use Rattle.bpf_insn.specs.declared.memory.TheConstants.{FRAME_LENGTH}
