@@ -1,4 +1,4 @@
--- Which frames are possible, where bytes are marked or touched and slots are set.
+-- The frames that are possible after bytes are marked or touched and slots are set.
 use Rattle.std.proofs.Common.{◌≡◌, ◌≢◌, ℕ, zero, suc, ◌+◌, ◌-◌, ◌*◌, ◌/◌, ◌<◌, ◌≤◌, false, List, [], ◌∷◌, drop, length, get_or, Some, None}
 use Rattle.std.proofs.Common.{Option, inl, inr, refl, ◌∙◌, sym, subst, arith}
 use Rattle.std.specs.Prelude.{IsTrue}
@@ -18,7 +18,7 @@ use Rattle.bpf_kinds.specs.declared.interval.Interval.{Interval}
 use Rattle.bpf_kinds.specs.declared.kind.Kind.{Kind}
 use Rattle.bpf_kinds.specs.declared.kind.Kind.TheVariants.{Number, Nothing}
 
--- bytes that have a number are all written
+-- bytes that represent a number are all written
 
 some_of_map : (f : ℕ → ℕ) (found : Option ℕ) (n : ℕ) → option_map f found ≡ Some n → (m : ℕ) × (found ≡ Some m)
 some_of_map f None n is = absurd (let other : Option ℕ = None in let none : other ≡ Some n = is in cc)
@@ -33,7 +33,7 @@ numbered_are_written (Byte byte ∷ bytes) n is (suc at) within =
     let rest = some_of_map (λ rest. byte + 256 * rest) (number_of bytes) n is in
     numbered_are_written bytes rest.0 rest.1 at (omega arith)
 
--- a slot that holds a number of an interval has all its bytes written
+-- all bytes of a slot are written if it holds a number of an interval
 number_of_slot : (x : Interval) (number : Option ℕ) (pointer : Option PointerParts) → kind.Admits (Number x) (value_of number pointer)
     → (n : ℕ) × (number ≡ Some n)
 number_of_slot x (Some n) pointer admits = (n, refl)
@@ -63,9 +63,9 @@ number_is_written x frame slot at whole within admits same =
       length-drop (SLOT_LENGTH * slot) frame.bytes,
     )
 
--- a frame that was possible, and what became of it
+-- a frame that was possible, and the frame after a change
 module _ {map : Contents} {before : FrameContents} (after : FrameContents) (proper : IsProper map) (admitted : Admits map before) where
-  -- a slot that holds what it held, or that isn't there, still holds something of its kind
+  -- a slot that keeps its contents, or isn't in the frame, still holds a value of its kind
   still_admits : (slot : ℕ) → (slot < SLOTS → slot_value after slot ≡ slot_value before slot)
       → kind.Admits (slot_kind map slot) (slot_value after slot)
   still_admits slot same =
@@ -74,7 +74,7 @@ module _ {map : Contents} {before : FrameContents} (after : FrameContents) (prop
         | inr past ↦ subst (λ (k : Kind). kind.Admits k (slot_value after slot)) (sym (slot_kind_past map slot proper past)) tt
       ]
 
-  -- it's possible still where no written byte is taken back and each slot holds what it held
+  -- it is still possible if no written byte becomes unwritten and each slot keeps its contents
   pub admits_stays : ((at : ℕ) → IsTrue (is_written before.bytes at) → IsTrue (is_written after.bytes at))
       → ((slot : ℕ) → slot < SLOTS → slot_value after slot ≡ slot_value before slot) → Admits map after
   admits_stays stay kept = record {
@@ -82,7 +82,7 @@ module _ {map : Contents} {before : FrameContents} (after : FrameContents) (prop
     slots = λ slot. still_admits slot (kept slot);
   }
 
-  -- so it is once bytes were touched, if none was taken back
+  -- it is after bytes were touched, if none became unwritten
   pub touch_admits : (from to : ℕ) → from ≤ to → to < FRAME_LENGTH
       → ((at : ℕ) → IsTrue (is_written before.bytes at) → IsTrue (is_written after.bytes at))
       → ((slot : ℕ) → slot < SLOTS → IsApart slot from (to + 1 - from) → slot_value after slot ≡ slot_value before slot)
@@ -93,7 +93,7 @@ module _ {map : Contents} {before : FrameContents} (after : FrameContents) (prop
         (λ slot apart. still_admits slot (λ inside. kept slot inside apart));
   }
 
-  -- and once bytes are marked that were written
+  -- and after bytes that were written are marked
   pub mark_admits : (from len : ℕ) → from + len ≤ FRAME_LENGTH
       → ((at : ℕ) → IsTrue (is_written before.bytes at) → IsTrue (is_written after.bytes at))
       → ((at : ℕ) → from ≤ at → at < from + len → IsTrue (is_written after.bytes at))
@@ -109,7 +109,7 @@ module _ {map : Contents} {before : FrameContents} (after : FrameContents) (prop
         (λ slot apart. still_admits slot (λ inside. kept slot inside apart));
   }
 
-  -- a byte of a slot that has its mark once the slot holds something of a kind, is written
+  -- a byte of a slot that is marked because of the slot's kind is written
   written_here : (k : Kind) {slot : ℕ} (at : ℕ) → slot < SLOTS → FRAME_LENGTH ≤ length after.bytes → k ≢ Nothing
       → kind.Admits k (slot_value after slot) → at / SLOT_LENGTH ≡ slot → IsMarked (fit_marks k map.marks slot) at
       → IsTrue (is_written after.bytes at)
@@ -119,7 +119,7 @@ module _ {map : Contents} {before : FrameContents} (after : FrameContents) (prop
       let fits = slot_in_frame map slot proper within in
       absurd (both_ways _ (get_or-with_marks false map.marks (SLOT_LENGTH * slot) SLOT_LENGTH at fits (omega arith) (omega arith)) marked)
 
-  -- and once a slot holds something of a kind, if it does
+  -- and after a slot is set to a kind, if it holds a value of the kind
   pub set_slot_admits : (slot : ℕ) (k : Kind) → slot < SLOTS → FRAME_LENGTH ≤ length after.bytes → k ≢ Nothing
       → ((at : ℕ) → at / SLOT_LENGTH ≢ slot → IsTrue (is_written before.bytes at) → IsTrue (is_written after.bytes at))
       → ((other : ℕ) → other < SLOTS → other ≢ slot → slot_value after other ≡ slot_value before other)

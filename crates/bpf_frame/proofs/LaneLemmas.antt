@@ -1,4 +1,4 @@
--- What lanes of 64 bits each say of the marks that they stand for.
+-- Lanes of 64 bits, and the marks in them.
 use Rattle.std.proofs.Common.{◌≡◌, ◌↔◌, ℕ, zero, suc, ◌+◌, ◌-◌, ◌*◌, ◌/◌, ◌%◌, ◌^◌, ◌<◌, ◌≤◌, min, max, Bool, false, ◌&&◌, ◌||◌, ◌==◌, inl}
 use Rattle.std.proofs.Common.{inr, List, [], ◌∷◌, length, map, cond, not, w64, get_or, refl, ◌∙◌, sym, ap, subst, arith, bit_and, bit_or}
 use Rattle.std.proofs.Common.{zero-add, not-suc-le-zero, le_of_suc-le-suc}
@@ -38,7 +38,7 @@ has_bit-and a b i = ap (λ n. n == 1) (bit_at_and a b i) ∙ two_bits (λ x y. (
 pub has_bit-or : (a b i : ℕ) → has_bit (bit_or a b) i ≡ (has_bit a i || has_bit b i)
 has_bit-or a b i = ap (λ n. n == 1) (bit_at_or a b i) ∙ two_bits (λ x y. (max x y == 1) ≡ ((x == 1) || (y == 1))) refl refl refl refl a b i
 
--- numbers of 64 bits that have the same bits are the same
+-- numbers of 64 bits with the same bits are equal
 pub same_from_bits : (a b : ℕ) → a < 2 ^ 64 → b < 2 ^ 64 → ((i : ℕ) → i < 64 → has_bit a i ≡ has_bit b i) → a ≡ b
 same_from_bits a b fits fits_too same =
     same_from_bits_below 64 a b fits fits_too
@@ -54,7 +54,7 @@ unfolding marks_of
 get_or-marks_of lanes at within = get_or-map-range_with_len (λ at. has_bit (get_or lanes (at / 64) 0) (at % 64)) 0 512 at at false within
     (zero-add at)
 
--- there are no marks outside of the frame
+-- there are no marks outside the frame
 pub marked_within : (lanes : List ℕ) (at : ℕ) → IsMarked (marks_of lanes) at → at < 512
 marked_within lanes at marked =
     elim (cases_lt at 512) [
@@ -73,7 +73,7 @@ mark_of_bit lanes lane bit within below =
     ∙ ap (λ (k : ℕ). has_bit (get_or lanes k 0) ((64 * lane + bit) % 64)) its_lane
     ∙ ap (λ (i : ℕ). has_bit (get_or lanes lane 0) i) its_bit
 
--- lanes that stand for the same marks are the same
+-- lanes with the same marks are equal
 marks_of_injective : (xs ys : List ℕ) → AreLanes xs → AreLanes ys → marks_of xs ≡ marks_of ys → xs ≡ ys
 marks_of_injective xs ys lanes others same =
     ext_get_or 0 xs ys (lanes.count ∙ sym others.count)
@@ -83,7 +83,7 @@ marks_of_injective xs ys lanes others same =
     (λ bit below. sym (mark_of_bit xs lane bit within below) ∙ ap (λ (marks : List Bool). get_or marks (64 * lane + bit) false) same
     ∙ mark_of_bit ys lane bit within below))
 
--- an operation on each lane of both, as one on each mark
+-- an operation on the lanes of both as an operation on their marks
 module _ (on_lanes : ℕ → ℕ → ℕ) where
   pub both_are_lanes : ((a b : ℕ) → a < 2 ^ 64 → b < 2 ^ 64 → on_lanes a b < 2 ^ 64) → (xs ys : List ℕ) → AreLanes xs → AreLanes ys
       → AreLanes (zip2 on_lanes xs ys)
@@ -109,7 +109,7 @@ module _ (on_lanes : ℕ → ℕ → ℕ) where
       ∙ sym (ap (λ (b : Bool). on_marks b (get_or (marks_of ys) at false)) (get_or-marks_of xs at within)
       ∙ ap (on_marks (has_bit (get_or xs (at / 64) 0) (at % 64))) (get_or-marks_of ys at within))
 
--- the lanes of both are lanes again, and stand for the marks that both have
+-- the lanes of both are lanes again, and contain the marks that both have
 pub and_are_lanes : (xs ys : List ℕ) → AreLanes xs → AreLanes ys → AreLanes (zip2 bit_and xs ys)
 and_are_lanes = both_are_lanes bit_and (λ a b fits _. let small : bit_and a b < 2 ^ 64 = omega (arith, and_le_l a b) in small)
 
@@ -119,7 +119,7 @@ marks_of-and xs ys lanes others =
     (length-marks_of (zip2 bit_and xs ys))
     (λ at within. mark_of_both bit_and (λ a b. a && b) has_bit-and xs ys at lanes others within)
 
--- the lanes of all other marks
+-- the lanes with all other marks
 not_are_lanes : (xs : List ℕ) → AreLanes xs → AreLanes (map (bit_not w64) xs)
 not_are_lanes xs lanes = record {
   count = length-map xs (bit_not w64) ∙ lanes.count;
@@ -162,7 +162,7 @@ mark_without xs ys at lanes others =
           (let long : length (marks_of xs) ≤ at = omega (arith, length-marks_of xs) in long)))
     ]
 
--- what lanes and kinds stand for, as a clause sees it
+-- the contents of lanes and kinds, as a clause sees them
 abbrev pub contents : List ℕ → List Kind → Contents
 contents lanes kinds = record { marks = marks_of lanes; kinds = kinds }
 
@@ -206,7 +206,7 @@ no_lane_differs-Decides xs ys count others =
       λ same. eq-eqb _ _ (mask ∙ ap (λ (zs : List ℕ). mask_l (zip2 (λ a b. not (a == b)) xs zs)) (sym same) ∙ mask_of_same xs),
     )
 
--- lanes have the marks of others where the marks of both are those of the others
+-- lanes have the marks of others if the marks in both are those of the others
 marked_from_and : (xs ys : List ℕ) (at : ℕ) → AreLanes xs → AreLanes ys → zip2 bit_and xs ys ≡ ys → IsMarked (marks_of ys) at
     → IsMarked (marks_of xs) at
 marked_from_and xs ys at lanes others same marked =
@@ -224,7 +224,7 @@ and_from_marked xs ys lanes others has =
     (omega (arith, length-marks_of (zip2 bit_and xs ys))) in
     same_tests _ _ (λ marked. both ∙ and_from _ _ (has at marked) marked) (λ marked. (and_parts _ _ (sym both ∙ marked)).1)))
 
--- what the comparison says of the marks that the lanes stand for
+-- what the comparison of lanes says of their marks
 pub leq_is : (xs ys : List ℕ) → AreLanes xs → AreLanes ys → IsTrue (no_lane_differs (zip2 bit_and xs ys) ys)
     ↔ ((at : ℕ) → IsMarked (marks_of ys) at → IsMarked (marks_of xs) at)
 leq_is xs ys lanes others =
@@ -233,7 +233,7 @@ leq_is xs ys lanes others =
       λ has. decides.1 (and_from_marked xs ys lanes others has),
     )
 
--- what is so of the lanes and kinds of maps, and what is so of the maps
+-- a fact about lanes and kinds is a fact about maps
 pub within_seen : (xs ys : List ℕ) (kinds others : List Kind) (map other : Contents) → contents xs kinds ≡ map → contents ys others ≡ other
     → IsWithin (contents xs kinds) (contents ys others) ↔ IsWithin map other
 within_seen xs ys kinds others map other seen other_seen =

@@ -1,4 +1,4 @@
--- What marks say of each byte, where bytes are marked, looked at and joined.
+-- The marks of single bytes after bytes are marked, tested and joined.
 use Rattle.std.proofs.Common.{◌≡◌, ◌≢◌, ℕ, ◌+◌, ◌*◌, ◌/◌, add-zero, ◌<◌, ◌≤◌, Bool, true, false, ◌⊎◌, List, length, get_or, inl, inr, refl}
 use Rattle.std.proofs.Common.{◌∙◌, sym, arith}
 use Rattle.std.proofs.lemmas.Bool.{cases_lt}
@@ -13,13 +13,13 @@ pub length-with_marks : (b : Bool) (marks : List Bool) (from len : ℕ) → from
     → length (with_marks b marks from len) ≡ length marks
 length-with_marks b marks from len within = length-filled b marks from len (from + len) refl within
 
--- the marks of the bytes that are meant
+-- the marks of the bytes in the range
 pub get_or-with_marks : (b : Bool) (marks : List Bool) (from len at : ℕ) → from + len ≤ length marks → from ≤ at → at < from + len
     → get_or (with_marks b marks from len) at false ≡ b
 get_or-with_marks b marks from len at within above below = get_or-filled_inside b marks from len (from + len) false at refl within above
     below
 
--- the marks of all other bytes stay
+-- the marks of all other bytes are unchanged
 pub get_or-other_marks : (b : Bool) (marks : List Bool) (from len at : ℕ) → from + len ≤ length marks → (from ≤ at → at < from + len → ⊥)
     → get_or (with_marks b marks from len) at false ≡ get_or marks at false
 get_or-other_marks b marks from len at within outside =
@@ -32,7 +32,7 @@ get_or-other_marks b marks from len at within outside =
           ]
     ]
 
--- each byte that is marked has its mark
+-- each byte in the range is marked
 pub marked_inside : (marks : List Bool) (from len at : ℕ) → from + len ≤ length marks → from ≤ at → at < from + len
     → IsMarked (with_marks true marks from len) at
 marked_inside = get_or-with_marks true
@@ -48,7 +48,7 @@ inside_or_not from end at =
       ]
     ]
 
--- a byte has its mark for one of two reasons: it had it before, or it's one of those that are marked
+-- a byte is marked for one of two reasons: it was marked before, or it is in the range
 pub marked_before_or_inside : (marks : List Bool) (from len at : ℕ) → from + len ≤ length marks
     → IsMarked (with_marks true marks from len) at → IsMarked marks at ⊎ ((from ≤ at) × (at < from + len))
 marked_before_or_inside marks from len at within marked =
@@ -57,7 +57,7 @@ marked_before_or_inside marks from len at within marked =
       | inr outside ↦ inl (sym (get_or-other_marks true marks from len at within outside) ∙ marked)
     ]
 
--- no mark is taken back
+-- no mark is removed
 pub mark_keeps : (marks : List Bool) (from len at : ℕ) → from + len ≤ length marks → IsMarked marks at
     → IsMarked (with_marks true marks from len) at
 mark_keeps marks from len at within marked =
@@ -66,11 +66,11 @@ mark_keeps marks from len at within marked =
       | inr outside ↦ get_or-other_marks true marks from len at within outside ∙ marked
     ]
 
--- to mark no byte changes no mark
+-- marking no bytes changes no marks
 pub mark_none : (marks : List Bool) (from : ℕ) → from ≤ length marks → with_marks true marks from 0 ≡ marks
 mark_none marks from within = simp (append-nil, add-zero, take-append-drop)
 
--- marks that fit a slot's kind are as many, and those of the bytes of other slots stay
+-- fitting marks to a slot's kind keeps their number, and the marks of the bytes of other slots
 pub length-fit_marks : (k : Kind) (marks : List Bool) (slot : ℕ) → SLOT_LENGTH * slot + SLOT_LENGTH ≤ length marks
     → length (fit_marks k marks slot) ≡ length marks
 length-fit_marks (Number x) marks slot within = length-with_marks true marks (SLOT_LENGTH * slot) SLOT_LENGTH within
@@ -85,7 +85,7 @@ get_or-unfit_marks Nothing marks slot at within other = refl
 get_or-unfit_marks pointer marks slot at within other = get_or-other_marks false marks (SLOT_LENGTH * slot) SLOT_LENGTH at within
     (λ above below. other (omega arith))
 
--- what says more has more bytes written
+-- a map within another one has at least its bytes written
 pub all_written_within : (map other : Contents) (from to : ℕ) → IsWithin map other → AllWritten other.marks from to
     → AllWritten map.marks from to
 all_written_within map other from to within all = λ at above below. within.marks at (all at above below)

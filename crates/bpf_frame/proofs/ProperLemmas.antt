@@ -1,4 +1,4 @@
--- Maps stay proper: each kind is, and each mark fits the kind of its byte's slot.
+-- Maps stay proper: each kind is proper, and each mark fits the kind of its byte's slot.
 use Rattle.std.proofs.Common.{◌≡◌, ℕ, zero, suc, ◌+◌, ◌-◌, ◌*◌, ◌/◌, ◌<◌, ◌≤◌, Bool, true, false, List, length, get_or, replicate, refl}
 use Rattle.std.proofs.Common.{◌∙◌, sym, subst, arith}
 use Rattle.std.specs.Prelude.{IsTrue}
@@ -31,7 +31,7 @@ touch_is_proper map from to proper ordered within = record {
       (at / SLOT_LENGTH) refl;
 }
 
--- bytes that are in the frame have marks
+-- bytes in the frame have marks
 pub in_frame : (map : Contents) (end : ℕ) → IsProper map → end ≤ FRAME_LENGTH → end ≤ length map.marks
 in_frame map end proper within = subst (λ (n : ℕ). end ≤ n) (sym proper.count) within
 
@@ -59,7 +59,7 @@ mark_is_proper map from len proper within = record {
 pub slot_in_frame : (map : Contents) (slot : ℕ) → IsProper map → slot < SLOTS → SLOT_LENGTH * slot + SLOT_LENGTH ≤ length map.marks
 slot_in_frame map slot proper within = in_frame map (SLOT_LENGTH * slot + SLOT_LENGTH) proper (omega arith)
 
--- the marks of a slot's bytes, once they fit its kind
+-- the marks of a slot's bytes, fitted to its kind
 pub fit_here : (k : Kind) (marks : List Bool) (slot at : ℕ) → SLOT_LENGTH * slot + SLOT_LENGTH ≤ length marks → at / SLOT_LENGTH ≡ slot
     → FitsKind k (get_or (fit_marks k marks slot) at false)
 fit_here (Number x) marks slot at within same = get_or-with_marks true marks (SLOT_LENGTH * slot) SLOT_LENGTH at within (omega arith)
@@ -87,13 +87,13 @@ set_slot_is_proper map slot k proper within is_proper =
           (at / SLOT_LENGTH) refl;
     }
 
--- what stands at each place of a list with one element alone
+-- the elements of a list that repeats one element
 pub get_or-alike : {X : Type 0} (n at : ℕ) (x : X) → get_or (replicate n x) at x ≡ x
 get_or-alike zero at x = refl
 get_or-alike (suc n) zero x = refl
 get_or-alike (suc n) (suc at) x = get_or-alike n at x
 
--- a map of which nothing is known is proper
+-- a map in which nothing is known is proper
 pub unwritten_is_proper : IsProper unwritten
 unwritten_is_proper = record {
   count = length-replicate FRAME_LENGTH false;
@@ -103,7 +103,7 @@ unwritten_is_proper = record {
       (sym (get_or-alike SLOTS (at / SLOT_LENGTH) Nothing)) tt;
 }
 
--- a kind that is no pointer's
+-- a kind that is no pointer
 abbrev pub IsNoPointer : Kind → Type 0
 IsNoPointer (Number x) = Unit {0}
 IsNoPointer (Record x) = ⊥
@@ -115,7 +115,7 @@ no_pointer (Number x) mark fits marked = tt
 no_pointer Nothing mark fits marked = tt
 no_pointer pointer mark fits marked = both_ways mark fits marked
 
--- a slot of which a byte has its mark holds no pointer
+-- a slot with a marked byte holds no pointer
 pub no_pointer_at_mark : (map : Contents) (slot at : ℕ) → IsProper map → at / SLOT_LENGTH ≡ slot → IsMarked map.marks at
     → IsNoPointer (slot_kind map slot)
 no_pointer_at_mark map slot at proper same marked =

@@ -1,4 +1,4 @@
--- Lanes in which the bytes of a range have their marks, and what they make of a map.
+-- Lanes in which the bytes of a range are marked, and their effect on a map.
 use Rattle.std.proofs.Common.{◌≡◌, ◌↔◌, ℕ, ◌+◌, ◌-◌, ◌*◌, ◌/◌, ◌%◌, ◌^◌, ◌<◌, ◌≤◌, Bool, true, false, not, ◌||◌, ◌&&◌, ◌==◌, ◌⊎◌, inl, inr}
 use Rattle.std.proofs.Common.{List, length, get_or, set, replicate, refl, ◌∙◌, sym, ap, subst, arith, bit_and, bit_or}
 use Rattle.std.specs.Prelude.{IsTrue}
@@ -18,7 +18,7 @@ use Rattle.bpf_frame.proofs.MarkLemmas.{get_or-other_marks}
 use Rattle.bpf_frame.proofs.LaneLemmas.{length-marks_of, get_or-marks_of, marked_within, has_bit-and, has_bit-or, same_from_bits}
 use Rattle.bpf_frame.proofs.LaneLemmas.{mark_of_bit, both_are_lanes, mark_of_both}
 
--- the bits that are left of one place and right of another
+-- the bits to the left of one place and to the right of another
 shifted_left : (below bit : ℕ) → below < 64 → bit < 64 → IsTrue (has_bit ((2 ^ 64 - 1) * 2 ^ below % 2 ^ 64) bit) ↔ (below ≤ bit)
 shifted_left below bit fits within =
     let is : (n : ℕ) → bit_at (2 ^ 64 - 2 ^ below) bit ≡ n → has_bit ((2 ^ 64 - 1) * 2 ^ below % 2 ^ 64) bit ≡ (n == 1) =
@@ -52,7 +52,7 @@ has_bit-range below above bit left right within =
       λ inside. both ∙ and_from _ _ ((shifted_left below bit left within).1 inside.0) ((shifted_right above bit right).1 inside.1),
     )
 
--- what a lane that is written says of the marks: it has those of its bits, and all others stay
+-- the marks after a lane is written: its bits become marks, and all others are unchanged
 set_are_lanes : (lanes : List ℕ) (lane bits : ℕ) → AreLanes lanes → bits < 2 ^ 64 → AreLanes (set lanes lane bits)
 set_are_lanes lanes lane bits are_lanes fits = record {
   count = length-set lanes lane bits ∙ are_lanes.count;
@@ -113,7 +113,7 @@ one_lane_more {lanes} {from} {end} {lane} bits range short within fits inside = 
       ];
 }
 
--- the marks of a range beside those of a map are the map's once the range is marked
+-- the marks of a range together with those of a map are the map's marks after the range is marked
 pub or_are_lanes : (xs ys : List ℕ) → AreLanes xs → AreLanes ys → AreLanes (zip2 bit_or xs ys)
 or_are_lanes = both_are_lanes bit_or (or_lt 64)
 
@@ -173,11 +173,11 @@ marks_of-without lanes range without from len short inside is =
     and_true true = refl
     and_true false = refl
 
--- all bytes of a range before a lane have their marks
+-- all bytes of a range before a lane are marked
 pub record HasMarks (lanes : List ℕ) (from end lane : ℕ) : Type 0 where
   pub marks : (at : ℕ) → from ≤ at → at < end → at < 64 * lane → IsMarked (marks_of lanes) at
 
--- a lane that is read has the bits of a range where these bytes have their marks
+-- a lane that is read has the bits of a range if these bytes are marked
 module _ (lanes : List ℕ) (from end lane bits read : ℕ) (are_lanes : AreLanes lanes) (within : lane < 8)
     (is_read : read ≡ get_or lanes lane read)
     (inside : (bit : ℕ) → bit < 64 → IsTrue (has_bit bits bit) ↔ ((from ≤ 64 * lane + bit) × (64 * lane + bit < end))) where

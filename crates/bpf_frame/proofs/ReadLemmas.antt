@@ -1,4 +1,4 @@
--- The test of a run of marks tells whether each of its bytes has its mark.
+-- The test of a run of marks reports whether each of its bytes is marked.
 use Rattle.std.proofs.Common.{◌≡◌, ◌↔◌, ℕ, zero, suc, ◌+◌, ◌-◌, ◌<◌, ◌≤◌, min, Bool, true, false, List, [], ◌∷◌, length, get_or, take, drop}
 use Rattle.std.proofs.Common.{refl, ◌∙◌, sym, ap, arith}
 use Rattle.std.specs.Prelude.{IsTrue}
@@ -7,7 +7,7 @@ use Rattle.std.proofs.lemmas.Bool.{and_parts, and_from}
 use Rattle.std.proofs.lemmas.List.{length-take, length-drop, get_or-take, get_or-drop}
 use Rattle.bpf_frame.specs.FrameMap.{IsMarked, AllWritten, all_written}
 
--- where all marks are there, each is, and the other way round
+-- all marks are set if each one is, and conversely
 each_from_all : (marks : List Bool) → IsTrue (list_all (λ mark. mark) marks) → (at : ℕ) → at < length marks → get_or marks at false ≡ true
 each_from_all [] all at within = absurd (omega arith)
 each_from_all (mark ∷ marks) all zero within = (and_parts _ _ all).0
@@ -23,7 +23,7 @@ length-part marks from k = length-take k (drop from marks) ∙ ap (min k) (lengt
 get_or-part : (marks : List Bool) (from k at : ℕ) → at < k → get_or (take k (drop from marks)) at false ≡ get_or marks (from + at) false
 get_or-part marks from k at within = get_or-take k (drop from marks) at false within ∙ get_or-drop from marks at false
 
--- the test of the bytes from one to another tells of each that is in the frame, and looks at no others
+-- the test of a range of bytes covers each of them that is in the frame, and no others
 pub written_at : (marks : List Bool) (from to at : ℕ) → from ≤ at → at ≤ to → at < length marks → IsTrue (all_written marks from to)
     → IsMarked marks at
 written_at marks from to at above below within all =
@@ -41,7 +41,7 @@ written_from marks from to each =
     all_from_each (take k (drop from marks))
     (λ at short. get_or-part marks from k at (omega arith) ∙ each (from + at) (omega arith) (omega arith) (omega arith))
 
--- the test of the bytes from one to another tells whether each has its mark
+-- the test of a range of bytes reports whether each of them is marked
 pub all_written_is : (marks : List Bool) (from to : ℕ) → from ≤ to → to < length marks → IsTrue (all_written marks from to)
     ↔ AllWritten marks from to
 all_written_is marks from to ordered within = (

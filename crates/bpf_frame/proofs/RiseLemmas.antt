@@ -1,4 +1,4 @@
--- What maps say grows with them: a map that says more has more bytes written, and says more once the same happens to both.
+-- Operations on maps are monotone: a lower map has more bytes written, and stays lower if the same happens to both.
 use Rattle.std.proofs.Common.{◌≡◌, ◌≢◌, ℕ, zero, suc, ◌+◌, ◌*◌, ◌/◌, ◌<◌, ◌≤◌, false, length, inl, inr, refl, ◌∙◌, sym, subst, arith}
 use Rattle.std.specs.Prelude.{IsTrue}
 use Rattle.std.proofs.lemmas.Bool.{both_ways, cases_eq}
@@ -15,7 +15,7 @@ use Rattle.bpf_kinds.specs.declared.interval.Interval.{Interval}
 use Rattle.bpf_kinds.specs.declared.kind.Kind.{Kind}
 use Rattle.bpf_kinds.specs.declared.kind.Kind.TheVariants.{Number, Nothing}
 
--- a map that lies within another still does once bytes of the other are touched
+-- a map that lies within another still does after bytes of the other are touched
 pub touch_widens : {x a : Contents} (low high : ℕ) → IsProper a → low ≤ high → high < FRAME_LENGTH → IsWithin x a
     → IsWithin x (touch a low high)
 touch_widens {x} low high proper-a ordered short within = record {
@@ -26,7 +26,7 @@ touch_widens {x} low high proper-a ordered short within = record {
 
 -- a lower map and a higher one
 module _ {x a : Contents} (proper-x : IsProper x) (proper-a : IsProper a) where
-  -- marks of the lower map that has more bytes marked
+  -- marks of the lower map, which has more bytes marked
   marks_rise : (from len less at : ℕ) → from + len ≤ FRAME_LENGTH → less ≤ len → ((at : ℕ) → IsMarked a.marks at → IsMarked x.marks at)
       → IsMarked (mark a from less).marks at → IsMarked (mark x from len).marks at
   marks_rise from len less at short fewer within marked =
@@ -36,7 +36,7 @@ module _ {x a : Contents} (proper-x : IsProper x) (proper-a : IsProper a) where
         | inr inside ↦ marked_inside x.marks from len at fits inside.0 (omega (arith, inside.1))
       ]
 
-  -- a byte of a slot that has its mark where the slot is set to a kind has it where it's set to one within it
+  -- a byte of a slot that is marked if the slot is set to a kind is marked if the slot is set to a kind within it
   fit_both : (k l : Kind) {slot : ℕ} (at : ℕ) → slot < SLOTS → l ≢ Nothing → kind.IsWithin k l → at / SLOT_LENGTH ≡ slot
       → IsMarked (fit_marks l a.marks slot) at → IsMarked (fit_marks k x.marks slot) at
   fit_both (Number n) (Number m) {slot} at inside known below same marked =
@@ -47,15 +47,15 @@ module _ {x a : Contents} (proper-x : IsProper x) (proper-a : IsProper a) where
       let fits = slot_in_frame a slot proper-a inside in
       absurd (both_ways _ (get_or-with_marks false a.marks (SLOT_LENGTH * slot) SLOT_LENGTH at fits (omega arith) (omega arith)) marked)
 
-  -- the lower one lies within the higher one once bytes of that are touched
+  -- the lower one lies within the higher one after bytes of the higher one are touched
   module _ (low high : ℕ) (short : high < FRAME_LENGTH) (within : IsWithin x (touch a low high)) where
-    -- of slots that are touched nothing is known, so that every kind lies within what is known of them
+    -- nothing is known of touched slots, so every kind lies within what is known of them
     within_touched : (k : Kind) (slot : ℕ) → low ≤ high → low / SLOT_LENGTH ≤ slot → slot ≤ high / SLOT_LENGTH
         → kind.IsWithin k (slot_kind (touch a low high) slot)
     within_touched k slot ordered above below =
         subst (kind.IsWithin k) (sym (slot_kind-touched low high proper-a ordered short slot above below)) (within-nothing k)
 
-    -- inside of these bytes, bytes may be touched in the lower one
+    -- bytes within this range may be touched in the lower one
     pub touch_lowers : (from to : ℕ) → low ≤ from → from ≤ to → to ≤ high → IsWithin (touch x from to) (touch a low high)
     touch_lowers from to above ordered below = record {
       marks = λ at marked. within.marks at marked;
@@ -73,7 +73,7 @@ module _ {x a : Contents} (proper-x : IsProper x) (proper-a : IsProper a) where
           (λ slot apart. within.kinds slot);
     }
 
-    -- and a number set in a slot
+    -- and a number may be set in a slot
     pub set_number_lowers : (slot : ℕ) (n : Interval) → low ≤ SLOT_LENGTH * slot → SLOT_LENGTH * slot + 7 ≤ high
         → IsWithin (set_slot x slot (Number n)) (touch a low high)
     set_number_lowers slot n above below = record {
@@ -85,7 +85,7 @@ module _ {x a : Contents} (proper-x : IsProper x) (proper-a : IsProper a) where
           (λ other apart. within.kinds other);
     }
 
-    -- once some of these bytes are marked in both, in the lower one as many or more
+    -- some of these bytes may be marked in both, at least as many in the lower one
     pub mark_rises_touched : (from len less : ℕ) → less ≤ len → low ≤ from → from + len ≤ high + 1 → low ≤ high
         → IsWithin (mark x from len) (mark (touch a low high) from less)
     mark_rises_touched from len less fewer above below ordered = record {
@@ -98,8 +98,8 @@ module _ {x a : Contents} (proper-x : IsProper x) (proper-a : IsProper a) where
 
   -- the lower one lies within the higher one
   module _ (within : IsWithin x a) where
-    -- where the higher one has a range written, the lower one has each part of the range written. The ranges may be empty, and reach out of
-    -- the frame.
+    -- if the higher one has a range written, the lower one has each part of the range written. The ranges may be empty, and may extend past the end
+    -- of the frame.
     pub all_written_falls : (from to low high : ℕ) → low ≤ from → to ≤ high → IsTrue (all_written a.marks low high)
         → IsTrue (all_written x.marks from to)
     all_written_falls from to low high below above all =
@@ -107,7 +107,7 @@ module _ {x a : Contents} (proper-x : IsProper x) (proper-a : IsProper a) where
         written_from x.marks from to
         (λ at first last short. within.marks at (written_at a.marks low high at (omega arith) (omega arith) (omega arith) all))
 
-    -- it still does once bytes are touched in both, in the lower one inside of those of the higher one
+    -- it still does after bytes are touched in both, in the lower one within those of the higher one
     pub touch_rises : (from to low high : ℕ) → low ≤ from → from ≤ to → to ≤ high → high < FRAME_LENGTH
         → IsWithin (touch x from to) (touch a low high)
     touch_rises from to low high above ordered below short =
@@ -119,14 +119,14 @@ module _ {x a : Contents} (proper-x : IsProper x) (proper-a : IsProper a) where
     kinds_rise from (suc more) slot short =
         (touch_rises from (from + more) from (from + more) (omega arith) (omega arith) (omega arith) (omega arith)).kinds slot
 
-    -- once the same bytes are marked in both
+    -- after the same bytes are marked in both
     pub mark_rises : (from len : ℕ) → from + len ≤ FRAME_LENGTH → IsWithin (mark x from len) (mark a from len)
     mark_rises from len short = record {
       marks = λ at marked. marks_rise from len len at short (omega arith) within.marks marked;
       kinds = λ slot. kinds_rise from len slot short;
     }
 
-    -- a mark of the higher map, where a slot is set in both: a number's bytes are marked in both, and a pointer's in neither
+    -- a mark of the higher map after a slot is set in both: a number's bytes are marked in both, and a pointer's in neither
     fit_rises : (k l : Kind) (slot at : ℕ) → slot < SLOTS → l ≢ Nothing → kind.IsWithin k l
         → IsMarked (fit_marks l a.marks slot) at → IsMarked (fit_marks k x.marks slot) at
     fit_rises k l slot at inside known below marked =
@@ -137,7 +137,7 @@ module _ {x a : Contents} (proper-x : IsProper x) (proper-a : IsProper a) where
               ∙ within.marks at (sym (get_or-unfit_marks l a.marks slot at (slot_in_frame a slot proper-a inside) other) ∙ marked)
         ]
 
-    -- once a slot is set in both, to kinds of which one lies within the other
+    -- after a slot is set in both, to kinds of which one lies within the other
     pub set_slot_rises : (slot : ℕ) (k l : Kind) → slot < SLOTS → l ≢ Nothing → kind.IsWithin k l
         → IsWithin (set_slot x slot k) (set_slot a slot l)
     set_slot_rises slot k l inside known below = record {

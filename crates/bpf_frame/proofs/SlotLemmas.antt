@@ -1,4 +1,4 @@
--- Marks and kinds one by one, where a part of them is filled or one is set.
+-- Single marks and kinds, after a part of them is filled or one is set.
 use Rattle.std.proofs.Common.{◌≡◌, ◌≢◌, ℕ, zero, suc, ◌+◌, ◌-◌, ◌*◌, ◌/◌, ◌<◌, ◌≤◌, List, ◌++◌, take, drop, length, get_or, set, replicate}
 use Rattle.std.proofs.Common.{inl, inr, refl, sym, ap, ◌∙◌, subst, arith}
 use Rattle.std.proofs.lemmas.Bool.{cases_lt, cases_eq}
@@ -9,7 +9,7 @@ use Rattle.bpf_insn.specs.declared.memory.TheConstants.{FRAME_LENGTH, SLOT_LENGT
 use Rattle.bpf_kinds.specs.declared.kind.Kind.{Kind}
 use Rattle.bpf_kinds.specs.declared.kind.Kind.TheVariants.{Nothing}
 
--- a list of which a part is filled with one element
+-- a list with a part filled with one element
 
 pub length-filled : {X : Type 0} (x : X) (xs : List X) (first count end : ℕ) → first + count ≡ end → end ≤ length xs
     → length (take first xs ++ replicate count x ++ drop end xs) ≡ length xs
@@ -26,14 +26,14 @@ module _ {X : Type 0} (x : X) (xs : List X) (first count end : ℕ) (d : X) (at 
   pub get_or-filled_behind : end ≤ at → get_or (take first xs ++ replicate count x ++ drop end xs) at d ≡ get_or xs at d
   get_or-filled_behind behind = grind (arith, places)
 
--- slots of some bytes, at least one
+-- the slots of a nonempty range of bytes
 pub overwrite_some : {X : Type 0} (nothing : X) (slots : List X) (from len : ℕ) → 0 < len
     → clear_slots nothing slots from (from + len - 1) ≡ overwrite_slots nothing slots from len
 overwrite_some nothing slots from zero some = absurd (omega arith)
 overwrite_some nothing slots from (suc more) some = let last : from + suc more - 1 ≡ from + more = omega arith in
     ap (λ (to : ℕ). clear_slots nothing slots from to) last
 
--- outside of the frame there are no slots
+-- there are no slots outside the frame
 pub slot_kind_past : (map : Contents) (slot : ℕ) → IsProper map → SLOTS ≤ slot → slot_kind map slot ≡ Nothing
 slot_kind_past map slot proper past = get_or_past map.kinds slot Nothing (omega (arith, proper.slots))
 
@@ -58,7 +58,7 @@ module _ {map : Contents} (from to : ℕ) (proper : IsProper map) (ordered : fro
       (to / SLOT_LENGTH + 1) Nothing slot
       (omega arith) (omega (arith, proper.slots)) (omega arith)
 
-  -- what is so of Nothing where bytes are touched, and of the kinds of all other slots, is so of each kind then
+  -- a fact about Nothing in touched slots, and about the kinds of all other slots, holds of every kind after touching
   pub touch_each : (Such : ℕ → Kind → Type 0) → ((slot at : ℕ) → from ≤ at → at ≤ to → at / SLOT_LENGTH ≡ slot → Such slot Nothing)
       → ((slot : ℕ) → IsApart slot from (to + 1 - from) → Such slot (slot_kind map slot))
       → (slot : ℕ) → Such slot (slot_kind (touch map from to) slot)
@@ -79,7 +79,7 @@ module _ {map : Contents} (from to : ℕ) (proper : IsProper map) (ordered : fro
             ]
       ]
 
--- the same where bytes are marked
+-- the same after marking bytes
 pub mark_each : {map : Contents} (from len : ℕ) → IsProper map → from + len ≤ FRAME_LENGTH → (Such : ℕ → Kind → Type 0)
     → ((slot at : ℕ) → from ≤ at → at < from + len → at / SLOT_LENGTH ≡ slot → Such slot Nothing)
     → ((slot : ℕ) → IsApart slot from len → Such slot (slot_kind map slot)) → (slot : ℕ) → Such slot (slot_kind (mark map from len) slot)
@@ -90,7 +90,7 @@ mark_each from (suc more) proper within Such inside outside slot =
     (λ other apart. outside other (λ at first last same. apart at first (omega arith) same))
     slot
 
--- of the slots of bytes that are touched or marked nothing is known, and the others hold what they held
+-- nothing is known of the slots of touched or marked bytes, and the others keep their kinds
 
 pub touch_forgets : (map : Contents) (from to at : ℕ) → IsProper map → to < FRAME_LENGTH → from ≤ at → at ≤ to
     → slot_kind (touch map from to) (at / SLOT_LENGTH) ≡ Nothing
@@ -120,7 +120,7 @@ mark_leaves map from len slot proper within apart =
     (λ other free is. ap (λ (n : ℕ). slot_kind map n) is)
     slot refl
 
--- what is so of a kind that is set, and of the kinds of all other slots, is so of each kind then
+-- a fact about a kind that is set, and about the kinds of all other slots, holds of every kind afterwards
 pub set_kind_each : (kinds : List Kind) (slot : ℕ) (k : Kind) → slot < length kinds → (Such : ℕ → Kind → Type 0) → Such slot k
     → ((other : ℕ) → other ≢ slot → Such other (get_or kinds other Nothing)) → (other : ℕ)
     → Such other (get_or (set kinds slot k) other Nothing)

@@ -1,4 +1,4 @@
--- Maps of a frame stand in order, and joins are least upper bounds.
+-- Maps of a frame are partially ordered, and joins are least upper bounds.
 use Rattle.std.proofs.Common.{◌≡◌, ℕ, suc, zero, ◌/◌, ◌<◌, Bool, true, false, ◌&&◌, List, [], ◌∷◌, length, get_or, sym, ap, subst, ◌∙◌, refl, arith}
 use Rattle.std.proofs.lemmas.Bool.{and_parts, and_from, and_left}
 use Rattle.std.proofs.lemmas.List.{ext_get_or}
@@ -11,7 +11,7 @@ use Rattle.bpf_kinds.proofs.KindLemmas as kinds
 use Rattle.bpf_kinds.proofs.ListLemmas.{length-join_kinds, get_or-join_kinds}
 use Rattle.bpf_frame.specs.FrameMap.{Contents, IsProper, IsMarked, FitsKind, slot_kind, Admits, IsWithin, join_marks, join}
 
--- the join of as many marks has as many
+-- the join of lists of marks of the same length has their length
 length-join_marks : (xs ys : List Bool) → length xs ≡ length ys → length (join_marks xs ys) ≡ length xs
 length-join_marks [] ys same = refl
 length-join_marks (x ∷ xs) [] same = absurd (omega arith)
@@ -29,13 +29,13 @@ get_or-join (x ∷ xs) (y ∷ ys) (suc at) same = get_or-join xs ys at (omega ar
 pub slot_kind-join : (x y : Contents) (slot : ℕ) → IsProper x → IsProper y → slot_kind (join x y) slot ≡ kind.join (slot_kind x slot) (slot_kind y slot)
 slot_kind-join x y slot proper-x proper-y = get_or-join_kinds x.kinds y.kinds slot (proper-x.slots ∙ sym proper-y.slots)
 
--- a byte that has its mark in a join has it in both
+-- a byte that is marked in a join is marked in both
 pub marked_in_both : (x y : Contents) (at : ℕ) → IsProper x → IsProper y → IsMarked (join x y).marks at
     → IsMarked x.marks at × IsMarked y.marks at
 marked_in_both x y at proper-x proper-y marked =
     and_parts _ _ (sym (get_or-join x.marks y.marks at (proper-x.count ∙ sym proper-y.count)) ∙ marked)
 
--- a byte that has its mark in both has it in the join
+-- a byte that is marked in both is marked in the join
 pub marked_in_join : (x y : Contents) (at : ℕ) → IsProper x → IsProper y → IsMarked x.marks at → IsMarked y.marks at
     → IsMarked (join x y).marks at
 marked_in_join x y at proper-x proper-y left right =
@@ -50,7 +50,7 @@ same_parts : (marks others : List Bool) (kinds other_kinds : List Kind) → mark
     → let x : Contents = record { marks = marks; kinds = kinds } in let y : Contents = record { marks = others; kinds = other_kinds } in x ≡ y
 same_parts marks others kinds other_kinds same_marks same_kinds = cc
 
--- maps are the same where their parts are
+-- maps are equal if their parts are
 pub same_maps : (x y : Contents) → x.marks ≡ y.marks → x.kinds ≡ y.kinds → x ≡ y
 same_maps x y same_marks same_kinds = same_parts x.marks y.marks x.kinds y.kinds same_marks same_kinds
 
@@ -70,7 +70,7 @@ antisymmetric x y proper-x proper-y below above =
     (ext_get_or Nothing x.kinds y.kinds (proper-x.slots ∙ sym proper-y.slots)
     (λ slot _. kinds.antisymmetric _ _ (proper-x.kinds slot) (proper-y.kinds slot) (below.kinds slot) (above.kinds slot)))
 
--- a mark of both fits the least kind round both
+-- a mark in both fits the join of both kinds
 fit_join : (k l : Kind) (mark other : Bool) → FitsKind k mark → FitsKind l other → FitsKind (kind.join k l) (mark && other)
 fit_join (Number x) (Number y) mark other left right = and_from _ _ left right
 fit_join (Record x) (Record y) mark other left right = and_left _ _ left
@@ -114,7 +114,7 @@ admits_more x y frame below admitted = record {
   slots = λ slot. kinds.admits_more _ _ (slot_value frame slot) (below.kinds slot) (admitted.slots slot);
 }
 
--- marks of which each is that of both are those of the join
+-- marks that are each the mark in both lists are those of the join
 pub is_join : (xs ys marks : List Bool) (n : ℕ) → length xs ≡ n → length ys ≡ n → length marks ≡ n
     → ((at : ℕ) → at < n → get_or marks at false ≡ (get_or xs at false && get_or ys at false)) → marks ≡ join_marks xs ys
 is_join xs ys marks n left right count each =

@@ -13,11 +13,11 @@ use bpf_kinds::{Kind, Order};
 use std::marker::Model;
 use std::simd::u64x8;
 
-/// How many bytes have their marks in one lane.
+/// The number of bytes whose marks are in one lane.
 const LANE_BITS: usize = 64;
 
-/// Which bytes of a program's frame are known to be written, by their offset from 0, and the kind of what each of its slots holds. Contracts
-/// see it as a record with the fields `marks`, a list of truth values, and `kinds`.
+/// The bytes of a program's frame that are known to be written, by their offset from 0, and the kind in each of its slots. Contracts see it as a
+/// record with the fields `marks`, a list of truth values, and `kinds`.
 #[derive(Drop)]
 pub struct FrameMap {
     // The mark of the byte at an offset is the bit offset mod 64 of the lane offset div 64.
@@ -37,7 +37,7 @@ impl Model for FrameMap {
 }
 
 impl FrameMap {
-    /// The map of a frame of which nothing is known.
+    /// Returns the map of a frame of which nothing is known.
     pub fn unwritten() -> Self
         ensures value { result ≡ unwritten }
         ensures proper { IsProper result }
@@ -48,7 +48,7 @@ impl FrameMap {
         }
     }
 
-    /// The same once more.
+    /// Returns a copy.
     pub fn duplicate(&self) -> Self
         ensures { result ≡ self.now }
     {
@@ -58,7 +58,7 @@ impl FrameMap {
         }
     }
 
-    /// Marks so many bytes from an offset on as written, and no others. Of what their slots hold nothing is known then.
+    /// Marks `len` bytes from an offset on as written, and no others. Nothing is known of their slots afterwards.
     pub fn mark(&mut self, from: usize, len: usize)
         requires proper { IsProper self.old }
         requires within { from + len ≤ FRAME_LENGTH }
@@ -71,7 +71,7 @@ impl FrameMap {
         }
     }
 
-    /// Forgets what the slots hold that have a byte from an offset to another, both included.
+    /// Forgets the kinds of the slots with a byte between two offsets, both included.
     pub fn touch(&mut self, from: usize, to: usize)
         requires proper { IsProper self.old }
         requires ordered { from ≤ to }
@@ -82,7 +82,7 @@ impl FrameMap {
         clear(&mut self.kinds, from, to);
     }
 
-    /// What a slot holds.
+    /// Returns the kind in a slot.
     pub fn slot(&self, slot: usize) -> Kind
         requires proper { IsProper self.now }
         requires within { slot < SLOTS }
@@ -92,7 +92,7 @@ impl FrameMap {
         self.kinds[slot]
     }
 
-    /// Says what a slot holds from now on. The bytes of a number are written, and those of a pointer aren't.
+    /// Sets the kind in a slot. The bytes of a number are written, and those of a pointer aren't.
     pub fn set_slot(&mut self, slot: usize, kind: Kind)
         requires proper { IsProper self.old }
         requires within { slot < SLOTS }
@@ -104,7 +104,7 @@ impl FrameMap {
         self.kinds[slot] = kind;
     }
 
-    /// Keeps what the other map says too.
+    /// Keeps only what the other map says too.
     pub fn join_with(&mut self, other: &FrameMap)
         requires proper { IsProper self.old }
         requires other { IsProper other.now }
@@ -115,7 +115,7 @@ impl FrameMap {
         join_each(&mut self.kinds, &other.kinds);
     }
 
-    /// Whether each byte from an offset to another, both included, is known to be written.
+    /// Returns whether every byte between two offsets, both included, is known to be written.
     pub fn all_written(&self, from: usize, to: usize) -> bool
         requires ordered { from ≤ to }
         requires within { to < FRAME_LENGTH }
@@ -132,7 +132,7 @@ impl FrameMap {
     }
 }
 
-/// The lanes in which just the bytes from an offset on and before another have their marks.
+/// Returns lanes in which exactly the bytes from an offset on and before another one are marked.
 fn lanes_of_range(from: usize, end: usize) -> u64x8
     requires ordered { from ≤ end }
     requires within { end ≤ FRAME_LENGTH }
@@ -146,8 +146,8 @@ fn lanes_of_range(from: usize, end: usize) -> u64x8
     u64x8::from_array(lanes)
 }
 
-/// The bits of a lane that stand for bytes from an offset on and before another. The lane ends behind the first offset and begins before the
-/// second, so that neither shift is one by 64.
+/// Returns the bits of a lane for the bytes from an offset on and before another one. The lane ends after the first offset and begins before the
+/// second one, so neither shift is by 64.
 fn bits_within(lane: usize, from: usize, end: usize) -> u64
     requires lane { lane < 8 }
     requires from { from < LANE_BITS * (lane + 1) }
@@ -161,7 +161,7 @@ fn bits_within(lane: usize, from: usize, end: usize) -> u64
     (u64::MAX << below) & (u64::MAX >> above)
 }
 
-/// The lanes with the marks of a slot's bytes as they fit what it holds.
+/// Returns the lanes with the marks of a slot's bytes changed to fit its kind.
 fn fit_lanes(lanes: u64x8, slot: usize, kind: Kind) -> u64x8
     requires lanes { AreLanes lanes }
     requires within { slot < SLOTS }
@@ -177,7 +177,7 @@ fn fit_lanes(lanes: u64x8, slot: usize, kind: Kind) -> u64x8
     }
 }
 
-/// The lanes with the marks that others have taken away.
+/// Returns the lanes without the marks of others.
 fn without(lanes: u64x8, others: u64x8) -> u64x8
     requires lanes { AreLanes lanes }
     requires others { AreLanes others }
@@ -188,7 +188,7 @@ fn without(lanes: u64x8, others: u64x8) -> u64x8
     lanes & !others
 }
 
-/// Forgets what the slots hold that have a byte from an offset to another, both included.
+/// Forgets the kinds of the slots with a byte between two offsets, both included.
 fn clear(kinds: &mut [Kind; SLOTS], from: usize, to: usize)
     requires ordered { from ≤ to }
     requires within { to < FRAME_LENGTH }
@@ -197,7 +197,7 @@ fn clear(kinds: &mut [Kind; SLOTS], from: usize, to: usize)
     kinds[from / SLOT_LENGTH..to / SLOT_LENGTH + 1].fill(Kind::Nothing);
 }
 
-/// Joins each kind with the other one in its place.
+/// Joins each kind with the other one at its index.
 fn join_each(kinds: &mut [Kind; SLOTS], others: &[Kind; SLOTS])
     ensures { kinds.new ≡ meaning.join_kinds kinds.old others.now }
 {
@@ -210,7 +210,7 @@ fn join_each(kinds: &mut [Kind; SLOTS], others: &[Kind; SLOTS])
     }
 }
 
-/// Whether each kind says as much as the other one in its place, or more.
+/// Returns whether each kind is within the other one at its index.
 fn are_within(kinds: &[Kind; SLOTS], others: &[Kind; SLOTS]) -> bool
     ensures { IsTrue result ↔ ((slot : ℕ) → meaning.IsWithin (slice_index_or kinds.now slot Nothing) (slice_index_or others.now slot Nothing)) }
 {

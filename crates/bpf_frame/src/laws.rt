@@ -1,5 +1,4 @@
-//! What holds of the definitions themselves. The functions do nothing: each one's contract is the
-//! law.
+//! Laws of the definitions themselves. The functions do nothing: each contract is a law.
 ghost use Rattle.std.specs.Prelude.{◌≡◌, ◌≢◌, ◌≤◌, ◌<◌, ◌+◌, ◌-◌, ◌*◌, ◌/◌, ◌&&◌, ◌⊎◌, ◌↔◌, ℕ, Bool, false, IsTrue, List, length, slice_index_or};
 ghost use Rattle.bpf_frame.specs.FrameMap.{Contents, IsProper, IsMarked, AllWritten, IsWithin, Admits, all_written, join, mark, set_slot, slot_kind, touch, unwritten};
 ghost use Rattle.bpf_insn.specs.Frame.{IsApart, FrameContents, is_written, slot_value};
@@ -10,8 +9,8 @@ ghost use Rattle.bpf_kinds.specs.declared.kind.Kind.{Kind};
 ghost use Rattle.bpf_kinds.specs.declared.kind.Kind.TheVariants.{Number, Record, Frame, Nothing};
 ghost use Rattle.bpf_kinds.specs.declared.offsets.Offsets.{Offsets};
 
-/// To mark bytes gives each of them its mark, and leaves the others as they were. Of the slots of these bytes nothing is known then, and the
-/// other slots hold what they held.
+/// Marking bytes marks each of them, and leaves the other marks unchanged. Nothing is known of the slots of these bytes afterwards, and the other
+/// slots keep their kinds.
 pub fn mark_is_exact()
     ensures proper { (map : Contents) (from len : ℕ) → IsProper map → from + len ≤ FRAME_LENGTH → IsProper (mark map from len) }
     ensures byte { (map : Contents) (from len at : ℕ) → IsProper map → from + len ≤ FRAME_LENGTH
@@ -23,7 +22,7 @@ pub fn mark_is_exact()
     ensures none { (map : Contents) (from : ℕ) → IsProper map → from ≤ FRAME_LENGTH → mark map from 0 ≡ map }
 {}
 
-/// To touch bytes leaves all marks. Of the slots of these bytes nothing is known then, and the other slots hold what they held.
+/// Touching bytes leaves all marks unchanged. Nothing is known of the slots of these bytes afterwards, and the other slots keep their kinds.
 pub fn touch_is_exact()
     ensures proper { (map : Contents) (from to : ℕ) → IsProper map → from ≤ to → to < FRAME_LENGTH → IsProper (touch map from to) }
     ensures byte { (map : Contents) (from to : ℕ) → (touch map from to).marks ≡ map.marks }
@@ -33,8 +32,8 @@ pub fn touch_is_exact()
         → slot_kind (touch map from to) slot ≡ slot_kind map slot }
 {}
 
-/// A slot that is set has its kind, and the others theirs. The bytes of a number get their marks, those of a pointer lose theirs, and all
-/// others stay.
+/// A slot that is set has its kind, and the others keep theirs. The bytes of a number are marked, those of a pointer are unmarked, and all other
+/// marks are unchanged.
 pub fn set_slot_is_exact()
     ensures proper { (map : Contents) (slot : ℕ) (k : Kind) → IsProper map → slot < SLOTS → kinds.IsProper k → IsProper (set_slot map slot k) }
     ensures kind { (map : Contents) (slot : ℕ) (k : Kind) → IsProper map → slot < SLOTS → slot_kind (set_slot map slot k) slot ≡ k }
@@ -51,13 +50,13 @@ pub fn set_slot_is_exact()
         → slice_index_or (set_slot map slot k).marks at false ≡ slice_index_or map.marks at false }
 {}
 
-/// The test of bytes from an offset to another tells whether each of them has its mark.
+/// The test of a range of bytes reports whether each of them is marked.
 pub fn all_written_is_exact()
     ensures { (marks : List Bool) (from to : ℕ) → from ≤ to → to < length marks
         → IsTrue (all_written marks from to) ↔ AllWritten marks from to }
 {}
 
-/// A byte has its mark in a join where it has it in both maps, and a slot has the least kind round its kinds in both.
+/// A byte is marked in a join if it is marked in both maps, and a slot has the join of its kinds in both.
 pub fn join_is_exact()
     ensures byte { (map other : Contents) (at : ℕ) → IsProper map → IsProper other → slice_index_or (join map other).marks at false
         ≡ (slice_index_or map.marks at false && slice_index_or other.marks at false) }
@@ -65,14 +64,14 @@ pub fn join_is_exact()
         → slot_kind (join map other) slot ≡ kinds.join (slot_kind map slot) (slot_kind other slot) }
 {}
 
-/// Where nothing is known, each frame is possible.
+/// Every frame is possible if nothing is known.
 pub fn unwritten_admits_all()
     ensures proper { IsProper unwritten }
     ensures admits { (frame : FrameContents) → Admits unwritten frame }
 {}
 
-/// What says more stays so once the same happens to both, has all bytes written that the other has, and says as much of each slot. Of a slot
-/// that is set something is known: where Nothing is, the marks stay, and a pointer's would have to go.
+/// A map within another stays within it if the same happens to both, marks every byte that the other one marks, and has a kind within the other's
+/// in each slot. The other map's slot must be set to a known kind: `Nothing` would keep its marks, while a pointer in the first map removes them.
 pub fn marks_go_upwards()
     ensures mark { (map other : Contents) (from len : ℕ) → IsProper map → IsProper other → from + len ≤ FRAME_LENGTH → IsWithin map other
         → IsWithin (mark map from len) (mark other from len) }
@@ -85,9 +84,9 @@ pub fn marks_go_upwards()
         → AllWritten map.marks from to }
 {}
 
-/// What says more has each part of a range written that the other has written. It says more where bytes are touched in the other, and in
-/// itself at most some of these are touched or marked, or a number is set among them; and once some of the bytes that are touched in both are
-/// marked, in itself as many or more.
+/// If one map is within another, it marks every part of a range that the other one marks completely. It stays within the other one if bytes are
+/// touched there, and at most some of them are touched or marked in itself, or a number is set among them. It also stays within if some of the
+/// bytes touched in both are marked afterwards, at least as many in itself.
 pub fn marks_rise()
     ensures all_written { (x a : Contents) (from to low high : ℕ) → IsProper x → IsProper a → IsWithin x a → low ≤ from → to ≤ high
         → IsTrue (all_written a.marks low high) → IsTrue (all_written x.marks from to) }
@@ -105,8 +104,8 @@ pub fn marks_rise()
         → IsWithin (mark (touch x from to) from len) (mark (touch a from high) from less) }
 {}
 
-/// A frame that was possible is so still, once it's known what became of it: no byte that was written is taken back, those that get their
-/// marks were written, and each slot that stays known holds what it held. A slot that is set holds something of its kind.
+/// A frame that was possible remains possible after a change to it: no written byte becomes unwritten, the bytes that are marked were written, and
+/// each slot that stays known keeps its contents. A slot that is set holds a value of its kind.
 pub fn possible_frames_stay_so()
     ensures mark { (map : Contents) (from len : ℕ) (before after : FrameContents) → IsProper map → from + len ≤ FRAME_LENGTH → Admits map before
         → ((at : ℕ) → IsTrue (is_written before.bytes at) → IsTrue (is_written after.bytes at))

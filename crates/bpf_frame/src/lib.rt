@@ -1,5 +1,4 @@
-//! What is known of a program's frame before it runs, which of its bytes are written and what its slots hold, and in what order such knowledge
-//! stands.
+//! What is known of a program's frame before it runs: which of its bytes are written, what its slots hold, and how such knowledge is ordered.
 #![tactic(auto)]
 
 mod frame_map;

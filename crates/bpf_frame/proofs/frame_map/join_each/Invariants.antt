@@ -4,7 +4,7 @@ use Rattle.bpf_kinds.specs.Kind as kind
 use Rattle.bpf_kinds.specs.declared.kind.Kind.TheVariants.{Nothing}
 use Rattle.bpf_frame.proofs.frame_map.join_each.Given as goal
 
--- the kinds so far are joined, and the others are as they were
+-- the kinds so far are joined, and the others are unchanged
 abbrev pub invariant-loop-slot : goal.invariant-loop-slot
 invariant-loop-slot l = record {
   count : length l.kinds ≡ SLOTS;
