@@ -1,4 +1,4 @@
--- Jumps one after the other, and the faults of a code.
+-- Jumps in order, and the faults of a code.
 use Rattle.std.proofs.Common.{◌≡◌, ◌≢◌, ℕ, ◌+◌, ◌<◌, ◌≤◌, ℤ, pos, ◌<ℤ◌, ◌≤ℤ◌, List, [], ◌∷◌, ◌++◌, length, get_or, Option, Some, None}
 use Rattle.std.proofs.Common.{IsSome, is_some, true, false, Result, Ok, Err, IsOk, IfErr, IfSome, option_map, FitsSigned, to_z, of_z, w32}
 use Rattle.std.proofs.Common.{refl, sym, ap, ◌∙◌, subst, arith, inl, inr}
@@ -18,7 +18,7 @@ use Rattle.bpf_flow.specs.Flow.{EndsInExit, IsForward, IsFirstFault}
 use Rattle.bpf_flow.specs.declared.fault.FlowFault.{FlowFault}
 use Rattle.bpf_flow.specs.declared.fault.FlowFault.TheVariants.{BackwardJump, OutOfProgram, IntoWide, LastNotExit}
 
--- one instruction more that leads on, if it's a jump
+-- one more instruction, which leads on if it's a jump
 pub lead_more : (code : List Insn) (place words : ℕ) (insn : Insn) → instruction_at code place ≡ Some insn → words ≡ length (spelling insn)
     → LeadOnBefore code place → ((distance : ℤ) → jump_distance insn ≡ Some distance → LeadsOn code place distance)
     → LeadOnBefore code (place + words)
@@ -40,7 +40,7 @@ pub lead_all : (code : List Insn) (end : ℕ) → word_count code ≤ end → Le
 lead_all code end whole before place insn distance stands jumps =
     let within = instruction_within code place (ap is_some stands) in before place insn distance (omega arith) stands jumps
 
--- a jump stands within the code
+-- a jump is within the code
 pub jump_within : (code : List Insn) (place : ℕ) (distance : ℤ) → JumpsBy code place distance → place < word_count code
 jump_within code place distance jump = instruction_within code place (ap is_some jump.stands)
 
@@ -71,7 +71,7 @@ leads_into_wide code place target distance is later within none =
           second_word code target around.first around.insn around.stands around.above around.below;
     }
 
--- behind an instruction other than EXIT the next one begins
+-- the next instruction begins after an instruction other than EXIT
 pub goes_on : (code : List Insn) (place : ℕ) (insn : Insn) → EndsInExit code → instruction_at code place ≡ Some insn
     → instruction_at code place ≢ Some Exit → IsSome (instruction_at code (place + length (spelling insn)))
 goes_on code place insn (before, ends) stands other =
@@ -154,9 +154,9 @@ pub is_accepted : {T : Type 0} (code : List Insn) (result : Result T FlowFault) 
 is_accepted code (Ok flow) faulty forward = refl
 is_accepted code (Err fault) faulty forward = absurd (has_no_fault code fault forward faulty)
 
--- Two jumps that are the first with a flaw, whatever flaws are meant, stand at one place and have one distance.
+-- Two first jumps with a flaw are at the same place and have the same distance, whatever the flaws.
 
--- a jump that leads on hasn't the flaw
+-- a jump that leads on doesn't have the flaw
 abbrev Excludes : List Insn → (ℕ → ℤ → Type 0) → Type 0
 Excludes code Flaw = (place : ℕ) (distance : ℤ) → LeadsOn code place distance → Flaw place distance → ⊥
 
@@ -200,7 +200,7 @@ Leaves code place distance = pos (word_count code) ≤ℤ target_of place distan
 abbrev EntersWide : List Insn → ℕ → ℤ → Type 0
 EntersWide code place distance = LeadsIntoWide code place distance
 
--- a code has one first fault
+-- a code has only one first fault
 pub one_fault_lem : (code : List Insn) (a b : FlowFault) → IsFirstFault code a → IsFirstFault code b → a ≡ b
 one_fault_lem code (BackwardJump a) (BackwardJump b) f g =
     ap BackwardJump (same_place (Backward code) (Backward code) (backward code) (backward code) f g)
@@ -261,7 +261,7 @@ target_is code place target found distance is jumps at =
     subst (λ (o : Option Insn). IfSome o (λ insn. option_map pos (Some target) ≡ option_map (target_of place) (jump_distance insn))) is
     (ap Some at ∙ ap (option_map (target_of place)) jumps)
 
--- the instruction with an index stands at its place, and the next place is behind it
+-- the instruction with an index is at its place, and the next place is after it
 pub stands_at : {items code : List Insn} (i place : ℕ) {insn : Insn} → items ≡ code → i < length items → insn ≡ get_or items i insn
     → place ≡ place_of code i → instruction_at code place ≡ Some insn
 stands_at {items} {code} i place {insn} same within is at =

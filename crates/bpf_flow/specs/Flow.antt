@@ -1,5 +1,5 @@
--- Codes whose jumps all go forward, and the first fault of a code that isn't one. Where a jump leads is RFC 9669, section 4.3; that it
--- must go forward, and that a program ends in EXIT, is this project's own.
+-- Codes whose jumps all go forward, and the first fault of any other code. RFC 9669, section 4.3, defines where a jump leads. That it must go
+-- forward, and that a program ends in EXIT, is this project's own rule.
 use Rattle.std.specs.Prelude.{◌≡◌, ◌≢◌, ℕ, ◌+◌, ◌<◌, ℤ, pos, ◌+ℤ◌, ◌<ℤ◌, ◌≤ℤ◌, List, [], ◌∷◌, ◌++◌, Some, IsSome}
 use Rattle.bpf_insn.specs.Code.{instruction_at, word_count}
 use Rattle.bpf_insn.specs.Jump.{jump_distance}
@@ -9,7 +9,7 @@ use Rattle.bpf_insn.specs.declared.register.WritableRegister.{WritableRegister}
 use Rattle.bpf_flow.specs.declared.fault.FlowFault.{FlowFault}
 use Rattle.bpf_flow.specs.declared.fault.FlowFault.TheVariants.{BackwardJump, OutOfProgram, IntoWide, LastNotExit}
 
--- what a Flow consists of
+-- the contents of a Flow
 pub record Contents : Type 0 where
   pub code : List Insn
 
@@ -17,7 +17,7 @@ pub record Contents : Type 0 where
 abbrev pub target_of : ℕ → ℤ → ℤ
 target_of place distance = pos (place + 1) +ℤ distance
 
--- a jump from a place leads on: to a later place, where an instruction begins
+-- a jump from a place leads on: to a later place, at which an instruction begins
 pub record LeadsOn (code : List Insn) (place : ℕ) (distance : ℤ) : Type 0 where
   pub target : ℕ
   pub is_target : target_of place distance ≡ pos target
@@ -34,18 +34,18 @@ JumpsLeadOn code =
 abbrev pub EndsInExit : List Insn → Type 0
 EndsInExit code = (before : List Insn) × (code ≡ before ++ Exit ∷ [])
 
--- each jump goes forward to where an instruction begins, and the last instruction is EXIT
+-- each jump goes forward to the beginning of an instruction, and the last instruction is EXIT
 pub record IsForward (code : List Insn) : Type 0 where
   pub jumps : JumpsLeadOn code
   pub last : EndsInExit code
 
--- each jump that stands before a place leads on
+-- each jump before a place leads on
 abbrev pub LeadOnBefore : List Insn → ℕ → Type 0
 LeadOnBefore code end =
     (place : ℕ) (insn : Insn) (distance : ℤ) → place < end
     → instruction_at code place ≡ Some insn → jump_distance insn ≡ Some distance → LeadsOn code place distance
 
--- a jump by a distance stands at a place
+-- the instruction at a place is a jump by a distance
 pub record JumpsBy (code : List Insn) (place : ℕ) (distance : ℤ) : Type 0 where
   pub insn : Insn
   pub stands : instruction_at code place ≡ Some insn
@@ -67,14 +67,14 @@ pub record LeadsIntoWide (code : List Insn) (place : ℕ) (distance : ℤ) : Typ
   pub later : place < target
   pub inside : IsSecondWord code target
 
--- each jump before a place leads on, and at this place stands one whose distance has a flaw
+-- each jump before a place leads on, and the instruction at this place is a jump whose distance has a flaw
 pub record IsFirstJump (code : List Insn) (place : ℕ) (Flaw : ℤ → Type 0) : Type 0 where
   pub before : LeadOnBefore code place
   pub distance : ℤ
   pub jumps : JumpsBy code place distance
   pub flaw : Flaw distance
 
--- an instruction other than EXIT is the last one, at this place
+-- the last instruction, at this place, isn't EXIT
 pub record IsLastNotExit (code : List Insn) (place : ℕ) : Type 0 where
   pub before : List Insn
   pub last : Insn
@@ -82,8 +82,8 @@ pub record IsLastNotExit (code : List Insn) (place : ℕ) : Type 0 where
   pub at : place ≡ word_count before
   pub no_exit : last ≢ Exit
 
--- The first fault of a code: jumps are looked at in order, and the last instruction behind all of them. A jump of distance 0 leads to the
--- next word; one of distance -1 leads to itself, so it goes backwards.
+-- The first fault of a code: the jumps are checked in order, and then the last instruction. A jump of distance 0 leads to the next word. One of
+-- distance -1 leads to itself, so it goes backwards.
 abbrev pub IsFirstFault : List Insn → FlowFault → Type 0
 IsFirstFault code (BackwardJump place) = IsFirstJump code place (λ distance. distance <ℤ pos 0)
 IsFirstFault code (OutOfProgram place) = IsFirstJump code place (λ distance. pos (word_count code) ≤ℤ target_of place distance)

@@ -1,8 +1,8 @@
-//! Why the flow of a code is refused.
+//! The reasons why the flow of a code is refused.
 use refusals::{Fault, Refusal};
 use thiserror::Error;
 
-/// Why the flow of a code is refused. Places count words from 0. The derived text is for people.
+/// The reason why the flow of a code is refused. Places count words from 0. The derived text is for people.
 #[derive(Clone, Copy, Debug, PartialEq, Eq, Error)]
 pub enum FlowFault {
     #[error("the jump at place {place} goes backwards")]

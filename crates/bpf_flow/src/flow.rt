@@ -12,8 +12,8 @@ use bpf_insn::{Code, Insn};
 use std::alloc::Allocator;
 use std::marker::Model;
 
-/// A code whose jumps all go forward to where an instruction begins, and whose last instruction is EXIT. Contracts see it as a record with
-/// the field `code`, the list of its instructions.
+/// A code whose jumps all go forward to the beginning of an instruction, and whose last instruction is EXIT. Contracts see it as a record with the
+/// field `code`, the list of its instructions.
 #[derive(Drop)]
 pub struct Flow<A: Allocator> {
     code: Code<A>,
@@ -30,8 +30,8 @@ impl<A: Allocator> Model for Flow<A> {
 }
 
 impl<A: Allocator> Flow<A> {
-    /// The flow of a code, or its first fault: that of the first jump that doesn't lead on, and if there is none, that the last
-    /// instruction is no EXIT. It takes no memory, and its time grows with the instructions.
+    /// Returns the flow of a code, or its first fault: the fault of the first jump that doesn't lead on, or else that the last instruction isn't
+    /// EXIT. Allocates nothing; the time grows with the number of instructions.
     pub fn of(code: Code<A>) -> Result<Self, FlowFault>
         ensures ok { IfOk result (λ flow. (flow.code ≡ code) × IsForward code) }
         ensures err { IfErr result (IsFirstFault code) }
@@ -42,7 +42,7 @@ impl<A: Allocator> Flow<A> {
         Ok(Flow { code })
     }
 
-    /// The code, lent.
+    /// Borrows the code.
     pub fn code(&self) -> &Code<A>
         ensures value { result.now ≡ self.now.code }
         ensures forward { IsForward self.now.code }
@@ -50,7 +50,7 @@ impl<A: Allocator> Flow<A> {
         &self.code
     }
 
-    /// The code.
+    /// Returns the code.
     pub fn into_code(self) -> Code<A>
         ensures value { result ≡ self.code }
         ensures forward { IsForward self.code }
@@ -58,7 +58,7 @@ impl<A: Allocator> Flow<A> {
         self.code
     }
 
-    /// The place behind the instruction that begins at a place. If it's no EXIT, an instruction begins there.
+    /// Returns the place after the instruction that begins at a place. Unless that instruction is EXIT, another one begins there.
     pub fn next(&self, place: usize) -> usize
         requires { IsSome (instruction_at self.now.code place) }
         ensures value { IfSome (instruction_at self.now.code place) (λ insn. result ≡ place + length (spelling insn)) }
@@ -70,8 +70,8 @@ impl<A: Allocator> Flow<A> {
         }
     }
 
-    /// Where the instruction that begins at a place jumps, if it's a jump: to a later place, where an instruction begins. A conditional
-    /// jump leads there where it's taken.
+    /// Returns the target of the instruction that begins at a place, if it's a jump: a later place, at which an instruction begins. A conditional
+    /// jump leads there if it's taken.
     pub fn target(&self, place: usize) -> Option<usize>
         requires { IsSome (instruction_at self.now.code place) }
         ensures value { IfSome (instruction_at self.now.code place)
@@ -100,7 +100,7 @@ fn check_jumps<A: Allocator>(code: &Code<A>) -> Result<(), FlowFault>
     Ok(())
 }
 
-/// Checks that a jump leads on, where those before it do.
+/// Checks that a jump leads on, given that those before it do.
 fn check_jump<A: Allocator>(code: &Code<A>, place: usize, distance: i32) -> Result<(), FlowFault>
     requires before { LeadOnBefore code.now place }
     requires jump { JumpsBy code.now place distance }
@@ -121,7 +121,7 @@ fn check_jump<A: Allocator>(code: &Code<A>, place: usize, distance: i32) -> Resu
     Ok(())
 }
 
-/// Where a jump that goes forward leads.
+/// Returns the target of a jump that goes forward.
 fn target_of(place: usize, distance: i32) -> usize
     requires within { place < WORD_LIMIT }
     requires forward { pos 0 ≤ℤ distance }
@@ -130,7 +130,7 @@ fn target_of(place: usize, distance: i32) -> usize
     place + 1 + distance as usize
 }
 
-/// Checks that the last instruction is EXIT, where each jump leads on.
+/// Checks that the last instruction is EXIT, given that each jump leads on.
 fn check_last<A: Allocator>(code: &Code<A>) -> Result<(), FlowFault>
     requires { JumpsLeadOn code.now }
     ensures ok { OnOk result (EndsInExit code.now) }

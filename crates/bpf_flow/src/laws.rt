@@ -1,4 +1,4 @@
-//! What holds of the definitions themselves. The functions do nothing: each one's contract is the law.
+//! Laws of the definitions themselves. The functions do nothing: each contract is a law.
 ghost use Rattle.std.specs.Prelude.{◌≡◌, List};
 ghost use Rattle.bpf_insn.specs.declared.instruction.Insn.{Insn};
 ghost use Rattle.bpf_flow.specs.Flow.{IsForward, IsFirstFault};
@@ -9,7 +9,7 @@ pub fn one_fault()
     ensures { (code : List Insn) (a b : FlowFault) → IsFirstFault code a → IsFirstFault code b → a ≡ b }
 {}
 
-/// A code whose jumps all go forward, and that ends in EXIT, has no fault.
+/// A code has no fault if its jumps all go forward and it ends in EXIT.
 pub fn forward_has_no_fault()
     ensures { (code : List Insn) (fault : FlowFault) → IsForward code → IsFirstFault code fault → ⊥ }
 {}

@@ -1,4 +1,4 @@
-//! BPF codes (RFC 9669) whose jumps all go forward, and that end in EXIT: no run of one takes more steps than it has instructions.
+//! BPF codes (RFC 9669) whose jumps all go forward and that end in EXIT: no run of such a code takes more steps than it has instructions.
 #![tactic(auto)]
 
 mod fault;
