@@ -1,4 +1,4 @@
--- The definitions of arithmetic at worked examples: what they give is computed.
+-- The definitions of arithmetic on worked examples: their results are computed.
 use Rattle.std.proofs.Common.{◌≡◌, pos, negsuc, true, false, refl}
 use Rattle.bpf_insn.specs.Arithmetic.{result_of, negate, extension_of, byte_swap, is_met, wide_number, load_extension}
 use Rattle.bpf_insn.specs.declared.instruction.Operation.TheVariants.{Subtract, Multiply, Divide, SignedDivide, ShiftLeft, ShiftRight}
@@ -10,7 +10,7 @@ use Rattle.bpf_insn.specs.declared.instruction.SwapWidth.TheVariants as swap_wid
 use Rattle.bpf_insn.specs.declared.instruction.Condition.TheVariants.{Greater, SharesBit, SignedGreater}
 use Rattle.bpf_insn.specs.declared.instruction.LoadFormat.TheVariants.{Byte, SignedByte}
 
--- 3 - 5 is -2, of 32 bits too
+-- 3 - 5 is -2, with 32 bits too
 pub below_zero : result_of Subtract Bits64 3 5 ≡ 0xffff_ffff_ffff_fffe
 below_zero = refl
 
@@ -21,14 +21,14 @@ below_zero_of_32 = refl
 pub product_wraps : result_of Multiply Bits32 0x1_0001 0x1_0001 ≡ 0x2_0001
 product_wraps = refl
 
--- division by zero, of 32 bits with something in the upper half
+-- division by zero, with 32 bits and a nonzero upper half
 pub by_zero : result_of Divide Bits32 7 0x1_0000_0000 ≡ 0
 by_zero = refl
 
 pub remainder_by_zero : result_of Modulo Bits32 0x5_0000_0007 0 ≡ 7
 remainder_by_zero = refl
 
--- -13 by 3: the quotient is cut towards zero, to -4, and the remainder is -1
+-- -13 by 3: the quotient is rounded towards zero, to -4, and the remainder is -1
 pub signed_quotient : result_of SignedDivide Bits64 0xffff_ffff_ffff_fff3 3 ≡ 0xffff_ffff_ffff_fffc
 signed_quotient = refl
 
@@ -42,7 +42,7 @@ least_by_minus_one = refl
 pub least_by_minus_one_leaves : result_of SignedModulo Bits64 0x8000_0000_0000_0000 0xffff_ffff_ffff_ffff ≡ 0
 least_by_minus_one_leaves = refl
 
--- amounts of shifts are taken modulo the width
+-- shift amounts are taken modulo the width
 pub left : result_of ShiftLeft Bits32 3 33 ≡ 6
 left = refl
 

@@ -1,4 +1,4 @@
--- Numbers of 32 and 64 bits as signed 64-bit numbers, and back.
+-- Conversions of numbers of 32 and 64 bits to signed 64-bit numbers, and back.
 use Rattle.std.proofs.Common.{◌≡◌, ℕ, zero, suc, ◌/◌, ◌%◌, ◌^◌, ◌≤◌, ◌<◌, ℤ, pos, negsuc, arith}
 use Rattle.std.proofs.Math.Nat.{mod-lt, mod-mod, div-le_self, le_trans}
 use Rattle.std.proofs.Math.IntN.{neg_ℤ}
@@ -13,8 +13,8 @@ use Rattle.bpf_insn.specs.Arithmetic.{operand_bits, low_bits}
 use Rattle.bpf_insn.specs.declared.instruction.Width.{Width}
 use Rattle.bpf_insn.specs.declared.instruction.Width.TheVariants.{Bits32, Bits64}
 
--- A signed number that is cut to its low bits has its two's complement there, where it lies from -2^(w-1) to 2^(w-1). (The quotient of
--- the least number and -1 is 2^(w-1).)
+-- The low bits of a signed number are its two's complement, if it lies from -2^(w-1) to 2^(w-1). (The quotient of the least number and -1 is
+-- 2^(w-1).)
 low_bits-signed : (width : Width) (z : ℤ) → mag z ≤ 2 ^ hbits (operand_bits width)
     → low_bits (operand_bits width) (cast_unsigned w64 z) ≡ cast_unsigned (operand_bits width) z
 low_bits-signed Bits32 (pos n) h = omega arith
@@ -52,7 +52,7 @@ unsigned_fits : (z : ℤ) → mag z ≤ 2 ^ 63 → cast_unsigned w64 z < 2 ^ 64
 unsigned_fits (pos n) h = omega arith
 unsigned_fits (negsuc n) h = omega arith
 
--- The remainder of low bits as signed numbers, found among signed 64-bit numbers, and the bits of it.
+-- The remainder of low bits as signed numbers, computed on signed 64-bit numbers, and its bits.
 pub remainder_bits : (width : Width) (x : ℕ) (d : ℤ) → let r =
     int_rem (cast_signed (operand_bits width) (low_bits (operand_bits width) x)) d in
     low_bits (operand_bits width) (cast_unsigned w64 r) ≡ cast_unsigned (operand_bits width) r
@@ -62,7 +62,7 @@ remainder_bits width x d =
     let remainder = mag_rem a d in
     low_bits-signed width (int_rem a d) (omega arith)
 
--- The same of the quotient. It's wrapped to 64 bits, where the quotient of the least number and -1 becomes the least number.
+-- The same for the quotient. It's wrapped to 64 bits, where the quotient of the least number and -1 becomes the least number.
 pub quotient_bits : (width : Width) (x : ℕ) (d : ℤ) → let q =
     int_div (cast_signed (operand_bits width) (low_bits (operand_bits width) x)) d in
     low_bits (operand_bits width) (cast_unsigned w64 (cast_signed w64 (cast_unsigned w64 q))) ≡ cast_unsigned (operand_bits width) q
@@ -72,7 +72,7 @@ quotient_bits width x d =
     let fits : cast_unsigned w64 (int_div a d) < 2 ^ 64 = unsigned_fits (int_div a d) (le_trans within (half_le width)) in
     rw (of_z-to_z w64 (cast_unsigned w64 (int_div a d)) fits) (low_bits-signed width (int_div a d) within)
 
--- The low bits of what 64 bits keep of a number are its own.
+-- The low bits of a number wrapped to 64 bits are its own low bits.
 pub low_bits-wrapped : (width : Width) (n : ℕ) → low_bits (operand_bits width) (n % 2 ^ 64) ≡ low_bits (operand_bits width) n
 low_bits-wrapped Bits32 n = mod-mod-pow n 32 32
 low_bits-wrapped Bits64 n = mod-mod n (2 ^ 64)

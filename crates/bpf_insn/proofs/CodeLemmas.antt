@@ -16,11 +16,11 @@ use Rattle.bpf_insn.specs.declared.fault.WordFault.{WordFault}
 use Rattle.bpf_insn.specs.declared.word.Word.{Word}
 use Rattle.bpf_insn.specs.declared.instruction.Insn.{Insn}
 
--- an instruction takes a word at least
+-- an instruction takes at least one word
 pub length-spelling_positive : (insn : Insn) → 0 < length (spelling insn)
 length-spelling_positive insn = omega arith
 
--- words that are no instruction's
+-- a spelling isn't empty
 spelling_is_not_empty : (insn : Insn) (xs : List Word) → [] ≡ spelling insn ++ xs → ⊥
 spelling_is_not_empty insn xs e = cc
 
@@ -55,11 +55,11 @@ no_fault_in_code (insn ∷ code) (first ∷ before) faulty rest fault e h =
     let joined = e ∙ append_assoc (spelling first) (code_words before) (faulty ∷ rest) in
     no_fault_in_code code before faulty rest fault (same_rest insn first (code_words code) (code_words before ++ faulty ∷ rest) joined) h
 
--- a code's words are those of its bytes
+-- the number of a code's words, from the length of its bytes
 pub word_count_of : (bytes : List ℕ) (code : List Insn) → words_of bytes ≡ code_words code → word_count code ≡ length bytes / 8
 word_count_of bytes code e = ap length (sym e) ∙ length-first_words (length bytes / 8) bytes
 
--- bytes that have a code are refused for memory alone
+-- bytes that have a code are refused only because memory runs out
 pub memory_alone : (bytes : List ℕ) (code : List Insn) (fault : CodeFault) → IsCodeOf bytes code → IsFirstFault bytes fault
     → fault ≡ code_fault.Memory
 memory_alone bytes code code_fault.Empty is f = let n = word_count_of bytes code is.words in absurd (omega arith)
@@ -69,14 +69,14 @@ memory_alone bytes code (code_fault.InWord place fault) is f =
     absurd (no_fault_in_code code f.2.0 f.2.1 f.2.2 fault (sym is.words ∙ f.2.3) f.2.5)
 memory_alone bytes code code_fault.Memory is f = refl
 
--- so a reader that gives a code or the first fault gives the one code
+-- so a reader that returns a code or the first fault returns that one code
 pub gives_the_code : (bytes : List ℕ) (result : Result (List Insn) CodeFault) → IfOk result (IsCodeOf bytes)
     → IfErr result (IsFirstFault bytes) → (code : List Insn) → IsCodeOf bytes code
     → MatchResult result (λ decoded. decoded ≡ code) (λ fault. fault ≡ code_fault.Memory)
 gives_the_code bytes (Ok decoded) ok err code is = one_code decoded code (sym ok.words ∙ is.words)
 gives_the_code bytes (Err fault) ok err code is = memory_alone bytes code fault is err
 
--- two fronts of instructions, each with a fault behind it, of the same words are the same
+-- two sequences of instructions from the same words, each followed by a fault, are equal
 same_front : (a b : List Insn) (f g : Word) {r s : List Word} {x y : WordFault} → code_words a ++ f ∷ r ≡ code_words b ++ g ∷ s
     → first_fault f r ≡ Some x → first_fault g s ≡ Some y → (a ≡ b) × ((f ≡ g) × (r ≡ s))
 same_front [] [] f g {r} {s} e h k = (refl, (same_first f g r s e, same_others f g r s e))
@@ -94,7 +94,7 @@ same_fault : {x y : WordFault} {f g : Word} {r s : List Word} → f ≡ g → r 
 same_fault {x} {y} {g} {r} e k h i =
     let both : Some x ≡ Some y = sym h ∙ ap (λ (w : Word). first_fault w r) e ∙ ap (first_fault g) k ∙ i in cc
 
--- where a word is faulty there is a word
+-- if a word is faulty, there is a word
 has_words : (bytes : List ℕ) (p : ℕ) (x : WordFault) → HasFaultAt bytes p x → length bytes / 8 ≡ 0 → ⊥
 has_words bytes p x h none =
     let l = sym (length-first_words (length bytes / 8) bytes) ∙ ap length h.3 in
@@ -108,7 +108,7 @@ same_place bytes p q x y one other =
     let place : p ≡ q = one.4 ∙ ap word_count front.0 ∙ sym other.4 in
     cc
 
--- bytes have at most one first fault, apart from want of memory
+-- bytes have at most one first fault, apart from running out of memory
 pub one_fault : (bytes : List ℕ) (a b : CodeFault) → IsFirstFault bytes a → IsFirstFault bytes b → a ≢ code_fault.Memory
     → b ≢ code_fault.Memory → a ≡ b
 one_fault bytes code_fault.Empty code_fault.Empty h k m n = refl
@@ -127,12 +127,12 @@ one_fault bytes code_fault.Memory b h k m n = absurd (m refl)
 one_fault bytes a code_fault.Memory h k m n = absurd (n refl)
 one_fault bytes a b h k m n = absurd (omega arith)
 
--- a refusal is for memory, or it isn't
+-- a refusal is because memory runs out, or it isn't
 for_memory_or_not : (fault : CodeFault) → (fault ≢ code_fault.Memory) ⊎ (fault ≡ code_fault.Memory)
 for_memory_or_not code_fault.Memory = inr refl
 for_memory_or_not fault = inl (λ e. cc)
 
--- so a reader that gives a code or the first fault names the one first fault, where there is one
+-- so a reader that returns a code or the first fault returns the one first fault, if there is one
 pub names_the_fault : (bytes : List ℕ) (result : Result (List Insn) CodeFault) → IfOk result (IsCodeOf bytes)
     → IfErr result (IsFirstFault bytes) → (fault : CodeFault) → IsFirstFault bytes fault → fault ≢ code_fault.Memory
     → IsErrAnd result (λ given. (given ≡ fault) ⊎ (given ≡ code_fault.Memory))

@@ -1,4 +1,4 @@
--- From the words at a place to the code of all of them.
+-- From the words at a place to the code of all words.
 use Rattle.std.proofs.Common.{◌≡◌, ℕ, zero, suc, ◌+◌, ◌-◌, ◌*◌, ◌/◌, ◌%◌, ◌<◌, ◌≤◌, List, [], ◌∷◌, ◌++◌, length, take, drop, Option, Some}
 use Rattle.std.proofs.Common.{None, MatchOption, Bor, slice_range, ◌⊎◌, inl, inr, refl, sym, ap, ◌∙◌, subst, arith, option_to_list, Result}
 use Rattle.std.proofs.Common.{Ok, Err, IfOk, IfErr}
@@ -21,7 +21,7 @@ use Rattle.bpf_insn.specs.declared.word.Word.{Word}
 use Rattle.bpf_insn.specs.declared.fault.WordFault.{WordFault}
 use Rattle.bpf_insn.specs.declared.instruction.Insn.{Insn}
 
--- the word behind a place, if there is one
+-- the word after a place, if there is one
 abbrev pub IsNext : List ℕ → ℕ → Option Word → Type 0
 IsNext bytes place next =
     ((next ≡ None) × (length bytes / 8 ≡ suc place)) ⊎ ((next ≡ Some (word_of (drop (suc place * 8) bytes)))
@@ -57,7 +57,7 @@ next_is_head bytes place next (inr more) =
       from_place bytes (suc place) more.1,
     )
 
--- a fault looks at the next word alone
+-- a fault depends only on the next word
 wide_alone : (found : Option WordFault) (word : Word) (more : List Word) → wide_fault found (word ∷ []) ≡ wide_fault found (word ∷ more)
 wide_alone None word more = refl
 wide_alone (Some found) word more = refl
@@ -77,7 +77,7 @@ fault_of_head first next rest (inr (word, more, is, are)) =
     ∙ second_alone (form_of first.opcode) first word more
     ∙ ap (first_fault first) (sym are)
 
--- what was read at a place
+-- the instruction read at a place
 pub begins : (bytes : List ℕ) {place : ℕ} {first : Word} {next : Option Word} (insn : Insn) → place < length bytes / 8
     → first ≡ word_of (drop (place * 8) bytes) → IsNext bytes place next → Begins insn first next → BeginsAt bytes place insn
 begins bytes {place} insn below is follows (inl one) = (
@@ -107,7 +107,7 @@ faulty bytes {place} {first} {next} below is follows wrong =
       sym (fault_of_head first next rest (next_is_head bytes place next follows)) ∙ wrong,
     )
 
--- the words up to a place, and from there on
+-- the words up to a place, and the words from there on
 pub words_split : (before after : ℕ) (bytes : List ℕ) → first_words (before + after) bytes ≡ first_words before bytes ++ first_words after
     (drop (before * 8) bytes)
 unfolding first_words
@@ -120,7 +120,7 @@ words_split (suc before) after bytes =
     ∙ ap (λ (ws : List Word). word_of bytes ∷ ws) (rest ∙ ap (λ (bs : List ℕ). first_words before (drop 8 bytes) ++ first_words after bs)
     here)
 
--- the front of words is as long as it is
+-- a front of words is determined by its length
 same_front : (xs ys front rest : List Word) → xs ++ ys ≡ front ++ rest → length xs ≡ length front → xs ≡ front
 same_front [] ys [] rest e h = refl
 same_front [] ys (f ∷ front) rest e h = absurd (omega arith)
@@ -138,10 +138,10 @@ within bytes place insn below begins =
     ∙ length-append (spelling insn) begins.0 in
     omega arith
 
--- an instruction after those so far
+-- one more instruction after those so far
 module _ (bytes : List ℕ) (place : ℕ) (code : List Insn) (insn : Insn) (below : place < length bytes / 8)
     (so_far : first_words place bytes ≡ code_words code) (begins : BeginsAt bytes place insn) where
-  -- the words so far, with the instruction's
+  -- the words so far, together with the instruction's
   pub reads_one : first_words (place + length (spelling insn)) bytes ≡ code_words (code ++ insn ∷ [])
   reads_one =
       let words = length (spelling insn) in
@@ -156,7 +156,7 @@ module _ (bytes : List ℕ) (place : ℕ) (code : List Insn) (insn : Insn) (belo
       words_split place words bytes ∙ ap (λ (ws : List Word). ws ++ first_words words here) so_far
       ∙ ap (λ (ws : List Word). code_words code ++ ws) front ∙ flat_map_more spelling [] code insn
 
-  -- instructions of so few bytes fit, so only an allocation can fail
+  -- instructions of at most the maximum number of bytes fit, so only an allocation can fail
   pub push_fault : (fault : CodeFault) → length bytes ≤ 8 * WORD_LIMIT → IsPushFault code insn fault → IsFirstFault bytes fault
   push_fault fault small (inl (late, long)) =
       let fits = within bytes place insn below begins in
@@ -164,7 +164,7 @@ module _ (bytes : List ℕ) (place : ℕ) (code : List Insn) (insn : Insn) (belo
       absurd (omega arith)
   push_fault fault small (inr memory) = subst (IsFirstFault bytes) (sym memory) tt
 
--- a fault behind the instructions so far
+-- a fault after the instructions so far
 pub finds_fault : (bytes : List ℕ) (place : ℕ) (code : List Insn) (fault : WordFault) → place < length bytes / 8
     → first_words place bytes ≡ code_words code → IsFaultAt bytes place fault → HasFaultAt bytes place fault
 finds_fault bytes place code fault below so_far (first, rest, words, wrong) =
@@ -192,7 +192,7 @@ pub refuses : (bytes : List ℕ) {place : ℕ} {first : Word} {next : Option Wor
 refuses bytes (Ok insn) below is follows wrong = tt
 refuses bytes (Err fault) below is follows wrong = faulty bytes below is follows wrong
 
--- the next word, where there was one to read
+-- the next word, if there was one to read
 word_of-take : (bytes : List ℕ) → 8 ≤ length bytes → word_of (take 8 bytes) ≡ word_of bytes
 word_of-take (a ∷ b ∷ c ∷ d ∷ e ∷ f ∷ g ∷ h ∷ rest) long = refl
 word_of-take bytes long = absurd (omega arith)
@@ -214,7 +214,7 @@ next_of bytes place (Some x) next below some (long, are) =
       omega arith,
     )
 
--- bytes that aren't empty have an instruction
+-- nonempty bytes have an instruction
 pub never_empty : (bytes : List ℕ) (code : List Insn) (result : Result (List Insn) CodeFault) → length bytes % 8 ≡ 0 → 0 < length bytes
     → words_of bytes ≡ code_words code → IfErr result (λ fault. (fault ≡ code_fault.Empty) × (code ≡ []))
     → IfErr result (IsFirstFault bytes)

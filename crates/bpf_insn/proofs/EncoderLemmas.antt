@@ -13,7 +13,7 @@ use Rattle.bpf_insn.proofs.WordLemmas.{length-first_words}
 use Rattle.bpf_insn.specs.declared.word.Word.{Word}
 use Rattle.bpf_insn.specs.declared.instruction.Insn.{Insn}
 
--- a word is that of the first eight bytes
+-- the first word of bytes depends only on their first eight bytes
 word_of-front : (xs ys : List ℕ) → 8 ≤ length xs → word_of (xs ++ ys) ≡ word_of xs
 word_of-front (a ∷ b ∷ c ∷ d ∷ e ∷ f ∷ g ∷ h ∷ rest) ys long = refl
 word_of-front xs ys long = absurd (omega arith)
@@ -26,7 +26,7 @@ length-behind : (xs : List ℕ) → 8 ≤ length xs → length xs ≡ 8 + length
 length-behind (a ∷ b ∷ c ∷ d ∷ e ∷ f ∷ g ∷ h ∷ rest) long = omega arith
 length-behind xs long = absurd (omega arith)
 
--- words of bytes, with more bytes behind them
+-- the words of bytes, with more bytes after them
 words-joined : (n m : ℕ) (xs ys : List ℕ) → length xs ≡ n * 8 → first_words (n + m) (xs ++ ys) ≡ first_words n xs ++ first_words m ys
 unfolding first_words
 words-joined zero m [] ys e = ap (λ k. first_words k ys) (let p : 0 + m ≡ m = omega arith in p)
@@ -43,7 +43,7 @@ pub no_words : (bytes : List ℕ) → bytes ≡ [] → AreWords [] bytes
 unfolding first_words
 no_words bytes none = record { long = ap length none; same = refl; small = λ k d h. let l = ap length none in absurd (omega arith) }
 
--- a word alone
+-- a single word
 one_word : (word : Word) (eight : List ℕ) → IsWritten word eight → AreWords (word ∷ []) eight
 unfolding first_words
 one_word word eight written = record { long = written.long; same = ap (λ (w : Word). w ∷ []) written.is_word; small = written.small }
@@ -63,7 +63,7 @@ words_more words more bytes others are also =
       small = All-append (λ byte. byte < 256) bytes others are.small also.small;
     }
 
--- an instruction's words behind others
+-- an instruction's words after others
 pub writes_one : (insn : Insn) {first : Word} {second : Option Word} {new eight : List ℕ} (old : List ℕ) → first ≡ first_word insn
     → option_to_list second ≡ further_words insn → second ≡ None → IsWritten first eight → new ≡ old ++ eight
     → AppendsWords (spelling insn) old new
@@ -86,7 +86,7 @@ writes_two insn {first} {word} {eight} {more} old is two written also grown agai
   again ∙ ap (λ (bs : List ℕ). bs ++ more) grown ∙ append_assoc old eight more,
 )
 
--- the words of a code so far, with an instruction more
+-- the words of a code so far, with one more instruction
 pub code_more : (code : List Insn) (i : ℕ) {insn : Insn} {old : List ℕ} (new : List ℕ) → i < length code → insn ≡ get_or code i insn
     → AreWords (code_words (take i code)) old → AppendsWords (spelling insn) old new → AreWords (code_words (take (i + 1) code)) new
 code_more code i {insn} {old} new within is are (more, also, grown) =
@@ -104,7 +104,7 @@ are_code words bytes are =
     let count : length bytes / 8 ≡ length words = omega arith in
     (omega arith, ap (λ k. first_words k bytes) count ∙ are.same)
 
--- a number of bytes is that of its signed form
+-- numbers of w bits are equal if they are equal as signed numbers
 signed_same : (w : Width) (m n : ℕ) → m < 2 ^ bits w → n < 2 ^ bits w → cast_signed w m ≡ cast_signed w n → m ≡ n
 signed_same w m n small little e = sym (of_z-to_z w m small) ∙ ap (cast_unsigned w) e ∙ of_z-to_z w n little
 
@@ -112,7 +112,7 @@ abbrev pub AreBytes : List ℕ → Type 0
 AreBytes [] = Unit {0}
 AreBytes (x ∷ xs) = (x < 256) × AreBytes xs
 
--- one word has one spelling in bytes
+-- one word has only one spelling in bytes
 same_eight : {a b c d e f g h a' b' c' d' e' f' g' h' : ℕ} {r r' : List ℕ} → AreBytes (a ∷ b ∷ c ∷ d ∷ e ∷ f ∷ g ∷ h ∷ [])
     → AreBytes (a' ∷ b' ∷ c' ∷ d' ∷ e' ∷ f' ∷ g' ∷ h' ∷ [])
     → word_of (a ∷ b ∷ c ∷ d ∷ e ∷ f ∷ g ∷ h ∷ r) ≡ word_of (a' ∷ b' ∷ c' ∷ d' ∷ e' ∷ f' ∷ g' ∷ h' ∷ r') → r ≡ r'
@@ -136,7 +136,7 @@ same_eight {a} {b} {c} {d} {e} {f} {g} {h} {a'} {b'} {c'} {d'} {e'} {f'} {g'} {h
     let h_same : h ≡ h' = omega arith in
     rw (opcode, registers, c_same, d_same, e_same, f_same, g_same, h_same, rest) refl
 
--- so bytes with the same words are the same
+-- so bytes with the same words are equal
 pub same_bytes : (n : ℕ) (xs ys : List ℕ) → AreBytes xs → AreBytes ys → length xs ≡ n * 8 → length ys ≡ n * 8
     → first_words n xs ≡ first_words n ys → xs ≡ ys
 unfolding first_words
@@ -158,7 +158,7 @@ each_byte : (xs : List ℕ) → All (λ byte. byte < 256) xs → AreBytes xs
 each_byte [] all = tt
 each_byte (x ∷ xs) all = (all 0 0 (omega arith), each_byte xs (λ k d h. all (suc k) d (omega arith)))
 
--- a code has one spelling in bytes
+-- a code has only one spelling in bytes
 pub one_spelling : (a b : List ℕ) (code : List Insn) → All (λ byte. byte < 256) a → All (λ byte. byte < 256) b → IsCodeOf a code
     → IsCodeOf b code → a ≡ b
 one_spelling a b code small little is also =
@@ -169,14 +169,14 @@ one_spelling a b code small little is also =
     same_bytes (length a / 8) a b (each_byte a small) (each_byte b little) (omega arith) (omega arith)
     (is.words ∙ sym also.words ∙ ap (λ k. first_words k b) (sym same))
 
--- so whatever bytes have this code are the bytes that were written
+-- so any bytes with this code are the bytes that were written
 pub only_spelling : (code : List Insn) (written bytes : List ℕ) → AreWords (code_words code) written → All (λ byte. byte < 256) bytes
     → IsCodeOf bytes code → written ≡ bytes
 only_spelling code written bytes are small is =
     let has = are_code (code_words code) written are in
     one_spelling written bytes code are.small small (record { whole = has.0; words = has.1; sized = is.sized }) is
 
--- what was written has the code
+-- the bytes that were written have the code
 pub writes_code : (code items : List Insn) (count : ℕ) (bytes : List ℕ) → items ≡ code → length items ≤ count
     → AreWords (code_words (take count items)) bytes → AreWords (code_words code) bytes
 writes_code code items count bytes same late are = subst (λ (c : List Insn). AreWords (code_words c) bytes)

@@ -1,4 +1,4 @@
--- What an instruction is written in has no fault.
+-- The words that spell an instruction have no fault.
 use Rattle.std.proofs.Common.{◌≡◌, ◌==◌, nat_lt, Bool, true, false, ℤ, pos, List, ◌++◌, None, Some, Option, refl, ap, ◌∙◌, arith}
 use Rattle.std.proofs.lemmas.Bool.Decides.{nat_tests}
 use Rattle.bpf_insn.specs.Form.{word, swap_bits, operation_offset, first_word, further_words}
@@ -36,11 +36,11 @@ not_frame_pointer d = let h = d.in_range in grind (arith, nat_tests)
 no_bad_operand : (r : RegisterNumber) → nat_lt 10 r.number ≡ false
 no_bad_operand r = let h = r.in_range in grind (arith, nat_tests)
 
--- what a field may hold
+-- the values that a field may have
 abbrev Fits : Use → ℤ → Type 0
 Fits usage z = (is_bad_width usage z ≡ false) × (is_out_of_use usage z ≡ false)
 
--- the rows that write a register, and those that read it; what is said of a word doesn't depend on its opcode
+-- the rows that write a register, and those that read it; what they say of a word doesn't depend on its opcode
 writes : (offset immediate : Use) (d : WritableRegister) (z v : ℤ) → Fits offset z → Fits immediate v
     → fault (uses Written false offset immediate) (word 0 d.number 0 z v) ≡ None
 writes offset immediate d z v here there = rw (no_bad_register d, not_frame_pointer d, here.0, there.0, here.1, there.1) refl
@@ -55,7 +55,7 @@ reads r z v = rw (no_bad_operand r) refl
 reads_with : (r s : RegisterNumber) (z : ℤ) → fault (uses Read true Any Unused) (word 0 r.number s.number z (pos 0)) ≡ None
 reads_with r s z = rw (no_bad_operand r, no_bad_operand s) refl
 
--- an operation's offset is in use
+-- an operation's offset is a value in use
 offset_fits : (operation : Operation) (width : Width) (from_register : Bool)
     → Fits (offset_use (unsigned operation) width from_register) (operation_offset operation)
 offset_fits Move Bits32 true = (refl, refl)
@@ -90,7 +90,7 @@ by_form (WideLoad d v next) rest = rw (writes Unused Any d (pos 0) v (refl, refl
 by_form (Jump (Short distance)) rest = refl
 by_form insn rest = refl
 
--- what an instruction is written in has no fault, whatever follows
+-- the words that spell an instruction have no fault, whatever follows them
 pub no_fault : (insn : Insn) (rest : List Word) → first_fault (first_word insn) (further_words insn ++ rest) ≡ None
 no_fault insn rest = ap (λ (f : Option OpcodeForm). form_fault f (first_word insn) (further_words insn ++ rest)) (has_form insn)
     ∙ by_form insn rest

@@ -1,4 +1,4 @@
--- The form of an instruction, which its opcode gives.
+-- The form of an instruction, which its opcode determines.
 use Rattle.std.proofs.Common.{◌≡◌, true, Some, refl}
 use Rattle.bpf_insn.specs.Form.{extension_width, first_word, is_register}
 use Rattle.bpf_insn.specs.Opcode.{form_of}

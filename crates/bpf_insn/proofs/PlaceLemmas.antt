@@ -17,7 +17,7 @@ use Rattle.bpf_insn.specs.declared.word.Word.{Word}
 use Rattle.bpf_insn.specs.declared.code.TheConstants.{WORD_LIMIT}
 use Rattle.bpf_insn.specs.declared.instruction.Insn.{Insn}
 
--- how many words instructions take
+-- the number of words that instructions take
 pub word_count-cons : (insn : Insn) (code : List Insn) → word_count (insn ∷ code) ≡ length (spelling insn) + word_count code
 word_count-cons insn code = length-append (spelling insn) (code_words code)
 
@@ -27,12 +27,12 @@ word_count-append before after = ap length (flat_map-append spelling before afte
 pub word_count-one : (insn : Insn) → word_count (insn ∷ []) ≡ length (spelling insn)
 word_count-one insn = word_count-cons insn [] ∙ (let none : word_count [] ≡ 0 = refl in omega arith)
 
--- a code has a word for each instruction at least
+-- a code has at least one word per instruction
 pub few_instructions : (code : List Insn) → length code ≤ word_count code
 few_instructions [] = omega arith
 few_instructions (insn ∷ code) = let rest = few_instructions code in let sum = word_count-cons insn code in omega arith
 
--- one instruction more
+-- one more instruction
 pub places_from-more : (place : ℕ) (code : List Insn) (insn : Insn)
     → places_from place (code ++ insn ∷ []) ≡ places_from place code ++ (place + word_count code) ∷ []
 places_from-more place [] insn = ap (λ (p : ℕ). p ∷ []) (omega arith)
@@ -53,7 +53,7 @@ indexes_from-more index (first ∷ code) insn =
     ∙ sym (append_assoc (indexes_in index (spelling first)) (indexes_from (suc index) code)
     (indexes_in (index + length (first ∷ code)) (spelling insn)))
 
--- there are as many indexes as words, and as many places as instructions
+-- the number of indexes is that of the words, and the number of places is that of the instructions
 length-indexes_in : (index : ℕ) (words : List Word) → length (indexes_in index words) ≡ length words
 length-indexes_in index [] = refl
 length-indexes_in index (first ∷ rest) = ap suc (length-map rest (λ (w : Word). let none : Option ℕ = None in none))
@@ -79,7 +79,7 @@ places_from-at place (insn ∷ code) (suc index) d h =
     let sum = word_count-cons insn (take index code) in
     rest ∙ (let e : place + length (spelling insn) + place_of code index ≡ place + place_of (insn ∷ code) (suc index) = omega arith in e)
 
--- where a place lies, by the words of the first instruction: at its start, within it or behind it
+-- a place in relation to the words of the first instruction: at its start, within it, or after it
 starts_not : (place words : ℕ) → 0 < place → (place == 0) ≡ false
 starts_not place words h = grind (arith, nat_tests)
 
@@ -109,7 +109,7 @@ index_at-behind : (insn : Insn) (code : List Insn) (place : ℕ) → length (spe
 index_at-behind insn code place past =
     rw (starts_not place (length (spelling insn)) (omega arith), is_behind place (length (spelling insn)) past) refl
 
--- what stands at a place, by the index of what begins there
+-- the instruction at a place, from its index
 next_index : (insn : Insn) (code : List Insn) (o : Option ℕ)
     → option_and_then (slice_get code) o ≡ option_and_then (slice_get (insn ∷ code)) (option_map (λ (i : ℕ). suc i) o)
 next_index insn code None = refl
@@ -130,7 +130,7 @@ instruction_at-index (insn ∷ code) (suc place) = elim (cases_lt (suc place) (l
           ∙ ap (option_and_then (slice_get (insn ∷ code))) (sym (index_at-behind insn code (suc place) past))
     ]
 
--- an index that is found is one of the code's
+-- an index that is found is an index of the code
 below_one_more : (o : Option ℕ) (n : ℕ) → IfSome o (λ i. i < n) → IfSome (option_map (λ (i : ℕ). suc i) o) (λ i. i < suc n)
 below_one_more None n h = tt
 below_one_more (Some i) n h = omega arith
@@ -157,7 +157,7 @@ instruction_within (insn ∷ code) place found = elim (cases_lt place (length (s
       let sum = word_count-cons insn code in omega arith
 ]
 
--- a list behind another one
+-- a list after another one
 front : {X : Type 0} (xs ys : List X) (n : ℕ) → n < length xs → slice_get (xs ++ ys) n ≡ slice_get xs n
 front [] ys n h = absurd (omega arith)
 front (x ∷ xs) ys zero h = refl
@@ -182,7 +182,7 @@ one_further : (index : ℕ) (o : Option ℕ) → option_map (λ (i : ℕ). suc i
 one_further index None = refl
 one_further index (Some i) = ap Some (let e : suc index + i ≡ index + suc i = omega arith in e)
 
--- what the indexes hold at a place
+-- the indexes that are kept for a place
 pub indexes_from-at : (index : ℕ) (code : List Insn) (place : ℕ)
     → option_flatten (slice_get (indexes_from index code) place) ≡ option_map (λ (i : ℕ). index + i) (index_at code place)
 indexes_from-at index [] place = refl
@@ -205,7 +205,7 @@ indexes_from-at index (insn ∷ code) (suc place) = elim (cases_lt (suc place) (
           ∙ ap (option_map (λ (i : ℕ). index + i)) (sym (index_at-behind insn code (suc place) past))
     ]
 
--- the instruction behind others
+-- the instruction after others
 pub instruction_at-middle : (before : List Insn) (insn : Insn) (after : List Insn)
     → instruction_at (before ++ insn ∷ after) (word_count before) ≡ Some insn
 instruction_at-middle [] insn after = refl
@@ -216,12 +216,12 @@ instruction_at-middle (first ∷ before) insn after =
     instruction_at-behind first (before ++ insn ∷ after) (word_count (first ∷ before)) past
     ∙ ap (instruction_at (before ++ insn ∷ after)) there ∙ instruction_at-middle before insn after
 
--- a code has a word for each instruction at least
+-- a nonempty code has at least one word
 pub not_empty : (code : List Insn) → 1 ≤ length code → 1 ≤ word_count code
 not_empty [] e = absurd (omega arith)
 not_empty (insn ∷ code) e = let sum = word_count-cons insn code in omega arith
 
--- what a read finds
+-- what a lookup finds
 pub read_finds : {X : Type 0} (o : Option (Bor X)) (xs : List X) (i : ℕ) (At : Bor X → Type 0) → IfSome o (λ x. x.now ≡ get_or xs i x.now)
     → MatchOption o (length xs ≤ i) (λ x. (i < length xs) × At x) → option_copied o ≡ slice_get xs i
 read_finds None xs i At item within = sym (slice_get_past xs i within)
@@ -236,8 +236,7 @@ pub indexes_find : (indexes : List (Option ℕ)) (code : List Insn) (place : ℕ
 indexes_find indexes code place e =
     ap (λ (xs : List (Option ℕ)). option_flatten (slice_get xs place)) e ∙ indexes_from-at 0 code place ∙ none_further (index_at code place)
 
--- an index leads to the instruction
--- the places that are kept, read by index
+-- the place that is kept for an index
 pub place_kept : (places : List ℕ) (kept code : List Insn) (index default : ℕ) → places ≡ places_from 0 kept → kept ≡ code
     → index < length code → get_or places index default ≡ place_of code index
 place_kept places kept code index default are same within =
@@ -258,7 +257,7 @@ found_at code place index insn e within is =
 pub nothing_at : (code : List Insn) (place : ℕ) → None ≡ index_at code place → None ≡ instruction_at code place
 nothing_at code place e = ap (option_and_then (slice_get code)) e ∙ sym (instruction_at-index code place)
 
--- the three lists with one instruction more
+-- the three lists with one more instruction
 pub places_grow : (places places' : List ℕ) (code : List Insn) (place : ℕ) (insn : Insn) → places ≡ places_from 0 code
     → place ≡ word_count code → places' ≡ places ++ place ∷ [] → places' ≡ places_from 0 (code ++ insn ∷ [])
 places_grow places places' code place insn are here grown =
@@ -273,18 +272,18 @@ indexes_grow indexes indexes' more code insn are here grown =
     ∙ ap (λ (i : ℕ). indexes_from 0 code ++ indexes_in i (spelling insn)) (let e : length code ≡ 0 + length code = omega arith in e)
     ∙ sym (indexes_from-more 0 code insn)
 
--- a list that was kept as it was, and then grew
+-- a list that is unchanged and then grows
 abbrev pub Grows : {X : Type 0} → List X → List X → List X → List X → Type 0
 Grows old kept more new = (kept ≡ old) × (new ≡ kept ++ more)
 
 grown : {X : Type 0} {old kept new : List X} (more : List X) → Grows old kept more new → new ≡ old ++ more
 grown more (stayed, put) = put ∙ ap (λ xs. xs ++ more) stayed
 
--- what is kept beside a code
+-- what is kept in addition to a code
 abbrev pub AreBeside : List Insn → List ℕ → List (Option ℕ) → Type 0
 AreBeside code places indexes = (places ≡ places_from 0 code) × (indexes ≡ indexes_from 0 code) × (word_count code ≤ WORD_LIMIT)
 
--- what is kept beside a code with one instruction more, where each list grew by what belongs to the instruction
+-- what is kept in addition to a code with one more instruction, if each list grew by the instruction's part
 pub all_grow : {code code' middle : List Insn} {places places' room : List ℕ} {indexes indexes' space : List (Option ℕ)} (insn : Insn)
     {place index : ℕ} → AreBeside code places indexes → place ≡ word_count code → index ≡ length code
     → Grows places room (place ∷ []) places' → Grows indexes space (indexes_in index (spelling insn)) indexes'

@@ -1,4 +1,4 @@
--- What a row lets stand, from the tests that find no fault.
+-- What a row allows, from the tests that find no fault.
 use Rattle.std.proofs.Common.{◌≡◌, ℕ, ◌≤◌, ◌==◌, ◌&&◌, ◌||◌, not, nat_lt, Bool, true, false, ℤ, pos, Option, Some, None, MatchBool}
 use Rattle.std.proofs.Common.{if◌then◌else◌, refl, sym, arith}
 use Rattle.std.proofs.lemmas.Bool.Decides.{nat_tests, Decides-int_eq, Decides-or}
@@ -15,7 +15,7 @@ use Rattle.bpf_insn.specs.declared.fault.WordFault.{WordFault}
 use Rattle.bpf_insn.specs.declared.fault.WordFault.TheVariants.{BadRegister, WritesFramePointer, BadWidth, UnusedNotZero}
 use Rattle.bpf_insn.specs.declared.instruction.Width.TheVariants.{Bits32, Bits64}
 
--- a chain of tests that gives nothing
+-- a chain of tests without a result
 no_fault : (test : Bool) (found : WordFault) (rest : Option WordFault) → (if test then Some found else rest) ≡ None → (test ≡ false)
     × (rest ≡ None)
 no_fault true found rest e = absurd (none-some found (sym e))
@@ -54,7 +54,7 @@ in_use (MoveBits Bits64) z wide out =
 in_use SwapBits z wide out =
     holds _ (Decides-or _ _ (Decides-or _ _ (Decides-int_eq z (pos 16)) (Decides-int_eq z (pos 32))) (Decides-int_eq z (pos 64))) wide
 
--- what has no fault fits
+-- a word without a fault fits
 pub fits : (row : Row) (word : Word) → fault row word ≡ None → Fits row word
 fits row word e =
     let registers = no_fault (names_bad_register row word) BadRegister _ e in

@@ -1,4 +1,4 @@
--- Which bytes are the whole of a slot.
+-- The bytes that make up a whole slot.
 use Rattle.std.proofs.Common.{◌≡◌, ◌↔◌, ℕ, ◌*◌, ◌/◌, ◌%◌, ◌==◌, ◌⊎◌, true, false, Some, inl, inr, ap, ◌∙◌, arith}
 use Rattle.std.proofs.lemmas.Bool.{cases_Bool}
 use Rattle.std.proofs.lemmas.Bool.Decides.{nat_tests}
@@ -24,7 +24,7 @@ slot_at-slot slot =
     let test : (SLOT_LENGTH * slot % SLOT_LENGTH == 0) ≡ true = grind (arith, nat_tests) in
     rw test (ap (λ (n : ℕ). Some n) place)
 
--- so many bytes from an offset on are a slot where they are as many as a slot has, and begin where it begins
+-- a range of bytes is a slot if and only if it has the length of a slot and begins where the slot begins
 pub slot_at-exact : (at count slot : ℕ) → (slot_at at count ≡ Some slot) ↔ ((count ≡ SLOT_LENGTH) × (at ≡ SLOT_LENGTH * slot))
 slot_at-exact at count slot = (
   slot_at-is at count slot,

@@ -1,4 +1,4 @@
--- Where instructions begin and end, and what stands between.
+-- Where instructions begin and end, and what is between them.
 use Rattle.std.proofs.Common.{◌≡◌, ◌≢◌, ℕ, zero, suc, ◌+◌, ◌-◌, ◌<◌, ◌≤◌, List, [], ◌∷◌, ◌++◌, length, take, drop, get_or, Some, None}
 use Rattle.std.proofs.Common.{IsSome, is_some, refl, sym, ap, ◌∙◌, arith, inl, inr}
 use Rattle.std.proofs.lemmas.Bool.{cases_lt}
@@ -10,7 +10,7 @@ use Rattle.bpf_insn.specs.declared.instruction.Insn.{Insn}
 use Rattle.bpf_insn.proofs.PlaceLemmas.{word_count-cons, word_count-append, word_count-one, instruction_at-inside, instruction_at-behind}
 use Rattle.bpf_insn.proofs.PlaceLemmas.{instruction_at-middle}
 
--- the instruction with an index, with what stands around it
+-- the instruction with an index, with what surrounds it
 around : (code : List Insn) (i : ℕ) (insn : Insn) → i < length code → insn ≡ get_or code i insn
     → code ≡ take i code ++ insn ∷ drop (i + 1) code
 around code i insn within is =
@@ -24,7 +24,7 @@ begins_at_its_place code i insn within is =
     ap (λ (c : List Insn). instruction_at c (place_of code i)) (around code i insn within is)
     ∙ instruction_at-middle (take i code) insn (drop (i + 1) code)
 
--- and the next one begins behind its words
+-- and the next one begins after its words
 pub place_of-more : (code : List Insn) (i : ℕ) (insn : Insn) → i < length code → insn ≡ get_or code i insn
     → place_of code (i + 1) ≡ place_of code i + length (spelling insn)
 place_of-more code i insn within is =
@@ -32,7 +32,7 @@ place_of-more code i insn within is =
     ∙ ap (λ (x : Insn). word_count (take i code) + word_count (x ∷ [])) (sym is)
     ∙ ap (λ (n : ℕ). word_count (take i code) + n) (word_count-one insn)
 
--- an instruction that stands behind the first one's start stands behind its words
+-- an instruction after the first one's start begins after the first one's words
 not_inside : (first : Insn) (code : List Insn) (place : ℕ) (insn : Insn) → 0 < place → instruction_at (first ∷ code) place ≡ Some insn
     → length (spelling first) ≤ place
 not_inside first code place insn above stands = elim (cases_lt place (length (spelling first))) as (λ _. length (spelling first) ≤ place) [
@@ -67,7 +67,7 @@ ends_within (first ∷ code) (suc place) insn stands =
     (sym (instruction_at-behind first code (suc place) past) ∙ stands) in
     let sum = word_count-cons first code in omega arith
 
--- a place lies within the words of an instruction, behind its first one
+-- a place lies within the words of an instruction, after its first word
 pub record IsWithin (code : List Insn) (place : ℕ) : Type 0 where
   pub first : ℕ
   pub insn : Insn
@@ -75,7 +75,7 @@ pub record IsWithin (code : List Insn) (place : ℕ) : Type 0 where
   pub above : first < place
   pub below : place < first + length (spelling insn)
 
--- so does each place of a code where no instruction begins
+-- each place of a code at which no instruction begins does so
 pub lies_within : (code : List Insn) (place : ℕ) → place < word_count code → instruction_at code place ≡ None → IsWithin code place
 lies_within [] place below none = absurd (let nothing : word_count [] ≡ 0 = refl in omega arith)
 lies_within (first ∷ code) zero below none = absurd (none-some first (sym none))
@@ -99,12 +99,12 @@ lies_within (first ∷ code) (suc place) below none = elim (cases_lt (suc place)
           }
     ]
 
--- a code that isn't empty begins with an instruction
+-- a nonempty code begins with an instruction
 begins_somewhere : (before : List Insn) (last : Insn) → IsSome (instruction_at (before ++ last ∷ []) 0)
 begins_somewhere [] last = refl
 begins_somewhere (first ∷ before) last = refl
 
--- behind an instruction other than the last one the next one begins
+-- the next instruction begins after an instruction other than the last one
 pub next_begins : (before : List Insn) (last : Insn) (place : ℕ) (insn : Insn) → instruction_at (before ++ last ∷ []) place ≡ Some insn
     → insn ≢ last → IsSome (instruction_at (before ++ last ∷ []) (place + length (spelling insn)))
 next_begins [] last zero insn stands other = absurd (other (let e : insn ≡ last = cc in e))

@@ -1,4 +1,4 @@
--- An instruction is determined by the words that it's written in.
+-- An instruction is determined by the words that spell it.
 use Rattle.std.proofs.Common.{◌≡◌, ℕ, ◌≤◌, Bool, true, false, ℤ, pos, List, ◌∷◌, ◌++◌, Some, if◌then◌else◌, refl, sym, ap, ◌∙◌, subst}
 use Rattle.std.proofs.Common.{arith}
 use Rattle.std.proofs.lemmas.List.{append_cancel_left}
@@ -40,7 +40,7 @@ extension_in Bits64 offset = if int_eq offset (pos 8) then Bits8To64 else (if in
 abbrev swap_in : ℤ → SwapWidth
 swap_in immediate = if int_eq immediate (pos 16) then swap.Bits16 else (if int_eq immediate (pos 32) then swap.Bits32 else swap.Bits64)
 
--- a register is its number
+-- a register is determined by its number
 pub same_writable : (a b : WritableRegister) → a.number ≡ b.number → a ≡ b
 same_writable a b e =
     let At : ℕ → Type 0 = λ n. (k : n ≤ 9) → a ≡ record { number = n; in_range = k } in
@@ -53,7 +53,7 @@ same_register a b e =
     subst At e (λ k. ap (λ (h : a.number ≤ 10). let r : RegisterNumber = record { number = a.number; in_range = h } in r)
     (le_prop a.in_range k)) b.in_range
 
--- the registers of an instruction, each 0 where there is none
+-- the registers of an instruction, or 0 for those that it doesn't have
 abbrev no_writable : WritableRegister
 no_writable = record { number = 0; in_range = omega arith }
 
@@ -87,7 +87,7 @@ second_read (Load format d b z) = b
 second_read (Store size b z s) = s
 second_read insn = no_register
 
--- whether the destination's field is that of a register that is written
+-- whether the destination field names a register that is written
 abbrev writes : OpcodeForm → Bool
 writes (form.JumpIf condition width from_register) = false
 writes (form.StoreImmediate size) = false
@@ -136,7 +136,7 @@ made (form.StoreImmediate size) d l s z v n = StoreImmediate size l z v
 made (form.Store size) d l s z v n = Store size l z s
 made form.WideLoad d l s z v n = WideLoad d v n
 
--- an instruction is made of its form, its registers and the words' numbers
+-- an instruction is determined by its form, its registers and the words' numbers
 is_made : (insn : Insn) (rest : List Word) → insn ≡ made (insn_form insn) (written insn) (first_read insn) (second_read insn)
     (first_word insn).offset (first_word insn).immediate (next_of (insn_form insn) (further_words insn ++ rest))
 is_made (Alu Move width d (Immediate v)) rest = refl
@@ -147,14 +147,14 @@ is_made (JumpIf condition width l (Immediate v) z) rest = refl
 is_made (Jump (Short distance)) rest = refl
 is_made insn rest = refl
 
--- what the first word of a list is, and what the others are
+-- the first word of a list, and the others
 pub same_first : (a b : Word) (xs ys : List Word) → a ∷ xs ≡ b ∷ ys → a ≡ b
 same_first a b xs ys e = cc
 
 pub same_others : (a b : Word) (xs ys : List Word) → a ∷ xs ≡ b ∷ ys → xs ≡ ys
 same_others a b xs ys e = cc
 
--- no spelling begins another one, and a spelling has one instruction
+-- no spelling is a prefix of another one, and a spelling belongs to one instruction
 pub one_instruction : (a b : Insn) (xs ys : List Word) → spelling a ++ xs ≡ spelling b ++ ys → a ≡ b
 one_instruction a b xs ys e =
     let words : first_word a ∷ (further_words a ++ xs) ≡ first_word b ∷ (further_words b ++ ys) = e in
@@ -174,7 +174,7 @@ one_instruction a b xs ys e =
     (first_word b).offset (first_word b).immediate (next_of (insn_form b) (further_words b ++ ys)) =
     rw (forms, d, l, s, first, others) refl in parts) ∙ sym (is_made b ys)
 
--- the rests of two lists that begin with an instruction's words
+-- the rests of two lists that begin with the same instruction's words
 pub same_rest : (a b : Insn) (xs ys : List Word) → spelling a ++ xs ≡ spelling b ++ ys → xs ≡ ys
 same_rest a b xs ys e =
     let same : spelling b ≡ spelling a = ap spelling (sym (one_instruction a b xs ys e)) in

@@ -9,7 +9,7 @@ unfolding first_words
 length-first_words zero bytes = refl
 length-first_words (suc count) bytes = ap suc (length-first_words count (drop 8 bytes))
 
--- the words of a longer front: those of the shorter one, the next word, and the rest
+-- the words of a longer front: those of a shorter one, the next word, and the rest
 pub first_words_split : (before after total : ℕ) (bytes : List ℕ) → total ≡ before + suc after
     → first_words total bytes ≡ first_words before bytes ++ word_of (drop (before * 8) bytes) ∷ first_words after
     (drop (before * 8 + 8) bytes)

@@ -1,5 +1,5 @@
--- Arithmetic on numbers modulo 2^32 and 2^64 (RFC 9669, sections 4 and 5). Signed numbers are in two's complement: `cast_signed w`
--- reads w bits as a signed number, and `cast_unsigned w` gives the w bits of one.
+-- Arithmetic on numbers modulo 2^32 and 2^64 (RFC 9669, sections 4 and 5). Signed numbers are in two's complement: `cast_signed w` reads w bits as
+-- a signed number, and `cast_unsigned w` returns the w bits of a signed number.
 use Rattle.std.specs.Prelude.{ℕ, ℤ, ◌+◌, ◌-◌, ◌*◌, ◌/◌, ◌%◌, ◌^◌, ◌==◌, nat_lt, nat_le, Bool, not, if◌then◌else◌, bit_and, bit_or, bit_xor, int_lt, int_le, int_div, int_rem}
 use Rattle.std.specs.Int.{w8, w16, w32, w64, cast_signed, cast_unsigned, int_shr, swap_bytes}
 use Rattle.std.specs.Int.{Width as Bits}
@@ -19,18 +19,18 @@ use Rattle.bpf_insn.specs.declared.instruction.Condition.TheVariants.{Equal, Gre
 use Rattle.bpf_insn.specs.declared.instruction.LoadFormat.{LoadFormat}
 use Rattle.bpf_insn.specs.declared.instruction.LoadFormat.TheVariants.{Byte, HalfWord, Word, DoubleWord, SignedByte, SignedHalfWord, SignedWord}
 
--- the bits of an instruction's operands (section 3.3: 32 in the classes ALU and JMP32, 64 in ALU64 and JMP)
+-- the width of an instruction's operands (section 3.3: 32 bits in the classes ALU and JMP32, 64 in ALU64 and JMP)
 abbrev pub operand_bits : Width → Bits
 operand_bits Bits32 = w32
 operand_bits Bits64 = w64
 
--- the low bits of a number, so many
+-- the low w bits of a number
 abbrev pub low_bits : Bits → ℕ → ℕ
 low_bits w x = x % 2 ^ bits w
 
--- What an operation on w bits gives (section 4.1), where both operands are below 2^w. Sums, differences, products and left shifts keep
--- their low bits. Division by zero gives 0, and the remainder is then the first operand. Signed division cuts the quotient towards
--- zero, and the remainder has the first operand's sign. A shift amount keeps its low 5 or 6 bits, so it's taken modulo w.
+-- The result of an operation on w bits (section 4.1), for operands below 2^w. Sums, differences, products and left shifts keep their low bits.
+-- Division by zero results in 0, and the remainder is then the first operand. Signed division rounds the quotient towards zero, and the remainder
+-- has the first operand's sign. A shift amount keeps its low 5 or 6 bits, so it's taken modulo w.
 abbrev pub operation_on : Operation → Bits → ℕ → ℕ → ℕ
 operation_on Add w x y = (x + y) % 2 ^ bits w
 operation_on Subtract w x y = (x + (2 ^ bits w - y)) % 2 ^ bits w
@@ -47,12 +47,12 @@ operation_on ExclusiveOr w x y = bit_xor x y
 operation_on Move w x y = y
 operation_on ArithmeticShiftRight w x y = cast_unsigned w (int_shr (cast_signed w x) (y % bits w))
 
--- What an operation gives, with the destination as the first operand and the source as the second (section 4.1). With 32 bits it takes
--- the low halves, and the upper half of what it gives is zero.
+-- The result of an operation, with the destination as the first operand and the source as the second (section 4.1). With 32 bits, it operates on
+-- the low halves, and the upper half of the result is zero.
 abbrev pub result_of : Operation → Width → ℕ → ℕ → ℕ
 result_of operation width x y = operation_on operation (operand_bits width) (low_bits (operand_bits width) x) (low_bits (operand_bits width) y)
 
--- the number that gives 0 when x is added to it, of so many bits (section 4.1: NEG)
+-- the number of the given width whose sum with x is 0 (section 4.1: NEG)
 abbrev pub negate : Width → ℕ → ℕ
 negate width x = (2 ^ bits (operand_bits width) - low_bits (operand_bits width) x) % 2 ^ bits (operand_bits width)
 
@@ -68,14 +68,14 @@ extension_of Bits8To64 x = sign_extension w8 w64 x
 extension_of Bits16To64 x = sign_extension w16 w64 x
 extension_of Bits32To64 x = sign_extension w32 w64 x
 
--- the bits that a byte swap takes (section 4.2: the immediate is 16, 32 or 64)
+-- the number of bits that a byte swap takes (section 4.2: the immediate is 16, 32 or 64)
 abbrev pub swap_bits : SwapWidth → Bits
 swap_bits swap_width.Bits16 = w16
 swap_bits swap_width.Bits32 = w32
 swap_bits swap_width.Bits64 = w64
 
--- The low bits of x in another order of bytes, and zero above them (section 4.2). The machine is little-endian, so the order to
--- little-endian leaves them as they are, and that to big-endian reverses them.
+-- The low bits of x in another byte order, with zeros above them (section 4.2). The machine is little-endian, so the swap to little-endian leaves
+-- them unchanged, and the swap to big-endian reverses them.
 abbrev pub byte_swap : ByteOrder → SwapWidth → ℕ → ℕ
 byte_swap LittleEndian width x = low_bits (swap_bits width) x
 byte_swap BigEndian width x = swap_bytes (swap_bits width) (low_bits (swap_bits width) x)
@@ -99,7 +99,7 @@ is_met_on SignedLessOrEqual w x y = int_le (cast_signed w x) (cast_signed w y)
 abbrev pub is_met : Condition → Width → ℕ → ℕ → Bool
 is_met condition width x y = is_met_on condition (operand_bits width) (low_bits (operand_bits width) x) (low_bits (operand_bits width) y)
 
--- an immediate as a 64-bit operand: its sign is extended (section 4.1)
+-- an immediate as a 64-bit operand, sign-extended (section 4.1)
 abbrev pub immediate_operand : ℤ → ℕ
 immediate_operand immediate = cast_unsigned w64 immediate
 
@@ -107,7 +107,7 @@ immediate_operand immediate = cast_unsigned w64 immediate
 abbrev pub wide_number : ℤ → ℤ → ℕ
 wide_number immediate next_immediate = cast_unsigned w32 next_immediate * 2 ^ bits w32 + cast_unsigned w32 immediate
 
--- a register's number after a load, from the number that the bytes read are (sections 5.1 and 5.2)
+-- a register's number after a load, from the number in the bytes read (sections 5.1 and 5.2)
 abbrev pub load_extension : LoadFormat → ℕ → ℕ
 load_extension Byte number = number
 load_extension HalfWord number = number

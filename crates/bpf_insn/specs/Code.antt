@@ -1,4 +1,4 @@
--- The code of bytes, and the first fault of bytes that have none (RFC 9669, sections 3 to 5).
+-- The code of bytes, and the first fault of bytes without one (RFC 9669, sections 3 to 5).
 use Rattle.std.specs.Prelude.{◌≡◌, ◌≢◌, ℕ, suc, ◌+◌, ◌-◌, ◌⊎◌, ◌*◌, ◌<◌, ◌≤◌, ◌%◌, ◌==◌, nat_lt, option_map, List, [], ◌∷◌, ◌++◌, length, take, Option, Some, None, if◌then◌else◌}
 use Rattle.std.specs.List.{flat_map}
 use Rattle.bpf_insn.specs.Word.{words_of}
@@ -11,11 +11,11 @@ use Rattle.bpf_insn.specs.declared.fault.WordFault.{WordFault}
 use Rattle.bpf_insn.specs.declared.instruction.Insn.{Insn}
 use Rattle.bpf_insn.specs.declared.code.TheConstants.{WORD_LIMIT}
 
--- the words of instructions that follow each other without gap
+-- the words of consecutive instructions
 abbrev pub code_words : List Insn → List Word
 code_words code = flat_map spelling code
 
--- how many words instructions take: the place of what follows them
+-- the number of words that instructions take, which is the place of what follows them
 abbrev pub word_count : List Insn → ℕ
 word_count code = length (code_words code)
 
@@ -23,7 +23,7 @@ word_count code = length (code_words code)
 abbrev pub HasProgramSize : ℕ → Type 0
 HasProgramSize words = (1 ≤ words) × (words ≤ WORD_LIMIT)
 
--- the bytes are these instructions, one after the other without gap, and nothing else
+-- the bytes are exactly these instructions, one directly after the other
 pub record IsCodeOf (bytes : List ℕ) (code : List Insn) : Type 0 where
   pub whole : length bytes % 8 ≡ 0
   pub words : words_of bytes ≡ code_words code
@@ -36,14 +36,14 @@ instruction_at (insn ∷ code) place =
     if place == 0 then Some insn
     else (if nat_lt place (length (spelling insn)) then None else instruction_at code (place - length (spelling insn)))
 
--- the index of the instruction that begins at a place: how many come before it
+-- the index of the instruction that begins at a place, which is the number of instructions before it
 abbrev pub index_at : List Insn → ℕ → Option ℕ
 index_at [] place = None
 index_at (insn ∷ code) place =
     if place == 0 then Some 0
     else (if nat_lt place (length (spelling insn)) then None else option_map suc (index_at code (place - length (spelling insn))))
 
--- why an instruction isn't added behind others: it doesn't fit, or want of memory
+-- why an instruction can't be appended to others: it doesn't fit, or memory runs out
 abbrev pub IsPushFault : List Insn → Insn → CodeFault → Type 0
 IsPushFault code insn fault = ((fault ≡ code_fault.TooLong) × (WORD_LIMIT < word_count code + length (spelling insn))) ⊎ (fault ≡ code_fault.Memory)
 
@@ -51,15 +51,14 @@ IsPushFault code insn fault = ((fault ≡ code_fault.TooLong) × (WORD_LIMIT < w
 abbrev pub place_of : List Insn → ℕ → ℕ
 place_of code index = word_count (take index code)
 
--- The bytes' words begin with instructions that follow each other without gap, and at their end, the place, stand words with this
--- fault.
+-- The bytes' words begin with consecutive instructions, and at their end, which is the place, are words with this fault.
 abbrev pub HasFaultAt : List ℕ → ℕ → WordFault → Type 0
 HasFaultAt bytes place fault =
     (code : List Insn) × (faulty : Word) × (rest : List Word) × (words_of bytes ≡ code_words code ++ faulty ∷ rest)
     × (place ≡ word_count code) × (first_fault faulty rest ≡ Some fault)
 
--- The first fault of bytes: that of their length, or that of the first word that is no instruction.
--- (For want of memory any bytes may be refused.)
+-- The first fault of bytes: that of their length, or that of the first word that begins no instruction. (Any bytes may be refused because memory
+-- runs out.)
 abbrev pub IsFirstFault : List ℕ → CodeFault → Type 0
 IsFirstFault bytes code_fault.Empty = length bytes ≡ 0
 IsFirstFault bytes code_fault.NotWhole = length bytes % 8 ≢ 0

@@ -1,4 +1,4 @@
--- The instruction table (RFC 9669, sections 3 to 5): how each instruction is written, one line a row.
+-- The instruction table (RFC 9669, sections 3 to 5): how each instruction is encoded, one line per row.
 use Rattle.std.specs.Prelude.{ℕ, ◌+◌, ◌*◌, ℤ, pos, Bool, true, false, if◌then◌else◌, List, [], ◌∷◌}
 use Rattle.bpf_insn.specs.declared.word.Word.{Word}
 use Rattle.bpf_insn.specs.declared.opcode_form.OpcodeForm.{OpcodeForm}
@@ -25,13 +25,13 @@ use Rattle.bpf_insn.specs.declared.instruction.LoadFormat.TheVariants as load
 use Rattle.bpf_insn.specs.declared.instruction.StoreSize.{StoreSize}
 use Rattle.bpf_insn.specs.declared.instruction.StoreSize.TheVariants as store
 
--- a word by its fields
+-- a word with these fields
 abbrev pub word : ℕ → ℕ → ℕ → ℤ → ℤ → Word
 word opcode destination source offset immediate =
     record { opcode = opcode; destination = destination; source = source; offset = offset; immediate = immediate }
 
--- The opcode of arithmetic and of jumps: the class in the three low bits, the source in the next, the code in the four high ones
--- (section 4). The source bit is 0 (K) for an immediate, 1 (X) for a register.
+-- The opcode of arithmetic and of jumps: the class in the three low bits, the source in the next bit, the code in the four high bits (section 4).
+-- The source bit is 0 (K) for an immediate, 1 (X) for a register.
 abbrev pub opcode_of : ℕ → ℕ → ℕ → ℕ
 opcode_of code source class = code * 16 + source * 8 + class
 
@@ -62,13 +62,13 @@ operation_code ExclusiveOr = 0xa
 operation_code Move = 0xb
 operation_code ArithmeticShiftRight = 0xc
 
--- the offset tells signed division and remainder from unsigned ones (section 4.1)
+-- the offset distinguishes signed division and remainder from unsigned ones (section 4.1)
 abbrev pub operation_offset : Operation → ℤ
 operation_offset SignedDivide = pos 1
 operation_offset SignedModulo = pos 1
 operation_offset operation = pos 0
 
--- a move with sign extension: how many bits it writes, and as the offset those that it takes (section 4.1)
+-- a move with sign extension: the width that it writes, and in the offset the number of bits that it takes (section 4.1)
 abbrev pub extension_width : SignExtension → Width
 extension_width Bits8To32 = Bits32
 extension_width Bits16To32 = Bits32
@@ -83,13 +83,13 @@ extension_bits Bits8To64 = pos 8
 extension_bits Bits16To64 = pos 16
 extension_bits Bits32To64 = pos 32
 
--- byte swaps: in the class ALU the source bit tells little from big endian, in ALU64 it's zero (section 4.2)
+-- byte swaps: in the class ALU the source bit distinguishes little from big endian, in ALU64 it's zero (section 4.2)
 abbrev pub swap_opcode : ByteOrder → ℕ
 swap_opcode LittleEndian = 0xd4
 swap_opcode BigEndian = 0xdc
 swap_opcode Swapped = 0xd7
 
--- the bits that a byte swap keeps
+-- the number of bits that a byte swap keeps
 abbrev pub swap_bits : SwapWidth → ℤ
 swap_bits swap.Bits16 = pos 16
 swap_bits swap.Bits32 = pos 32
@@ -130,8 +130,8 @@ size_code store.DoubleWord = 0x18
 abbrev pub bit : Bool → ℕ
 bit from_register = if from_register then 1 else 0
 
--- The opcode of a form: the jumps JA, calls and EXIT (section 4.3), stores of an immediate in the class ST and of a register in STX
--- (section 5.1), the wide load (section 5.4).
+-- The opcode of a form: jumps (JA), calls and EXIT (section 4.3), stores of an immediate in the class ST and of a register in STX (section 5.1),
+-- and the wide load (section 5.4).
 abbrev pub form_opcode : OpcodeForm → ℕ
 form_opcode (form.Alu operation width from_register) = opcode_of (operation_code operation) (bit from_register) (arithmetic_class width)
 form_opcode (form.Negate width) = opcode_of 0x8 0 (arithmetic_class width)
@@ -146,7 +146,7 @@ form_opcode (form.StoreImmediate size) = 0x62 + size_code size
 form_opcode (form.Store size) = 0x63 + size_code size
 form_opcode form.WideLoad = 0x18
 
--- the second operand: whether it's a register, and what stands in the fields of the source register and of the immediate
+-- the second operand: whether it's a register, and the values of the source field and of the immediate
 abbrev pub is_register : Source → Bool
 is_register (Immediate value) = false
 is_register (Register register) = true
@@ -159,8 +159,8 @@ abbrev pub source_immediate : Source → ℤ
 source_immediate (Immediate value) = value
 source_immediate (Register register) = pos 0
 
--- The first word that an instruction is written in: its opcode, the fields that it uses, and zero in all others (section 3.1: fields
--- that aren't used are zero). One line for each row of the instruction table.
+-- The first word of an instruction: its opcode, the fields that it uses, and zero in all others (section 3.1: unused fields are zero). One line for
+-- each row of the instruction table.
 abbrev pub first_word : Insn → Word
 first_word (Alu operation width destination source) =
     word (form_opcode (form.Alu operation width (is_register source))) destination.number (source_field source) (operation_offset operation)
@@ -180,11 +180,11 @@ first_word (StoreImmediate size base offset immediate) = word (form_opcode (form
 first_word (Store size base offset source) = word (form_opcode (form.Store size)) base.number source.number offset (pos 0)
 first_word (WideLoad destination immediate next_immediate) = word (form_opcode form.WideLoad) destination.number 0 (pos 0) immediate
 
--- the words behind it: a wide load's second one, with its immediate alone (section 5.4)
+-- the words after it: the second word of a wide load, which contains only an immediate (section 5.4)
 abbrev pub further_words : Insn → List Word
 further_words (WideLoad destination immediate next_immediate) = word 0 0 0 (pos 0) next_immediate ∷ []
 further_words insn = []
 
--- the words that an instruction is written in
+-- the words that spell an instruction
 abbrev pub spelling : Insn → List Word
 spelling insn = first_word insn ∷ further_words insn

@@ -8,7 +8,7 @@ use Rattle.bpf_insn.specs.declared.instruction.Insn.TheVariants.{Alu, JumpIf}
 use Rattle.bpf_insn.specs.declared.instruction.Source.{Source}
 use Rattle.bpf_insn.specs.declared.instruction.Source.TheVariants.{Immediate, Register}
 
--- they are signed numbers of 32 bits, as those of each instruction of a code are
+-- they are signed numbers of 32 bits, like those of every instruction in a code
 abbrev pub HasImmediate : Source → Type 0
 HasImmediate (Immediate immediate) = FitsSigned w32 immediate
 HasImmediate (Register register) = Unit {0}

@@ -10,7 +10,7 @@ abbrev pub words : JumpDistance → ℤ
 words (Short distance) = distance
 words (Long distance) = distance
 
--- by how many words an instruction jumps, if it's a jump, counted from the word after it; a conditional one jumps so where it's taken
+-- the distance that an instruction jumps, if it's a jump, in words counted from the word after it; a conditional jump goes there if it's taken
 abbrev pub jump_distance : Insn → Option ℤ
 jump_distance (JumpIf condition width left right offset) = Some offset
 jump_distance (Jump distance) = Some (words distance)

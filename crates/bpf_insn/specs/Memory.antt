@@ -1,4 +1,4 @@
--- How many bytes loads and stores reach (RFC 9669, sections 5.1 and 5.2).
+-- The number of bytes that loads and stores reach (RFC 9669, sections 5.1 and 5.2).
 use Rattle.std.specs.Prelude.{ℕ}
 use Rattle.bpf_insn.specs.declared.instruction.LoadFormat.{LoadFormat}
 use Rattle.bpf_insn.specs.declared.instruction.LoadFormat.TheVariants.{Byte, HalfWord, Word, DoubleWord, SignedByte, SignedHalfWord, SignedWord}

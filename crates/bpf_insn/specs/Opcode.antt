@@ -1,4 +1,4 @@
--- The instruction table by opcodes (RFC 9669, sections 3 to 5): the form of an opcode, and which fields the form uses.
+-- The instruction table by opcodes (RFC 9669, sections 3 to 5): the form of an opcode, and the fields that the form uses.
 use Rattle.std.specs.Prelude.{ℕ, ◌/◌, ◌%◌, ◌==◌, Bool, true, find, List, [], ◌∷◌, Option, Some, None, option_map, if◌then◌else◌, false}
 use Rattle.bpf_insn.specs.Form.{operation_code, condition_code, form_opcode}
 use Rattle.bpf_insn.specs.Row.{uses}
@@ -27,12 +27,12 @@ abbrev pub or_else : Option OpcodeForm → Option OpcodeForm → Option OpcodeFo
 or_else None form = form
 or_else (Some form) other = Some form
 
--- the form of an opcode, if it has one: with two operands, where the source bit chooses the second one, 0 (K) the immediate and 1 (X) the
--- source register (section 4), or one of the others
+-- the form of an opcode, if it has one: a form with two operands, in which the source bit selects the second one, 0 (K) the immediate and 1 (X) the
+-- source register (section 4), or one of the other forms
 abbrev pub form_of : ℕ → Option OpcodeForm
 form_of opcode = or_else (operand_form (opcode % 8) (opcode / 16) (opcode / 8 % 2 == 1)) (find (λ form. form_opcode form == opcode) FORMS)
 
--- the opcodes that instructions of the conformance groups base32, base64, divmul32 and divmul64 have (appendix A), in ascending order
+-- the opcodes of instructions in the conformance groups base32, base64, divmul32 and divmul64 (appendix A), in ascending order
 abbrev pub opcodes : List ℕ
 opcodes =
     0x04 ∷ 0x05 ∷ 0x06 ∷ 0x07 ∷ 0x0c ∷ 0x0f
@@ -50,7 +50,7 @@ opcodes =
     ∷ 0xc4 ∷ 0xc5 ∷ 0xc6 ∷ 0xc7 ∷ 0xcc ∷ 0xcd ∷ 0xce ∷ 0xcf
     ∷ 0xd4 ∷ 0xd5 ∷ 0xd6 ∷ 0xd7 ∷ 0xdc ∷ 0xdd ∷ 0xde ∷ []
 
--- the use that an operation has for the offset: it tells signed from unsigned division, and how many bits of a register are moved
+-- how an operation uses the offset: it distinguishes signed from unsigned division, and is the number of bits of a register that are moved
 abbrev pub offset_use : Operation → Width → Bool → Use
 offset_use Divide width from_register = ZeroOrOne
 offset_use SignedDivide width from_register = ZeroOrOne
@@ -59,11 +59,11 @@ offset_use SignedModulo width from_register = ZeroOrOne
 offset_use Move width true = MoveBits width
 offset_use operation width from_register = Unused
 
--- a second operand is the immediate or a register
+-- a second operand is either the immediate or a register
 abbrev pub immediate_use : Bool → Use
 immediate_use from_register = if from_register then Unused else Any
 
--- the fields that a form uses: the destination, whether the source, the offset and the immediate
+-- the fields that a form uses: how it uses the destination, whether it uses the source, and how it uses the offset and the immediate
 abbrev pub row : OpcodeForm → Row
 row (Alu operation width from_register) = uses Written from_register (offset_use operation width from_register) (immediate_use from_register)
 row (Negate width) = uses Written false Unused Unused

@@ -1,4 +1,4 @@
--- What is read off the words of an instruction.
+-- What the words of an instruction say.
 use Rattle.std.specs.Prelude.{◌≡◌, ℕ, ◌-◌, ◌*◌, ◌/◌, ◌≤◌, MatchBool, ℤ, Bool, false, List, [], ◌∷◌, ◌++◌, length, drop, ◌⊎◌, Option, Some}
 use Rattle.bpf_insn.specs.Form.{spelling, form_opcode, is_register, source_field, source_immediate}
 use Rattle.bpf_insn.specs.Word.{first_words}
@@ -13,27 +13,27 @@ use Rattle.bpf_insn.specs.declared.instruction.Operation.{Operation}
 use Rattle.bpf_insn.specs.declared.instruction.Source.{Source}
 use Rattle.bpf_insn.specs.declared.instruction.Width.TheVariants.{Bits32}
 
--- an instruction stands in a word, or in it and the next
+-- an instruction is encoded in a word, or in it and the next one
 abbrev pub Begins : Insn → Word → Option Word → Type 0
 Begins insn first next =
     (spelling insn ≡ first ∷ []) ⊎ ((second : Word) × (next ≡ Some second) × (spelling insn ≡ first ∷ second ∷ []))
 
--- a word of this form whose fields fit
+-- a word of this form, whose fields fit
 pub record HasForm (form : OpcodeForm) (word : Word) : Type 0 where
   pub opcode : form_opcode form ≡ word.opcode
   pub fits : Fits (row form) word
 
--- the second operand that a word has, which may be a register
+-- the second operand of a word, which may be a register
 abbrev pub IsSource : Bool → Word → Source → Type 0
 IsSource from_register word source =
     (from_register ≡ is_register source) × (word.source ≡ source_field source) × (word.immediate ≡ source_immediate source)
 
--- its fields
+-- the fields of the second operand
 pub record HasOperand (from_register : Bool) (word : Word) : Type 0 where
   pub source : MatchBool from_register (word.source ≤ 10) (word.source ≡ 0)
   pub immediate : IsInUse (immediate_use from_register) word.immediate
 
--- an offset that is one of an operation's: 0 and 1 for division and its remainder, else 0
+-- an offset of an operation: 0 or 1 for division and its remainder, otherwise 0
 abbrev pub HasOffset : Operation → ℤ → Type 0
 HasOffset operation offset = IsInUse (offset_use operation Bits32 false) offset
 

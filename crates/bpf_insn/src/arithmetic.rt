@@ -1,4 +1,4 @@
-//! What arithmetic, comparisons and loads give, on numbers of 64 bits.
+//! The results of arithmetic, comparisons and loads, on numbers of 64 bits.
 ghost use Rattle.std.specs.Prelude.{◌≡◌, ◌<◌, ◌%◌, ◌^◌};
 ghost use Rattle.std.specs.Int.{w8, w16, w32, w64, cast_signed, cast_unsigned, swap_bytes};
 ghost use mir.Val.{bits};
@@ -9,8 +9,8 @@ use crate::instruction::{
 };
 
 impl Operation {
-    /// What the operation gives, with the destination's value as the first operand and the source's
-    /// as the second (RFC 9669, section 4.1). Signed numbers are in two's complement.
+    /// Returns the result of the operation, with the destination's value as the first operand and the source's as the second (RFC 9669, section
+    /// 4.1). Signed numbers are in two's complement.
     #[inline(always)]
     pub fn apply(self, width: Width, x: u64, y: u64) -> u64
         ensures value { result ≡ result_of self width x y }
@@ -50,8 +50,7 @@ impl Operation {
 }
 
 impl Condition {
-    /// Whether the jump is taken, with the destination's value as the first operand and the
-    /// source's as the second (RFC 9669, section 4.3).
+    /// Returns whether the jump is taken, with the destination's value as the first operand and the source's as the second (RFC 9669, section 4.3).
     #[inline(always)]
     pub fn holds(self, width: Width, x: u64, y: u64) -> bool
         ensures { result ≡ is_met self width x y }
@@ -74,7 +73,7 @@ impl Condition {
 }
 
 impl Width {
-    /// The low bits, as many as operands have.
+    /// Returns the low bits, as wide as the operands.
     fn low_bits(self, x: u64) -> u64
         ensures value { result ≡ low_bits (operand_bits self) x }
         ensures fits { result < 2 ^ bits (operand_bits self) }
@@ -85,7 +84,7 @@ impl Width {
         }
     }
 
-    /// The low bits as a signed number.
+    /// Returns the low bits as a signed number.
     fn signed(self, x: u64) -> i64
         ensures { result ≡ cast_signed (operand_bits self) (low_bits (operand_bits self) x) }
     {
@@ -95,14 +94,14 @@ impl Width {
         }
     }
 
-    /// The low bits of a signed number in two's complement.
+    /// Returns the low bits of a signed number in two's complement.
     fn bits_of(self, number: i64) -> u64
         ensures { result ≡ low_bits (operand_bits self) (cast_unsigned w64 number) }
     {
         self.low_bits(number.cast_unsigned())
     }
 
-    /// By how many bits a shift goes.
+    /// Returns the number of bits to shift by.
     fn shift_amount(self, y: u64) -> u32
         ensures value { result ≡ y % bits (operand_bits self) }
         ensures below { result < bits (operand_bits self) }
@@ -114,7 +113,7 @@ impl Width {
     }
 }
 
-/// The number that gives 0 when it's added to `x` (RFC 9669, section 4.1).
+/// Returns the negative of `x`: the number whose sum with `x` is 0 (RFC 9669, section 4.1).
 pub fn negate(width: Width, x: u64) -> u64
     ensures value { result ≡ negate width x }
     ensures fits { result < 2 ^ bits (operand_bits width) }
@@ -123,7 +122,7 @@ pub fn negate(width: Width, x: u64) -> u64
 }
 
 impl SignExtension {
-    /// The low 8, 16 or 32 bits with their sign extended (RFC 9669, section 4.1).
+    /// Returns the low 8, 16 or 32 bits, sign-extended (RFC 9669, section 4.1).
     pub fn apply(self, x: u64) -> u64
         ensures { result ≡ extension_of self x }
     {
@@ -138,8 +137,7 @@ impl SignExtension {
 }
 
 impl LoadFormat {
-    /// What a register gets from the number that the bytes read are (RFC 9669, sections 5.1 and
-    /// 5.2).
+    /// Returns the value that a load puts into a register, from the number in the bytes read (RFC 9669, sections 5.1 and 5.2).
     pub fn extend(self, number: u64) -> u64
         ensures { result ≡ load_extension self number }
     {
@@ -154,7 +152,7 @@ impl LoadFormat {
 }
 
 impl ByteOrder {
-    /// The low bytes in this order, and zeros above them (RFC 9669, section 4.2).
+    /// Returns the low bytes in this order, with zeros above them (RFC 9669, section 4.2).
     pub fn apply(self, width: SwapWidth, x: u64) -> u64
         ensures value { result ≡ byte_swap self width x }
         ensures fits { result < 2 ^ bits (swap_bits width) }
@@ -167,7 +165,7 @@ impl ByteOrder {
 }
 
 impl SwapWidth {
-    /// The low bits, as many as a swap takes.
+    /// Returns the low bits, as wide as the swap.
     fn low_bits(self, x: u64) -> u64
         ensures { result ≡ low_bits (swap_bits self) x }
     {
@@ -178,7 +176,7 @@ impl SwapWidth {
         }
     }
 
-    /// The low bytes in the opposite order.
+    /// Returns the low bytes in the opposite order.
     fn swap_bytes(self, x: u64) -> u64
         ensures value { result ≡ swap_bytes (swap_bits self) (low_bits (swap_bits self) x) }
         ensures fits { result < 2 ^ bits (swap_bits self) }
@@ -191,15 +189,14 @@ impl SwapWidth {
     }
 }
 
-/// An immediate as a 64-bit operand: its sign is extended (RFC 9669, section 4.1).
+/// Returns an immediate as a 64-bit operand, sign-extended (RFC 9669, section 4.1).
 pub fn immediate_operand(immediate: i32) -> u64
     ensures { result ≡ immediate_operand immediate }
 {
     i64::from(immediate).cast_unsigned()
 }
 
-/// The number of a wide load: the next word's immediate above the word's own, both unsigned
-/// (RFC 9669, section 5.4).
+/// Returns the number of a wide load: the next word's immediate above the word's own, both unsigned (RFC 9669, section 5.4).
 pub fn wide_number(immediate: i32, next_immediate: i32) -> u64
     ensures { result ≡ wide_number immediate next_immediate }
 {

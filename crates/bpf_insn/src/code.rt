@@ -11,17 +11,17 @@ use crate::register::{Register, WritableRegister};
 use std::alloc::{AllocError, Allocator};
 use std::marker::Model;
 
-/// How many words of eight bytes a program has at most.
+/// The maximum number of words in a program, of eight bytes each.
 pub const WORD_LIMIT: usize = 65_536;
 
-/// A code that is built instruction by instruction: up to `WORD_LIMIT` words of them. Contracts see
-/// the instructions as a list. It keeps the allocator that it was made with.
+/// A code that is built instruction by instruction, up to `WORD_LIMIT` words. Contracts see the instructions as a list. It keeps the allocator that
+/// it was made with.
 #[derive(Drop)]
 pub struct CodeBuilder<A: Allocator> {
     instructions: Vec<Insn, A>,
     // The place of each instruction.
     places: Vec<u32, A>,
-    // For each word the index of the instruction that begins there.
+    // For each word, the index of the instruction that begins there.
     indexes: Vec<Option<u32>, A>,
 }
 
@@ -42,7 +42,7 @@ impl<A: Allocator> Model for CodeBuilder<A> {
 }
 
 impl<A: Allocator + Copy> CodeBuilder<A> {
-    /// No instruction yet. It asks for no memory.
+    /// Returns a builder without instructions. Allocates nothing.
     pub fn new(alloc: A) -> Self
         ensures { result ≡ [] }
     {
@@ -53,7 +53,7 @@ impl<A: Allocator + Copy> CodeBuilder<A> {
         }
     }
 
-    /// No instruction yet, with room for so many words.
+    /// Returns a builder without instructions, with room for `words` words.
     pub(crate) fn with_capacity(alloc: A, words: usize) -> Result<Self, AllocError>
         ensures { IfOk result (λ builder. builder ≡ []) }
     {
@@ -66,14 +66,14 @@ impl<A: Allocator + Copy> CodeBuilder<A> {
 }
 
 impl<A: Allocator> CodeBuilder<A> {
-    /// How many words the instructions take: the place of the next one.
+    /// Returns the number of words that the instructions take, which is the place of the next one.
     pub fn words(&self) -> usize
         ensures { result ≡ word_count self.now }
     {
         self.indexes.len()
     }
 
-    /// A register as the destination of the next instruction, if it may be written.
+    /// Returns a register as the destination of the next instruction, if it may be written.
     pub fn destination(&self, register: Register) -> Result<WritableRegister, CodeFault>
         ensures ok { IfOk result (λ destination. destination.number ≡ register.number) }
         ensures err { IfErr result (λ fault. (register.number ≡ 10)
@@ -87,7 +87,7 @@ impl<A: Allocator> CodeBuilder<A> {
         Ok(WritableRegister { number })
     }
 
-    /// Adds an instruction behind the others, in constant time.
+    /// Appends an instruction, in constant time.
     pub fn push(&mut self, insn: Insn) -> Result<(), CodeFault>
         ensures result { MatchResult result (λ _. self.new ≡ self.old ++ insn ∷ []) (IsPushFault self.old insn) }
         ensures refused { OnErr result (self.new ≡ self.old) }
@@ -105,7 +105,7 @@ impl<A: Allocator> CodeBuilder<A> {
         Ok(())
     }
 
-    /// The code, unless there is no instruction.
+    /// Returns the code, or an error if there is no instruction.
     pub fn finish(self) -> Result<Code<A>, CodeFault>
         ensures ok { IfOk result (λ code. (code ≡ self) × HasProgramSize (word_count code)) }
         ensures err { IfErr result (λ fault. (fault ≡ CodeFault.Empty) × (self ≡ [])) }
@@ -118,7 +118,7 @@ impl<A: Allocator> CodeBuilder<A> {
     }
 }
 
-/// Adds an instruction's index at the first of its words, and nothing at a further one.
+/// Appends an instruction's index at its first word, and nothing at the second one, if there is one.
 fn push_indexes<A: Allocator>(
     indexes: &mut Vec<Option<u32>, A>,
     index: u32,
@@ -136,8 +136,8 @@ fn push_indexes<A: Allocator>(
     Ok(())
 }
 
-/// The instructions of a program, in order: 1 to `WORD_LIMIT` words of them. Contracts see them as
-/// a list. A place counts words from 0, an index counts instructions from 0.
+/// The instructions of a program, in order: 1 to `WORD_LIMIT` words. Contracts see them as a list. A place counts words from 0, an index counts
+/// instructions from 0.
 #[derive(Drop)]
 pub struct Code<A: Allocator> {
     built: CodeBuilder<A>,
@@ -156,7 +156,7 @@ impl<A: Allocator> Model for Code<A> {
 }
 
 impl<A: Allocator> Code<A> {
-    /// The instructions in order. Their index isn't meant as a place.
+    /// Returns the instructions in order. Their index isn't a place.
     pub fn instructions(&self) -> &[Insn]
         ensures value { result.now ≡ self.now }
         ensures sized { HasProgramSize (word_count self.now) }
@@ -164,7 +164,7 @@ impl<A: Allocator> Code<A> {
         self.built.instructions.as_slice()
     }
 
-    /// The instructions in order. What finds them by their places is freed.
+    /// Returns the instructions in order, and frees the lookup by place.
     pub fn into_instructions(self) -> Vec<Insn, A>
         ensures value { result.items ≡ self }
         ensures sized { HasProgramSize (word_count self) }
@@ -172,7 +172,7 @@ impl<A: Allocator> Code<A> {
         self.built.instructions
     }
 
-    /// How many words the instructions take.
+    /// Returns the number of words that the instructions take.
     pub fn words(&self) -> usize
         ensures value { result ≡ word_count self.now }
         ensures sized { HasProgramSize (word_count self.now) }
@@ -180,7 +180,7 @@ impl<A: Allocator> Code<A> {
         self.built.words()
     }
 
-    /// The place of the instruction with an index.
+    /// Returns the place of the instruction with an index.
     pub fn place(&self, index: usize) -> usize
         requires { index < length self.now }
         ensures { result ≡ place_of self.now index }
@@ -188,7 +188,7 @@ impl<A: Allocator> Code<A> {
         self.built.places[index] as usize
     }
 
-    /// The index of the instruction that begins at a place. None where none begins there.
+    /// Returns the index of the instruction that begins at a place, or `None` if none begins there.
     #[inline(always)]
     pub fn index_at(&self, place: usize) -> Option<usize>
         ensures value { result ≡ index_at self.now place }
@@ -198,7 +198,7 @@ impl<A: Allocator> Code<A> {
         Some(index as usize)
     }
 
-    /// The instruction that begins at a place. None where none begins there.
+    /// Returns the instruction that begins at a place, or `None` if none begins there.
     #[inline(always)]
     pub fn at(&self, place: usize) -> Option<Insn>
         ensures value { result ≡ instruction_at self.now place }

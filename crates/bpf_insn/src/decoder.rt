@@ -1,4 +1,4 @@
-//! The code of bytes.
+//! Decoding: from bytes to a code.
 ghost use Rattle.std.specs.Prelude.{◌≡◌, ◌≢◌, ◌*◌, ◌/◌, ◌≤◌, ◌<◌, ◌%◌, List, length, IfOk, IfErr, ◌⊎◌, OnOk, MatchResult, IsErrAnd};
 ghost use Rattle.bpf_insn.specs.Word.{words_of};
 ghost use Rattle.bpf_insn.specs.Code.{IsCodeOf, IsFirstFault, code_words};
@@ -12,21 +12,20 @@ use crate::instruction::Insn;
 use crate::word::Word;
 use std::alloc::Allocator;
 
-/// How many bytes a word has.
+/// The number of bytes in a word.
 const WORD_BYTES: usize = 8;
 
-/// The code of a program's bytes, which are little-endian words (RFC 9669, section 3.1). The code
-/// keeps the allocator and takes nothing of `bytes`. Memory is asked for at one point, for three
-/// lists, after the length was looked at.
+/// Decodes a program's bytes, which are little-endian words (RFC 9669, section 3.1). The code keeps the allocator and doesn't borrow from `bytes`.
+/// Memory is allocated at one point, for three lists, after the length is checked.
 pub fn decode<A: Allocator + Copy>(alloc: A, bytes: &[u8]) -> Result<Code<A>, CodeFault>
     ensures ok { IfOk result (IsCodeOf bytes.now) }
     ensures err { IfErr result (IsFirstFault bytes.now) }
 
-    // Bytes that have a code are refused for memory alone, and have no other code.
+    // Bytes that have a code are refused only if memory runs out, and have no other code.
     ensures only { (code : List Insn) → IsCodeOf bytes.now code
         → MatchResult result (λ decoded. decoded ≡ code) (λ fault. fault ≡ CodeFault.Memory) }
 
-    // Bytes that have a first fault are refused, with it or for memory.
+    // Bytes that have a first fault are refused, with it or because memory runs out.
     ensures refused { (fault : CodeFault) → IsFirstFault bytes.now fault → fault ≢ CodeFault.Memory
         → IsErrAnd result (λ given. (given ≡ fault) ⊎ (given ≡ CodeFault.Memory)) }
 {
@@ -41,7 +40,7 @@ fn read_code<A: Allocator + Copy>(alloc: A, bytes: &[u8]) -> Result<Code<A>, Cod
     read_instructions(alloc, bytes)?.finish()
 }
 
-/// Whether so many bytes can be a program.
+/// Checks that the bytes have the length of a program.
 fn check_length(bytes: &[u8]) -> Result<(), CodeFault>
     ensures ok { OnOk result
         ((length bytes.now % 8 ≡ 0) × (0 < length bytes.now) × (length bytes.now ≤ 8 * WORD_LIMIT)) }
@@ -80,7 +79,7 @@ fn read_instructions<A: Allocator + Copy>(
     Ok(code)
 }
 
-/// The instruction at a place.
+/// Decodes the instruction at a place.
 fn read_instruction(bytes: &[u8], place: usize) -> Result<Insn, WordFault>
     requires { place < length bytes.now / 8 }
     ensures ok { IfOk result (BeginsAt bytes.now place) }

@@ -1,4 +1,4 @@
-//! Bytes of instructions.
+//! Encoding: from a code to bytes.
 ghost use Rattle.std.specs.Prelude.{◌≡◌, ◌<◌, ℕ, List, All, IfOk, OnOk};
 ghost use Rattle.bpf_insn.specs.Word.{AppendsWords};
 ghost use Rattle.bpf_insn.specs.Form.{spelling};
@@ -8,13 +8,13 @@ use crate::code::Code;
 use crate::instruction::Insn;
 use std::alloc::{AllocError, Allocator};
 
-/// The bytes of a code, in little-endian words: the one spelling that it has (RFC 9669, section 3.1).
+/// Encodes a code as little-endian words, in the only spelling that it has (RFC 9669, section 3.1).
 pub fn encode<A: Allocator + Copy, B: Allocator>(
     alloc: A,
     code: &Code<B>,
 ) -> Result<Vec<u8, A>, AllocError>
     ensures code { IfOk result (λ bytes. IsCodeOf bytes.items code.now) }
-    // Whatever bytes have this code are these.
+    // No other bytes have this code.
     ensures only { (bytes : List ℕ) → All (λ byte. byte < 256) bytes → IsCodeOf bytes code.now
         → IfOk result (λ encoded. encoded.items ≡ bytes) }
 {

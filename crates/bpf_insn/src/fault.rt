@@ -1,4 +1,4 @@
-//! Why bytes are no program.
+//! The reasons why bytes are no program.
 ghost use Rattle.std.specs.Prelude.{◌≡◌};
 ghost use Rattle.bpf_insn.specs.declared.fault.CodeFault.TheVariants.{Memory};
 ghost use Rattle.bpf_insn.specs.WordFault as word_fault;
@@ -10,8 +10,8 @@ use refusals::{Fault, Refusal};
 use std::alloc::{AllocError, AllocFailed};
 use thiserror::Error;
 
-/// Why words are no instruction. Where several apply it's the first of opcode, second word, registers,
-/// frame pointer, widths and unused fields. The derived text is for people.
+/// The reason why words are no instruction. If several apply, the first one counts, in the order opcode, second word, registers, frame pointer,
+/// widths and unused fields. The derived text is for people.
 #[derive(Clone, Copy, Debug, PartialEq, Eq, Error)]
 pub enum WordFault {
     #[error("no instruction has this opcode")]
@@ -28,7 +28,7 @@ pub enum WordFault {
     WritesFramePointer,
 }
 
-/// Why bytes are no program, or that an allocation failed. The derived text is for people.
+/// The reason why bytes are no program, or that an allocation failed. The derived text is for people.
 #[derive(Clone, Copy, Debug, PartialEq, Eq, Error)]
 pub enum CodeFault {
     #[error("the program has no bytes")]
@@ -39,7 +39,7 @@ pub enum CodeFault {
     TooLong,
     #[error("the word at place {place}: {fault}")]
     InWord {
-        /// The word where no instruction begins, counted from 0.
+        /// The word at which no instruction begins, counted from 0.
         place: usize,
         fault: WordFault,
     },
@@ -80,7 +80,7 @@ impl WordFault {
 }
 
 impl CodeFault {
-    /// Returns the refusal's line of text, as `refused 13 place 2 UnknownOpcode`, without an end of line. It takes no memory.
+    /// Returns the refusal's line of text, such as `refused 13 place 2 UnknownOpcode`, without an end of line. Allocates nothing.
     pub fn line(&self) -> ArrayString<64>
         ensures { result.bytes ≡ refusal_line (code_fault.refusal self.now) }
     {

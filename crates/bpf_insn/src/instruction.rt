@@ -1,4 +1,4 @@
-//! Instructions, with an enum for each of their parts, and the words that they are written in.
+//! Instructions, with an enum for each of their parts, and the words that spell them.
 ghost use Rattle.std.specs.Prelude.{◌≡◌, ◌≤◌, length, option_to_list};
 ghost use Rattle.bpf_insn.specs.Form.{first_word, further_words, is_register, source_field, source_immediate, spelling};
 ghost use Rattle.bpf_insn.specs.Jump.{words, jump_distance};
@@ -7,36 +7,35 @@ use crate::opcode_form::{OpcodeForm, opcode};
 use crate::register::{Register, WritableRegister};
 use crate::word::Word;
 
-/// What an arithmetic instruction does with its two operands: its number is the code of RFC 9669,
-/// section 4.1, with 16 more where the offset is 1.
+/// What an arithmetic instruction does with its two operands. The discriminant is the code of RFC 9669, section 4.1, plus 16 if the offset is 1.
 #[derive(Clone, Copy, Debug, PartialEq, Eq)]
 pub enum Operation {
-    /// The sum, without what passes the width.
+    /// The sum, truncated to the width.
     Add = 0x0,
     Subtract = 0x1,
     Multiply = 0x2,
     /// The quotient of unsigned numbers.
     Divide = 0x3,
-    /// The quotient of signed numbers, cut towards zero.
+    /// The quotient of signed numbers, rounded towards zero.
     SignedDivide = 0x13,
     Or = 0x4,
     And = 0x5,
     ShiftLeft = 0x6,
-    /// A shift to the right that fills up with zeros.
+    /// A shift to the right that fills with zeros.
     ShiftRight = 0x7,
     /// The remainder of unsigned numbers.
     Modulo = 0x9,
     /// The remainder of signed numbers, with the sign of the first operand.
     SignedModulo = 0x19,
     ExclusiveOr = 0xa,
-    /// The second operand alone.
+    /// The second operand.
     Move = 0xb,
-    /// A shift to the right that fills up with the sign.
+    /// A shift to the right that fills with the sign.
     ArithmeticShiftRight = 0xc,
 }
 
-/// How wide an instruction's operands are (RFC 9669, section 3.3: the classes ALU and JMP32 with 32
-/// bits, ALU64 and JMP with 64), with the class of its arithmetic.
+/// The width of an instruction's operands (RFC 9669, section 3.3: 32 bits in the classes ALU and JMP32, 64 bits in ALU64 and JMP). The discriminant
+/// is the class of its arithmetic.
 #[derive(Clone, Copy, Debug, PartialEq, Eq)]
 pub enum Width {
     Bits32 = 0x4,
@@ -46,14 +45,13 @@ pub enum Width {
 /// Where the second operand comes from (RFC 9669, section 4: the source bit).
 #[derive(Clone, Copy, Debug, PartialEq, Eq)]
 pub enum Source {
-    /// The word's immediate, which `immediate_operand` makes an operand of.
+    /// The word's immediate, which `immediate_operand` extends to an operand.
     Immediate(i32),
     Register(Register),
 }
 
-/// How many bits a move takes of its source, and to how many it extends their sign (RFC 9669,
-/// section 4.1: MOVSX): its number is the class of the bits that it writes, with 256 times the
-/// offset more.
+/// How many bits a move takes of its source, and to how many it extends their sign (RFC 9669, section 4.1: MOVSX). The discriminant is the class of
+/// the width that it writes, plus 256 times the offset.
 #[derive(Clone, Copy, Debug, PartialEq, Eq)]
 pub enum SignExtension {
     Bits8To32 = 0x0804,
@@ -63,18 +61,18 @@ pub enum SignExtension {
     Bits32To64 = 0x2007,
 }
 
-/// Which order of bytes a byte swap is for, with its opcode (RFC 9669, section 4.2).
+/// The byte order of a byte swap. The discriminant is its opcode (RFC 9669, section 4.2).
 #[derive(Clone, Copy, Debug, PartialEq, Eq)]
 pub enum ByteOrder {
     /// From the host's order to little-endian.
     LittleEndian = 0xd4,
     /// From the host's order to big-endian.
     BigEndian = 0xdc,
-    /// The other order, whatever the host's.
+    /// To the opposite order, whatever the host's.
     Swapped = 0xd7,
 }
 
-/// How many bits a byte swap keeps (RFC 9669, section 4.2: the immediate).
+/// The number of bits that a byte swap keeps (RFC 9669, section 4.2: the immediate).
 #[derive(Clone, Copy, Debug, PartialEq, Eq)]
 pub enum SwapWidth {
     Bits16 = 16,
@@ -82,13 +80,13 @@ pub enum SwapWidth {
     Bits64 = 64,
 }
 
-/// What a conditional jump asks of its two operands, with the codes of RFC 9669, section 4.3.
+/// The condition of a conditional jump on its two operands, with the codes of RFC 9669, section 4.3.
 #[derive(Clone, Copy, Debug, PartialEq, Eq)]
 pub enum Condition {
     Equal = 0x1,
     Greater = 0x2,
     GreaterOrEqual = 0x3,
-    /// They have a bit in common that is one.
+    /// The operands have a bit in common.
     SharesBit = 0x4,
     NotEqual = 0x5,
     SignedGreater = 0x6,
@@ -99,8 +97,8 @@ pub enum Condition {
     SignedLessOrEqual = 0xd,
 }
 
-/// How many words a jump goes, counted from the word after it, and in which field it says so (RFC
-/// 9669, section 4.3: JA in the classes JMP and JMP32).
+/// The distance of a jump in words, counted from the word after it, and the field that holds it (RFC 9669, section 4.3: JA in the classes JMP and
+/// JMP32).
 #[derive(Clone, Copy, Debug, PartialEq, Eq)]
 pub enum JumpDistance {
     /// In the offset.
@@ -109,11 +107,10 @@ pub enum JumpDistance {
     Long(i32),
 }
 
-/// How many bytes a load reads, and how it extends them, with its opcode (RFC 9669, sections 5.1 and
-/// 5.2).
+/// The number of bytes that a load reads, and how it extends them. The discriminant is its opcode (RFC 9669, sections 5.1 and 5.2).
 #[derive(Clone, Copy, Debug, PartialEq, Eq)]
 pub enum LoadFormat {
-    /// One byte, the upper bits zero (mode MEM, size B).
+    /// One byte, zero-extended (mode MEM, size B).
     Byte = 0x71,
     /// Two bytes.
     HalfWord = 0x69,
@@ -121,13 +118,13 @@ pub enum LoadFormat {
     Word = 0x61,
     /// Eight bytes.
     DoubleWord = 0x79,
-    /// One byte, the upper bits its sign (mode MEMSX, size B).
+    /// One byte, sign-extended (mode MEMSX, size B).
     SignedByte = 0x91,
     SignedHalfWord = 0x89,
     SignedWord = 0x81,
 }
 
-/// How many bytes a store writes, with the size's bits of the opcode (RFC 9669, section 5.1).
+/// The number of bytes that a store writes. The discriminant is the size's bits in the opcode (RFC 9669, section 5.1).
 #[derive(Clone, Copy, Debug, PartialEq, Eq)]
 pub enum StoreSize {
     /// One byte.
@@ -140,34 +137,34 @@ pub enum StoreSize {
     DoubleWord = 0x18,
 }
 
-/// An instruction, one variant for each row of the instruction table.
+/// An instruction, with one variant for each row of the instruction table.
 #[derive(Clone, Copy, Debug, PartialEq, Eq)]
 pub enum Insn {
-    /// An operation on a register, which gets the result, and an operand (section 4.1).
+    /// An operation on a register, which receives the result, and an operand (section 4.1).
     Alu {
         operation: Operation,
         width: Width,
         destination: WritableRegister,
         source: Source,
     },
-    /// A move of some bits with their sign (section 4.1: MOVSX).
+    /// A move of some bits with sign extension (section 4.1: MOVSX).
     MoveSignExtended {
         extension: SignExtension,
         destination: WritableRegister,
         source: Register,
     },
-    /// A register's negative (section 4.1: NEG).
+    /// The negation of a register (section 4.1: NEG).
     Negate {
         width: Width,
         destination: WritableRegister,
     },
-    /// A register's bytes in another order (section 4.2: END).
+    /// A change of a register's byte order (section 4.2: END).
     ByteSwap {
         order: ByteOrder,
         width: SwapWidth,
         destination: WritableRegister,
     },
-    /// A jump, if the condition holds (section 4.3).
+    /// A conditional jump (section 4.3).
     JumpIf {
         condition: Condition,
         width: Width,
@@ -185,8 +182,7 @@ pub enum Insn {
     },
     /// The end of the program, with register 0 as its answer (section 4.3).
     Exit,
-    /// A read from memory at a base register plus an offset in bytes, which may be negative
-    /// (sections 5.1 and 5.2).
+    /// A read from memory, at a base register plus an offset in bytes, which may be negative (sections 5.1 and 5.2).
     Load {
         format: LoadFormat,
         destination: WritableRegister,
@@ -207,18 +203,18 @@ pub enum Insn {
         offset: i16,
         source: Register,
     },
-    /// A number of 64 bits for a register, in two words (section 5.4).
+    /// A 64-bit number for a register, in two words (section 5.4).
     WideLoad {
         destination: WritableRegister,
         /// The low 32 bits.
         immediate: i32,
-        /// The high 32 bits, which stand in the second word.
+        /// The high 32 bits, from the second word.
         next_immediate: i32,
     },
 }
 
 impl JumpDistance {
-    /// The distance in words.
+    /// Returns the distance in words.
     pub fn words(self) -> i32
         ensures { result ≡ words self }
     {
@@ -230,8 +226,8 @@ impl JumpDistance {
 }
 
 impl Insn {
-    /// By how many words the instruction jumps, if it's a jump, counted from the word after it. A
-    /// conditional one jumps so where it's taken (RFC 9669, section 4.3).
+    /// Returns the distance that the instruction jumps, if it's a jump, in words counted from the word after it. A conditional jump goes there if
+    /// it's taken (RFC 9669, section 4.3).
     pub fn jump_distance(&self) -> Option<i32>
         ensures { result ≡ jump_distance self.now }
     {
@@ -242,7 +238,7 @@ impl Insn {
         }
     }
 
-    /// How many words the instruction takes.
+    /// Returns the number of words that the instruction takes.
     pub fn words(&self) -> usize
         ensures { result ≡ length (spelling self.now) }
     {
@@ -252,7 +248,7 @@ impl Insn {
         }
     }
 
-    /// The words that the instruction is written in.
+    /// Returns the words that spell the instruction.
     pub(crate) fn spelling(&self) -> (Word, Option<Word>)
         ensures first { result.0 ≡ first_word self.now }
         ensures further { option_to_list result.1 ≡ further_words self.now }
@@ -306,7 +302,7 @@ impl Insn {
         }
     }
 
-    /// What stands in the destination's field.
+    /// Returns the value of the destination field.
     fn first_register(&self) -> u8
         ensures field { result ≡ (first_word self.now).destination }
         ensures four_bits { result ≤ 10 }
@@ -324,7 +320,7 @@ impl Insn {
         }
     }
 
-    /// What stands in the source's field.
+    /// Returns the value of the source field.
     fn second_register(&self) -> u8
         ensures field { result ≡ (first_word self.now).source }
         ensures four_bits { result ≤ 10 }
@@ -368,7 +364,7 @@ impl Insn {
 }
 
 impl Source {
-    /// Whether it's a register, the field of the source register, and the immediate.
+    /// Returns whether it's a register, the value of the source field, and the immediate.
     fn fields(self) -> (bool, u8, i32)
         ensures register { result.0 ≡ is_register self }
         ensures field { (result.1 ≡ source_field self) × (result.1 ≤ 10) }

@@ -1,20 +1,20 @@
-//! Memory: how many bytes and slots the frame has, and how many bytes loads and stores reach.
+//! Memory: the number of bytes and slots of the frame, and the number of bytes that loads and stores reach.
 ghost use Rattle.std.specs.Prelude.{◌≡◌, ◌≤◌};
 ghost use Rattle.bpf_insn.specs.Frame.{slot_at};
 ghost use Rattle.bpf_insn.specs.Memory.{load_length, store_length};
 
 use crate::instruction::{LoadFormat, StoreSize};
 
-/// How many bytes the frame has, the program's own memory. Register 10 starts behind its last.
+/// The length in bytes of the frame, the program's own memory. Register 10 starts past its end.
 pub const FRAME_LENGTH: usize = 512;
 
-/// How many bytes a slot of the frame has. A slot begins at an offset divisible by it, and may hold a pointer.
+/// The length of a slot of the frame, in bytes. A slot begins at an offset divisible by it, and may hold a pointer.
 pub const SLOT_LENGTH: usize = 8;
 
-/// How many slots the frame has.
+/// The number of slots in the frame.
 pub const SLOTS: usize = FRAME_LENGTH / SLOT_LENGTH;
 
-/// How many bytes a load reads (RFC 9669, sections 5.1 and 5.2).
+/// Returns the number of bytes that a load reads (RFC 9669, sections 5.1 and 5.2).
 pub fn load_length(format: LoadFormat) -> usize
     ensures value { result ≡ load_length format }
     ensures short { result ≤ 8 }
@@ -27,7 +27,7 @@ pub fn load_length(format: LoadFormat) -> usize
     }
 }
 
-/// How many bytes a store writes (RFC 9669, section 5.1).
+/// Returns the number of bytes that a store writes (RFC 9669, section 5.1).
 pub fn store_length(size: StoreSize) -> usize
     ensures value { result ≡ store_length size }
     ensures short { result ≤ 8 }
@@ -40,7 +40,7 @@ pub fn store_length(size: StoreSize) -> usize
     }
 }
 
-/// The slot of the frame that so many bytes from an offset on are, if they are the whole of one.
+/// Returns the slot of the frame that `count` bytes from an offset on make up, if they are a whole slot.
 pub fn slot_at(at: usize, count: usize) -> Option<usize>
     ensures { result ≡ slot_at at count }
 {

@@ -1,4 +1,4 @@
-//! The instruction table, by opcodes: what an opcode says of an instruction, and which fields it uses.
+//! The instruction table, by opcodes: the form of an instruction, and the fields that it uses.
 ghost use Rattle.std.specs.Prelude.{◌≡◌, ◌==◌, ◌<◌, find, IfSome};
 ghost use Rattle.bpf_insn.specs.Form.{bit, condition_code, form_opcode, opcode_of, operation_code};
 ghost use Rattle.bpf_insn.specs.Opcode.{form_of, immediate_use, offset_use, operand_form, row};
@@ -8,15 +8,15 @@ use crate::row::Destination::{Nothing, Read, Written};
 use crate::row::Use::{Any, MoveBits, SwapBits, Unused, ZeroOrOne};
 use crate::row::{Row, Use, uses};
 
-/// What an opcode says of an instruction.
+/// The form of an instruction, which its opcode determines.
 #[derive(Clone, Copy)]
 pub(crate) enum OpcodeForm {
-    /// The operation is the unsigned one, and whether the second operand is a register stands last.
-    /// The offset tells signed operations apart, and moves that extend the sign.
+    /// An unsigned operation, its width, and whether the second operand is a register. The offset distinguishes signed operations, and moves with
+    /// sign extension.
     Alu(Operation, Width, bool),
     Negate(Width),
     ByteSwap(ByteOrder),
-    /// Whether the second operand is a register stands last.
+    /// A condition, its width, and whether the second operand is a register.
     JumpIf(Condition, Width, bool),
     ShortJump,
     LongJump,
@@ -28,8 +28,8 @@ pub(crate) enum OpcodeForm {
     WideLoad,
 }
 
-/// Passes the given tokens to a macro, and with them the operations or conditions that have a code of their own, or the forms without a second
-/// operand. The offset tells signed operations from the others.
+/// Passes the given tokens to a macro, together with the operations or conditions that have a code of their own, or with the forms without a second
+/// operand. Signed operations have no code of their own: the offset distinguishes them.
 macro_rules! each {
     (operation $write:ident $given:tt) => {
         each!($write $given Operation: Add Subtract Multiply Divide Or And ShiftLeft ShiftRight Modulo ExclusiveOr Move ArithmeticShiftRight;)
@@ -55,7 +55,7 @@ macro_rules! list {
     (() $($one:expr,)*) => { [$($one),*] };
 }
 
-/// Writes a match, which becomes one jump, where a search would test one after the other.
+/// Expands to a match, which compiles to one jump, unlike a search that tests one by one.
 macro_rules! first_with {
     (($number:expr, $of:ident) $($one:expr,)*) => { match $number { $(n if n == $one.$of() => Some($one),)* _ => None } };
 }
@@ -67,7 +67,7 @@ pub(crate) const CONDITIONS: [Condition; 11] = each!(condition list ());
 pub(crate) const FORMS: [OpcodeForm; 25] = each!(form list ());
 
 impl OpcodeForm {
-    /// None where no instruction has the opcode.
+    /// Returns the form of an opcode, or `None` if no instruction has it.
     pub(crate) fn of(opcode: u8) -> Option<OpcodeForm>
         ensures value { result ≡ form_of opcode }
         ensures opcode { IfSome result (λ form. form_opcode form ≡ opcode) }
@@ -78,7 +78,7 @@ impl OpcodeForm {
         }
     }
 
-    /// The opcode.
+    /// Returns the opcode.
     #[inline(always)]
     pub(crate) fn opcode(self) -> u8
         ensures { result ≡ form_opcode self }
@@ -106,7 +106,7 @@ impl OpcodeForm {
         }
     }
 
-    /// Which fields it uses.
+    /// Returns the fields that the form uses.
     pub(crate) fn row(self) -> Row
         ensures { result ≡ row self }
     {
@@ -131,7 +131,7 @@ impl OpcodeForm {
     }
 }
 
-/// The opcode of arithmetic or of a jump.
+/// Returns the opcode of arithmetic or of a jump.
 #[inline(always)]
 pub(crate) fn opcode(code: u8, from_register: bool, class: u8) -> u8
     requires { (code < 16) × (class < 8) }
@@ -160,7 +160,7 @@ impl Condition {
     }
 }
 
-/// Arithmetic and jumps with two operands, by class and code (RFC 9669, section 4).
+/// Returns the form of arithmetic or of a jump with two operands, by class and code (RFC 9669, section 4).
 fn operand_form(class: u8, code: u8, from_register: bool) -> Option<OpcodeForm>
     ensures value { result ≡ operand_form class code from_register }
     ensures opcode { IfSome result (λ form. form_opcode form ≡ opcode_of code (bit from_register) class) }
@@ -195,7 +195,7 @@ fn other_form(opcode: u8) -> Option<OpcodeForm>
     each!(form first_with (opcode, opcode))
 }
 
-/// The use that an operation has for the offset.
+/// Returns how an operation uses the offset.
 fn offset_use(operation: Operation, width: Width, from_register: bool) -> Use
     ensures { result ≡ offset_use operation width from_register }
 {
@@ -207,7 +207,7 @@ fn offset_use(operation: Operation, width: Width, from_register: bool) -> Use
     }
 }
 
-/// The use that instructions with two operands have for the immediate.
+/// Returns how an instruction with two operands uses the immediate.
 fn immediate_use(from_register: bool) -> Use
     ensures { result ≡ immediate_use from_register }
 {

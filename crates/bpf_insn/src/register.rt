@@ -8,8 +8,7 @@ pub struct Register {
     ghost in_range: { number ≤ 10 },
 }
 
-/// A register that an instruction may write, by its number from 0 to 9: register 10 is the frame
-/// pointer, and read-only.
+/// A register that an instruction may write, by its number from 0 to 9. Register 10 is the frame pointer, which is read-only.
 #[derive(Clone, Copy, Debug, PartialEq, Eq)]
 pub struct WritableRegister {
     pub number: u8,

@@ -1,4 +1,4 @@
-//! Which fields a row of the instruction table uses, and how (RFC 9669, section 3.1).
+//! The fields that a row of the instruction table uses, and how (RFC 9669, section 3.1).
 ghost use Rattle.std.specs.Prelude.{◌≡◌};
 ghost use Rattle.bpf_insn.specs.Row.{uses, is_used, is_bad_width, is_out_of_use, has_bad_width, has_unused_field, fault};
 
@@ -6,7 +6,7 @@ use crate::fault::WordFault;
 use crate::instruction::Width;
 use crate::word::Word;
 
-/// What an instruction does with the register of the destination's field.
+/// What an instruction does with the register in the destination field.
 #[derive(Clone, Copy)]
 pub(crate) enum Destination {
     /// There is none: the field is zero.
@@ -15,16 +15,16 @@ pub(crate) enum Destination {
     Written,
 }
 
-/// The use that a row has for the offset or the immediate.
+/// How a row uses the offset or the immediate.
 #[derive(Clone, Copy)]
 pub(crate) enum Use {
-    /// None: it's zero.
+    /// Not used: it must be zero.
     Unused,
     Any,
     ZeroOrOne,
-    /// How many bits a move to so many takes of a register; 0 stands for all of them.
+    /// The number of bits that a move of this width takes of a register; 0 stands for all of them.
     MoveBits(Width),
-    /// How many bits a byte swap keeps.
+    /// The number of bits that a byte swap keeps.
     SwapBits,
 }
 
@@ -45,7 +45,7 @@ impl Destination {
 }
 
 impl Use {
-    /// Whether it's a number of bits that the row doesn't have.
+    /// Returns whether a number isn't one of the bit widths that the row allows.
     fn is_bad_width(self, number: i32) -> bool
         ensures { result ≡ is_bad_width self number }
     {
@@ -57,7 +57,7 @@ impl Use {
         }
     }
 
-    /// Whether it's another number than the few that belong there.
+    /// Returns whether a number isn't one of the few that the row allows.
     fn is_out_of_use(self, number: i32) -> bool
         ensures { result ≡ is_out_of_use self number }
     {
@@ -69,7 +69,7 @@ impl Use {
     }
 }
 
-/// A row by its uses.
+/// Returns the row with these uses.
 pub(crate) fn uses(destination: Destination, uses_source: bool, offset: Use, immediate: Use) -> Row
     ensures { result ≡ uses destination uses_source offset immediate }
 {
@@ -82,8 +82,7 @@ pub(crate) fn uses(destination: Destination, uses_source: bool, offset: Use, imm
 }
 
 impl Row {
-    /// The first fault of a word whose opcode has this row: registers, then the frame pointer, then
-    /// widths, then what isn't used.
+    /// Returns the first fault of a word whose opcode has this row: registers, then the frame pointer, then widths, then unused fields.
     pub(crate) fn fault(self, word: Word) -> Option<WordFault>
         ensures { result ≡ fault self word }
     {

@@ -15,21 +15,21 @@ use crate::opcode_form::OpcodeForm;
 use crate::register::{Register, WritableRegister};
 use byteorder::{ByteOrder, LittleEndian};
 
-/// The five fields of an instruction word, whatever they hold (RFC 9669, section 3.1). Contracts
-/// speak of it; `decode` is the way to instructions.
+/// The five fields of an instruction word, whatever their values (RFC 9669, section 3.1). Contracts refer to words; use `decode` to obtain
+/// instructions.
 #[derive(Clone, Copy, Default)]
 pub struct Word {
     pub opcode: u8,
-    /// A number of four bits, which may be no register's.
+    /// A number of four bits, which may not be a register's.
     pub destination: u8,
-    /// A number of four bits, which may be no register's.
+    /// A number of four bits, which may not be a register's.
     pub source: u8,
     pub offset: i16,
     pub immediate: i32,
 }
 
 impl Word {
-    /// The word in the first eight bytes.
+    /// Reads the word in the first eight bytes.
     pub(crate) fn read(bytes: &[u8]) -> Word
         requires { 8 ≤ length bytes.now }
         ensures { result ≡ word_of bytes.now }
@@ -43,7 +43,7 @@ impl Word {
         }
     }
 
-    /// The word's eight bytes.
+    /// Returns the word's eight bytes.
     pub(crate) fn bytes(self) -> [u8; 8]
         requires { (self.destination < 16) × (self.source < 16) }
         ensures { IsWritten self result }
@@ -56,8 +56,7 @@ impl Word {
         bytes
     }
 
-    /// The instruction that begins with this word, or its first fault. `next` is the word behind it,
-    /// if there is one.
+    /// Returns the instruction that begins with this word, or its first fault. `next` is the word after it, if there is one.
     pub(crate) fn instruction(self, next: Option<Word>) -> Result<Insn, WordFault>
         ensures ok { IfOk result (λ insn. Begins insn self next) }
         ensures err { IfErr result (λ fault. first_fault self (option_to_list next) ≡ Some fault) }
@@ -74,7 +73,7 @@ impl Word {
         }
     }
 
-    /// A wide load, with its second word.
+    /// Returns a wide load, from this word and the second one.
     fn wide_load(self, next: Option<Word>) -> Result<Insn, WordFault>
         requires { self.opcode ≡ 0x18 }
         ensures ok { IfOk result (λ insn. Begins insn self next) }
@@ -96,7 +95,7 @@ impl Word {
         })
     }
 
-    /// The instruction of a form that takes one word.
+    /// Returns the instruction of a form that takes one word.
     fn instruction_of(self, form: OpcodeForm) -> Insn
         requires form { HasForm form self }
         requires one_word { form ≢ OpcodeForm.WideLoad }
@@ -140,7 +139,7 @@ impl Word {
         }
     }
 
-    /// Arithmetic with two operands. The offset of a move of a register says how many bits it takes.
+    /// Returns an arithmetic instruction with two operands. The offset of a move of a register is the number of bits that it takes.
     fn arithmetic(self, operation: Operation, width: Width, from_register: bool) -> Insn
         requires { HasForm (OpcodeForm.Alu operation width from_register) self }
         ensures { spelling result ≡ self ∷ [] }
@@ -219,7 +218,7 @@ impl Word {
         }
     }
 
-    /// The second operand.
+    /// Returns the second operand.
     fn operand(self, from_register: bool) -> Source
         requires { HasOperand from_register self }
         ensures { IsSource from_register self result }
@@ -232,7 +231,7 @@ impl Word {
     }
 }
 
-/// The operation that an offset tells apart from the other one with its code.
+/// Returns the operation that an offset selects: it distinguishes signed division and remainder from unsigned ones.
 fn with_offset(operation: Operation, offset: i16) -> Operation
     requires { HasOffset operation offset }
     ensures code { operation_code result ≡ operation_code operation }
@@ -247,7 +246,7 @@ fn with_offset(operation: Operation, offset: i16) -> Operation
     }
 }
 
-/// How many bits a byte swap keeps.
+/// Returns the number of bits that a byte swap keeps.
 fn swap_width(bits: i32) -> SwapWidth
     requires { IsInUse SwapBits bits }
     ensures { swap_bits result ≡ bits }

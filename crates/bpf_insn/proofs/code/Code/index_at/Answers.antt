@@ -7,7 +7,7 @@ use Rattle.bpf_insn.specs.declared.instruction.Insn.{Insn}
 use Rattle.bpf_insn.proofs.PlaceLemmas.{read_finds, indexes_find, index_within}
 use Rattle.bpf_insn.proofs.code.Code.index_at.Goals as goal
 
--- what is read in the table of indexes
+-- what is read from the table of indexes
 read_index : (items : List (Option ℕ)) (built code : List Insn) (place : ℕ) (read : Option ℕ) → items ≡ indexes_from 0 built → built ≡ code
     → read ≡ option_flatten (slice_get items place) → read ≡ index_at code place
 read_index items built code place read table same is = is ∙ indexes_find items built place table ∙ ap
