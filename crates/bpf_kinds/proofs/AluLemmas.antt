@@ -1,4 +1,4 @@
--- Operations on intervals of operands: the result holds what the operation gives of any two numbers that the operands hold.
+-- Operations on intervals of operands: the result contains the operation's result on any two numbers in the operands.
 use Rattle.std.proofs.Common.{◌≡◌, ℕ, ◌^◌, ◌<◌, ◌≤◌, ◌&&◌, subst, ◌∙◌, ap, lit≤, lit<, arith}
 use Rattle.std.proofs.lemmas.Bool.{cond_both, and_parts, eqb-true}
 use mir.Val.{bits}

@@ -15,7 +15,7 @@ below_whole a k some step =
     let product : (a - 1 + 1) * k ≡ a * k = ap (λ n. n * k) whole in
     (omega arith, omega arith)
 
--- the greatest number of so many digits, without some of them
+-- the greatest number of some digits, after dropping some of them
 greatest-shift : (digits dropped : ℕ) → (2 ^ (digits + dropped) - 1) / 2 ^ dropped ≡ 2 ^ digits - 1
 greatest-shift digits dropped =
     let split = pow-add 2 digits dropped in
@@ -34,7 +34,7 @@ pub greatest_of_length-shift : (n : ℕ) → (if nat_lt (leading_zeros w64 n) 64
     (2 ^ 64 - 1) / 2 ^ leading_zeros w64 n else 0) ≡ greatest_of_length n
 greatest_of_length-shift n = shift_by (leading_zeros w64 n) (leading_le 64 n)
 
--- how a number stands to the greatest one of its length, which has no more digits than a limit that it's below
+-- a number and the greatest one of its length, which has no more digits than a limit that the number is below
 pub record IsLength (n most digits : ℕ) : Type 0 where
   pub greatest : greatest_of_length n ≡ 2 ^ digits - 1
   pub below : n < 2 ^ digits

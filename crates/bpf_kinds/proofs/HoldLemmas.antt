@@ -1,4 +1,4 @@
--- Intervals of numbers below a limit that hold a number.
+-- Intervals of numbers below a limit that contain a number.
 use Rattle.std.proofs.Common.{◌≡◌, ℕ, ◌*◌, ◌/◌, ◌%◌, ◌^◌, ◌<◌, ◌≤◌, nat_lt, nat_le, ◌==◌, if◌then◌else◌, ap, arith}
 use Rattle.std.proofs.Math.Nat.{mod-lt, mod-add-div', div-mul-le_self}
 use Rattle.std.proofs.lemmas.Nat.{pow_pos, le-div, mul-le}
@@ -9,7 +9,7 @@ use Rattle.bpf_insn.specs.Arithmetic.{low_bits}
 use Rattle.bpf_kinds.specs.Interval.{Admits, between, single, is_single, full, cut}
 use Rattle.bpf_kinds.specs.declared.interval.Interval.{Interval}
 
--- an interval of numbers below a limit holds a number
+-- an interval of numbers below a limit contains a number
 pub record Holds (limit : ℕ) (x : Interval) (n : ℕ) : Type 0 where
   pub above : x.low ≤ n
   pub below : n ≤ x.high
@@ -21,7 +21,7 @@ full-holds w n below = record { above = omega arith; below = omega arith; fits =
 pub single-holds : (limit n : ℕ) → n < limit → Holds limit (single n) n
 single-holds limit n below = record { above = omega arith; below = omega arith; fits = omega arith }
 
--- a choice between two intervals, each of which holds the number where it's chosen
+-- a choice between two intervals, each of which contains the number if it's chosen
 pub if_lt-holds : (a b : ℕ) (x y : Interval) (limit n : ℕ) → (a < b → Holds limit x n) → (b ≤ a → Holds limit y n)
     → Holds limit (if nat_lt a b then x else y) n
 if_lt-holds a b x y limit n first second = cond_both (nat_lt a b) x y (λ z. Holds limit z n) (λ is. first (ltb-true a b is))
@@ -39,14 +39,14 @@ if_single-holds {operand} {y} x {limit} {n} held first second =
     (λ is. let one : operand.low ≡ operand.high = eqb-true _ _ is in first (omega arith))
     (λ not. second)
 
--- quotients grow with the dividend, and fall with the divisor
+-- quotients grow with the dividend, and shrink with the divisor
 pub quotient_le : (a b c d : ℕ) → a ≤ b → 0 < d → d ≤ c → a / c ≤ b / d
 quotient_le a b c d more some less =
     let product : a / c * d ≤ a / c * c = mul-le (a / c) d (a / c) c (omega arith) less in
     let whole = div-mul-le_self a c in
     le-div (a / c) b d some (omega arith)
 
--- numbers with the same bits above stand as their low bits do
+-- numbers with the same bits above are ordered like their low bits
 low_le : (a b k : ℕ) → a ≤ b → a / k ≡ b / k → a % k ≤ b % k
 low_le a b k more same =
     let upper : a / k * k ≡ b / k * k = ap (λ n. n * k) same in

@@ -1,4 +1,4 @@
--- The order of kinds: the laws that the trait has, for those who speak of definitions alone. Not all of them need proper kinds.
+-- The order of kinds: the laws of the trait, stated for the definitions alone. Not all of them need proper kinds.
 use Rattle.std.proofs.Common.{◌≡◌, rules}
 use Rattle.bpf_insn.specs.declared.value.Value.{Value}
 use Rattle.bpf_kinds.specs.Kind.{IsProper, Admits, IsWithin, join}

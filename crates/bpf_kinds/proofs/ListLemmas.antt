@@ -1,4 +1,4 @@
--- Lists of kinds, joined one by one, and what is so of each element of a list.
+-- Lists of kinds, joined one by one, and facts about each element of a list.
 use Rattle.std.proofs.Common.{◌≡◌, ℕ, suc, zero, ◌<◌, List, [], ◌∷◌, length, get_or, sym, ap, ◌∙◌, refl, arith}
 use Rattle.std.specs.Prelude.{slice_set}
 use Rattle.std.proofs.lemmas.List.{ext_get_or}
@@ -20,7 +20,7 @@ get_or-join_kinds (x ∷ xs) [] place same = absurd (omega arith)
 get_or-join_kinds (x ∷ xs) (y ∷ ys) zero same = refl
 get_or-join_kinds (x ∷ xs) (y ∷ ys) (suc place) same = get_or-join_kinds xs ys place (omega arith)
 
--- a list that has the joined kinds at each place is the join of two
+-- a list with the joined kinds at each index is the join of two lists
 pub is_join_kinds : (xs ys joined : List Kind) (count : ℕ) → length xs ≡ count → length ys ≡ count → length joined ≡ count
     → ((place : ℕ) → place < count → get_or joined place Nothing ≡ kind.join (get_or xs place Nothing) (get_or ys place Nothing))
     → joined ≡ join_kinds xs ys
@@ -29,7 +29,7 @@ is_join_kinds xs ys joined count length-xs length-ys length-joined same =
     ext_get_or Nothing joined (join_kinds xs ys) (length-joined ∙ sym (length-join_kinds xs ys same-length ∙ length-xs))
     (λ place below. same place (omega arith) ∙ sym (get_or-join_kinds xs ys place same-length))
 
--- what is so of a list's elements is so of them once one is written, if it's so of that one
+-- a fact about a list's elements still holds after one is written, if it holds of that one
 pub set_each : {X : Type 0} (Such : ℕ → X → Type 0) (none : X) (xs : List X) (at : ℕ) (x : X) → Such at x
     → ((n : ℕ) → Such n (get_or xs n none)) → (n : ℕ) → Such n (get_or (slice_set xs at x) n none)
 set_each Such none [] at x here all n = all n
@@ -39,11 +39,11 @@ set_each Such none (y ∷ xs) (suc at) x here all zero = all zero
 set_each Such none (y ∷ xs) (suc at) x here all (suc n) = set_each (λ k. Such (suc k)) none xs at x here (λ k. all (suc k)) n
 
 module _ {X Y : Type 0} (Such : X → Y → Type 0) (none : X) (nothing : Y) where
-  -- it's so of the elements of two lists, one by one
+  -- a fact holds of the elements of two lists, one by one
   abbrev pub EachTwo : List X → List Y → Type 0
   EachTwo xs ys = (n : ℕ) → Such (get_or xs n none) (get_or ys n nothing)
 
-  -- what is so of two lists' elements, one by one, is so of them once one of each is written, if it's so of those
+  -- a fact about two lists' elements, one by one, still holds after one of each is written, if it holds of those
   pub set_both : (xs : List X) (ys : List Y) (at : ℕ) (x : X) (y : Y) → length xs ≡ length ys → Such x y → EachTwo xs ys
       → EachTwo (slice_set xs at x) (slice_set ys at y)
   set_both [] [] at x y same here all n = all n

@@ -1,4 +1,4 @@
--- Where pointers come to that are moved by numbers of an interval.
+-- The offsets of pointers that are moved by numbers of an interval.
 use Rattle.std.proofs.Common.{◌≡◌, ℕ, ◌≤◌, ◌-◌, ◌^◌, true, ◌||◌, Option, Some, None, refl, arith, subst}
 use Rattle.std.specs.Prelude.{ℤ, pos, negsuc, ◌≤ℤ◌, ◌+ℤ◌, ◌-ℤ◌, IsTrue, IfSome, FitsSigned, nat_lt, nat_le, int_le}
 use Rattle.std.specs.Int.{w16, w64, cast_signed}
@@ -30,7 +30,7 @@ fits_between z above below = omega (arith, ints)
 
 -- near distances
 
--- Near distances have the numbers' order. An immediate is any number in definitions, so these laws ask for no bound.
+-- Near distances have the numbers' order. An immediate is any number in the definitions, so these laws require no bound.
 pub near_above : (low n high : ℕ) → low ≤ n → n ≤ high → (nat_lt high (2 ^ 15) || nat_le (2 ^ 64 - 2 ^ 15) low) ≡ true
     → cast_signed w64 low ≤ℤ cast_signed w64 n
 near_above low n high above below near = grind (arith, ints, nat_tests)
@@ -118,7 +118,7 @@ move_back_by-admits x distances moved offset distance is here by =
     admitted (between (x.low -ℤ distances.high) (x.high -ℤ distances.low)) moved (offset -ℤ distance) is (omega (arith, ints))
     (omega (arith, ints))
 
--- what holds of each value that may be there
+-- a fact about each value that may be there
 pub if_some : {A : Type 0} (found : Option A) (P : A → Type 0) → ((a : A) → found ≡ Some a → P a) → IfSome found P
 if_some None P holds = tt
 if_some (Some a) P holds = holds a refl

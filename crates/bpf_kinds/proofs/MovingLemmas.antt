@@ -1,10 +1,10 @@
--- Sums and differences of signed 16-bit numbers, found among signed 32-bit ones.
+-- Sums and differences of signed 16-bit numbers, computed on signed 32-bit ones.
 use Rattle.std.proofs.Common.{◌≡◌, arith, ◌∙◌}
 use Rattle.std.specs.Prelude.{ℤ, ◌+ℤ◌, ◌-ℤ◌, FitsSigned}
 use Rattle.std.specs.Int.{w16, w32, cast_signed, cast_unsigned}
 use Rattle.std.proofs.lemmas.Int.{ints, to_z-of_z}
 
--- a signed 16-bit number that is passed on as a 32-bit one
+-- a signed 16-bit number that is passed as a 32-bit one
 passed : (a x : ℤ) → FitsSigned w16 x → a ≡ cast_signed w16 (cast_unsigned w16 x) → cast_signed w32 (cast_unsigned w32 a) ≡ x
 passed a x fits is =
     let same : a ≡ x = is ∙ to_z-of_z w16 x fits in

@@ -1,4 +1,4 @@
--- Where pointers come to that are moved grows with what is known before it.
+-- Moves of pointers are monotone.
 use Rattle.std.proofs.Common.{◌≡◌, ◌≤◌, ◌-◌, ◌^◌, true, ◌||◌, Some, None, refl, arith, subst}
 use Rattle.std.specs.Prelude.{◌≤ℤ◌, ◌+ℤ◌, ◌-ℤ◌, ◌&&◌, Bool, if◌then◌else◌, nat_lt, nat_le}
 use Rattle.std.specs.Int.{w64, cast_signed}
@@ -38,7 +38,7 @@ near_rises x a distances ordered within is =
       near_above x.low x.high x.high ordered (omega arith) near,
     )
 
--- offsets that lie within others leave the range of offsets at neither end
+-- offsets that lie within others in range are in range
 offsets_rise : (here there moved : Offsets) → here.low ≤ℤ here.high → IsWithin here there → if_offsets there ≡ Some moved
     → (nearer : Offsets) × (if_offsets here ≡ Some nearer) × IsWithin nearer moved × (nearer.low ≤ℤ nearer.high)
 offsets_rise here there moved ordered within is =

@@ -1,4 +1,4 @@
--- What is known after a conditional jump admits the numbers that were compared, and is no less than what was known before.
+-- What is known after a conditional jump admits the numbers that were compared, and is at least what was known before it.
 use Rattle.std.proofs.Common.{◌≡◌, ◌≢◌, ℕ, ◌+◌, ◌-◌, ◌<◌, ◌≤◌, ◌^◌, Bool, true, false, Option, Some, None, refl, sym, ◌∙◌, subst, arith}
 use Rattle.std.specs.Prelude.{pos, IfSome, IsSomeAnd, ◌&&◌, ◌==◌, nat_lt, nat_le, if◌then◌else◌}
 use Rattle.std.specs.Int.{w32, w64, cast_signed}
@@ -25,7 +25,7 @@ use Rattle.bpf_kinds.specs.declared.narrowing.Narrowed.{Narrowed}
 use Rattle.bpf_kinds.specs.declared.narrowing.Relation.{Relation}
 use Rattle.bpf_kinds.specs.declared.narrowing.Relation.TheVariants.{Same, Different, Above, AtLeast, Below, AtMost}
 
--- how two numbers stand to each other
+-- the relations of two numbers
 
 abbrev Stand : Relation → ℕ → ℕ → Type 0
 Stand Same m n = m ≡ n
@@ -39,7 +39,7 @@ abbrev StandIf : Option Relation → ℕ → ℕ → Type 0
 StandIf None m n = Unit {0}
 StandIf (Some relation) m n = Stand relation m n
 
--- numbers that are compared as they are
+-- numbers that are compared unchanged
 
 signed_number : (width : Width) (n : ℕ) → n < 2 ^ (bits (operand_bits width) - 1) → cast_signed (operand_bits width) n ≡ pos n
 signed_number Bits32 n below = to_z_pos w32 n below
@@ -122,7 +122,7 @@ admits_if : (test : Bool) (a b : Interval) (m : ℕ) → (test ≡ true → Admi
 admits_if true a b m first second = first refl
 admits_if false a b m first second = second
 
--- an end that isn't the number itself may move in by one
+-- an end may move in by one if it isn't the number itself
 low_above : (low m v : ℕ) → low ≤ m → m ≢ v → (if low == v then low + 1 else low) ≤ m
 low_above low m v above other = grind (arith, nat_tests)
 
@@ -194,7 +194,7 @@ refine_by-keeps (Some relation) condition width {x} {y} {m} {n} {taken} here the
     keeps_if (is_plain condition width x y) (narrow relation x y) (decide condition width x y taken) m n
     (λ plain. narrow-keeps relation x y m n here there (stand plain)) (decide-keeps condition width here there answer)
 
--- two numbers that are compared stay admitted on the edge that their comparison takes
+-- two compared numbers remain admitted on the edge that their comparison takes
 pub refine-keeps : (condition : Condition) (width : Width) {x y : Interval} {m n : ℕ} {taken : Bool} → IsProper x → IsProper y → Admits x m
     → Admits y n → is_met condition width m n ≡ taken
     → (both : Narrowed) × (refine condition width x y taken ≡ Some both) × Admits both.left m × Admits both.right n
@@ -202,7 +202,7 @@ refine-keeps condition width {taken} proper-x proper-y left right answer =
     refine_by-keeps (relation_of condition taken) condition width left right answer
     (λ plain. stand_plain condition width left right answer plain)
 
--- narrowed intervals are proper, and lie within those that were there
+-- narrowed intervals are proper, and lie within the original ones
 
 record Narrows (both : Narrowed) (x y : Interval) : Type 0 where
   within : IsWithin both.left x × IsWithin both.right y
@@ -290,7 +290,7 @@ refine-within condition width {x} {y} taken {both} proper-x proper-y is =
     let proper = narrows.proper proper-x proper-y in
     (proper.0, proper.1, narrows.within.0, narrows.within.1)
 
--- the same of whatever comes of two intervals
+-- the same for any result of two intervals
 
 pub refined-keeps : (condition : Condition) (width : Width) {x y : Interval} {taken : Bool} {result : Option Narrowed}
     → result ≡ refine condition width x y taken → (m n : ℕ) → Admits x m → Admits y n → is_met condition width m n ≡ taken

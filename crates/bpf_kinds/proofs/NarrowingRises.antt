@@ -1,4 +1,4 @@
--- What narrowing leaves grows with what is known before it.
+-- Narrowing is monotone.
 use Rattle.std.proofs.Common.{◌≡◌, ℕ, ◌+◌, ◌-◌, ◌≤◌, Bool, true, false, Option, Some, None, refl, subst, arith}
 use Rattle.std.specs.Prelude.{IfSome, ◌&&◌, ◌==◌, nat_lt, nat_le, if◌then◌else◌}
 use Rattle.std.proofs.lemmas.Bool.{and_parts, eqb-true}
@@ -17,14 +17,14 @@ use Rattle.bpf_kinds.specs.declared.narrowing.Narrowed.{Narrowed}
 use Rattle.bpf_kinds.specs.declared.narrowing.Relation.{Relation}
 use Rattle.bpf_kinds.specs.declared.narrowing.Relation.TheVariants.{Same, Different, Above, AtLeast, Below, AtMost}
 
--- something is left, and two narrower intervals lie within it
+-- something is left, within which two narrower intervals lie
 abbrev Covers : Option Narrowed → Narrowed → Type 0
 Covers found both = (wider : Narrowed) × (found ≡ Some wider) × IsWithin both.left wider.left × IsWithin both.right wider.right
 
 within_also : (x y z : Interval) → IsWithin x y → IsWithin y z → IsWithin x z
 within_also x y z below above = record { low = omega arith; high = omega arith }
 
--- what contains an interval that isn't empty isn't empty
+-- an interval that contains a nonempty one isn't empty
 
 wider_test : (x a : Interval) → IsWithin x a → nat_le x.low x.high ≡ true → nat_le a.low a.high ≡ true
 wider_test x a within is = grind (arith, nat_tests, within.low, within.high)
@@ -96,7 +96,7 @@ narrow-rises AtMost {x} {y} {a} {b} {both} ordered-x ordered-y left right is =
     reached-rises (at_most x y.high) (at_least y x.low) (at_most a b.high) (at_least b a.low) both (at_most-rises x a _ _ left right.high)
     (at_least-rises y b _ _ right left.low) is
 
--- where neither interval is narrowed
+-- neither interval is narrowed
 
 answered : (single edge : Bool) (z both : Narrowed) → (if single then (if edge then Some z else None) else Some z) ≡ Some both
     → single ≡ true → edge ≡ true
@@ -129,13 +129,13 @@ module _ (condition : Condition) (width : Width) (x y a b : Interval) (taken : B
       (is_single-within x a ordered-x left singles.0, is_single-within y b ordered-y right singles.1) refl in
       rw (← same-x, ← same-y) (answered (is_single x && is_single y) _ (narrowed x y) both is small))
 
-  -- lower intervals are compared as they are where higher ones are
+  -- lower intervals are compared unchanged if higher ones are
   plain_falls : is_plain condition width a b ≡ true → is_plain condition width x y ≡ true
   plain_falls plain =
       let limits = and_parts _ _ plain in
       rw (less_test x.high a.high _ left.high limits.0, less_test y.high b.high _ right.high limits.1) refl
 
-  -- one number each is compared as it is whether it's known as a lower or a higher interval
+  -- one number each is compared unchanged, whether it's known as a lower or as a higher interval
   plain_single : is_plain condition width x y ≡ true → is_plain condition width a b ≡ false → (is_single a && is_single b) ≡ true
       → beq (is_met condition width a.low b.low) taken ≡ true
   plain_single small large single =
@@ -163,7 +163,7 @@ module _ (condition : Condition) (width : Width) (x y a b : Interval) (taken : B
       decide-rises
       is
 
--- what narrowing leaves of lower intervals lies within what it leaves of higher ones, which is then something
+-- lower intervals are narrowed to intervals within those of higher ones, which then reach the edge
 pub refine_rises : (condition : Condition) (width : Width) {x y a b : Interval} (taken : Bool) {both : Narrowed} → x.low ≤ x.high
     → y.low ≤ y.high → IsWithin x a → IsWithin y b → refine condition width x y taken ≡ Some both
     → (wider : Narrowed) × (refine condition width a b taken ≡ Some wider) × IsWithin both.left wider.left × IsWithin both.right wider.right

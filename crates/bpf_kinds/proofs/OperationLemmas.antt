@@ -1,4 +1,4 @@
--- Operations on intervals of operands, row by row: the result holds what the operation gives of any two numbers that the operands hold.
+-- Operations on intervals of operands, one by one: the result contains the operation's result on any two numbers in the operands.
 use Rattle.std.proofs.Common.{◌≡◌, ℕ, ◌+◌, ◌-◌, ◌*◌, ◌/◌, ◌%◌, ◌^◌, ◌<◌, ◌≤◌, ◌==◌, min, max, bit_and, bit_or, bit_xor, if◌then◌else◌, ap}
 use Rattle.std.proofs.Common.{subst, sym, ◌∙◌, arith}
 use Rattle.std.proofs.Math.Nat.{mod-eq_of_lt, mod-eq-sub-mod, mod-lt, mod-le, div-le_self, pow-le-pow_right}
@@ -14,7 +14,7 @@ use Rattle.bpf_kinds.specs.declared.interval.Interval.{Interval}
 use Rattle.bpf_kinds.proofs.BitLemmas.{length_of}
 use Rattle.bpf_kinds.proofs.HoldLemmas.{Holds, full-holds, single-holds, if_lt-holds, if_le-holds, if_single-holds, quotient_le}
 
--- a number that passes the width once
+-- a number that exceeds the width once
 mod-once : (n limit : ℕ) → limit ≤ n → n < limit + limit → n % limit ≡ n - limit
 mod-once n limit passes once = mod-eq-sub-mod passes ∙ mod-eq_of_lt (omega arith)
 

@@ -1,4 +1,4 @@
--- What instructions give of numbers that intervals admit, the interval admits that they give of those. It's proper where those are.
+-- The interval that results from intervals admits the results of the numbers in them. It is proper if they are.
 use Rattle.std.proofs.Common.{◌≡◌, ℕ, ℤ, pos, negsuc, suc, ◌-◌, ◌%◌, ◌^◌, ◌<◌, ◌≤◌, FitsSigned, w16, w32, w64, nat_lt, subst, sym, ◌∙◌, ap}
 use Rattle.std.proofs.Common.{refl, lit≤, lit<, inl, inr, arith}
 use Rattle.std.proofs.Math.Nat.{mod-lt, mod-mod}
@@ -30,14 +30,14 @@ use Rattle.bpf_kinds.specs.declared.interval.Interval.{Interval}
 use Rattle.bpf_kinds.proofs.AluLemmas.{result_on-holds}
 use Rattle.bpf_kinds.proofs.HoldLemmas.{Holds, full-holds, single-holds, if_lt-holds, if_single-holds, cut-holds}
 
--- what an interval of numbers below a limit of 64 bits at most holds, it admits, and it's proper
+-- an interval of numbers below a limit of at most 64 bits admits the numbers in it, and is proper
 admits_held : {limit : ℕ} (x : Interval) (n : ℕ) → Holds limit x n → Admits x n
 admits_held x n held = record { above = held.above; below = held.below }
 
 proper_since : {limit : ℕ} (x : Interval) (n : ℕ) → limit ≤ 2 ^ 64 → Holds limit x n → IsProper x
 proper_since x n wide held = record { ordered = omega arith; fits = omega arith }
 
--- the lower end of an interval that isn't empty
+-- the lower end of a nonempty interval
 pub least : (x : Interval) → x.low ≤ x.high → Admits x x.low
 least x ordered = record { above = omega arith; below = ordered }
 
@@ -90,7 +90,7 @@ negate-proper width x proper = proper_since _ _ (operands_wide width) (negate-ho
 
 -- sign extension
 
--- what is so of each sign extension: what it gives, and how wide its source and its target are
+-- what each sign extension has in common: its result, and the widths of its source and its target
 pub record Extends (extension : SignExtension) : Type 0 where
   pub is : (n : ℕ) → extension_of extension n ≡ sign_extension (source_bits extension) (target_bits extension) n
   pub again : (n : ℕ) → low_bits (source_bits extension) (low_bits (target_bits extension) n) ≡ low_bits (source_bits extension) n

@@ -1,5 +1,5 @@
--- Results grow with their operands: what an instruction gives of intervals lies within what it gives of wider ones. Of the intervals only
--- the narrower ones need hold a number, and no end need have 64 bits.
+-- Results are monotone: the result of an instruction on intervals lies within its result on wider ones. Only the narrower intervals must contain a
+-- number, and no end must have 64 bits.
 use Rattle.std.proofs.Common.{◌≡◌, ℕ, ◌+◌, ◌/◌, ◌^◌, ◌<◌, ◌≤◌, ◌==◌, ◌&&◌, false, if◌then◌else◌, subst, sym, arith}
 use Rattle.std.proofs.Math.Nat.{mod-lt}
 use Rattle.std.proofs.lemmas.Nat.{pow_pos}
@@ -31,11 +31,11 @@ use Rattle.bpf_kinds.proofs.RiseLemmas.{sum_of-within, difference_of-within, pro
 use Rattle.bpf_kinds.proofs.RiseLemmas.{and-within, or-within, exclusive_or-within, left_shift_of-within, right_shift_of-within}
 use Rattle.bpf_kinds.proofs.RiseLemmas.{arithmetic_shift_of-within}
 
--- an interval that holds a number isn't empty
+-- an interval that contains a number isn't empty
 ordered_held : {limit : ℕ} (x : Interval) (n : ℕ) → Holds limit x n → x.low ≤ x.high
 ordered_held x n held = omega arith
 
--- ends of an interval are numbers of a wider one
+-- the ends of an interval are numbers in a wider one
 low_admitted : (x a : Interval) → x.low ≤ x.high → IsWithin x a → Admits a x.low
 low_admitted x a ordered within = record { above = within.low; below = omega arith }
 
@@ -116,7 +116,7 @@ pub alu_ordered : (operation : Operation) (width : Width) (x y : Interval) → x
 alu_ordered operation width x y x_ordered y_ordered =
     ordered_held _ _ (alu-holds operation width x y x.low y.low (least x x_ordered) (least y y_ordered))
 
--- what is known of one number alone
+-- what is known only for one number
 
 if_known-within : {limit : ℕ} (w : Bits) (f : ℕ → ℕ) (x a : Interval) → ((n : ℕ) → f n < 2 ^ bits w) → Covers limit a x
     → IsWithin (if is_single x then single (f x.low) else full w) (if is_single a then single (f a.low) else full w)

@@ -1,4 +1,4 @@
--- Operations on intervals of operands, row by row: what an operation gives lies within what it gives of wider operands.
+-- Operations on intervals of operands, one by one: the result lies within the result on wider operands.
 use Rattle.std.proofs.Common.{◌≡◌, ℕ, ◌-◌, ◌*◌, ◌/◌, ◌%◌, ◌^◌, ◌<◌, ◌≤◌, ◌&&◌, ◌||◌, nat_lt, nat_le, min, max, Bool, false, if◌then◌else◌}
 use Rattle.std.proofs.Common.{subst, sym, arith}
 use Rattle.std.proofs.Math.Nat.{mod-lt, div-le_self, pow-le-pow_right}
@@ -18,7 +18,7 @@ use Rattle.bpf_kinds.proofs.BitLemmas.{length_of}
 use Rattle.bpf_kinds.proofs.HoldLemmas.{Holds, quotient_le}
 use Rattle.bpf_kinds.proofs.ShiftLemmas.{arithmetic_shift_of-holds}
 
--- an interval of numbers below a limit has another one within it, which isn't empty
+-- an interval of numbers below a limit contains another one, which isn't empty
 pub record Covers (limit : ℕ) (a x : Interval) : Type 0 where
   pub ordered : x.low ≤ x.high
   pub low : a.low ≤ x.low
@@ -31,7 +31,7 @@ holds_low a x covers = record { above = covers.low; below = omega arith; fits = 
 pub holds_high : {limit : ℕ} (a x : Interval) → Covers limit a x → Holds limit a x.high
 holds_high a x covers = record { above = omega arith; below = covers.high; fits = covers.fits }
 
--- an interval whose ends another one holds
+-- an interval whose ends are in another one
 pub within_held : {limit : ℕ} (z : Interval) (low high : ℕ) → Holds limit z low → Holds limit z high → IsWithin (between low high) z
 within_held z low high first last = record { low = first.above; high = last.below }
 
@@ -41,11 +41,11 @@ within_same x = record { low = omega arith; high = omega arith }
 pub within_full : (w : Bits) (x : Interval) → x.high < 2 ^ bits w → IsWithin x (full w)
 within_full w x fits = record { low = omega arith; high = omega arith }
 
--- all numbers, within a choice that gives all too
+-- all numbers, within a choice that also yields all of them
 pub full_within : (w : Bits) (test : Bool) (z : Interval) → test ≡ false → IsWithin (full w) (if test then z else full w)
 full_within w test z not = subst (IsWithin (full w)) (sym (cond-false test z (full w) not)) (within_same (full w))
 
--- a choice by whether an operand is one number, which it is where a wider one is
+-- a choice by whether an operand is one number, as it is if a wider one is
 pub if_single-within : {limit : ℕ} {x a q s : Interval} (p r : Interval) → Covers limit a x → (a.low ≡ a.high → IsWithin p r)
     → (x.low ≡ x.high → IsWithin p s) → IsWithin q s → IsWithin (if is_single x then p else q) (if is_single a then r else s)
 if_single-within {x} {a} {q} {s} p r covers both one neither =
@@ -85,7 +85,7 @@ pub and-within : {limit : ℕ} (x y a b : Interval) → Covers limit a x → Cov
     → IsWithin (between 0 (min x.high y.high)) (between 0 (min a.high b.high))
 and-within x y a b left right = record { low = omega arith; high = omega arith }
 
--- the greatest number of as many digits grows with the number
+-- the greatest number of the same length grows with the number
 greatest_le : (m n : ℕ) → m ≤ n → n < 2 ^ 64 → greatest_of_length m ≤ greatest_of_length n
 greatest_le m n less fits =
     let larger = length_of n 64 fits (omega arith) in

@@ -1,4 +1,4 @@
--- Shifts to the right that fill up with the sign.
+-- Shifts to the right that fill with the sign.
 use Rattle.std.proofs.Common.{◌≡◌, ℕ, negsuc, suc, ◌-◌, ◌/◌, ◌%◌, ◌^◌, ◌<◌, ◌≤◌, nat_lt, nat_le, ◌&&◌, ◌||◌, refl, ap, subst, sym, inl, inr}
 use Rattle.std.proofs.Common.{arith}
 use Rattle.std.proofs.Math.Nat.{div-le_self}
@@ -17,7 +17,7 @@ use Rattle.bpf_kinds.specs.Results.{arithmetic_shift_of}
 use Rattle.bpf_kinds.specs.declared.interval.Interval.{Interval}
 use Rattle.bpf_kinds.proofs.HoldLemmas.{Holds, full-holds, quotient_le}
 
--- a number of so many bits, as a signed number shifted by an amount
+-- a number of w bits, shifted by an amount as a signed number
 abbrev shifted : Bits → ℕ → ℕ → ℕ
 shifted w n amount = cast_unsigned w (int_shr (cast_signed w n) amount)
 

@@ -10,7 +10,7 @@ pub record IsProper (x : Interval) : Type 0 where
   pub ordered : x.low ≤ x.high
   pub fits : x.high < 2 ^ 64
 
--- an interval of numbers of so many bits
+-- an interval of numbers of w bits
 pub record HasBits (w : Bits) (x : Interval) : Type 0 where
   pub ordered : x.low ≤ x.high
   pub fits : x.high < 2 ^ bits w
@@ -25,7 +25,7 @@ pub record IsWithin (x y : Interval) : Type 0 where
   pub low : y.low ≤ x.low
   pub high : x.high ≤ y.high
 
--- an interval by its ends
+-- an interval with these ends
 abbrev pub between : ℕ → ℕ → Interval
 between low high = record { low = low; high = high }
 
@@ -36,15 +36,15 @@ single number = between number number
 abbrev pub is_single : Interval → Bool
 is_single x = x.low == x.high
 
--- all numbers of so many bits
+-- all numbers of w bits
 abbrev pub full : Bits → Interval
 full w = between 0 (2 ^ bits w - 1)
 
--- the least interval round two
+-- the least interval that contains two others
 abbrev pub join : Interval → Interval → Interval
 join x y = between (min x.low y.low) (max x.high y.high)
 
--- the low bits of an interval's numbers, so many: those from end to end where all have the same bits above, else any
+-- the low w bits of an interval's numbers: from end to end if all of them have the same bits above, otherwise all numbers of w bits
 abbrev pub cut : Bits → Interval → Interval
 cut w x =
     if x.low / 2 ^ bits w == x.high / 2 ^ bits w then between (low_bits w x.low) (low_bits w x.high) else full w

@@ -1,5 +1,5 @@
--- Kinds: what is known of a value. A number lies in an interval, a pointer into one of the areas has its offset in one, and of any other
--- value nothing is known, not even that there is one.
+-- Kinds: what is known of a value. A number lies in an interval, a pointer into one of the areas has its offset in one, and nothing is known of any
+-- other value, not even that it exists.
 use Rattle.std.specs.Prelude.{◌≡◌, List, [], ◌∷◌}
 use Rattle.bpf_insn.specs.declared.value.Area.TheVariants as area
 use Rattle.bpf_insn.specs.declared.value.Value.{Value}
@@ -32,14 +32,14 @@ IsWithin (Frame x) (Frame y) = offsets.IsWithin x y
 IsWithin kind Nothing = Unit {0}
 IsWithin kind other = ⊥
 
--- the least kind round two: of different ones nothing is known
+-- the least kind that contains two others; nothing is known of a join of different ones
 abbrev pub join : Kind → Kind → Kind
 join (Number x) (Number y) = Number (interval.join x y)
 join (Record x) (Record y) = Record (offsets.join x y)
 join (Frame x) (Frame y) = Frame (offsets.join x y)
 join kind other = Nothing
 
--- the least kinds round those of two lists, one by one
+-- the joins of the kinds of two lists, one by one
 abbrev pub join_kinds : List Kind → List Kind → List Kind
 join_kinds (x ∷ xs) (y ∷ ys) = join x y ∷ join_kinds xs ys
 join_kinds xs ys = []

@@ -1,5 +1,5 @@
--- Narrowing at conditional jumps (RFC 9669, section 4.3): what is known of two numbers on the edge of a jump that is taken, and on that
--- of one that isn't. Which bounds these are is this project's own choice.
+-- Narrowing at conditional jumps (RFC 9669, section 4.3): what is known of two numbers on the edge of a jump that is taken, and on the edge of one
+-- that isn't. The choice of these bounds is this project's own.
 use Rattle.std.specs.Prelude.{ℕ, ◌+◌, ◌-◌, ◌^◌, ◌&&◌, ◌==◌, nat_lt, nat_le, min, max, Bool, true, false, Option, Some, None, if◌then◌else◌}
 use mathlib.Core.Bool.{beq}
 use mir.Val.{bits}
@@ -13,7 +13,7 @@ use Rattle.bpf_kinds.specs.declared.narrowing.Narrowed.{Narrowed}
 use Rattle.bpf_kinds.specs.declared.narrowing.Relation.{Relation}
 use Rattle.bpf_kinds.specs.declared.narrowing.Relation.TheVariants.{Same, Different, Above, AtLeast, Below, AtMost}
 
--- how two numbers stand to each other where a comparison holds, and where it doesn't; whether they share a bit says nothing of their order
+-- the relation of two numbers if a comparison holds, and if it doesn't; whether they share a bit says nothing of their order
 abbrev pub relation_of : Condition → Bool → Option Relation
 relation_of Equal true = Some Same
 relation_of Equal false = Some Different
@@ -44,25 +44,25 @@ is_signed SignedLess = true
 is_signed SignedLessOrEqual = true
 is_signed condition = false
 
--- below this number operands are compared as they are: none has bits above the width, and for a signed comparison none is negative
+-- operands below this number are compared unchanged: none has bits above the width, and for a signed comparison none is negative
 abbrev pub plain_limit : Condition → Width → ℕ
 plain_limit condition width = if is_signed condition then 2 ^ (bits (operand_bits width) - 1) else 2 ^ bits (operand_bits width)
 
 abbrev pub is_plain : Condition → Width → Interval → Interval → Bool
 is_plain condition width x y = nat_lt x.high (plain_limit condition width) && nat_lt y.high (plain_limit condition width)
 
--- an interval's numbers that are at least another number, and those that are at most it
+-- an interval's numbers that are at least a number, and those that are at most a number
 abbrev pub at_least : Interval → ℕ → Interval
 at_least x least = between (max x.low least) x.high
 
 abbrev pub at_most : Interval → ℕ → Interval
 at_most x most = between x.low (min x.high most)
 
--- the numbers of both intervals
+-- the numbers in both intervals
 abbrev pub common : Interval → Interval → Interval
 common x y = between (max x.low y.low) (min x.high y.high)
 
--- an interval without the number that another one is, if it's one: an end that is this number moves in by one
+-- an interval without the number in another one, if it's only one: an end equal to this number moves in by one
 abbrev pub without : Interval → Interval → Interval
 without x y =
     if is_single y
@@ -72,11 +72,11 @@ without x y =
 abbrev pub narrowed : Interval → Interval → Narrowed
 narrowed left right = record { left = left; right = right }
 
--- an edge on which an interval is empty, with its lower end above the upper one, isn't reached
+-- an edge isn't reached if an interval is empty on it, with its lower end above the upper one
 abbrev pub if_reached : Interval → Interval → Option Narrowed
 if_reached left right = if nat_le left.low left.high && nat_le right.low right.high then Some (narrowed left right) else None
 
--- what two numbers of the intervals may be that stand so to each other; none where no two do
+-- the numbers of the intervals that may be in this relation; none if no two are
 abbrev pub narrow : Relation → Interval → Interval → Option Narrowed
 narrow Same x y = if_reached (common x y) (common x y)
 narrow Different x y = if_reached (without x y) (without y x)
@@ -85,19 +85,19 @@ narrow AtLeast x y = if_reached (at_least x y.low) (at_most y x.high)
 narrow Below x y = if_reached (at_most x (y.high - 1)) (at_least y (x.low + 1))
 narrow AtMost x y = if_reached (at_most x y.high) (at_least y x.low)
 
--- two intervals as they are; where both are one number, the edge is reached if it's the one that the comparison's answer takes
+-- two intervals unchanged; if both are one number, the edge is reached if the comparison's answer takes it
 abbrev pub decide : Condition → Width → Interval → Interval → Bool → Option Narrowed
 decide condition width x y taken =
     if is_single x && is_single y
     then (if beq (is_met condition width x.low y.low) taken then Some (narrowed x y) else None)
     else Some (narrowed x y)
 
--- by how the numbers stand to each other, where they are compared as they are
+-- narrowing by the relation of the numbers, if they are compared unchanged
 abbrev pub refine_by : Option Relation → Condition → Width → Interval → Interval → Bool → Option Narrowed
 refine_by None condition width x y taken = decide condition width x y taken
 refine_by (Some relation) condition width x y taken =
     if is_plain condition width x y then narrow relation x y else decide condition width x y taken
 
--- what is known of two numbers that are compared, on the edge of a jump that is taken or isn't; none where the edge isn't reached
+-- what is known of two compared numbers, on the edge of a jump that is taken or isn't; none if the edge isn't reached
 abbrev pub refine : Condition → Width → Interval → Interval → Bool → Option Narrowed
 refine condition width x y taken = refine_by (relation_of condition taken) condition width x y taken

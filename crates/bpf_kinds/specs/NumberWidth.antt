@@ -1,4 +1,4 @@
--- How many bits numbers have.
+-- Widths of numbers, in bits.
 use Rattle.std.specs.Int.{w8, w16, w32, w64}
 use Rattle.std.specs.Int.{Width as Bits}
 use Rattle.bpf_kinds.specs.declared.number_width.NumberWidth.{NumberWidth}

@@ -1,5 +1,5 @@
--- Results of instructions on intervals. Each bounds the number that the arithmetic of the same name gives (RFC 9669, sections 4 and 5);
--- which bounds these are is this project's own choice. Where every operand is one number, the result is exact.
+-- Results of instructions on intervals. Each one bounds the result of the arithmetic of the same name (RFC 9669, sections 4 and 5). The choice of
+-- these bounds is this project's own. If every operand is one number, the result is exact.
 use Rattle.std.specs.Prelude.{ℕ, ℤ, ◌+◌, ◌-◌, ◌*◌, ◌/◌, ◌%◌, ◌^◌, ◌&&◌, ◌||◌, nat_lt, nat_le, min, max, if◌then◌else◌}
 use Rattle.std.specs.Int.{w8, w16, w32, w64, leading_zeros}
 use Rattle.std.specs.Int.{Width as Bits}
@@ -19,52 +19,52 @@ use Rattle.bpf_insn.specs.declared.instruction.LoadFormat.TheVariants.{Byte, Hal
 use Rattle.bpf_kinds.specs.Interval.{between, single, is_single, full, cut}
 use Rattle.bpf_kinds.specs.declared.interval.Interval.{Interval}
 
--- the greatest number with as many binary digits as one below 2^64
+-- the greatest number with the same number of binary digits as one below 2^64
 abbrev pub greatest_of_length : ℕ → ℕ
 greatest_of_length n = 2 ^ (64 - leading_zeros w64 n) - 1
 
--- sums from end to end, where none passes the width or all do
+-- sums from end to end, if either none or all exceed the width
 abbrev pub sum_of : Bits → Interval → Interval → Interval
 sum_of w x y =
     if nat_lt (x.high + y.high) (2 ^ bits w) then between (x.low + y.low) (x.high + y.high)
     else (if nat_le (2 ^ bits w) (x.low + y.low) then between (x.low + y.low - 2 ^ bits w) (x.high + y.high - 2 ^ bits w) else full w)
 
--- differences from end to end, where all are numbers or none is
+-- differences from end to end, if either none or all are negative
 abbrev pub difference_of : Bits → Interval → Interval → Interval
 difference_of w x y =
     if nat_le y.high x.low then between (x.low - y.high) (x.high - y.low)
     else (if nat_lt x.high y.low then between (x.low + 2 ^ bits w - y.high) (x.high + 2 ^ bits w - y.low) else full w)
 
--- products from end to end, where none passes the width
+-- products from end to end, if none exceeds the width
 abbrev pub product_of : Bits → Interval → Interval → Interval
 product_of w x y = if nat_lt (x.high * y.high) (2 ^ bits w) then between (x.low * y.low) (x.high * y.high) else full w
 
--- quotients; where a divisor may be zero, the quotient may be 0
+-- quotients; if a divisor may be zero, the quotient may be 0
 abbrev pub quotient_of : Interval → Interval → Interval
 quotient_of x y = if nat_le 1 y.low then between (x.low / y.high) (x.high / y.low) else between 0 x.high
 
--- remainders are below their divisor; where that may be zero, the remainder may be the first operand
+-- remainders are below their divisor; if it may be zero, the remainder may be the first operand
 abbrev pub remainder_of : Interval → Interval → Interval
 remainder_of x y = if nat_le 1 y.low then between 0 (min x.high (y.high - 1)) else between 0 x.high
 
--- Shifts: the amount is known where the second operand is one number, and is then its low 5 or 6 bits. A shift to the left by a known
--- amount is a product with a power of two.
+-- Shifts: the amount is known if the second operand is one number, and is then its low 5 or 6 bits. A shift to the left by a known amount is a
+-- product with a power of two.
 abbrev pub left_shift_of : Bits → Interval → Interval → Interval
 left_shift_of w x y = if is_single y then product_of w x (single (2 ^ (y.low % bits w))) else full w
 
--- shifts to the right that fill up with zeros
+-- shifts to the right that fill with zeros
 abbrev pub right_shift_of : Bits → Interval → Interval → Interval
 right_shift_of w x y =
     if is_single y then between (x.low / 2 ^ (y.low % bits w)) (x.high / 2 ^ (y.low % bits w)) else between 0 x.high
 
--- shifts to the right that fill up with the sign, from end to end where that is the same for all numbers
+-- shifts to the right that fill with the sign, from end to end if the sign is the same for all numbers
 abbrev pub arithmetic_shift_of : Bits → Interval → Interval → Interval
 arithmetic_shift_of w x y =
     if is_single y && (nat_lt x.high (2 ^ (bits w - 1)) || nat_le (2 ^ (bits w - 1)) x.low)
     then between (arithmetic.operation_on ArithmeticShiftRight w x.low y.low) (arithmetic.operation_on ArithmeticShiftRight w x.high y.low)
     else full w
 
--- an operation on operands of w bits of which one at least is more than one number
+-- an operation on operands of w bits, at least one of which is more than one number
 abbrev pub operation_on : Operation → Bits → Interval → Interval → Interval
 operation_on Add w x y = sum_of w x y
 operation_on Subtract w x y = difference_of w x y
@@ -86,19 +86,19 @@ abbrev pub result_on : Operation → Bits → Interval → Interval → Interval
 result_on operation w x y =
     if is_single x && is_single y then single (arithmetic.operation_on operation w x.low y.low) else operation_on operation w x y
 
--- an operation, with the destination as the first operand and the source as the second; with 32 bits it takes the low halves
+-- an operation, with the destination as the first operand and the source as the second; with 32 bits it operates on the low halves
 abbrev pub alu : Operation → Width → Interval → Interval → Interval
 alu operation width x y = result_on operation (operand_bits width) (cut (operand_bits width) x) (cut (operand_bits width) y)
 
--- the negative of an operand, known of one number alone
+-- the negative of an operand, known only for one number
 abbrev pub negate_on : Width → Interval → Interval
 negate_on width x = if is_single x then single (arithmetic.negate width x.low) else full (operand_bits width)
 
--- the negative; with 32 bits that of the low half
+-- the negative; with 32 bits, that of the low half
 abbrev pub negate : Width → Interval → Interval
 negate width x = negate_on width (cut (operand_bits width) x)
 
--- how many bits a move with sign extension takes (section 4.1: MOVSX)
+-- the number of bits that a move with sign extension takes (section 4.1: MOVSX)
 abbrev pub source_bits : SignExtension → Bits
 source_bits Bits8To32 = w8
 source_bits Bits16To32 = w16
@@ -106,7 +106,7 @@ source_bits Bits8To64 = w8
 source_bits Bits16To64 = w16
 source_bits Bits32To64 = w32
 
--- and to how many it extends them
+-- and the number of bits to which it extends them
 abbrev pub target_bits : SignExtension → Bits
 target_bits Bits8To32 = w32
 target_bits Bits16To32 = w32
@@ -114,11 +114,11 @@ target_bits Bits8To64 = w64
 target_bits Bits16To64 = w64
 target_bits Bits32To64 = w64
 
--- low bits with their sign extended: the low bits themselves, where the sign is 0 for all of them
+-- low bits, sign-extended: the low bits themselves, if the sign is 0 for all of them
 abbrev pub extend_low : Bits → Bits → Interval → Interval
 extend_low from to low = if nat_lt low.high (2 ^ (bits from - 1)) then low else full to
 
--- a move with sign extension, of numbers of as many bits as it gives
+-- a move with sign extension, of numbers of the width that it extends to
 abbrev pub extend_on : SignExtension → Interval → Interval
 extend_on extension x =
     if is_single x
@@ -129,17 +129,17 @@ extend_on extension x =
 abbrev pub extend : SignExtension → Interval → Interval
 extend extension x = extend_on extension (cut (target_bits extension) x)
 
--- the low bytes in the opposite order, known of one number alone
+-- the low bytes in the opposite order, known only for one number
 abbrev pub reversal : ByteOrder → SwapWidth → Interval → Interval
 reversal order width x = if is_single x then single (arithmetic.byte_swap order width x.low) else full (swap_bits width)
 
--- the low bytes in another order (section 4.2), of the whole operand
+-- the low bytes in another order (section 4.2), from the whole operand
 abbrev pub byte_swap : ByteOrder → SwapWidth → Interval → Interval
 byte_swap LittleEndian width x = cut (swap_bits width) x
 byte_swap BigEndian width x = reversal BigEndian width x
 byte_swap Swapped width x = reversal Swapped width x
 
--- what a load gives of any bytes: all numbers of so many bits, and where their sign is extended all of 64
+-- the result of a load of any bytes: all numbers of its width, or all of 64 bits if it extends the sign
 abbrev pub load : LoadFormat → Interval
 load Byte = full w8
 load HalfWord = full w16

@@ -17,7 +17,7 @@ pub struct Interval {
 }
 
 impl Interval {
-    /// One number.
+    /// Returns the interval of one number.
     pub fn single(number: u64) -> Interval
         ensures value { result ≡ single number }
         ensures proper { IsProper result }
@@ -28,14 +28,14 @@ impl Interval {
         }
     }
 
-    /// Whether it's one number.
+    /// Returns whether the interval contains only one number.
     pub fn is_single(self) -> bool
         ensures { result ≡ is_single self }
     {
         self.low == self.high
     }
 
-    /// All numbers of so many bits.
+    /// Returns the interval of all numbers of a width.
     pub fn full(width: NumberWidth) -> Interval
         ensures value { result ≡ full (number_bits width) }
         ensures bits { HasBits (number_bits width) result }
@@ -47,7 +47,7 @@ impl Interval {
         }
     }
 
-    /// The low bits of its numbers, so many.
+    /// Returns the interval of the low bits, of a width, of the numbers.
     pub fn cut(self, width: NumberWidth) -> Interval
         requires { IsProper self }
         ensures value { result ≡ cut (number_bits width) self }

@@ -7,16 +7,16 @@ use crate::interval::Interval;
 use crate::offsets::Offsets;
 use crate::order::Order;
 
-/// What is known of the value that a register or a slot of the frame holds.
+/// What is known of the value in a register or in a slot of the frame.
 #[derive(Clone, Copy, PartialEq, Eq)]
 pub enum Kind {
-    /// A number of the interval.
+    /// A number in the interval.
     Number(Interval),
     /// A pointer into the record, at one of the offsets.
     Record(Offsets),
     /// A pointer into the frame, at one of the offsets.
     Frame(Offsets),
-    /// Anything, also nothing at all.
+    /// Anything, even no value at all.
     Nothing,
 }
 

@@ -1,5 +1,4 @@
-//! What holds of the definitions themselves. The functions do nothing: each one's contract is the
-//! law.
+//! Laws of the definitions themselves. The functions do nothing: each contract is a law.
 ghost use Rattle.std.specs.Prelude.{ℕ, ℤ, ◌<◌, ◌^◌, FitsSigned};
 ghost use Rattle.std.specs.Int.{w32, Width as Bits};
 ghost use Rattle.bpf_insn.specs.Arithmetic as arithmetic;
@@ -17,8 +16,7 @@ ghost use Rattle.bpf_kinds.specs.declared.interval.Interval.{Interval};
 
 use crate::order::Order;
 
-/// What an instruction gives of numbers that intervals admit, the interval that it gives of those
-/// admits.
+/// Results are sound: the interval that results from intervals admits every number that results from numbers in them.
 pub fn results_are_admitted()
     ensures low_bits { (w : Bits) (x : Interval) (n : ℕ) → IsProper x → Admits x n → Admits (cut w x) (low_bits w n) }
     ensures alu { (operation : Operation) (width : Width) (x y : Interval) (m n : ℕ) → IsProper x → IsProper y
@@ -36,7 +34,7 @@ pub fn results_are_admitted()
     ensures immediate_operand { (immediate : ℤ) → Admits (immediate_operand immediate) (arithmetic.immediate_operand immediate) }
 {}
 
-/// What an instruction gives of proper intervals is a proper interval.
+/// The result of an instruction on proper intervals is a proper interval.
 pub fn results_are_proper()
     ensures alu { (operation : Operation) (width : Width) (x y : Interval) → IsProper x → IsProper y
         → IsProper (alu operation width x y) }
@@ -49,7 +47,7 @@ pub fn results_are_proper()
     ensures immediate_operand { (immediate : ℤ) → FitsSigned w32 immediate → IsProper (immediate_operand immediate) }
 {}
 
-/// What an instruction gives of intervals lies within what it gives of wider ones.
+/// Results are monotone: the result of an instruction on intervals lies within its result on wider ones.
 pub fn results_rise()
     ensures low_bits { (w : Bits) (x a : Interval) → IsProper x → IsProper a → IsWithin x a → IsWithin (cut w x) (cut w a) }
     ensures alu { (operation : Operation) (width : Width) (x y a b : Interval) → IsProper x → IsProper y → IsProper a
@@ -62,7 +60,7 @@ pub fn results_rise()
         → IsWithin (byte_swap order width x) (byte_swap order width a) }
 {}
 
-/// What one of two values admits, the least value that both lie within admits.
+/// A join admits everything that one of its two values admits.
 pub fn joins_admit<T: Order>()
     ensures left { (x y : T) (element : T.Element) → T.IsProper x → T.IsProper y → T.Admits x element
         → T.Admits (T.join x y) element }

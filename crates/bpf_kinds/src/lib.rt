@@ -1,5 +1,5 @@
-//! What is known of a register's value before a program runs: intervals, offsets of pointers and kinds, in what order they stand, and
-//! what instructions and conditional jumps make of them.
+//! What is known of a register's value before a program runs: intervals, offsets of pointers and kinds, their order, and the results of
+//! instructions and conditional jumps on them.
 #![tactic(auto)]
 
 mod interval;

@@ -1,4 +1,4 @@
-//! Pointers that are moved by a number of bytes.
+//! Moves of pointers by a number of bytes.
 ghost use Rattle.std.specs.Prelude.{◌≡◌, ◌+ℤ◌, ◌-ℤ◌, ℕ, ℤ, IfSome};
 ghost use Rattle.std.specs.Int.{w64, cast_signed};
 ghost use Rattle.bpf_kinds.specs.Interval as interval;
@@ -8,8 +8,8 @@ ghost use Rattle.bpf_kinds.specs.Offsets.{IsProper, Admits, between};
 use crate::interval::Interval;
 use crate::offsets::Offsets;
 
-/// The numbers of an interval in two's complement, as distances in bytes, where a pointer may be moved by each of them: all are at
-/// most 32767, or all are from -32768 to -1.
+/// Returns the numbers of an interval in two's complement, as distances in bytes, if a pointer may be moved by each of them: all are at most 32767,
+/// or all are from -32768 to -1.
 pub fn near_distances(x: Interval) -> Option<Offsets>
     requires { interval.IsProper x }
     ensures value { result ≡ near_distances x }
@@ -27,7 +27,7 @@ pub fn near_distances(x: Interval) -> Option<Offsets>
 }
 
 impl Offsets {
-    /// The offsets after a move by the distances, where all of them are offsets.
+    /// Returns the offsets after a move by the distances, if all of them are in range.
     pub fn move_by(self, distances: Offsets) -> Option<Offsets>
         ensures value { result ≡ move_by self distances }
         ensures admits { (offset distance : ℤ) → Admits self offset → Admits distances distance
@@ -40,7 +40,7 @@ impl Offsets {
         )
     }
 
-    /// The offsets after a move backwards by the distances, where all of them are offsets.
+    /// Returns the offsets after a move backwards by the distances, if all of them are in range.
     pub fn move_back_by(self, distances: Offsets) -> Option<Offsets>
         ensures value { result ≡ move_back_by self distances }
         ensures admits { (offset distance : ℤ) → Admits self offset → Admits distances distance
@@ -54,7 +54,7 @@ impl Offsets {
     }
 }
 
-/// The numbers from `low` to `high`, where both are offsets.
+/// Returns the offsets from `low` to `high`, if both are in range.
 fn if_offsets(low: i32, high: i32) -> Option<Offsets>
     ensures { result ≡ if_offsets (between low high) }
 {

@@ -1,4 +1,4 @@
-//! Laws of moving pointers, each the contract of a function that does nothing.
+//! Laws of moving pointers, each of which is the contract of a function that does nothing.
 ghost use Rattle.std.specs.Prelude.{◌≡◌, ◌+ℤ◌, ◌-ℤ◌, ℕ, ℤ, IsTrue, Some};
 ghost use Rattle.std.specs.Int.{w64, cast_signed};
 ghost use Rattle.bpf_insn.specs.Pointer.{is_offset};
@@ -8,7 +8,7 @@ ghost use Rattle.bpf_kinds.specs.Moving.{near_distances, move_by, move_back_by};
 ghost use Rattle.bpf_kinds.specs.declared.interval.Interval.{Interval};
 ghost use Rattle.bpf_kinds.specs.declared.offsets.Offsets.{Offsets};
 
-/// Each number of an interval by which a pointer may be moved is a near distance, and the distances of the interval admit it.
+/// Each number in an interval by which a pointer may be moved is a near distance, and the interval's distances admit it.
 pub fn near_distances_admit()
     ensures proper { (x : Interval) (distances : Offsets)
         → interval.IsProper x → near_distances x ≡ Some distances → IsProper distances }
@@ -17,7 +17,7 @@ pub fn near_distances_admit()
         → IsTrue (is_offset (cast_signed w64 n)) × Admits distances (cast_signed w64 n) }
 {}
 
-/// A pointer at one of the offsets that is moved by one of the distances has an offset, and the moved offsets admit it.
+/// A pointer at one of the offsets, moved by one of the distances, has an offset that the moved offsets admit.
 pub fn move_by_admits()
     ensures proper { (x distances moved : Offsets)
         → IsProper x → IsProper distances → move_by x distances ≡ Some moved → IsProper moved }
@@ -26,7 +26,7 @@ pub fn move_by_admits()
         → IsTrue (is_offset (offset +ℤ distance)) × Admits moved (offset +ℤ distance) }
 {}
 
-/// The same of a pointer that is moved back.
+/// The same for a pointer that is moved back.
 pub fn move_back_by_admits()
     ensures proper { (x distances moved : Offsets)
         → IsProper x → IsProper distances → move_back_by x distances ≡ Some moved → IsProper moved }
@@ -35,8 +35,8 @@ pub fn move_back_by_admits()
         → IsTrue (is_offset (offset -ℤ distance)) × Admits moved (offset -ℤ distance) }
 {}
 
-/// Where moves lead grows with what is known: distances within near ones are near, and a move by lower distances from lower offsets
-/// leads to lower ones, and isn't refused where one by higher distances from higher offsets isn't.
+/// Moves are monotone: distances within near distances are near, and a move of lower offsets by lower distances yields lower offsets, and isn't
+/// refused if the move of the higher ones isn't.
 pub fn moves_rise()
     ensures near { (x a : Interval) (distances : Offsets)
         → interval.IsProper x → interval.IsWithin x a → near_distances a ≡ Some distances

@@ -7,14 +7,14 @@ ghost use Rattle.bpf_kinds.specs.Narrowing.{relation_of, is_signed, plain_limit,
 use crate::interval::Interval;
 use bpf_insn::{Condition, Width};
 
-/// What is known of a comparison's two numbers on one of its edges.
+/// What is known of the two operands of a comparison, on one of its edges.
 #[derive(Clone, Copy, PartialEq, Eq)]
 pub struct Narrowed {
     pub left: Interval,
     pub right: Interval,
 }
 
-/// How the left number of a comparison stands to the right one.
+/// The relation of the left operand of a comparison to the right one.
 #[derive(Clone, Copy)]
 pub(crate) enum Relation {
     Same,
@@ -25,8 +25,8 @@ pub(crate) enum Relation {
     AtMost,
 }
 
-/// What is known of two numbers that are compared, on the edge of a jump that is `taken` or of one that isn't. `None` where
-/// the edge isn't reached.
+/// Returns what is known of two compared numbers, on the edge of a jump that is `taken` or on the edge of one that isn't. Returns `None` if the
+/// edge isn't reached.
 pub fn refine(
     condition: Condition,
     width: Width,
@@ -35,7 +35,7 @@ pub fn refine(
     taken: bool,
 ) -> Option<Narrowed>
     ensures value { result ≡ refine condition width x y taken }
-    // Numbers that take the edge stay.
+    // Numbers that take the edge remain admitted.
     ensures keeps { (m n : ℕ) → Admits x m → Admits y n → is_met condition width m n ≡ taken
         → IsSomeAnd result (λ both. Admits both.left m × Admits both.right n) }
     ensures within { IfSome result (λ both. IsWithin both.left x × IsWithin both.right y) }
@@ -44,7 +44,7 @@ pub fn refine(
     refine_by(relation_of(condition, taken), condition, width, x, y, taken)
 }
 
-/// The same, by how the numbers stand to each other on the edge.
+/// Returns the same, given the relation of the numbers on the edge.
 fn refine_by(
     relation: Option<Relation>,
     condition: Condition,
@@ -61,7 +61,7 @@ fn refine_by(
     }
 }
 
-/// How two numbers stand to each other where the condition's answer is `taken`, if it says something of their order.
+/// Returns the relation of two numbers if the condition's answer is `taken`, unless it says nothing of their order.
 fn relation_of(condition: Condition, taken: bool) -> Option<Relation>
     ensures { result ≡ relation_of condition taken }
 {
@@ -80,7 +80,7 @@ fn relation_of(condition: Condition, taken: bool) -> Option<Relation>
     }
 }
 
-/// Whether the numbers are compared as they are: none has bits above the width, and for a signed comparison none is negative.
+/// Returns whether the numbers are compared unchanged: none has bits above the width, and for a signed comparison none is negative.
 fn is_plain(condition: Condition, width: Width, x: Interval, y: Interval) -> bool
     ensures { result ≡ is_plain condition width x y }
 {
@@ -88,7 +88,7 @@ fn is_plain(condition: Condition, width: Width, x: Interval, y: Interval) -> boo
     x.high <= greatest && y.high <= greatest
 }
 
-/// The greatest number that is compared as it is.
+/// Returns the greatest number that is compared unchanged.
 fn greatest_plain(condition: Condition, width: Width) -> u64
     ensures { result + 1 ≡ plain_limit condition width }
 {
@@ -112,7 +112,7 @@ fn is_signed(condition: Condition) -> bool
     )
 }
 
-/// Both intervals as they are; `None` where both are one number and the condition's answer is that of the other edge.
+/// Returns both intervals unchanged, or `None` if both are one number and the condition's answer takes the other edge.
 fn decide(
     condition: Condition,
     width: Width,
@@ -129,11 +129,11 @@ fn decide(
 }
 
 impl Relation {
-    /// The intervals round all pairs of numbers that stand so to each other, where there is such a pair.
+    /// Returns the intervals around all pairs of numbers in this relation, if there is such a pair.
     fn narrow(self, x: Interval, y: Interval) -> Option<Narrowed>
         ensures { result ≡ narrow self x y }
     {
-        // Where an end saturates, one of the two intervals is empty.
+        // If an end saturates, one of the two intervals is empty.
         match self {
             Relation::Same => if_reached(common(x, y), common(x, y)),
             Relation::Different => if_reached(without(x, y), without(y, x)),
@@ -179,7 +179,7 @@ fn at_most(x: Interval, most: u64) -> Interval
     }
 }
 
-/// The numbers of both intervals.
+/// Returns the numbers in both intervals.
 fn common(x: Interval, y: Interval) -> Interval
     ensures { result ≡ common x y }
 {
@@ -189,9 +189,9 @@ fn common(x: Interval, y: Interval) -> Interval
     }
 }
 
-/// `x` without the number that `y` is, if it's one: an end that is this number moves in by one.
+/// Returns `x` without the number in `y`, if it's only one: an end equal to this number moves in by one.
 fn without(x: Interval, y: Interval) -> Interval
-    // A lower end that would be 2^64 is 2^64 - 1, which is above the upper one, too.
+    // A lower end that would be 2^64 is 2^64 - 1, which is still above the upper one.
     ensures low { result.low ≡ min (without x y).low (2 ^ 64 - 1) }
     ensures high { result.high ≡ (without x y).high }
 {

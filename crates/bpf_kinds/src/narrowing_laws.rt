@@ -1,4 +1,4 @@
-//! Laws of narrowing, each the contract of a function that does nothing.
+//! Laws of narrowing, each of which is the contract of a function that does nothing.
 ghost use Rattle.std.specs.Prelude.{◌≡◌, ℕ, Bool, Some};
 ghost use Rattle.bpf_insn.specs.Arithmetic.{is_met};
 ghost use Rattle.bpf_insn.specs.declared.instruction.Condition.{Condition};
@@ -8,21 +8,21 @@ ghost use Rattle.bpf_kinds.specs.Narrowing.{refine};
 ghost use Rattle.bpf_kinds.specs.declared.interval.Interval.{Interval};
 ghost use Rattle.bpf_kinds.specs.declared.narrowing.Narrowed.{Narrowed};
 
-/// Two numbers that are compared stay admitted on the edge that their comparison takes.
+/// Two compared numbers remain admitted on the edge that their comparison takes.
 pub fn refine_keeps()
     ensures { (condition : Condition) (width : Width) (x y : Interval) (m n : ℕ) (taken : Bool)
         → IsProper x → IsProper y → Admits x m → Admits y n → is_met condition width m n ≡ taken
         → (both : Narrowed) × (refine condition width x y taken ≡ Some both) × Admits both.left m × Admits both.right n }
 {}
 
-/// Narrowed intervals are proper, and lie within those that were there.
+/// Narrowed intervals are proper, and lie within the original ones.
 pub fn refine_within()
     ensures { (condition : Condition) (width : Width) (x y : Interval) (taken : Bool) (both : Narrowed)
         → IsProper x → IsProper y → refine condition width x y taken ≡ Some both
         → IsProper both.left × IsProper both.right × IsWithin both.left x × IsWithin both.right y }
 {}
 
-/// What narrowing leaves grows with what is known: lower intervals leave lower ones, and reach no edge that higher ones don't.
+/// Narrowing is monotone: lower intervals are narrowed to lower ones, and reach no edge that higher ones don't reach.
 pub fn refine_rises()
     ensures { (condition : Condition) (width : Width) (x y a b : Interval) (taken : Bool) (both : Narrowed)
         → IsProper x → IsProper y → IsWithin x a → IsWithin y b → refine condition width x y taken ≡ Some both

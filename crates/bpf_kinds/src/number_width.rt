@@ -1,4 +1,4 @@
-//! How many bits numbers have.
+//! Widths of numbers.
 ghost use Rattle.std.specs.Prelude.{◌≡◌, ◌+◌, ◌-◌, ◌^◌, IfSome, IfNone};
 ghost use Rattle.std.specs.Int.{w64};
 ghost use mir.Val.{bits};
@@ -7,7 +7,7 @@ ghost use Rattle.bpf_kinds.specs.NumberWidth.{number_bits};
 
 use bpf_insn::{SwapWidth, Width};
 
-/// How many bits numbers have.
+/// The number of bits of a number.
 #[derive(Clone, Copy, PartialEq, Eq)]
 pub enum NumberWidth {
     Bits8,
@@ -17,7 +17,7 @@ pub enum NumberWidth {
 }
 
 impl NumberWidth {
-    /// As many as an operation's operands have.
+    /// Returns the width of an operation's operands.
     pub fn of_operands(width: Width) -> NumberWidth
         ensures { number_bits result ≡ operand_bits width }
     {
@@ -27,7 +27,7 @@ impl NumberWidth {
         }
     }
 
-    /// As many as a byte swap keeps.
+    /// Returns the width that a byte swap keeps.
     pub fn of_swap(width: SwapWidth) -> NumberWidth
         ensures { number_bits result ≡ swap_bits width }
     {
@@ -38,7 +38,7 @@ impl NumberWidth {
         }
     }
 
-    /// The greatest number of so many bits.
+    /// Returns the greatest number of the width.
     pub fn greatest(self) -> u64
         ensures { result + 1 ≡ 2 ^ bits (number_bits self) }
     {
@@ -50,14 +50,14 @@ impl NumberWidth {
         }
     }
 
-    /// The greatest number of so many bits whose sign bit is 0.
+    /// Returns the greatest number of the width whose sign bit is 0.
     pub(crate) fn greatest_positive(self) -> u64
         ensures { result + 1 ≡ 2 ^ (bits (number_bits self) - 1) }
     {
         self.greatest() / 2
     }
 
-    /// How many numbers have so many bits, where that is itself a number of 64 bits.
+    /// Returns how many numbers of the width there are, if that count fits in 64 bits.
     pub(crate) fn count(self) -> Option<u64>
         ensures some { IfSome result (λ count. count ≡ 2 ^ bits (number_bits self)) }
         ensures none { IfNone result (number_bits self ≡ w64) }

@@ -5,7 +5,7 @@ ghost use Rattle.bpf_kinds.specs.Offsets as offsets;
 
 use crate::order::Order;
 
-/// The offsets from `low` to `high`, both included, in bytes from an area's first.
+/// The offsets from `low` to `high`, both included, in bytes from an area's first one.
 #[derive(Clone, Copy, PartialEq, Eq)]
 pub struct Offsets {
     pub low: i16,

@@ -1,4 +1,4 @@
-//! What operations give of intervals of operands.
+//! The results of operations on intervals of operands.
 ghost use Rattle.std.specs.Prelude.{◌≡◌, ◌<◌, ◌≤◌, ◌%◌};
 ghost use mir.Val.{bits};
 ghost use Rattle.bpf_insn.specs.Arithmetic.{operand_bits};
@@ -9,7 +9,7 @@ use crate::interval::Interval;
 use crate::number_width::NumberWidth;
 use bpf_insn::{Operation, Width};
 
-/// What an operation gives of operands of its own width.
+/// Returns the result of an operation on operands of its own width.
 pub(crate) fn result_on(operation: Operation, width: Width, x: Interval, y: Interval) -> Interval
     requires x { HasBits (operand_bits width) x }
     requires y { HasBits (operand_bits width) y }
@@ -22,7 +22,7 @@ pub(crate) fn result_on(operation: Operation, width: Width, x: Interval, y: Inte
     }
 }
 
-/// What an operation gives of operands of which one at least is more than one number.
+/// Returns the result of an operation on operands of which at least one is more than one number.
 fn operation_on(operation: Operation, width: Width, x: Interval, y: Interval) -> Interval
     requires x { HasBits (operand_bits width) x }
     requires y { HasBits (operand_bits width) y }
@@ -54,14 +54,14 @@ fn operation_on(operation: Operation, width: Width, x: Interval, y: Interval) ->
     }
 }
 
-/// All numbers of an operation's bits.
+/// Returns all numbers of an operation's width.
 fn full(width: Width) -> Interval
     ensures { result ≡ full (operand_bits width) }
 {
     Interval::full(NumberWidth::of_operands(width))
 }
 
-/// Sums from end to end, where none passes the width or all do.
+/// Returns sums from end to end, if either none or all exceed the width.
 fn sum_of(width: Width, x: Interval, y: Interval) -> Interval
     requires x { HasBits (operand_bits width) x }
     requires y { HasBits (operand_bits width) y }
@@ -83,7 +83,7 @@ fn sum_of(width: Width, x: Interval, y: Interval) -> Interval
     }
 }
 
-/// Differences from end to end, where all are numbers or none is.
+/// Returns differences from end to end, if either none or all are negative.
 fn difference_of(width: Width, x: Interval, y: Interval) -> Interval
     requires x { HasBits (operand_bits width) x }
     requires y { HasBits (operand_bits width) y }
@@ -105,7 +105,7 @@ fn difference_of(width: Width, x: Interval, y: Interval) -> Interval
     }
 }
 
-/// Products from end to end, where none passes the width.
+/// Returns products from end to end, if none exceeds the width.
 fn product_of(width: Width, x: Interval, y: Interval) -> Interval
     requires x { HasBits (operand_bits width) x }
     requires y { HasBits (operand_bits width) y }
@@ -121,7 +121,7 @@ fn product_of(width: Width, x: Interval, y: Interval) -> Interval
     }
 }
 
-/// Quotients, where no divisor is zero.
+/// Returns quotients, from end to end if no divisor is zero.
 fn quotient_of(x: Interval, y: Interval) -> Interval
     requires { y.low ≤ y.high }
     ensures { result ≡ quotient_of x y }
@@ -139,7 +139,7 @@ fn quotient_of(x: Interval, y: Interval) -> Interval
     }
 }
 
-/// Remainders, where no divisor is zero.
+/// Returns remainders, which are below the greatest divisor if no divisor is zero.
 fn remainder_of(x: Interval, y: Interval) -> Interval
     requires { y.low ≤ y.high }
     ensures { result ≡ remainder_of x y }
@@ -157,7 +157,7 @@ fn remainder_of(x: Interval, y: Interval) -> Interval
     }
 }
 
-/// Shifts to the left by one known amount: products with a power of two.
+/// Returns shifts to the left by one known amount, as products with a power of two.
 fn left_shift_of(width: Width, x: Interval, y: Interval) -> Interval
     requires { HasBits (operand_bits width) x }
     ensures { result ≡ left_shift_of (operand_bits width) x y }
@@ -169,7 +169,7 @@ fn left_shift_of(width: Width, x: Interval, y: Interval) -> Interval
     }
 }
 
-/// Shifts to the right: by one known amount from end to end.
+/// Returns shifts to the right, from end to end if the amount is known.
 fn right_shift_of(width: Width, x: Interval, y: Interval) -> Interval
     ensures { result ≡ right_shift_of (operand_bits width) x y }
 {
@@ -187,8 +187,7 @@ fn right_shift_of(width: Width, x: Interval, y: Interval) -> Interval
     }
 }
 
-/// Shifts to the right that fill up with the sign, by one known amount: from end to end where all
-/// numbers have the same sign.
+/// Returns shifts to the right that fill with the sign, from end to end if the amount is known and all numbers have the same sign.
 fn arithmetic_shift_of(width: Width, x: Interval, y: Interval) -> Interval
     requires x { HasBits (operand_bits width) x }
     requires y { HasBits (operand_bits width) y }
@@ -205,7 +204,7 @@ fn arithmetic_shift_of(width: Width, x: Interval, y: Interval) -> Interval
     }
 }
 
-/// By how many bits a shift goes.
+/// Returns the number of bits to shift by.
 fn shift_amount(width: Width, y: u64) -> u32
     ensures value { result ≡ y % bits (operand_bits width) }
     ensures below { result < bits (operand_bits width) }
@@ -216,7 +215,7 @@ fn shift_amount(width: Width, y: u64) -> u32
     }
 }
 
-/// The greatest number with as many binary digits.
+/// Returns the greatest number with the same number of binary digits.
 fn greatest_of_length(n: u64) -> u64
     ensures { result ≡ greatest_of_length n }
 {

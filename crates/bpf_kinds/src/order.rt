@@ -1,32 +1,31 @@
-//! An order of what is known, from more to less.
+//! An order of what is known of something, from more to less.
 ghost use Rattle.std.specs.Prelude.{◌≡◌, ◌↔◌, IsTrue};
 
-/// What may be known of something, as a type: each value admits some elements. A value that lies
-/// within another says as much or more, and admits no element that the other doesn't.
+/// A type of what may be known of something: each value admits some elements. A value that lies within another one says at least as much, and
+/// admits no element that the other one doesn't.
 ///
-/// The ghost members behind the functions are laws, which each implementer proves. They hold of
-/// proper values.
+/// The ghost members after the functions are laws, which each implementer proves. They hold of proper values.
 pub trait Order {
-    /// What something is known of.
+    /// The elements of which something is known.
     ghost Element: { Type 0 };
 
-    /// The parts of a value fit each other.
+    /// The parts of a value are consistent.
     ghost IsProper: { Self → Type 0 };
 
-    /// A value leaves an element possible.
+    /// A value admits an element as possible.
     ghost Admits: { Self → Element → Type 0 };
 
-    /// A value says as much as another, or more.
+    /// A value says at least as much as another one.
     ghost IsWithin: { Self → Self → Type 0 };
 
-    /// The least value that two lie within.
+    /// The least value within which two values lie.
     ghost join: { Self → Self → Self };
 
-    /// Whether this value says as much as the other one, or more.
+    /// Returns whether this value says at least as much as the other one.
     fn leq(&self, other: &Self) -> bool
         ensures { IsTrue result ↔ IsWithin self.now other.now };
 
-    /// The least value that this one and the other lie within.
+    /// Returns the least value within which this one and the other one lie.
     fn join(&self, other: &Self) -> Self
         ensures { result ≡ join self.now other.now };
 

@@ -1,5 +1,5 @@
-//! What instructions give of intervals: each result holds every number that the instruction gives of
-//! numbers of the operands' intervals. Where every operand is one number, so is the result.
+//! The results of instructions on intervals: each result contains every number that the instruction yields for numbers in the operands' intervals.
+//! If every operand is one number, so is the result.
 ghost use Rattle.std.specs.Prelude.{◌≡◌, ◌<◌, ◌^◌, ℕ};
 ghost use Rattle.bpf_insn.specs.Arithmetic as arithmetic;
 ghost use Rattle.bpf_insn.specs.Arithmetic.{result_of, extension_of, load_extension};
@@ -13,8 +13,8 @@ use crate::number_width::NumberWidth;
 use crate::operation::result_on;
 use bpf_insn::{ByteOrder, LoadFormat, Operation, SignExtension, SwapWidth, Width};
 
-/// What an operation gives, with the destination as the first operand and the source as the second.
-/// With 32 bits it takes the low halves.
+/// Returns the result of an operation, with the destination as the first operand and the source as the second. With 32 bits, it operates on the low
+/// halves.
 pub fn alu(operation: Operation, width: Width, x: Interval, y: Interval) -> Interval
     requires x { IsProper x }
     requires y { IsProper y }
@@ -26,7 +26,7 @@ pub fn alu(operation: Operation, width: Width, x: Interval, y: Interval) -> Inte
     result_on(operation, width, x.cut(operand), y.cut(operand))
 }
 
-/// The numbers that give 0 when the operand's are added to them.
+/// Returns the negatives of the numbers: those whose sum with the number is 0.
 pub fn negate(width: Width, x: Interval) -> Interval
     requires { IsProper x }
     ensures value { result ≡ negate width x }
@@ -42,7 +42,7 @@ pub fn negate(width: Width, x: Interval) -> Interval
     }
 }
 
-/// The low 8, 16 or 32 bits with their sign extended.
+/// Returns the low 8, 16 or 32 bits, sign-extended.
 pub fn extend(extension: SignExtension, x: Interval) -> Interval
     requires { IsProper x }
     ensures value { result ≡ extend extension x }
@@ -63,7 +63,7 @@ pub fn extend(extension: SignExtension, x: Interval) -> Interval
     }
 }
 
-/// How many bits a move with sign extension takes.
+/// Returns the number of bits that a move with sign extension takes.
 fn source_bits(extension: SignExtension) -> NumberWidth
     ensures { number_bits result ≡ source_bits extension }
 {
@@ -74,7 +74,7 @@ fn source_bits(extension: SignExtension) -> NumberWidth
     }
 }
 
-/// To how many bits a move with sign extension extends those that it takes.
+/// Returns the number of bits to which a move with sign extension extends them.
 fn target_bits(extension: SignExtension) -> NumberWidth
     ensures { number_bits result ≡ target_bits extension }
 {
@@ -86,7 +86,7 @@ fn target_bits(extension: SignExtension) -> NumberWidth
     }
 }
 
-/// The low bytes in another order.
+/// Returns the low bytes in another order.
 pub fn byte_swap(order: ByteOrder, width: SwapWidth, x: Interval) -> Interval
     requires { IsProper x }
     ensures value { result ≡ byte_swap order width x }
@@ -99,7 +99,7 @@ pub fn byte_swap(order: ByteOrder, width: SwapWidth, x: Interval) -> Interval
     }
 }
 
-/// The low bytes in the opposite order.
+/// Returns the low bytes in the opposite order.
 fn reversal(order: ByteOrder, width: SwapWidth, x: Interval) -> Interval
     ensures { result ≡ reversal order width x }
 {
@@ -110,7 +110,7 @@ fn reversal(order: ByteOrder, width: SwapWidth, x: Interval) -> Interval
     }
 }
 
-/// What a load gives of any bytes.
+/// Returns the result of a load of any bytes.
 pub fn load(format: LoadFormat) -> Interval
     ensures value { result ≡ load format }
     ensures admits { (n : ℕ) → n < 256 ^ load_length format → Admits result (load_extension format n) }
@@ -127,7 +127,7 @@ pub fn load(format: LoadFormat) -> Interval
     }
 }
 
-/// The number of a wide load, from the immediates of its two words.
+/// Returns the number of a wide load, from the immediates of its two words.
 pub fn wide_number(immediate: i32, next_immediate: i32) -> Interval
     ensures value { result ≡ wide_number immediate next_immediate }
     ensures admits { Admits result (arithmetic.wide_number immediate next_immediate) }
@@ -136,7 +136,7 @@ pub fn wide_number(immediate: i32, next_immediate: i32) -> Interval
     Interval::single(bpf_insn::wide_number(immediate, next_immediate))
 }
 
-/// An immediate as a 64-bit operand.
+/// Returns an immediate as a 64-bit operand.
 pub fn immediate_operand(immediate: i32) -> Interval
     ensures value { result ≡ immediate_operand immediate }
     ensures admits { Admits result (arithmetic.immediate_operand immediate) }
