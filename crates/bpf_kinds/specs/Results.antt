@@ -23,19 +23,19 @@ use Rattle.bpf_kinds.specs.declared.interval.Interval.{Interval}
 abbrev pub greatest_of_length : ℕ → ℕ
 greatest_of_length n = 2 ^ (64 - leading_zeros w64 n) - 1
 
--- sums from end to end, if either none or all exceed the width
+-- sums: from end to end if either none or all exceed the width
 abbrev pub sum_of : Bits → Interval → Interval → Interval
 sum_of w x y =
     if nat_lt (x.high + y.high) (2 ^ bits w) then between (x.low + y.low) (x.high + y.high)
     else (if nat_le (2 ^ bits w) (x.low + y.low) then between (x.low + y.low - 2 ^ bits w) (x.high + y.high - 2 ^ bits w) else full w)
 
--- differences from end to end, if either none or all are negative
+-- differences: from end to end if either none or all are negative
 abbrev pub difference_of : Bits → Interval → Interval → Interval
 difference_of w x y =
     if nat_le y.high x.low then between (x.low - y.high) (x.high - y.low)
     else (if nat_lt x.high y.low then between (x.low + 2 ^ bits w - y.high) (x.high + 2 ^ bits w - y.low) else full w)
 
--- products from end to end, if none exceeds the width
+-- products: from end to end if none exceeds the width
 abbrev pub product_of : Bits → Interval → Interval → Interval
 product_of w x y = if nat_lt (x.high * y.high) (2 ^ bits w) then between (x.low * y.low) (x.high * y.high) else full w
 
@@ -57,7 +57,7 @@ abbrev pub right_shift_of : Bits → Interval → Interval → Interval
 right_shift_of w x y =
     if is_single y then between (x.low / 2 ^ (y.low % bits w)) (x.high / 2 ^ (y.low % bits w)) else between 0 x.high
 
--- shifts to the right that fill with the sign, from end to end if the sign is the same for all numbers
+-- shifts to the right that fill with the sign: from end to end if the sign is the same for all numbers
 abbrev pub arithmetic_shift_of : Bits → Interval → Interval → Interval
 arithmetic_shift_of w x y =
     if is_single y && (nat_lt x.high (2 ^ (bits w - 1)) || nat_le (2 ^ (bits w - 1)) x.low)

@@ -47,7 +47,7 @@ impl Interval {
         }
     }
 
-    /// Returns the interval of the low bits, of a width, of the numbers.
+    /// Returns the interval of the numbers' low bits, cut to a width.
     pub fn cut(self, width: NumberWidth) -> Interval
         requires { IsProper self }
         ensures value { result ≡ cut (number_bits width) self }

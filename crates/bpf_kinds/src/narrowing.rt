@@ -25,8 +25,8 @@ pub(crate) enum Relation {
     AtMost,
 }
 
-/// Returns what is known of two compared numbers, on the edge of a jump that is `taken` or on the edge of one that isn't. Returns `None` if the
-/// edge isn't reached.
+/// Returns what is known of two compared numbers on one edge of a jump: the edge of the jump that is taken if `taken` is true, and otherwise
+/// the edge to the next instruction. Returns `None` if the edge isn't reached.
 pub fn refine(
     condition: Condition,
     width: Width,
@@ -61,7 +61,7 @@ fn refine_by(
     }
 }
 
-/// Returns the relation of two numbers if the condition's answer is `taken`, unless it says nothing of their order.
+/// Returns the relation of two numbers if the condition's answer is `taken`, or `None` if the answer says nothing of their order.
 fn relation_of(condition: Condition, taken: bool) -> Option<Relation>
     ensures { result ≡ relation_of condition taken }
 {

@@ -61,7 +61,7 @@ fn full(width: Width) -> Interval
     Interval::full(NumberWidth::of_operands(width))
 }
 
-/// Returns sums from end to end, if either none or all exceed the width.
+/// Returns the interval of sums: from end to end if either none or all exceed the width, otherwise all numbers of the width.
 fn sum_of(width: Width, x: Interval, y: Interval) -> Interval
     requires x { HasBits (operand_bits width) x }
     requires y { HasBits (operand_bits width) y }
@@ -83,7 +83,7 @@ fn sum_of(width: Width, x: Interval, y: Interval) -> Interval
     }
 }
 
-/// Returns differences from end to end, if either none or all are negative.
+/// Returns the interval of differences: from end to end if either none or all are negative, otherwise all numbers of the width.
 fn difference_of(width: Width, x: Interval, y: Interval) -> Interval
     requires x { HasBits (operand_bits width) x }
     requires y { HasBits (operand_bits width) y }
@@ -105,7 +105,7 @@ fn difference_of(width: Width, x: Interval, y: Interval) -> Interval
     }
 }
 
-/// Returns products from end to end, if none exceeds the width.
+/// Returns the interval of products: from end to end if none exceeds the width, otherwise all numbers of the width.
 fn product_of(width: Width, x: Interval, y: Interval) -> Interval
     requires x { HasBits (operand_bits width) x }
     requires y { HasBits (operand_bits width) y }
@@ -121,7 +121,7 @@ fn product_of(width: Width, x: Interval, y: Interval) -> Interval
     }
 }
 
-/// Returns quotients, from end to end if no divisor is zero.
+/// Returns the interval of quotients: from end to end if no divisor is zero.
 fn quotient_of(x: Interval, y: Interval) -> Interval
     requires { y.low ≤ y.high }
     ensures { result ≡ quotient_of x y }
@@ -139,7 +139,7 @@ fn quotient_of(x: Interval, y: Interval) -> Interval
     }
 }
 
-/// Returns remainders, which are below the greatest divisor if no divisor is zero.
+/// Returns the interval of remainders, which are below the greatest divisor if no divisor is zero.
 fn remainder_of(x: Interval, y: Interval) -> Interval
     requires { y.low ≤ y.high }
     ensures { result ≡ remainder_of x y }
@@ -157,7 +157,7 @@ fn remainder_of(x: Interval, y: Interval) -> Interval
     }
 }
 
-/// Returns shifts to the left by one known amount, as products with a power of two.
+/// Returns the interval of shifts to the left: products with a power of two if the amount is known, otherwise all numbers of the width.
 fn left_shift_of(width: Width, x: Interval, y: Interval) -> Interval
     requires { HasBits (operand_bits width) x }
     ensures { result ≡ left_shift_of (operand_bits width) x y }
@@ -169,7 +169,7 @@ fn left_shift_of(width: Width, x: Interval, y: Interval) -> Interval
     }
 }
 
-/// Returns shifts to the right, from end to end if the amount is known.
+/// Returns the interval of shifts to the right: from end to end if the amount is known.
 fn right_shift_of(width: Width, x: Interval, y: Interval) -> Interval
     ensures { result ≡ right_shift_of (operand_bits width) x y }
 {
@@ -187,7 +187,8 @@ fn right_shift_of(width: Width, x: Interval, y: Interval) -> Interval
     }
 }
 
-/// Returns shifts to the right that fill with the sign, from end to end if the amount is known and all numbers have the same sign.
+/// Returns the interval of shifts to the right that fill with the sign: from end to end if the amount is known and all numbers have the same
+/// sign, otherwise all numbers of the width.
 fn arithmetic_shift_of(width: Width, x: Interval, y: Interval) -> Interval
     requires x { HasBits (operand_bits width) x }
     requires y { HasBits (operand_bits width) y }

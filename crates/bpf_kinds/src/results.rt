@@ -26,7 +26,7 @@ pub fn alu(operation: Operation, width: Width, x: Interval, y: Interval) -> Inte
     result_on(operation, width, x.cut(operand), y.cut(operand))
 }
 
-/// Returns the negatives of the numbers: those whose sum with the number is 0.
+/// Returns the interval of the negatives of an operand's numbers.
 pub fn negate(width: Width, x: Interval) -> Interval
     requires { IsProper x }
     ensures value { result ≡ negate width x }

@@ -12,8 +12,8 @@ ghost use Rattle.bpf_meaning.specs.State.{HoldsBytes, IsWhole};
 ghost use Rattle.bpf_meaning.specs.declared.state.State.{State};
 ghost use Rattle.bpf_machine.specs.Words.{HasAreas, Holds, HoldsEffect, Words, next_words};
 
-/// The words are held: if words hold a state, and an instruction passes all its checks there, then what the instruction leads to on bare words
-/// holds what it leads to from the state, at the entry of the place where it goes on.
+/// The words are held: if words hold a state, and an instruction passes all its checks there, then its result on bare words holds its result on
+/// the state, at the entry of the next place.
 pub fn words_are_held()
     ensures { (code : List Insn) (segment : Contents) (state : State) (areas : ℕ → Area) (words : Words) (insn : Insn) (next at target : ℕ)
         → IsSegment segment → IsWhole state → HoldsBytes state → HasImmediates insn → HasAreas state areas → Holds state words

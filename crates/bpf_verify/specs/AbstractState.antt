@@ -48,7 +48,7 @@ pub record IsProperKnown (known : Known) : Type 0 where
   pub kinds : (register : ℕ) → kind.IsProper (kind_of known register)
   pub frame : map.IsProper known.frame
 
--- the states that a state admits: each register's kind admits its value, and what is known of the frame admits it
+-- an abstract state admits a state: each register's kind admits its value, and what is known of the frame admits its frame
 pub record AdmitsKnown (known : Known) (state : State) : Type 0 where
   pub registers : (register : ℕ) → kind.Admits (kind_of known register) (register_value state register)
   pub frame : map.Admits known.frame state.frame

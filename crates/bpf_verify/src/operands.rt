@@ -23,7 +23,7 @@ pub(crate) fn number_or(cause: Cause, kind: Kind) -> Result<Interval, Cause>
     }
 }
 
-/// Returns the interval of a register that an instruction computes with.
+/// Returns the interval of the number in a register that an instruction computes with.
 pub(crate) fn number_in(known: &Known, register: u8) -> Result<Interval, Cause>
     requires in_range { register ≤ 10 }
     requires proper { IsProperKnown known.now }
