@@ -364,7 +364,7 @@ impl Insn {
 }
 
 impl Source {
-    /// Returns whether it's a register, the value of the source field, and the immediate.
+    /// Returns whether the operand is a register, the value of the source field, and the immediate.
     fn fields(self) -> (bool, u8, i32)
         ensures register { result.0 ≡ is_register self }
         ensures field { (result.1 ≡ source_field self) × (result.1 ≤ 10) }

@@ -20,9 +20,9 @@ use byteorder::{ByteOrder, LittleEndian};
 #[derive(Clone, Copy, Default)]
 pub struct Word {
     pub opcode: u8,
-    /// A number of four bits, which may not be a register's.
+    /// A number of four bits, which need not name a register.
     pub destination: u8,
-    /// A number of four bits, which may not be a register's.
+    /// A number of four bits, which need not name a register.
     pub source: u8,
     pub offset: i16,
     pub immediate: i32,

@@ -55,7 +55,7 @@ zero_answers segment = record {
 no_row : (segment : Contents) → IsExtract (move 0 ∷ Exit ∷ []) (segment ∷ []) [] 0
 no_row segment = (0, 0, [], 0, zero_answers segment, refl, refl, (refl, refl))
 
--- without its end, it is stuck at the end of the code
+-- without its end, it is stuck where it leaves the code
 leaves_code : (segment : Contents) → IsRun (move 1 ∷ []) segment (Stuck 0 OutOfProgram ∷ [])
 unfolding after
 leaves_code segment = (refl, tt)

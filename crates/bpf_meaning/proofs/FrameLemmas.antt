@@ -12,7 +12,7 @@ use Rattle.bpf_insn.specs.Frame.{FrameByte, Unwritten, Byte, IsByte, is_byte, is
 use Rattle.bpf_meaning.specs.Memory.{all_written, store}
 use Rattle.bpf_meaning.proofs.MemoryLemmas.{length-bytes_low_first, fits_more, store_is_write}
 
--- bytes that were written are marked so, and no byte becomes unwritten
+-- the bytes of a write are written afterwards, and no byte becomes unwritten
 
 pub is_written-write_inside : (memory : List FrameByte) (at : ℕ) (bytes : List ℕ) (i : ℕ) → at + length bytes ≤ length memory → at ≤ i
     → i < at + length bytes → IsTrue (is_written (write memory at (map Byte bytes)) i)

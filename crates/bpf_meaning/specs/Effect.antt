@@ -273,7 +273,7 @@ go_to code (negsuc before) = Err OutOfProgram
 abbrev pub jump : List Insn → ℕ → ℤ → Result Effect Cause
 jump code place distance = go_to code (pos (place + 1) +ℤ distance)
 
--- what an instruction sees and can do if registers hold values, in a state whose next instruction begins at this place
+-- what an instruction sees and can do if registers hold values, in a state, with the next instruction beginning at this place
 abbrev pub values : List Insn → Contents → State → ℕ → Domain
 values code segment state next = record {
   registers = value_registers state;

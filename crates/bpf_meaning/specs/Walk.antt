@@ -26,7 +26,7 @@ use Rattle.bpf_meaning.specs.Checks.{◌>>=◌}
 use Rattle.bpf_meaning.specs.declared.cause.Cause.{Cause}
 use Rattle.bpf_meaning.specs.declared.cause.Cause.TheVariants.{PointerArithmetic, UnknownHelper, ExitNotNumber}
 
--- a conditional jump: its condition, its operands, and how many words it skips if the condition holds
+-- a conditional jump: its condition, its operands, and the distance in words that it jumps if the condition holds
 pub record ConditionalJump : Type 0 where
   pub condition : Condition
   pub width : Width

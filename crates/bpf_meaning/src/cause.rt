@@ -1,10 +1,10 @@
-//! The causes for which a program is stuck.
+//! The reasons why a program is stuck.
 ghost use Rattle.std.specs.Prelude.{◌≡◌};
 ghost use Rattle.bpf_meaning.specs.Cause as cause;
 
 use refusals::Refusal;
 
-/// The cause for which a program is stuck. A register is given by its number.
+/// The reason why a program is stuck. A register is given by its number.
 #[derive(Clone, Copy, Debug, PartialEq, Eq)]
 pub enum Cause {
     /// The program goes on where it has no instruction.

@@ -18,7 +18,7 @@ use tl_segments::Segment;
 #[derive(Drop)]
 pub struct Frame {
     bytes: [u8; FRAME_LENGTH],
-    /// Marks the bytes that were written.
+    /// The marks of the bytes: true for those that were written.
     marks: [bool; FRAME_LENGTH],
     /// The pointers in slots.
     slots: [Option<Pointer>; SLOTS],

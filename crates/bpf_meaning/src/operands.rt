@@ -138,7 +138,7 @@ fn move_pointer_back(offset: i16, number: u64) -> Result<i16, Cause>
     offset_or(i32::from(offset) - i32::from(distance))
 }
 
-/// Returns the distance by which a number moves a pointer, read as two's complement.
+/// Returns the distance by which a number moves a pointer: the number in two's complement, if it lies in the range of offsets.
 fn near_distance(number: u64) -> Result<i16, Cause>
     ensures { result ≡ near_distance number }
 {
