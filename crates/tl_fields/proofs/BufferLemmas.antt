@@ -1,4 +1,4 @@
--- What a look at a reader's buffer takes: the bytes before a line feed, or as many as a line may have.
+-- What one look at a reader's buffer takes: the bytes before a line feed, or at most the length that a line may have.
 use Rattle.std.proofs.Common.{◌≡◌, ◌≢◌, ℕ, ◌+◌, ◌<◌, ◌≤◌, List, [], ◌∷◌, ◌++◌, length, get_or, take, Option, Some, None, OnSome, sym, ap}
 use Rattle.std.proofs.Common.{subst, ◌∙◌, arith, append_assoc, length-append, take-take, length-take-le}
 use Rattle.std.proofs.lemmas.Bool.{eq-eqb, eqb-true}
@@ -46,13 +46,13 @@ pub without_line_feed : (shown : List ℕ) → IsFirstByte (is_byte 10) shown No
 without_line_feed shown nowhere =
     All-from_get_or (λ b. b ≢ 10) shown 0 (λ i inside e. nowhere i (omega arith) inside (eq-eqb (get_or shown i 0) 10 e))
 
--- a front of the buffer that was taken whole
+-- a front of the buffer that was taken completely
 pub whole_taken : (old new : Option (List ℕ)) (front : List ℕ) (count : ℕ) → count ≤ length front
     → Consumes old new (take (length (take count front)) front) → Consumes old new (take count front)
 whole_taken old new front count within taken =
     subst (λ n. Consumes old new (take n front)) (length-take-le count front within) taken
 
--- a part after what is kept of the content is short where both together are
+-- content plus a new part is short if the kept length and the part's length together are
 pub grown_short : (kept : ℕ) (content part new : List ℕ) → kept ≤ length content → kept + length part ≤ 230
     → new ≡ take kept content ++ part → length new ≤ 230
 grown_short kept content part new within room is =
@@ -60,25 +60,25 @@ grown_short kept content part new within room is =
     let long = length-take-le kept content within in
     omega arith
 
--- The content of a line as IsContentRead has it, but that the input has ended is said where its bytes are known.
+-- The same as IsContentRead, except that the end of the input is claimed only if the bytes are known.
 abbrev pub IsStopped : List ℕ → Reader → Reader → Stop → Type 0
 IsStopped content old new EndOfInput =
     (new.failed ≡ old.failed) × HasNoLineFeed content × (length content ≤ 230) × Consumes old.left new.left content
     × OnSome old.left (IsAtEnd new.left)
 IsStopped content old new stop = IsContentRead content old new stop
 
--- the input has ended, where its bytes were known before
+-- the end of the input was reached, if the bytes were known before
 end_known : (old now new : Option (List ℕ)) (content : List ℕ) → Consumes old now content → OnSome now (IsAtEnd new)
     → OnSome old (IsAtEnd new)
 end_known None now new content taken end = tt
 end_known (Some file) None new content taken end = absurd taken
 end_known (Some file) (Some rest) new content taken end = end
 
--- the content so far, and a part more, without a line feed
+-- the content so far extended by a part without a line feed
 grown : (content part : List ℕ) → HasNoLineFeed content → HasNoLineFeed part → HasNoLineFeed (content ++ part)
 grown content part p q = All-append (λ b. b ≢ 10) content part p q
 
--- the content so far, and the look at the buffer at which the line stops
+-- the content so far, and the look at the buffer that ends the line
 stopped : (content new_content : List ℕ) (old now new : Reader) (stop : Stop) → IsSoFar content old now
     → IsFrontRead content new_content now new (Some stop) → IsStopped new_content old new stop
 stopped content new_content old now new LineFeed so_far read =
@@ -108,7 +108,7 @@ stopped content new_content old now new ReadFailed so_far read = (
   rw (read.1) (no_more content old.left now.left new.left so_far.taken read.2),
 )
 
--- what is said of a reader whose bytes aren't known
+-- the same reader with unknown bytes
 abbrev pub unknown : Reader → Reader
 unknown input = record input { left = None }
 
@@ -125,7 +125,7 @@ where_known content None failed new stop read = tt
 where_known content (Some file) failed new EndOfInput read = read
 where_known content (Some file) failed new stop read = read
 
--- the line has stopped: what is said of any reader, and of one whose bytes are known
+-- after the line has stopped: the claim for any reader, and the claim for one whose bytes are known
 pub stopped_unknown : (content new_content : List ℕ) (old now new : Reader) (stop : Stop) → IsSoFar content old now
     → IsFrontRead content new_content now new (Some stop) → IsContentRead new_content (unknown old) (unknown new) stop
 stopped_unknown content new_content old now new stop so_far read =

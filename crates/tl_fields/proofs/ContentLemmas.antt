@@ -1,4 +1,4 @@
--- Reading the content of a line, where the reader's bytes are known and where they aren't.
+-- Reading the content of a line, for readers with known and with unknown bytes.
 use Rattle.std.proofs.Common.{◌≡◌, ◌≢◌, ℕ, ◌≤◌, List, [], ◌∷◌, ◌++◌, length, Option, refl, arith}
 use Rattle.std.proofs.lemmas.List.{append-nil}
 use Rattle.std.proofs.lemmas.List.Elements.{All-nil, All-push}
@@ -7,7 +7,7 @@ use Rattle.tl_fields.specs.Content.{HasNoLineFeed}
 use Rattle.tl_fields.specs.Device.{Reader}
 use Rattle.tl_fields.proofs.KnownBytesLemmas.{Consumes-refl, Consumes-append}
 
--- the bytes of a line that were read so far
+-- the bytes of a line read so far
 pub record IsSoFar (content : List ℕ) (old new : Reader) : Type 0 where
   pub same : new.failed ≡ old.failed
   pub no_line_feed : HasNoLineFeed content
@@ -22,13 +22,13 @@ none_so_far content input e = rw e (record {
   taken = Consumes-refl input.left;
 })
 
--- one byte more that is no line feed
+-- one more byte that is not a line feed
 pub one_more : (content : List ℕ) {byte : ℕ} (bytes now left : Option (List ℕ)) → HasNoLineFeed content → Consumes bytes now content
     → byte ≢ 10 → Consumes now left (byte ∷ []) → HasNoLineFeed (content ++ byte ∷ []) × Consumes bytes left (content ++ byte ∷ [])
 one_more content {byte} bytes now left p taken q read =
     (All-push (λ b. b ≢ 10) content byte p q, Consumes-append bytes now left content (byte ∷ []) taken read)
 
--- a read that gave no byte
+-- a read that returned no byte
 pub no_more : (content : List ℕ) (bytes now left : Option (List ℕ)) → Consumes bytes now content → Consumes now left []
     → Consumes bytes left content
 no_more content bytes now left taken read =

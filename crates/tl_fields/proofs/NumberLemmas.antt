@@ -16,7 +16,7 @@ use Rattle.tl_fields.specs.Number.{decimal_in, is_decimal, number_of, trim, with
 digits_model : IsNumeralModel (λ ds. list_all is_ascii_digit ds ≡ true) (digits_value 10)
 digits_model = numerals_by_value _ (search rules)
 
--- k digits or fewer write a number below 10 ^ k
+-- k digits or fewer denote a number below 10 ^ k
 pub digits_value-lt : (ds : List ℕ) (k : ℕ) → list_all is_ascii_digit ds ≡ true → length ds ≤ k → digits_value 10 ds < 10 ^ k
 digits_value-lt ds k digits short = digits_value_short digits_model ds k digits short
 
@@ -27,12 +27,12 @@ digits_value-next ds i value inside digit so_far =
     let worth : digit_value (get_or ds i 0) ≡ get_or ds i 0 - 48 = grind (arith, nat_tests) in
     rw (digits_value_more 10 ds i inside, worth, so_far) refl
 
--- digits so far, and one more
+-- the digits so far, and one more
 pub list_all-next : (ds : List ℕ) (i : ℕ) → i < length ds → is_ascii_digit (get_or ds i 0) ≡ true
     → list_all is_ascii_digit (take i ds) ≡ true → list_all is_ascii_digit (take (i + 1) ds) ≡ true
 list_all-next ds i inside digit so_far = rw (list_all_more is_ascii_digit ds i 0 inside, so_far, digit) refl
 
--- bytes of a length that a number may have
+-- bytes whose length a number may have
 pub decimal_in-few : (most : ℕ) (ds : List ℕ) → 1 ≤ length ds → length ds ≤ most
     → decimal_in most ds ≡ (if list_all is_ascii_digit ds then Some (digits_value 10 ds) else None)
 decimal_in-few most ds some few = rw (le-leb 1 (length ds) some, le-leb (length ds) most few) refl
@@ -44,7 +44,7 @@ decimal_in-below_by most k ds true fits is =
     digits_value-lt ds k parts.1 (fits (leb-true _ _ (and_parts (nat_le 1 (length ds)) _ parts.0).1))
 decimal_in-below_by most k ds false fits is = tt
 
--- so many digits write a number below that power of ten
+-- `most` digits or fewer denote a number below 10 ^ most
 pub decimal_in-lt : (most : ℕ) (ds : List ℕ) → IfSome (decimal_in most ds) (λ n. n < 10 ^ most)
 decimal_in-lt most ds = decimal_in-below_by most most ds _ (λ fits. fits) refl
 
@@ -73,7 +73,7 @@ unfolding number_of
 number_of-short field k n short e =
     rw e at (decimal_in-below_by 11 k (trim field) _ (λ fits. omega (arith, trim-le field)) refl)
 
--- the number of a field has no more digits than the field has places
+-- the number of a field has at most as many digits as the field has bytes
 pub number_of_lt : (line : List ℕ) (first last n : ℕ) → number_of (field_of line first last) ≡ Some n → n < 10 ^ (last + 1 - first)
 number_of_lt line first last n e =
     number_of-short (field_of line first last) (last + 1 - first) n

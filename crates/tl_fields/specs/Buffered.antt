@@ -1,4 +1,4 @@
--- What one look at a reader's buffer does to the content of a line.
+-- The effect of one look at a reader's buffer on the content of a line.
 use Rattle.std.specs.Prelude.{◌≡◌, ◌≢◌, ℕ, ◌+◌, ◌<◌, ◌≤◌, List, [], ◌∷◌, ◌++◌, length, Option, Some, None, OnSome}
 use Rattle.std.specs.Io.KnownBytes.{Consumes, IsAtEnd}
 use Rattle.tl_fields.specs.Content.{HasNoLineFeed}
@@ -6,12 +6,12 @@ use Rattle.tl_fields.specs.Device.{Reader}
 use Rattle.tl_fields.specs.declared.content.Stop.{Stop}
 use Rattle.tl_fields.specs.declared.content.Stop.TheVariants.{LineFeed, EndOfInput, TooLong, ReadFailed}
 
--- the content grows by a part without a line feed
+-- the content grows by a part that has no line feed
 abbrev pub GrowsBy : List ℕ → List ℕ → List ℕ → Type 0
 GrowsBy content new_content part = (new_content ≡ content ++ part) × HasNoLineFeed part × (length new_content ≤ 230)
 
--- The content grows by bytes that the buffer shows, and they are taken: the line goes on after them, or it stops, and why. That the input
--- has ended is said where its bytes are known.
+-- The content grows by bytes that the buffer shows, and those bytes are taken. The line then continues, or it stops for a reason. The end of the
+-- input is claimed only if the bytes are known.
 abbrev pub IsFrontRead : List ℕ → List ℕ → Reader → Reader → Option Stop → Type 0
 IsFrontRead content new_content old new None =
     (new.failed ≡ old.failed) × (part : List ℕ) × GrowsBy content new_content part × (0 < length part) × Consumes old.left new.left part

@@ -10,14 +10,14 @@ use Rattle.tl_fields.specs.declared.content.Stop.TheVariants.{LineFeed, EndOfInp
 abbrev pub HasNoLineFeed : List ℕ → Type 0
 HasNoLineFeed bytes = All (λ b. b ≢ 10) bytes
 
--- what one read of one byte does to the reader
+-- the effect of reading one byte on the reader
 abbrev pub IsByteRead : {E : Type 0} → Reader → Reader → Result (Option ℕ) E → Type 0
 IsByteRead old new (Ok (Some byte)) = (new.failed ≡ old.failed) × Consumes old.left new.left (byte ∷ [])
 IsByteRead old new (Ok None) = (new.failed ≡ old.failed) × Consumes old.left new.left [] × IsAtEnd new.left
 IsByteRead old new (Err error) = (new.failed ≢ old.failed) × Consumes old.left new.left []
 
--- What reading up to a line feed does to the reader, and why it stopped: at a line feed, which is taken but isn't of the content, at the end
--- of the input, at the 231st byte, or at a read that failed. Where the reader's bytes are known, nothing but these was taken.
+-- The effect of reading up to a line feed on the reader, and why it stopped: at a line feed, which is taken but not part of the content; at the end
+-- of the input; at the 231st byte; or at a failed read. If the reader's bytes are known, nothing else was taken.
 abbrev pub IsContentRead : List ℕ → Reader → Reader → Stop → Type 0
 IsContentRead content old new LineFeed =
     (new.failed ≡ old.failed) × HasNoLineFeed content × (length content ≤ 230) × Consumes old.left new.left (content ++ 10 ∷ [])
@@ -28,7 +28,7 @@ IsContentRead content old new TooLong =
 IsContentRead content old new ReadFailed =
     (new.failed ≢ old.failed) × HasNoLineFeed content × (length content ≤ 230) × Consumes old.left new.left content
 
--- a read that failed counts one, and where reading stopped for another reason the count is left
+-- a failed read adds one to the count; any other stop leaves the count unchanged
 abbrev pub AddsStop : Stop → ℕ → ℕ → Type 0
 AddsStop LineFeed old new = new ≡ old
 AddsStop EndOfInput old new = new ≡ old

@@ -3,17 +3,17 @@
 use Rattle.std.specs.Prelude.{ℕ, ℤ, pos, neg_ℤ, ◌==◌, if◌then◌else◌, List, drop, slice_index, Option, option_map}
 use Rattle.tl_fields.specs.Number.{decimal_in, trim}
 
--- the number that a minus stands before
+-- the amount with a minus sign
 abbrev pub negative : ℕ → ℤ
 negative amount = neg_ℤ (pos amount)
 
--- 1 to 9 digits, before which a minus (the byte 45) or a plus (43) may stand: a whole number of millionths of a degree
+-- 1 to 9 digits with an optional leading minus (byte 45) or plus (byte 43): a whole number of millionths of a degree
 abbrev pub coordinate_in : List ℕ → Option ℤ
 coordinate_in text =
     if slice_index text 0 == 45 then option_map negative (decimal_in 9 (drop 1 text))
     else (if slice_index text 0 == 43 then option_map pos (decimal_in 9 (drop 1 text))
     else option_map pos (decimal_in 9 text))
 
--- the coordinate of a field, or none where it has none
+-- the coordinate in a field, or none if the field has none
 unfoldable pub coordinate_of : List ℕ → Option ℤ
 coordinate_of field = coordinate_in (trim field)

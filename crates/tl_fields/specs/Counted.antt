@@ -1,39 +1,39 @@
--- What calls of readers and writers do to the counts of those that went wrong.
+-- The effect of reader and writer calls on the failure counts.
 use Rattle.std.specs.Prelude.{◌≡◌, ◌≢◌, ℕ, ◌+◌, ◌%◌, ◌^◌, ◌<◌, List, length, refl, Result, Ok, Err, MatchResult}
 use Rattle.std.specs.Coded.{Coded, code_by, coded×, coded_ℕ}
 use Rattle.tl_fields.specs.Device.{WriteCounts}
 use Rattle.tl_fields.specs.declared.writing.WriteFault.{WriteFault}
 use Rattle.tl_fields.specs.declared.writing.WriteFault.TheVariants.{Write, WriteZero}
 
--- a read that fails changes the count, and any other leaves it
+-- a failed read changes the count; any other leaves it unchanged
 abbrev pub CountsFailure : {V E : Type 0} → Result V E → ℕ → ℕ → Type 0
 CountsFailure result old new = MatchResult result (λ _. new ≡ old) (λ _. new ≢ old)
 
--- a fault of a writer changes its own count, and leaves the others
+-- a writer's fault changes its own count and leaves the others unchanged
 abbrev pub CountsFault : WriteFault → WriteCounts → WriteCounts → Type 0
 CountsFault Write old new = (new.failed ≢ old.failed) × (new.empty ≡ old.empty) × (new.flushes ≡ old.flushes)
 CountsFault WriteZero old new = (new.failed ≡ old.failed) × (new.empty ≢ old.empty) × (new.flushes ≡ old.flushes)
 
--- a write that fails counts as that fault, one that is handed bytes and takes none as the other, and any other write counts as nothing
+-- a failed write counts as fault Write, a write that is given bytes and takes none counts as WriteZero, and any other write is not counted
 abbrev pub CountsWrite : {E : Type 0} → Result ℕ E → List ℕ → WriteCounts → WriteCounts → Type 0
 CountsWrite (Ok taken) bytes old new =
     (0 < taken → new ≡ old) × (length bytes ≡ 0 → new ≡ old) × (taken ≡ 0 → 0 < length bytes → CountsFault WriteZero old new)
 CountsWrite (Err error) bytes old new = CountsFault Write old new
 
--- each flush changes the count of flushes, and one that fails that of failed calls too
+-- every flush changes the count of flushes; a failed one also changes the count of failed calls
 abbrev pub CountsFlush : {V E : Type 0} → Result V E → WriteCounts → WriteCounts → Type 0
 CountsFlush (Ok done) old new = (new.failed ≡ old.failed) × (new.empty ≡ old.empty) × (new.flushes ≢ old.flushes)
 CountsFlush (Err error) old new = (new.failed ≢ old.failed) × (new.empty ≡ old.empty) × (new.flushes ≢ old.flushes)
 
--- one more, where a count that is full goes back to 0
+-- one more; a full count wraps to 0
 abbrev pub next_count : ℕ → ℕ
 next_count count = (count + 1) % 2 ^ 64
 
--- a read that fails counts one, and any other leaves the count
+-- a failed read adds one to the count; any other leaves it unchanged
 abbrev pub AddsFailure : {V E : Type 0} → Result V E → ℕ → ℕ → Type 0
 AddsFailure result old new = MatchResult result (λ _. new ≡ old) (λ _. new ≡ next_count old)
 
--- the counts with one fault more, and with one flush more
+-- the counts with one more fault, and with one more flush
 abbrev pub with_fault : WriteFault → WriteCounts → WriteCounts
 with_fault Write counts = record counts { failed = next_count counts.failed }
 with_fault WriteZero counts = record counts { empty = next_count counts.empty }
@@ -41,7 +41,7 @@ with_fault WriteZero counts = record counts { empty = next_count counts.empty }
 abbrev pub with_flush : WriteCounts → WriteCounts
 with_flush counts = record counts { flushes = next_count counts.flushes }
 
--- the same as above of writes and flushes, each fault and each flush counted as one
+-- like CountsWrite and CountsFlush, with each fault and each flush counted as exactly one
 abbrev pub AddsWrite : {E : Type 0} → Result ℕ E → List ℕ → WriteCounts → WriteCounts → Type 0
 AddsWrite (Ok taken) bytes old new =
     (0 < taken → new ≡ old) × (length bytes ≡ 0 → new ≡ old) × (taken ≡ 0 → 0 < length bytes → new ≡ with_fault WriteZero old)
@@ -51,7 +51,7 @@ abbrev pub AddsFlush : {V E : Type 0} → Result V E → WriteCounts → WriteCo
 AddsFlush (Ok done) old new = new ≡ with_flush old
 AddsFlush (Err error) old new = new ≡ with_flush (with_fault Write old)
 
--- a reader or a writer, and its counts
+-- a reader or writer with its counts
 pub record Counted (T : Type 0) : Type 0 where
   pub inner : T
   pub failed_reads : ℕ

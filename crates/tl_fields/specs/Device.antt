@@ -1,23 +1,23 @@
--- Readers and writers as contracts see them: one value each, before a call and after it.
+-- Readers and writers as contracts see them: a value before each call and a value after it.
 use Rattle.std.specs.Prelude.{ℕ, List, Option}
 
--- of a writer: its failed calls, its writes that were handed bytes and took none, and its flushes, failed ones too
+-- a writer's counts: failed calls, writes that were given bytes and took none, and flushes, including failed ones
 pub record WriteCounts : Type 0 where
   pub failed : ℕ
   pub empty : ℕ
   pub flushes : ℕ
 
--- a reader: the bytes that it has left, where they are known, and its failed reads
+-- a reader: its remaining bytes, if known, and its count of failed reads
 pub record Reader : Type 0 where
   pub left : Option (List ℕ)
   pub failed : ℕ
 
--- a writer: the bytes that it holds, where they are known, and its counts
+-- a writer: the bytes that it holds, if known, and its counts
 pub record Writer : Type 0 where
   pub held : Option (List ℕ)
   pub counts : WriteCounts
 
--- the value of a reader, and that of a writer, by the members of their traits
+-- the value of a reader, and the value of a writer, built from the members of their traits
 abbrev pub reader : {R : Type 0} → (R → Option (List ℕ)) → (R → ℕ) → R → Reader
 reader remaining failed_reads r = record { left = remaining r; failed = failed_reads r }
 

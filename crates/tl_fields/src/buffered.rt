@@ -1,4 +1,4 @@
-//! A reader over one with a buffer.
+//! A reader over a buffered one.
 ghost use Rattle.std.specs.Prelude.{◌≡◌, ◌≤◌, ◌+◌, ◌++◌, ◌∷◌, [], None, IfSome, OnSome, length, take};
 ghost use Rattle.std.specs.Io.{ReadsAtMost};
 ghost use Rattle.std.specs.Io.KnownBytes.{ReadConsumes};
@@ -13,15 +13,15 @@ use memchr::memchr;
 use std::io;
 use std::io::{BufRead, Read};
 
-/// A reader over one with a buffer, which counts its failures.
+/// A reader over a buffered one that counts its failures.
 ///
-/// The content of a line is searched for in the buffer, and a read of one byte goes past the copying of slices. The inner reader is called
-/// where its buffer is empty, as by reads of one byte.
+/// The end of a line is searched for in the buffer, and a one-byte read avoids copying a slice. The source is read when the buffer is empty, just as
+/// with one-byte reads.
 ///
-/// As a [`Read`] it hands on no known bytes, since std's contract of a buffer says at its end nothing of bytes that aren't known: for a caller
-/// that is generic over readers its `remaining` is `None`, as that of a file is. So what such a caller promises where bytes are known is empty
-/// over it, and what it promises of failed reads, of order and of lengths holds. Where the inner reader's bytes are known, the clauses `taken`
-/// and `known` of its own calls give them. [`Counting`](crate::Counting) hands on what its reader has.
+/// As a [`Read`], it exposes no known bytes: its `remaining` is `None`, like a file's, because std's contract for a buffer says nothing about unknown
+/// bytes at the end of the input. Code that is generic over readers therefore promises nothing about the bytes of this one, but its promises about
+/// failed reads, order and lengths hold. If the inner reader's bytes are known, rely on the clauses `taken` and `known` of this type's own methods.
+/// [`Counting`](crate::Counting) exposes the bytes of its inner reader.
 #[derive(Drop)]
 pub struct Buffered<B> {
     reader: B,
@@ -29,7 +29,7 @@ pub struct Buffered<B> {
 }
 
 impl<B: BufRead> Buffered<B> {
-    /// Takes the reader as it stands, with the count at 0.
+    /// Wraps the reader, with the count at 0.
     pub fn new(reader: B) -> Self
         ensures reader { result.reader ≡ reader }
         ensures failed_reads { result.failed_reads ≡ 0 }
@@ -40,22 +40,22 @@ impl<B: BufRead> Buffered<B> {
         }
     }
 
-    /// The inner reader. What is done through it isn't counted.
+    /// Returns the inner reader. Calls made through it aren't counted.
     pub fn get_ref(&self) -> &B
         ensures { result.now ≡ self.now.reader }
     {
         &self.reader
     }
 
-    /// How many reads failed, modulo 2^64.
+    /// Returns the number of failed reads, modulo 2^64.
     pub fn failed_reads(&self) -> u64
         ensures { result ≡ self.now.failed_reads }
     {
         self.failed_reads
     }
 
-    // Takes what the buffer shows of a line, and returns why the line stops there, or `None` if it goes on. The content's first `kept` bytes are
-    // this line's; the rest is of an earlier one.
+    // Takes the part of a line that the buffer shows, and returns why the line stops there, or `None` if it goes on. The first `kept` bytes of the
+    // content belong to this line; the rest is left from an earlier one.
     #[inline]
     fn read_front(
         &mut self,
@@ -168,7 +168,7 @@ impl<B: BufRead> CountedRead for Buffered<B> {
         ensures content { IsContentRead content.new.items
             (record { left = None; failed = self.old.failed_reads })
             (record { left = None; failed = self.new.failed_reads }) result }
-        // The same where the bytes of the reader with the buffer are known.
+        // The same for a buffered reader whose bytes are known.
         ensures known { OnSome (B.remaining self.old.reader) (IsContentRead content.new.items
             (record { left = B.remaining self.old.reader; failed = self.old.failed_reads })
             (record { left = B.remaining self.new.reader; failed = self.new.failed_reads }) result) }
@@ -184,7 +184,7 @@ impl<B: BufRead> CountedRead for Buffered<B> {
     }
 }
 
-/// Replaces what follows the kept bytes. If a whole line is replaced by one of the same length, as record after record is, nothing is cleared.
+/// Replaces everything after the kept bytes. If the new line has the length of the old one, as records do, nothing is cleared.
 #[inline]
 fn put_after(content: &mut ArrayVec<u8, LONGEST_CONTENT>, kept: usize, bytes: &[u8])
     requires within { kept ≤ length content.old.items }

@@ -1,18 +1,18 @@
-//! The content of a line, and why reading it stopped.
+//! The content of a line, and why reading it stops.
 
-/// How many bytes the content of a line has at most.
+/// The maximum length of a line's content, in bytes.
 pub const LONGEST_CONTENT: usize = 230;
 
 pub(crate) const LINE_FEED: u8 = b'\n';
 
-/// Why the bytes of a line came to an end.
+/// Why reading a line's bytes stopped.
 #[derive(Clone, Copy, PartialEq, Eq)]
 pub enum Stop {
-    /// At a line feed, which was taken.
+    /// A line feed, which was taken.
     LineFeed,
-    /// The input had no further byte.
+    /// The end of the input.
     EndOfInput,
-    /// At a byte more than a line's content has at most, which was taken.
+    /// A byte beyond the maximum length of a line's content, which was taken.
     TooLong,
     ReadFailed,
 }

@@ -1,4 +1,4 @@
-//! Readers and writers that count the calls that went wrong.
+//! Readers and writers that count failed calls.
 ghost use Rattle.std.specs.Prelude.{◌≡◌, ℕ};
 ghost use Rattle.std.specs.Io.{ReadsAtMost, WritesAtMost};
 ghost use Rattle.std.specs.Io.KnownBytes.{Keeps, ReadConsumes, WriteAppends};
@@ -14,42 +14,41 @@ use std::marker::Model;
 
 /// A reader that counts its failures.
 ///
-/// By the count a caller can prove that it reports a failed read only where a read failed, also of
-/// a file or a socket, of whose bytes no contract speaks.
+/// The count lets a caller prove that it reports a failed read only if a read failed. This also works for a file or a socket, about whose bytes no
+/// contract says anything.
 pub trait CountedRead: Read {
-    // How many reads failed, modulo 2^64.
+    // The number of failed reads, modulo 2^64.
     ghost failed_reads: { Self → ℕ };
 
-    /// One read, with what `read` of [`Read`] says of its bytes.
+    /// Reads once. Treats the bytes as [`Read`]'s `read` does.
     fn read_counted(&mut self, buf: &mut [u8]) -> io::Result<usize>
         ensures bound { ReadsAtMost result buf.new }
         ensures bytes { ReadConsumes (Self.remaining self.old) (Self.remaining self.new) result buf.new }
         ensures failures { CountsFailure result (failed_reads self.old) (failed_reads self.new) };
 
-    /// Reads a line's bytes up to its LF into `content`, in place of what it held, as if one byte a read. The LF is taken and left out of
-    /// the content. Nothing is read after a failure, and a line of more than 230 bytes is left after its 231st.
+    /// Reads a line's bytes up to its LF into `content`, replacing its previous contents, as if byte by byte. The LF is taken but left out of the
+    /// content. Nothing is read after a failure, and a line of more than 230 bytes is abandoned after its 231st.
     ///
-    /// There is no body to fall back on: what wraps a reader hands the call on, so that a reader with a buffer can search it.
+    /// There is no default body: a wrapper forwards the call, so that a buffered reader can search its buffer.
     fn read_content(&mut self, content: &mut ArrayVec<u8, LONGEST_CONTENT>) -> Stop
         ensures { IsContentRead content.new.items
             (reader Self.remaining failed_reads self.old) (reader Self.remaining failed_reads self.new) result };
 }
 
-/// A writer that counts its failures, the writes that were handed bytes and took none, and its
-/// flushes.
+/// A writer that counts its failures, its flushes, and the writes that were given bytes and took none.
 ///
-/// It serves the writing side as [`CountedRead`] does the reading side.
+/// It is the counterpart of [`CountedRead`] for writing.
 pub trait CountedWrite: Write {
-    // How many writes and flushes failed, writes took none of their bytes, and flushes there were, each modulo 2^64.
+    // The numbers of failed writes and flushes, of writes that took none of their bytes, and of flushes, each modulo 2^64.
     ghost counts: { Self → WriteCounts };
 
-    /// One write, with what `write` of [`Write`] says of its bytes.
+    /// Writes once. Treats the bytes as [`Write`]'s `write` does.
     fn write_counted(&mut self, buf: &[u8]) -> io::Result<usize>
         ensures bound { WritesAtMost result buf.now }
         ensures bytes { WriteAppends (Self.contents self.old) (Self.contents self.new) result buf.now }
         ensures counts { CountsWrite result buf.now (counts self.old) (counts self.new) };
 
-    /// One flush, with what `flush` of [`Write`] says of the bytes.
+    /// Flushes once. Treats the bytes as [`Write`]'s `flush` does.
     fn flush_counted(&mut self) -> io::Result<()>
         ensures bytes { Keeps (Self.contents self.old) (Self.contents self.new) }
         ensures counts { CountsFlush result (counts self.old) (counts self.new) };
@@ -57,8 +56,8 @@ pub trait CountedWrite: Write {
 
 /// Any reader or writer, with its counts.
 ///
-/// It adds no buffer: each call is one call of the inner reader or writer, and a failed one is not
-/// tried again. The counts begin at 0 and wrap at 2^64.
+/// It adds no buffer: each call makes one call of the inner reader or writer, and a failed call isn't retried. The counts start at 0 and wrap at
+/// 2^64.
 #[derive(Drop)]
 pub struct Counting<T> {
     inner: T,
@@ -83,7 +82,7 @@ impl<T> Model for Counting<T> {
 }
 
 impl<T> Counting<T> {
-    /// Takes the reader or writer as it stands, with every count at 0.
+    /// Wraps the reader or writer, with every count at 0.
     pub fn new(inner: T) -> Self
         ensures { result ≡ record { inner = inner; failed_reads = 0; counts = record { failed = 0; empty = 0; flushes = 0 } } }
     {
@@ -96,42 +95,42 @@ impl<T> Counting<T> {
         }
     }
 
-    /// The inner reader or writer. What is done through it isn't counted.
+    /// Returns the inner reader or writer. Calls made through it aren't counted.
     pub fn get_ref(&self) -> &T
         ensures { result.now ≡ self.now.inner }
     {
         &self.inner
     }
 
-    /// Gives the inner reader or writer back, without the counts.
+    /// Returns the inner reader or writer and drops the counts.
     pub fn into_inner(self) -> T
         ensures { result ≡ self.inner }
     {
         self.inner
     }
 
-    /// How many reads failed, modulo 2^64.
+    /// Returns the number of failed reads, modulo 2^64.
     pub fn failed_reads(&self) -> u64
         ensures { result ≡ self.now.failed_reads }
     {
         self.failed_reads
     }
 
-    /// How many writes and flushes failed, modulo 2^64.
+    /// Returns the number of failed writes and flushes, modulo 2^64.
     pub fn failed_writes(&self) -> u64
         ensures { result ≡ self.now.counts.failed }
     {
         self.failed_writes
     }
 
-    /// How many writes were handed bytes and took none, modulo 2^64.
+    /// Returns the number of writes that were given bytes and took none, modulo 2^64.
     pub fn empty_writes(&self) -> u64
         ensures { result ≡ self.now.counts.empty }
     {
         self.empty_writes
     }
 
-    /// How many flushes there were, failed ones too, modulo 2^64.
+    /// Returns the number of flushes, including failed ones, modulo 2^64.
     pub fn flushes(&self) -> u64
         ensures { result ≡ self.now.counts.flushes }
     {
@@ -157,7 +156,7 @@ impl<T: Read> Counting<T> {
     }
 }
 
-/// Counts one more. A count that is full goes back to 0.
+/// Adds one to a count. A full count wraps to 0.
 #[cold]
 pub fn count_one(count: &mut u64)
     ensures { count.new ≡ next_count count.old }

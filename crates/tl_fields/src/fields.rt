@@ -1,11 +1,11 @@
-//! A field of a record line, by its places.
+//! A field of a record line, by its columns.
 ghost use Rattle.std.specs.Prelude.{◌≡◌, ◌+◌, ◌-◌, ◌≤◌, length};
 ghost use Rattle.tl_fields.specs.Field.{field_of};
 
-/// The bytes of `line` from place `first` to place `last`.
+/// Returns the bytes of `line` from column `first` to column `last`.
 ///
-/// Places are counted from 1, and both ends belong to the field, as in the columns Beg and End of
-/// the record layouts in the TIGER/Line 2006 documentation. The field borrows the line.
+/// Columns are counted from 1 and both are inclusive, like Beg and End in the record layouts of the TIGER/Line 2006 documentation. The field borrows
+/// the line.
 #[inline]
 pub fn field(line: &[u8], first: usize, last: usize) -> &[u8]
     requires counted_from_one { 1 ≤ first }

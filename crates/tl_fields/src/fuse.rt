@@ -1,4 +1,4 @@
-//! Readers and writers that go wrong once, to try what stands on them.
+//! Readers and writers that fail once, for testing the code that uses them.
 ghost use Rattle.std.specs.Prelude.{◌≡◌, ◌≤◌, take, true, false, length, IsErr, IfOk};
 ghost use Rattle.std.specs.Io.{ReadsAtMost, WritesAtMost};
 ghost use Rattle.std.specs.Io.KnownBytes.{Keeps, ReadConsumes, WriteAppends};
@@ -8,37 +8,36 @@ use crate::counted::{CountedRead, CountedWrite, count_one};
 use std::io;
 use std::io::{ErrorKind, Read, Write};
 
-/// How a fuse blows.
+/// How the failing call fails.
 #[derive(Clone, Copy, PartialEq, Eq)]
 pub enum Burst {
-    /// The call fails.
+    /// The call returns an error.
     Fails(ErrorKind),
-    /// The write takes none of its bytes. A read or a flush fails in its place, as `WriteZero`.
+    /// The write takes none of its bytes. A read or a flush returns a `WriteZero` error instead.
     TakesNothing,
 }
 
-/// A reader or writer that passes so many calls, or takes so many bytes, then goes wrong in one call,
-/// and passes all after it.
+/// A reader or writer that passes a number of calls, or takes a number of bytes, then fails one call and passes every call after it.
 ///
-/// A call that it passes is one call of the inner device, whose counts show that it did what the device does; of one that goes
-/// wrong the device sees nothing. It counts its calls, so that a caller who tries a failed one again is seen.
+/// A call that passes is one call of the inner reader or writer, and that one's counts show what it did. A call that fails never reaches the inner
+/// reader or writer. The fuse counts its calls, which exposes a caller that retries a failed one.
 #[derive(Drop)]
 pub struct Fuse<T> {
     pub inner: T,
-    /// How many calls still pass.
+    /// The number of calls that still pass.
     pub calls_left: u64,
-    /// How many bytes writes still take.
+    /// The number of bytes that writes still take.
     pub bytes_left: usize,
     pub burst: Burst,
     pub is_blown: bool,
-    /// How many calls there were, modulo 2^64.
+    /// The number of calls, modulo 2^64.
     pub calls: u64,
 }
 
 impl<T> Fuse<T> {
     ghost use Rattle.tl_fields.specs.Fuse.{after_call, is_due, room};
 
-    /// Passes so many calls, and then goes wrong.
+    /// Creates a fuse that passes `calls` calls and then fails one.
     pub fn after_calls(inner: T, calls: u64, burst: Burst) -> Self
         ensures { result ≡ record { inner = inner; calls_left = calls; bytes_left = usize.MAX; burst = burst; is_blown = false; calls = 0 } }
     {
@@ -52,7 +51,7 @@ impl<T> Fuse<T> {
         }
     }
 
-    /// Takes so many bytes, and then goes wrong.
+    /// Creates a fuse that takes `bytes` bytes and then fails a call.
     pub fn after_bytes(inner: T, bytes: usize, burst: Burst) -> Self
         ensures { result ≡ record { inner = inner; calls_left = u64.MAX; bytes_left = bytes; burst = burst; is_blown = false; calls = 0 } }
     {
@@ -66,7 +65,7 @@ impl<T> Fuse<T> {
         }
     }
 
-    /// Counts a call that hands over so many bytes, and tells whether it goes wrong.
+    /// Counts a call that passes `bytes` bytes, and returns whether it fails.
     fn blows(&mut self, bytes: usize) -> bool
         ensures value { result ≡ is_due self.old bytes }
         ensures counted { self.new ≡ after_call self.old bytes }
@@ -79,7 +78,7 @@ impl<T> Fuse<T> {
         is_due
     }
 
-    /// How many of these bytes a write hands on.
+    /// Returns how many of these bytes a write forwards.
     fn room(&self, bytes: usize) -> usize
         ensures { result ≡ room self.now bytes }
     {

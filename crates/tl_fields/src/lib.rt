@@ -1,4 +1,4 @@
-//! Fields of a record line, their numbers and coordinates, and readers and writers that count their failures.
+//! Fields of a record line, the numbers and coordinates in them, and readers and writers that count their failures.
 #![tactic(auto)]
 
 mod buffered;

@@ -1,4 +1,4 @@
-//! The number or the coordinate that a field holds.
+//! The number or the coordinate in a field.
 ghost use Rattle.std.specs.Prelude.{◌≡◌, ◌^◌, ◌<◌, ◌≤◌, pos, nat_abs, length, reverse, option_map, IfSome, if◌then◌else◌, Some, None};
 ghost use Rattle.std.specs.List.{list_all};
 ghost use Rattle.std.specs.Char.{is_ascii_digit};
@@ -8,17 +8,16 @@ ghost use Rattle.tl_fields.specs.Number.{decimal_in, is_blank, number_of, trim, 
 
 const BLANK: u8 = b' ';
 
-// The width of an address field, the widest that is read as a number.
+// The width of an address field, the widest field that is read as a number.
 const MOST_DIGITS: usize = 11;
 
 // A longitude has a sign and 9 digits, a latitude a sign and 8.
 const MOST_COORDINATE_DIGITS: usize = 9;
 
-/// The number of a field, or `None` where it has none.
+/// Returns the number in a field, or `None` if it has none.
 ///
-/// In the TIGER/Line 2006 record layouts a number stands at the left or the right end of its field,
-/// and blanks fill the rest; a field without a number is blank. Only the byte 32 is a blank. A house
-/// number that is no plain number, as `164-20`, and more than 11 digits are no number.
+/// In the TIGER/Line 2006 record layouts a number is left- or right-justified in its field and padded with blanks; a field without a number is blank.
+/// Only byte 32 is a blank. A house number that isn't a plain number, such as `164-20`, and anything over 11 digits isn't a number.
 #[tactic(auto, unfolding(crate::specs::Number::number_of))]
 pub fn number(field: &[u8]) -> Option<u64>
     ensures value { result ≡ number_of field.now }
@@ -27,8 +26,8 @@ pub fn number(field: &[u8]) -> Option<u64>
     decimal(trim(field), MOST_DIGITS)
 }
 
-/// The coordinate of a field in millionths of a degree, or `None` where it has none: 1 to 9 digits between blanks, before which a sign may
-/// stand, as in `-086500000`. A blank between the sign and the digits isn't taken off.
+/// Returns the coordinate in a field in millionths of a degree, or `None` if it has none. A coordinate is 1 to 9 digits with an optional sign, as in
+/// `-086500000`, padded with blanks. Blanks between the sign and the digits aren't removed.
 #[tactic(auto, unfolding(crate::specs::Coordinate::coordinate_of))]
 pub fn coordinate(field: &[u8]) -> Option<i64>
     ensures value { result ≡ coordinate_of field.now }
@@ -37,7 +36,7 @@ pub fn coordinate(field: &[u8]) -> Option<i64>
     coordinate_in(trim(field))
 }
 
-/// The coordinate that is written without blanks at its ends.
+/// Returns the coordinate in a text without leading or trailing blanks.
 fn coordinate_in(text: &[u8]) -> Option<i64>
     ensures value { result ≡ coordinate_in text.now }
     ensures small { IfSome result (λ millionths. nat_abs millionths < 10 ^ 9) }
@@ -49,14 +48,14 @@ fn coordinate_in(text: &[u8]) -> Option<i64>
     }
 }
 
-/// Whether all bytes are blanks.
+/// Returns whether all bytes are blanks.
 pub fn blank(bytes: &[u8]) -> bool
     ensures { result ≡ is_blank bytes.now }
 {
     bytes.iter().all(|byte| *byte == BLANK)
 }
 
-/// The bytes without the blanks at both ends.
+/// Removes leading and trailing blanks.
 fn trim(field: &[u8]) -> &[u8]
     ensures { result.now ≡ trim field.now }
 {
@@ -83,7 +82,7 @@ fn without_trailing_blanks(field: &[u8]) -> &[u8]
     rest
 }
 
-/// A number without a sign, of millionths of a degree.
+/// Parses an unsigned number of millionths of a degree.
 fn millionths(digits: &[u8]) -> Option<i64>
     ensures value { result ≡ option_map pos (decimal_in 9 digits.now) }
     ensures small { IfSome result (λ amount. nat_abs amount < 10 ^ 9) }
@@ -91,7 +90,7 @@ fn millionths(digits: &[u8]) -> Option<i64>
     Some(decimal(digits, MOST_COORDINATE_DIGITS)? as i64)
 }
 
-/// The number that digits write, of which there are one or more, up to a number of them.
+/// Parses a decimal number of 1 to `most` digits.
 fn decimal(digits: &[u8], most: usize) -> Option<u64>
     requires few { most ≤ 11 }
     ensures value { result ≡ decimal_in most digits.now }

@@ -1,4 +1,4 @@
-//! A text, written whole or up to the first fault.
+//! Writing a text completely or up to the first fault.
 ghost use Rattle.tl_fields.specs.Device.{writer};
 ghost use Rattle.tl_fields.specs.Writing.{WritesText};
 
@@ -6,7 +6,7 @@ use crate::counted::CountedWrite;
 use refusals::{Fault, Refusal};
 use thiserror::Error;
 
-/// Why a text wasn't written whole.
+/// Why a text wasn't written completely.
 #[derive(Clone, Copy, Debug, PartialEq, Eq, Error)]
 pub enum WriteFault {
     #[error("a write failed")]
@@ -28,8 +28,7 @@ impl Fault for WriteFault {
     }
 }
 
-/// Writes the text, in as many writes as the writer wants. Nothing is tried again, not after `Interrupted` either, and nothing is
-/// flushed.
+/// Writes the text, in as many writes as it takes. Nothing is retried, not even after `Interrupted`, and nothing is flushed.
 pub fn write_whole<W: CountedWrite>(out: &mut W, text: &[u8]) -> Result<(), WriteFault>
     ensures { WritesText text.now result (writer W.contents W.counts out.old) (writer W.contents W.counts out.new) }
 {

@@ -2,7 +2,7 @@ use Rattle.std.proofs.Common.{◌≡◌, ℕ, ◌≤◌, length, take, drop}
 use Rattle.std.specs.Io.KnownBytes.{Appends}
 use Rattle.tl_fields.proofs.writing.write_whole.Given as goal
 
--- a front of the text was written, the rest is left, and nothing is counted
+-- a front of the text was written, the rest remains, and no fault is counted
 abbrev pub invariant-loop-rest : goal.invariant-loop-rest
 invariant-loop-rest g l =
     (count : ℕ) × (count ≤ length l.text) × (l.rest ≡ drop count l.text)

@@ -2,7 +2,7 @@ use Rattle.std.proofs.Common.{◌-◌, ◌≤◌, length, take}
 use Rattle.tl_fields.proofs.ContentLemmas.{IsSoFar}
 use Rattle.tl_fields.proofs.buffered.BufferedCountedRead.read_content.Given as goal
 
--- the bytes that are kept are the line's so far
+-- the kept bytes are the line so far
 abbrev pub invariant-loop-stop : goal.invariant-loop-stop
 invariant-loop-stop g l = record {
   within : l.kept ≤ length l.content.items;
