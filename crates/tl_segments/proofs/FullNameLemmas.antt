@@ -1,4 +1,4 @@
--- Full names: their fields apart and beside each other.
+-- Full names: their fields taken apart and put side by side.
 use Rattle.std.proofs.Common.{◌≡◌, ◌<◌, ℕ, zero, suc, List, [], ◌∷◌, ◌++◌, length, map, Option, Some, None, All}
 use Rattle.std.proofs.Common.{option_map, slice_get, IfSome, refl, sym, ap, subst, ◌∙◌, append_assoc, length-append, arith}
 use Rattle.std.specs.List.{filter_map, cons_option}
@@ -14,13 +14,13 @@ use Rattle.tl_segments.specs.declared.name.TheConstants.{NAME_LENGTH}
 use Rattle.tl_segments.specs.declared.range.RangeFields.{RangeFields}
 use Rattle.tl_segments.specs.declared.segment.TheConstants.{NAME_LIMIT}
 
--- full names, taken apart and put together
+-- full names taken apart and put back together
 pub all_with_affixes-of : (names : List FullNameFields)
     → all_with_affixes (map affixes_of names) (map (λ (name : FullNameFields). name.fename) names) ≡ names
 all_with_affixes-of [] = refl
 all_with_affixes-of (name ∷ names) = ap (λ (others : List FullNameFields). name ∷ others) (all_with_affixes-of names)
 
--- the names of names with affixes
+-- the FENAMEs of names with affixes
 fenames : (affixes : List Affixes) (names : List (List ℕ)) → length affixes ≡ length names
     → map (λ (name : FullNameFields). name.fename) (all_with_affixes affixes names) ≡ names
 fenames [] [] same = refl
@@ -29,13 +29,13 @@ fenames (affix ∷ affixes) [] same = absurd (omega (arith, same))
 fenames (affix ∷ affixes) (name ∷ names) same =
     ap (λ (others : List (List ℕ)). name ∷ others) (fenames affixes names (omega (arith, same)))
 
--- the full names of a segment have its names
+-- the FENAMEs of a segment's full names are its names
 pub names_of_full_names : (segment : Contents) → IsSegment segment
     → map (λ (name : FullNameFields). name.fename) (full_names_of segment) ≡ names_of segment
 names_of_full_names segment is =
     ap (λ (others : List (List ℕ)). (own_full_name segment.bytes).fename ∷ others) (fenames segment.affixes segment.names is.paired)
 
--- the element at an index, of elements of which this holds
+-- a property of all elements holds for the element at an index
 IfSome-slice_get : {X : Type 0} (P : X → Type 0) (xs : List X) (index : ℕ) → All P xs → IfSome (slice_get xs index) P
 IfSome-slice_get P [] index all = tt
 IfSome-slice_get P (x ∷ xs) zero all = all 0 x (omega arith)
@@ -54,7 +54,7 @@ are_full (affix ∷ affixes) (name ∷ names) are named =
     (are_full affixes names (λ k d inside. are (suc k) d (omega arith)) (λ k d inside. named (suc k) d (omega arith)))
 
 module _ {segment : Contents} (is : IsSegment segment) (index : ℕ) where
-  -- the alternate name with a number
+  -- the FENAME of the alternate full name at an index
   pub fename_at : (found : Option FullNameFields) → found ≡ slice_get (all_with_affixes segment.affixes segment.names) index
       → option_map (λ (name : FullNameFields). name.fename) found ≡ slice_get segment.names index
   fename_at found same =
@@ -69,7 +69,7 @@ module _ {segment : Contents} (is : IsSegment segment) (index : ℕ) where
       (IfSome-slice_get IsFullName (all_with_affixes segment.affixes segment.names) index
       (are_full segment.affixes segment.names is.affixes is.names))
 
--- a segment with one full name more
+-- a segment with one more full name
 pub with_name-is : (segment : Contents) (name : FullNameFields) → IsSegment segment → IsFullName name → length segment.names < NAME_LIMIT
     → IsSegment (with_names segment (name ∷ []))
 with_name-is segment name is full room = record {
@@ -90,7 +90,7 @@ with_name-is segment name is full room = record {
   few_ranges = is.few_ranges;
 }
 
--- what a segment with more names kept consists of
+-- the contents of a segment with more names kept
 pub contents-more : (bytes : List ℕ) (names more : List FullNameFields) (ranges : List RangeFields)
     → contents bytes (names ++ more) ranges ≡ with_names (contents bytes names ranges) more
 contents-more bytes names more ranges =
@@ -107,7 +107,7 @@ contents-more bytes names more ranges =
       ranges = ranges;
     }) (map-append affixes_of names more)
 
--- names added after names
+-- appending names to names
 pub with_names-none : (segment : Contents) → with_names segment [] ≡ segment
 with_names-none segment =
     ap (λ names. record segment { names = names; affixes = segment.affixes ++ [] }) (append-nil segment.names)
@@ -129,7 +129,7 @@ with_names-more segment names more =
     })
     (added affixes_of segment.affixes names more)
 
--- what is found of items, mapped
+-- the items found, mapped
 module _ {X Y Z : Type 0} (g : Y → Z) (h : X → Option Y) (k : X → Option Z) (is : (x : X) → k x ≡ option_map g (h x)) where
   mapped_first : (found : Option Y) (others : List Y) → map g (cons_option found others) ≡ cons_option (option_map g found) (map g others)
   mapped_first None others = refl

@@ -1,4 +1,4 @@
--- What an index has of a TLID is what its lines have.
+-- What an index has for a TLID is what its lines have.
 use Rattle.std.proofs.Common.{◌≡◌, ◌≤◌, ℕ, inl, inr, length, List, [], ◌∷◌, ◌++◌, map, Option, Some, None, Ok, Err, refl}
 use Rattle.std.proofs.Common.{option_map, is_some, IsSome, sym, ap, subst, ◌∙◌, arith}
 use Rattle.std.specs.List.{filter_map, find, flat_map, cons_option}
@@ -31,7 +31,7 @@ module _ {P Y : Type 0} (name other : ℕ → Option Y) (same : (feat : ℕ) →
   named_by None names feats e = e
   named_by (Some feat) names feats e = ap (λ found. cons_option found names) (same feat) ∙ ap (λ names. cons_option (other feat) names) e
 
-  -- to look for the names of numbers, where there are any, is to look for those of the numbers that there are
+  -- looking up the names of optional numbers is looking up the names of the numbers present
   named : (fields : List P) → filter_map (option_and_then name) (map number fields) ≡ filter_map other (filter_map number fields)
   named [] = refl
   named (field ∷ fields) = named_by (number field) (filter_map (option_and_then name) (map number fields)) (filter_map number fields)
@@ -54,7 +54,7 @@ names_of_tlid index lines tlid of_lines =
     ap (λ list. flat_map (names_among index.names) list) (of_lines.features tlid)
     ∙ names_of_lines index.names lines.rt5 (lines_with Rt4 tlid lines.rt4) of_lines.names
 
--- what the full names of the index's TLID have, by what the full name of each FEAT has
+-- a field of each full name for a TLID in the index, derived from the same field of each FEAT's full name
 fields_of_tlid : {A Z : Type 0} (index : Index A) (lines : JoinedLines) (tlid : ℕ) → IsIndexOf index lines → (g : FullNameFields → Z)
     (field : List ℕ → Z) → ((line : List ℕ) → field line ≡ g (full_name_in line))
     → map g (names_in index tlid) ≡ filter_map (λ feat. option_map field (find (has_number Rt5 feat) lines.rt5))
@@ -68,7 +68,7 @@ fields_of_tlid index lines tlid of_lines g field same =
     by_line None = refl
     by_line (Some line) = ap Some (same line)
 
--- a segment with what the index has of its TLID
+-- a segment with what the index has for its TLID
 pub segment_from_index : {A : Type 0} (index : Index A) (lines : JoinedLines) (line : List ℕ) (tlid : ℕ) (segment : Contents)
     → IsIndexOf index lines → number_in Rt1 line ≡ Some tlid → segment ≡ contents line (names_in index tlid)
     (list_at index.ranges tlid) → segment ≡ segment_of lines line
@@ -96,7 +96,7 @@ segment_from_index index lines line tlid segment of_lines is made =
           option_map_or (further_ranges lines) found [];
     }) (sym is)
 
--- something is joined to a segment where the index has a name or a range of its TLID
+-- something is joined to a segment if the index has a name or a range for its TLID
 
 module _ {A : Type 0} (index : Index A) (lines : JoinedLines) (line : List ℕ) (tlid : ℕ) (of_lines : IsIndexOf index lines)
     (is : number_in Rt1 line ≡ Some tlid) where
@@ -116,7 +116,7 @@ pub record HasLine (line : LineParts) (number tlid : ℕ) (old new : Reader) (se
   pub good : ReadsGoodLine line (line_of number segment) old new
   pub numbered : number_in Rt1 segment.bytes ≡ Some tlid
 
--- so it is of a segment that has the bytes of the one that the line was read into
+-- this also holds for any segment with the bytes that the line was read into
 pub has_line : {segment : Contents} (line : LineParts) (number tlid : ℕ) (read : Contents) (old new : Reader)
     → IsRecordRead line number read old new (Ok (Some tlid)) → segment.bytes ≡ read.bytes → HasLine line number tlid old new segment
 has_line line number tlid read old new is same = record {
@@ -126,7 +126,7 @@ has_line line number tlid read old new is same = record {
 
 module _ {A : Type 0} (index : Index A) {line : LineParts} {number tlid : ℕ} {old new : Reader} {segment : Contents}
     (has : HasLine line number tlid old new segment) where
-  -- it has what the index has of its TLID
+  -- it has what the index has for its TLID
   pub segment_read : segment ≡ contents segment.bytes (names_in index tlid) (list_at index.ranges tlid)
       → IsSegmentRead index line number segment old new (Ok (Some tt))
   segment_read made =
@@ -139,7 +139,7 @@ module _ {A : Type 0} (index : Index A) {line : LineParts} {number tlid : ℕ} {
   pub wants_ranges : 1 ≤ length (list_at index.ranges tlid) → IsSegmentRead index line number segment old new (Err Memory)
   wants_ranges some = (has.good, λ lines of_lines. ranges_joined index lines segment.bytes tlid of_lines has.numbered some)
 
--- segments with these numbers for TLIDs have numbers for TLIDs
+-- segments whose TLIDs have these numbers have numeric TLIDs
 pub has_tlids : (tlids : List ℕ) (segments : List Contents) → AreTlids tlids segments → HasTlids segments
 has_tlids tlids [] same = All-nil (λ (segment : Contents). IsSome (tlid_of segment))
 has_tlids [] (segment ∷ segments) same = absurd (omega (arith, ap length same))
@@ -147,7 +147,7 @@ has_tlids (tlid ∷ tlids) (segment ∷ segments) same =
     All-cons (λ (segment : Contents). IsSome (tlid_of segment)) segment segments
     (let is : tlid_of segment ≡ Some tlid = cc in ap is_some is) (has_tlids tlids segments (cc))
 
--- one segment more
+-- one more segment
 pub tlids_push : (tlids : List ℕ) (segments : List Contents) (tlid : ℕ) (segment : Contents) → AreTlids tlids segments
     → tlid_of segment ≡ Some tlid → AreTlids (tlids ++ tlid ∷ []) (segments ++ segment ∷ [])
 tlids_push tlids segments tlid segment same is =

@@ -1,4 +1,4 @@
--- Lines joined by their numbers: what one line more adds.
+-- Lines joined by their numbers: what one more line adds.
 use Rattle.std.proofs.Common.{◌≡◌, ℕ, ◌+◌, ◌<◌, ◌≤◌, nat_eq, Bool, true, false, cond, if◌then◌else◌, List, [], ◌∷◌, ◌++◌, length, map}
 use Rattle.std.proofs.Common.{Option, Some, None, unwrap_or, option_map, Result, Ok, Err, IfOk, MatchBool, refl, sym, ap, ◌∙◌}
 use Rattle.std.proofs.Common.{length-append, arith}
@@ -22,12 +22,12 @@ use Rattle.tl_segments.specs.declared.feature_names.FeatureNames.{FeatureNames}
 use Rattle.tl_segments.specs.declared.grouped.Grouped.{Grouped}
 use Rattle.tl_segments.specs.declared.segment.TheConstants.{LINE_LIMIT}
 
--- whether a line has a number, by the number that it has
+-- whether a line has a given number, decided by the number that it has
 has_number_by : (file : CountyFile) (line : List ℕ) (number q : ℕ) → number_in file line ≡ Some number
     → has_number file q line ≡ nat_eq number q
 has_number_by file line number q is = ap (λ found. option_eq nat_eq found (Some q)) is
 
--- the lines with a number, where one line more has this number
+-- the lines with a number, after one more line with this number
 pub lines_with-push : (file : CountyFile) (lines : List (List ℕ)) (line : List ℕ) (number q : ℕ) → number_in file line ≡ Some number
     → lines_with file q (lines ++ line ∷ []) ≡ lines_with file q lines ++ cond (nat_eq number q) (line ∷ []) []
 lines_with-push file lines line number q is =
@@ -39,7 +39,7 @@ keeps_by : {V : Type 0} (f : List ℕ → V) (found : List (List ℕ)) (line : L
 keeps_by f found line list true e = ap (λ s. s ++ f line ∷ []) e ∙ sym (map-append f found (line ∷ []))
 keeps_by f found line list false e = e ∙ ap (λ s. map f s) (sym (append-nil found))
 
--- a table of lists that keeps lines keeps one line more
+-- a table of lists that keeps lines keeps one more line
 pub keeps-push : {V A : Type 0} (file : CountyFile) (f : List ℕ → V) {old new : Grouped V A} (lines : List (List ℕ)) (line : List ℕ)
     {number : ℕ} → number_in file line ≡ Some number → ((q : ℕ) → list_at old q ≡ map f (lines_with file q lines))
     → AddsAt old new number (f line) → (q : ℕ) → list_at new q ≡ map f (lines_with file q (lines ++ line ∷ []))
@@ -51,7 +51,7 @@ length_by : (found : List (List ℕ)) (line : List ℕ) (has : Bool) → length 
 length_by found line true = length-append found (line ∷ [])
 length_by found line false = length-append found []
 
--- how many lines have a number, with one line more
+-- the count of lines with a number, after one more line
 length_with-push : (file : CountyFile) (lines : List (List ℕ)) (line : List ℕ) (number q : ℕ) → number_in file line ≡ Some number
     → length (lines_with file q (lines ++ line ∷ [])) ≡ length (lines_with file q lines) + cond (nat_eq number q) 1 0
 length_with-push file lines line number q is =
@@ -60,13 +60,13 @@ length_with-push file lines line number q is =
 few_by : (count : ℕ → ℕ) (number q limit : ℕ) → count q ≤ limit → count number < limit → count q + cond (nat_eq number q) 1 0 ≤ limit
 few_by count number q limit few room = grind (arith, nat_tests)
 
--- lines within the limit stay within it, where the number of one line more had room
+-- lines within the limit stay within it if the number of the added line had room
 pub few-push : (file : CountyFile) (lines : List (List ℕ)) (line : List ℕ) (number : ℕ) → number_in file line ≡ Some number
     → FewHaveEach file lines → length (lines_with file number lines) < LINE_LIMIT → FewHaveEach file (lines ++ line ∷ [])
 few-push file lines line number is few room q =
     rw (length_with-push file lines line number q is) (few_by (λ n. length (lines_with file n lines)) number q LINE_LIMIT (few q) room)
 
--- and are beyond it where it had none
+-- and exceed it if the number had none
 pub not_few-push : (file : CountyFile) (lines : List (List ℕ)) (line : List ℕ) (number : ℕ) → number_in file line ≡ Some number
     → LINE_LIMIT ≤ length (lines_with file number lines) → ¬ FewHaveEach file (lines ++ line ∷ [])
 not_few-push file lines line number is full few =
@@ -84,7 +84,7 @@ name_by field None line false = refl
 name_by field (Some before) line true = refl
 name_by field (Some before) line false = refl
 
--- a table of names that keeps lines of type 5 keeps one line more
+-- a table of names that keeps type 5 lines keeps one more line
 pub names-push : {A : Type 0} (old new : FeatureNames A) (lines : List (List ℕ)) (line : List ℕ) (feat : ℕ) → number_in Rt5 line ≡ Some feat
     → KeepsNames old lines → AddsNameAt old new feat (full_name_in line) → KeepsNames new (lines ++ line ∷ [])
 names-push old new lines line feat is keeps adds q =
@@ -97,18 +97,18 @@ names-push old new lines line feat is keeps adds q =
     added ∙ sym (name_by full_name_in (find (has_number Rt5 q) lines) line (nat_eq feat q))
     ∙ ap (λ line. option_map full_name_in line) (sym found)
 
--- the segment of one line more
+-- the segments after one more line
 pub segments_push : (joined : JoinedLines) (lines : List (List ℕ)) (line : List ℕ)
     → segments_of joined (lines ++ line ∷ []) ≡ segments_of joined lines ++ segment_of joined line ∷ []
 segments_push joined lines line = map-append (segment_of joined) lines (line ∷ [])
 
--- counts of lines that count one line more
+-- counts of lines that include one more line
 pub counts-push : {T A : Type 0} (file : CountyFile) {old new : Counts T A} (lines : List (List ℕ)) (line : List ℕ) {number : ℕ}
     → number_in file line ≡ Some number → KeepsCounts file old lines → CountsAt old new number → KeepsCounts file new (lines ++ line ∷ [])
 counts-push file lines line {number} is keeps adds q =
     adds.counts q ∙ ap (λ n. n + cond (nat_eq number q) 1 0) (keeps q) ∙ sym (length_with-push file lines line number q is)
 
--- a line with this number comes after lines within the limits, in a file that has a limit
+-- a line with this number follows lines that are within the limits, in a file that has a limit
 pub record Follows (file : CountyFile) (lines : List (List ℕ)) (line : List ℕ) (number : ℕ) : Type 0 where
   pub numbered : number_in file line ≡ Some number
   pub within : IsWithinLimits file lines
@@ -121,7 +121,7 @@ with_room Rt6 lines line number follows room = few-push Rt6 lines line number fo
 with_room otherwise lines line number follows room = tt
 
 module _ {file : CountyFile} {lines : List (List ℕ)} {line : List ℕ} {number : ℕ} (follows : Follows file lines line number) where
-  -- it is added where its number has room, and else the lines are beyond the limits with it
+  -- the line is added if its number has room; otherwise the lines with it exceed the limits
   added_by : {Adds : Type 0} (keeps : List (List ℕ) → Type 0) (count : ℕ) → count ≡ length (lines_with file number lines)
       → (Adds → (count < LINE_LIMIT) × keeps (lines ++ line ∷ [])) → (result : Result Bool AllocError)
       → IfOk result (λ added. MatchBool added Adds (LINE_LIMIT ≤ count)) → IfOk result (IsAdded file lines line keeps)

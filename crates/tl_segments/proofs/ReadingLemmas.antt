@@ -1,4 +1,4 @@
--- Reading a county's file line by line, where the reader's bytes are known and where they aren't.
+-- Reading a county's file line by line, for readers with known and with unknown bytes.
 use Rattle.std.proofs.Common.{◌≡◌, ◌≢◌, ℕ, ◌+◌, ◌<◌, ◌≤◌, ◌^◌, Bool, true, false, ◌==◌, if◌then◌else◌, inl, inr, List, [], ◌∷◌, ◌++◌}
 use Rattle.std.proofs.Common.{length, slice_index, Option, Some, None, is_some, IfSome, Ok, Err, refl, sym, ap, ◌∙◌, subst, length-append}
 use Rattle.std.proofs.Common.{arith}
@@ -27,9 +27,9 @@ use Rattle.tl_segments.specs.declared.fault.CountyFile.TheVariants.{Rt1, Rt4, Rt
 use Rattle.tl_segments.specs.declared.fault.LoadFault.{LoadFault}
 use Rattle.tl_segments.specs.declared.fault.LoadFault.TheVariants.{Line, TooManyNames, TooManyRanges, Memory}
 
--- what two calls say of known bytes, one after the other
+-- what two consecutive calls say about known bytes
 module _ (P Q : List ℕ → List ℕ → Type 0) where
-  -- says this of those before both
+  -- says this about the bytes before both
   known_then : (bytes now left : Option (List ℕ)) (R : List ℕ → Type 0)
       → ((file mid rest : List ℕ) → P file mid → Q mid rest → R file) → WhereKnown bytes now P × WhereKnown now left Q → IfSome bytes R
   known_then None now left R f both = tt
@@ -37,7 +37,7 @@ module _ (P Q : List ℕ → List ℕ → Type 0) where
   known_then (Some file) (Some mid) None R f both = absurd both.1
   known_then (Some file) (Some mid) (Some rest) R f both = f file mid rest both.0 both.1
 
-  -- says this of both together
+  -- says this about both together
   known_both : (bytes now left : Option (List ℕ)) (R : List ℕ → List ℕ → Type 0)
       → ((file mid rest : List ℕ) → P file mid → Q mid rest → R file rest) → WhereKnown bytes now P × WhereKnown now left Q
       → WhereKnown bytes left R
@@ -46,14 +46,14 @@ module _ (P Q : List ℕ → List ℕ → Type 0) where
   known_both (Some file) (Some mid) None R f both = absurd both.1
   known_both (Some file) (Some mid) (Some rest) R f both = f file mid rest both.0 both.1
 
--- one first line more
+-- one more first line
 pub AreFirstLines-push : (lines : List (List ℕ)) (file mid line rest : List ℕ) → AreFirstLines file lines mid → IsFirstLine mid line rest
     → AreFirstLines file (lines ++ line ∷ []) rest
 AreFirstLines-push [] file mid line rest a first = (rest, subst (λ file. IsFirstLine file line rest) (sym a) first, refl)
 AreFirstLines-push (l ∷ lines) file mid line rest a first =
     (a.0, a.1, AreFirstLines-push lines a.0 mid line rest a.2 first)
 
--- bytes without a line feed end before the first one
+-- bytes without a line feed end no later than the first line feed
 no_feed-short : (taken rest front after : List ℕ) → HasNoLineFeed taken → taken ++ rest ≡ front ++ 10 ∷ after → length taken ≤ length front
 no_feed-short [] rest front after p e = omega arith
 no_feed-short (b ∷ taken) rest [] after p e = absurd (All-head (λ b. b ≢ 10) b taken p (cc))
@@ -70,7 +70,7 @@ long_line {line} {rest} taken after p e long (by_cr_lf f) =
 long_line taken after p e long (missing f g n) =
     omega (arith, length-append taken after, ap length (sym f ∙ e))
 
--- each record type's lines are shorter than the longest content
+-- the lines of each record type are shorter than the longest content
 layout_short : (file : CountyFile) → (layout file).length < 230
 layout_short Rt1 = omega arith
 layout_short otherwise = omega arith
@@ -89,13 +89,13 @@ may_have_by file flaw true true false e = inr (inr (cc))
 may_have_by file flaw true false numbered e = inr (inl (cc))
 may_have_by file flaw false typed numbered e = inl (cc)
 
--- the flaw of a line is one of its file's
+-- the flaw of a line is one that its file's lines may have
 may_have : (file : CountyFile) (line : List ℕ) (flaw : LineFlaw) → line_flaw (layout file) line ≡ Some flaw → MayHave file flaw
 may_have file line flaw e =
     may_have_by file flaw (length line == (layout file).length) (slice_index line 0 == (layout file).tag)
     (is_some (number_of (field_at (layout file).number line))) e
 
--- none of them is a read that failed, or a line that is too many
+-- such a flaw is neither a failed read nor a line that is too many
 of_its_own : (file : CountyFile) (flaw : LineFlaw) → MayHave file flaw → (flaw ≢ Read) × (flaw ≢ TooManyLines)
 of_its_own file flaw (inl e) = (λ read. cc, λ more. cc)
 of_its_own file flaw (inr (inl e)) = (λ read. cc, λ more. cc)
@@ -105,7 +105,7 @@ of_its_own otherwise flaw (inr (inr e)) = (λ read. cc, λ more. cc)
 not_empty : (file taken rest : List ℕ) → file ≡ taken ++ rest → length taken ≡ 231 → file ≢ []
 not_empty file taken rest e long none = omega (arith, length-append taken rest, ap length (sym none ∙ e))
 
--- a file that begins with 231 bytes without a line feed has a first line that is too long for its type
+-- if the bytes after these lines begin with 231 bytes without a line feed, the next line is too long for its type
 pub too_long_after : (file : CountyFile) (bytes mid rest : List ℕ) (lines : List (List ℕ)) → AreFirstLines bytes lines mid
     → BeginsTooLong mid rest → HasFlawAfter file WrongLength lines bytes rest
 too_long_after file bytes mid rest lines before (taken, e, p, long) =
@@ -120,13 +120,13 @@ too_long_after file bytes mid rest lines before (taken, e, p, long) =
       stands = inr (taken, e, p, long);
     }
 
--- these lines were read so far, and this was the last one of them
+-- these lines were read so far, and the last one is this line
 pub record IsReadSoFar (file : CountyFile) (lines : List (List ℕ)) (line : LineParts) (old new : Reader) : Type 0 where
   pub reads : ReadsLines file lines old new
   pub counted : line.number ≡ length lines
   pub small : line.number < 2 ^ 32
 
--- the same of lines that are kept
+-- the same for lines that are kept
 pub record KeepsSoFar (file : CountyFile) (keeps : List (List ℕ) → Type 0) (line : LineParts) (old new : Reader) : Type 0 where
   pub lines : List (List ℕ)
   pub kept : keeps lines
@@ -136,7 +136,7 @@ known_start : (bytes : Option (List ℕ)) → WhereKnown bytes bytes (λ bytes r
 known_start None = tt
 known_start (Some file) = refl
 
--- no lines are within the limits
+-- an empty list of lines is within the limits
 none_beyond : (file : CountyFile) → IsWithinLimits file []
 none_beyond Rt4 = λ number. omega arith
 none_beyond Rt6 = λ number. omega arith
@@ -155,14 +155,14 @@ none_read file line input zeroth = record {
 
 module _ {file : CountyFile} {lines : List (List ℕ)} {line : LineParts} {old now : Reader} (read : IsReadSoFar file lines line old now)
     (new_line : LineParts) (new : Reader) where
-  -- what the bytes after these lines are says this of all bytes
+  -- what the bytes after these lines satisfy implies this about all bytes
   known_after : (Q R : List ℕ → List ℕ → Type 0)
       → ((file mid rest : List ℕ) → AreFirstLines file lines mid → Q mid rest → R file rest) → WhereKnown now.left new.left Q
       → WhereKnown old.left new.left R
   known_after Q R joined known =
       known_both (λ bytes rest. AreFirstLines bytes lines rest) Q old.left now.left new.left R joined (read.reads.known, known)
 
-  -- a good line more
+  -- one more good line
   pub one_line_more : IsLineRead line new_line now new (Ok (Some tt)) → IsNextOf file lines new_line
       → IsReadSoFar file (lines ++ new_line.bytes ∷ []) new_line old new
   one_line_more next good = record {
@@ -228,7 +228,7 @@ module _ {file : CountyFile} {lines : List (List ℕ)} {line : LineParts} {old n
     follows = flaw_comes fault.flaw fault.line next flawed.0 flawed.1;
   }
 
-  -- a line with which the lines are beyond the limits
+  -- a line that puts the lines over the limits
   pub at_beyond : (number : ℕ) → IsLineRead line new_line now new (Ok (Some tt)) → number ≡ new_line.number
       → IsBeyond file lines new_line → IsOneTooMany file number old new
   at_beyond number next at beyond = record {
@@ -245,7 +245,7 @@ module _ {file : CountyFile} {lines : List (List ℕ)} {line : LineParts} {old n
     reads = next.0 ∙ read.reads.reads;
   }
 
-  -- a line that isn't taken
+  -- a line that is not kept
   pub not_taken : (keeps : List (List ℕ) → Type 0) (fault : LoadFault) → IsLineRead line new_line now new (Ok (Some tt))
       → IsTaken file lines new_line (Err fault) keeps → IsFileFault file fault old new
   not_taken keeps (Line of_file fault) next taken = (taken.0, lines, at_flaw fault next taken.1)
@@ -285,7 +285,7 @@ module _ {file : CountyFile} {lines : List (List ℕ)} {line : LineParts} {old n
 
 module _ {lines : List (List ℕ)} {line : LineParts} {old now : Reader} (read : IsReadSoFar Rt1 lines line old now) (new_line : LineParts)
     (new : Reader) where
-  -- a good line of type 1 more
+  -- one more good line of type 1
   pub good_line_more : ReadsGoodLine line new_line now new → IsReadSoFar Rt1 (lines ++ new_line.bytes ∷ []) new_line old new
   good_line_more next = one_line_more read new_line new next.0 (record { good = next.1; within = tt })
 

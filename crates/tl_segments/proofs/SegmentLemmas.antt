@@ -1,4 +1,4 @@
--- Fields of the record of a segment.
+-- Fields of a segment's record.
 use Rattle.std.proofs.Common.{◌≡◌, ℕ, ◌+◌, ◌-◌, ◌<◌, ◌≤◌, zero, suc, List, [], ◌∷◌, take, drop, slice_index, Some}
 use Rattle.std.proofs.Common.{slice_get, arith}
 use Rattle.std.proofs.lemmas.Grind.{common_steps}
@@ -7,11 +7,11 @@ use Rattle.tl_fields.specs.Field.{field_of}
 use Rattle.tl_segments.specs.FullName.{IsFullName, own_full_name}
 use Rattle.tl_segments.specs.Range.{AreBytes, IsRange, own_range}
 
--- part 0 is the record's own
+-- item 0 is the record's own
 pub slice_get_own : {X : Type 0} (own : X) (further : List X) (n : ℕ) → n < 1 → slice_get (own ∷ further) n ≡ Some own
 slice_get_own own further n first = grind (arith, common_steps)
 
--- bytes at the beginning and at the end of bytes
+-- taking bytes from the beginning, or dropping them, leaves bytes
 pub below-take : (n : ℕ) (bytes : List ℕ) → ((i : ℕ) → slice_index bytes i < 256) → (i : ℕ) → slice_index (take n bytes) i < 256
 below-take zero bytes below i = omega arith
 below-take (suc n) [] below i = omega arith
@@ -21,7 +21,7 @@ below-take (suc n) (byte ∷ bytes) below (suc i) = below-take n bytes (λ j. be
 below-drop : (n : ℕ) (bytes : List ℕ) → ((i : ℕ) → slice_index bytes i < 256) → (i : ℕ) → slice_index (drop n bytes) i < 256
 below-drop n bytes below i = rw (get_or-drop n bytes i 0) (below (n + i))
 
--- a field of bytes is bytes
+-- a field of bytes consists of bytes
 pub AreBytes-field_of : (bytes : List ℕ) (total first last : ℕ) → AreBytes total bytes → 1 ≤ first → first ≤ last → last ≤ total
     → AreBytes (last + 1 - first) (field_of bytes first last)
 AreBytes-field_of bytes total first last are from order until = record {
@@ -29,7 +29,7 @@ AreBytes-field_of bytes total first last are from order until = record {
   bytes = below-take (last + 1 - first) (drop (first - 1) bytes) (below-drop (first - 1) bytes are.bytes);
 }
 
--- the fields of a record's own full name have their lengths
+-- the fields of a record's own full name have the right lengths
 pub own_full_name_fields : (bytes : List ℕ) → AreBytes 228 bytes → IsFullName (own_full_name bytes)
 own_full_name_fields bytes are = record {
   fedirp = AreBytes-field_of bytes 228 18 19 are (omega arith) (omega arith) (omega arith);
@@ -38,7 +38,7 @@ own_full_name_fields bytes are = record {
   fedirs = AreBytes-field_of bytes 228 54 55 are (omega arith) (omega arith) (omega arith);
 }
 
--- the fields of a record's own range have their lengths
+-- the fields of a record's own range have the right lengths
 pub own_range_fields : (bytes : List ℕ) → AreBytes 228 bytes → IsRange (own_range bytes)
 own_range_fields bytes are = record {
   fraddl = AreBytes-field_of bytes 228 59 69 are (omega arith) (omega arith) (omega arith);

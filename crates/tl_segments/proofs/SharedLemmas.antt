@@ -1,4 +1,4 @@
--- The lists of segments that share them.
+-- The lists shared by segments.
 use Rattle.std.proofs.Common.{◌≡◌, ◌<◌, ℕ, nat_eq, if◌then◌else◌, Bool, true, false, List, [], ◌∷◌, ◌++◌, length, Option, Some, IfSome}
 use Rattle.std.proofs.Common.{refl, sym, ap, subst, ◌∙◌, append_assoc, length-append, arith}
 use Rattle.std.specs.HashMap.{get}
@@ -20,7 +20,7 @@ use Rattle.tl_segments.specs.declared.shared_lists.Joined.{Joined}
 use Rattle.tl_segments.specs.declared.shared_lists.SharedLists.{SharedLists}
 use Rattle.tl_segments.proofs.FullNameLemmas.{contents-more}
 
--- what a segment with more names of its own consists of
+-- the contents of a segment with more names of its own
 pub names_pushed : {A : Type 0} (shared : Option (Rc (Joined A) A)) (bytes : List ℕ) (names more : List FullNameFields)
     (ranges : List RangeFields)
     → contents_with shared bytes (names ++ more) ranges ≡ with_names (contents_with shared bytes names ranges) more
@@ -28,14 +28,14 @@ names_pushed shared bytes names more ranges =
     ap (λ all. contents bytes all (shared_ranges shared ++ ranges)) (sym (append_assoc (shared_names shared) names more))
     ∙ contents-more bytes (shared_names shared ++ names) more (shared_ranges shared ++ ranges)
 
--- and one with more ranges
+-- and of one with more ranges
 pub ranges_pushed : {A : Type 0} (shared : Option (Rc (Joined A) A)) (bytes : List ℕ) (names : List FullNameFields)
     (ranges more : List RangeFields) → contents_with shared bytes names (ranges ++ more)
     ≡ (let before = contents_with shared bytes names ranges in record before { ranges = before.ranges ++ more })
 ranges_pushed shared bytes names ranges more =
     ap (λ all. contents bytes (shared_names shared ++ names) all) (sym (append_assoc (shared_ranges shared) ranges more))
 
--- a segment with one range more
+-- a segment with one more range
 pub with_range-is : (segment : Contents) (range : RangeFields) → IsSegment segment → IsRange range → length segment.ranges < RANGE_LIMIT
     → IsSegment (record segment { ranges = segment.ranges ++ range ∷ [] })
 with_range-is segment range is good room = record {
@@ -48,7 +48,7 @@ with_range-is segment range is good room = record {
   few_ranges = omega (arith, room, length-append segment.ranges (range ∷ []));
 }
 
--- lists that are a segment's may be any segment's
+-- lists that one segment has, any segment may have
 pub may_join : {A : Type 0} (joined : Joined A) (bytes : List ℕ) → IsSegment (contents bytes joined.names.items joined.ranges.items)
     → MayJoin joined
 may_join joined bytes is = λ others are. record {
@@ -61,7 +61,7 @@ may_join joined bytes is = λ others are. record {
   few_ranges = is.few_ranges;
 }
 
--- the lists of one segment of a TLID are those of each
+-- the lists of one segment with a TLID are the lists of every segment with it
 pub lists_made : (lines : JoinedLines) (names : List FullNameFields) (ranges : List RangeFields) {first bytes : List ℕ} {tlid : ℕ}
     → number_in Rt1 first ≡ Some tlid → contents first names ranges ≡ segment_of lines first → number_in Rt1 bytes ≡ Some tlid
     → contents bytes names ranges ≡ segment_of lines bytes
@@ -74,7 +74,7 @@ lists_made lines names ranges {first} {bytes} has made is =
       ranges = option_map_or (further_ranges lines) found [];
     }) (has ∙ sym is)
 
--- lists that are kept with those of other TLIDs
+-- lists kept along with those of other TLIDs
 pub keeps_one_more : {A : Type 0} (index : Index A) (old new : SharedLists A) (tlid : ℕ) (joined : Rc (Joined A) A) → KeepsShared index old
     → IsJoinedTo index tlid joined.value
     → ((q : ℕ) → get nat_eq new.lists q ≡ (if nat_eq tlid q then Some joined else get nat_eq old.lists q)) → KeepsShared index new

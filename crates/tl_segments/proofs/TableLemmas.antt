@@ -1,4 +1,4 @@
--- Tables by number: what they have after a change.
+-- Tables by number: their contents after a change.
 use Rattle.std.proofs.Common.{◌≡◌, ℕ, zero, suc, ◌+◌, ◌-◌, ◌<◌, ◌≤◌, nat_eq, nat_le, cond, if◌then◌else◌, List, [], ◌∷◌, ◌++◌, length}
 use Rattle.std.proofs.Common.{get_or, take, Option, Some, None, slice_get, Vec, ap, sym, subst, refl, ◌∙◌, arith, Bool, true}
 use Rattle.std.proofs.Common.{false, unwrap_or}
@@ -14,24 +14,24 @@ use Rattle.tl_segments.specs.Tables.{HasShortLists, list_at}
 use Rattle.tl_segments.specs.declared.grouped.Grouped.{Grouped}
 use Rattle.tl_segments.proofs.FullNameLemmas.{with_names-more}
 
--- where no number has a value, all lists are short
+-- if no number has a value, all lists are short
 pub no_lists_short : {V A : Type 0} (table : Grouped V A) → ((number : ℕ) → list_at table number ≡ []) → HasShortLists table
 no_lists_short table none number = rw (none number) (omega arith)
 
--- what a map has at a number where a list was written, which is the list from before with one value more
+-- what a map returns for a number after a list was written: the previous list with one more value
 pub added_at : {V A : Type 0} (old : Grouped V A) (found : Option (Vec V A)) (number : ℕ) (value : V) (list : Vec V A) (q : ℕ)
     → found ≡ cond (nat_eq number q) (Some list) (get nat_eq old.lists q) → list.items ≡ list_at old number ++ value ∷ []
     → option_map_or (λ list. list.items) found [] ≡ (if nat_eq number q then list_at old q ++ value ∷ [] else list_at old q)
 added_at old found number value list q here items = grind (arith, nat_tests, common_steps)
 
--- what is found of the elements up to one more, where this is found of it
+-- the results for the elements up to one more, given the result for that one
 pub filter_map-more : {X Y : Type 0} (h : X → Option Y) (xs : List X) (i : ℕ) (d : X) (found : Option Y) → i < length xs
     → found ≡ h (get_or xs i d) → filter_map h (take (i + 1) xs) ≡ filter_map h (take i xs) ++ cons_option found []
 filter_map-more h xs i d found inside is =
     ap (λ s. filter_map h s) (take_at_read xs i d inside).1 ∙ filter_map-append h (take i xs) (get_or xs i d ∷ [])
     ∙ ap (λ found. filter_map h (take i xs) ++ cons_option found []) (sym is)
 
--- something is found among all elements, where something is found of one
+-- something is found among all elements if something is found for one
 pub filter_map-some : {X Y : Type 0} (h : X → Option Y) (xs : List X) (i : ℕ) (d : X) (y : Y) → i < length xs → Some y ≡ h (get_or xs i d)
     → 1 ≤ length (filter_map h xs)
 filter_map-some h [] i d y inside is = absurd (omega arith)
@@ -43,14 +43,14 @@ filter_map-some {Y = Y} h (x ∷ xs) (suc i) d y inside is = with_first (h x) (f
     with_first None others some = some
     with_first (Some first) others some = omega arith
 
--- names that were added after names
+-- names appended to names
 pub names-more : {now next : Contents} (start : Contents) {all : List FullNameFields} (names more : List FullNameFields)
     → now ≡ with_names start names → next ≡ with_names now more → all ≡ names ++ more → next ≡ with_names start all
 names-more start names more so_far added is =
     added ∙ ap (λ (segment : Contents). with_names segment more) so_far ∙ with_names-more start names more
     ∙ ap (λ names. with_names start names) (sym is)
 
--- the element at an index, where one more is pushed
+-- the element at an index, after one more was pushed
 slice_get-push : {Y : Type 0} (xs : List Y) (y : Y) (k : ℕ) → slice_get (xs ++ y ∷ [])
     k ≡ (if nat_eq (length xs) k then Some y else slice_get xs k)
 slice_get-push [] y zero = refl
@@ -58,7 +58,7 @@ slice_get-push [] y (suc k) = grind (arith, nat_tests)
 slice_get-push (x ∷ xs) y zero = grind (arith, nat_tests)
 slice_get-push (x ∷ xs) y (suc k) = slice_get-push xs y k ∙ grind (arith, nat_tests)
 
--- the number after those that follow a first one is the first one's distance from the end of the list
+-- the number following the consecutive ones: its distance from the first is the length of the list
 end_of : (first length q : ℕ) → first ≤ q → nat_eq length (q - first) ≡ nat_eq (first + length) q
 end_of first length q e = grind (arith, nat_tests)
 
@@ -68,11 +68,11 @@ named_by_push : {Y : Type 0} (same : Bool) (found other before : Option Y) (name
 named_by_push true found other before name none is = ap (λ b. Some (unwrap_or b name)) (sym (none refl))
 named_by_push false found other before name none is = is
 
--- the names of numbers: of those that follow a first one, and of others
+-- the names of numbers: consecutive ones from a first one, and others
 pub record AreNames {Y : Type 0} (xs : List Y) (first : ℕ) (others known : ℕ → Option Y) : Type 0 where
   pub are : (q : ℕ) → option_or (if nat_le first q then slice_get xs (q - first) else None) (others q) ≡ known q
 
--- a list of names that follow a first number, where one more is pushed
+-- a list of names for consecutive numbers, after one more was pushed
 module _ {Y : Type 0} (xs : List Y) (y : Y) (first : ℕ) where
   following_by : (q : ℕ) (reaches : Bool) → nat_le first q ≡ reaches
       → (if reaches then slice_get (xs ++ y ∷ []) (q - first) else None)
@@ -86,7 +86,7 @@ module _ {Y : Type 0} (xs : List Y) (y : Y) (first : ℕ) where
       ≡ (if nat_eq (first + length xs) q then Some y else (if nat_le first q then slice_get xs (q - first) else None))
   following-push q = following_by q (nat_le first q) refl
 
-  -- names of FEATs that follow the first one, and those of others, where the FEAT after the former gets a name and had none
+  -- names of consecutive FEATs and of others, after the FEAT that follows the consecutive ones gets a name that it lacked
   pub follows-push : {others known : ℕ → Option Y} → AreNames xs first others known → (feat : ℕ) → known feat ≡ None
       → feat ≡ first + length xs → (q : ℕ)
       → option_or (if nat_le first q then slice_get (xs ++ y ∷ []) (q - first) else None) (others q)

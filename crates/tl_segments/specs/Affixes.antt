@@ -9,13 +9,13 @@ pub record Affixes : Type 0 where
   pub fetype : List ℕ
   pub fedirs : List ℕ
 
--- the fields are bytes, of the lengths that the layout gives them
+-- the fields are bytes and have the layout's lengths
 pub record AreAffixes (affixes : Affixes) : Type 0 where
   pub fedirp : AreBytes DIRECTION_LENGTH affixes.fedirp
   pub fetype : AreBytes TYPE_LENGTH affixes.fetype
   pub fedirs : AreBytes DIRECTION_LENGTH affixes.fedirs
 
--- the affixes of a name without any: blank
+-- the affixes of a name that has none: blanks
 abbrev pub no_affixes : Affixes
 no_affixes = record {
   fedirp = replicate DIRECTION_LENGTH 32;

@@ -12,11 +12,11 @@ use Rattle.tl_segments.specs.declared.fault.CountyFile.TheVariants.{Rt1}
 use Rattle.tl_segments.specs.declared.fault.LoadFault.{LoadFault}
 use Rattle.tl_segments.specs.declared.index.Index.{Index}
 
--- what a county consists of
+-- the contents of a county
 pub record CountyParts : Type 0 where
   pub segments : List Contents
 
--- the number of a segment's TLID, where it has one
+-- the number of a segment's TLID, if it has one
 abbrev pub tlid_of : Contents → Option ℕ
 tlid_of segment = number_of (field_at TLID segment.bytes)
 
@@ -24,11 +24,11 @@ tlid_of segment = number_of (field_at TLID segment.bytes)
 abbrev pub HasTlids : List Contents → Type 0
 HasTlids segments = All (λ segment. IsSome (tlid_of segment)) segments
 
--- these are the numbers of the segments' TLIDs, in their order
+-- these are the numbers of the segments' TLIDs, in order
 abbrev pub AreTlids : List ℕ → List Contents → Type 0
 AreTlids tlids segments = map Some tlids ≡ map tlid_of segments
 
--- the segments are those of these type 1 lines, one of each, with what the index joins to them, and the numbers are those of their TLIDs
+-- the segments are those of these type 1 lines, one per line, with what the index joins to them, and the numbers are those of their TLIDs
 pub record KeepsSegments {A : Type 0} (index : Index A) (segments : List Contents) (tlids : List ℕ) (lines : List (List ℕ)) : Type 0 where
   pub joined : (joined : JoinedLines) → IsIndexOf index joined → segments ≡ segments_of joined lines
   pub counted : length segments ≡ length lines
@@ -47,7 +47,7 @@ pub record LoadsCounty (county : CountyParts) (old new : CountyReaders) : Type 0
   pub reads_joined : ReadsJoined joined old.joined new.joined
   pub rt1 : ReadsFile Rt1 lines old.rt1 new.rt1
 
--- why a county can't be loaded: type 1 is read after the others
+-- why a county can't be loaded; the type 1 file is read after the others
 pub data IsCountyFault (fault : LoadFault) (old new : CountyReaders) : Type 0 where
   before_rt1 : IsJoinedFault fault old.joined new.joined → new.rt1 ≡ old.rt1 → IsCountyFault fault old new
   in_rt1 : (lines : JoinedLines) → ReadsJoined lines old.joined new.joined → IsFileFault Rt1 fault old.rt1 new.rt1 → IsCountyFault fault old new

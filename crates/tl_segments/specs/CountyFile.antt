@@ -1,11 +1,11 @@
--- The files of a county (TIGER/Line 2006, record types 1, 4, 5 and 6): what their lines are like, and their record types.
+-- The files of a county (TIGER/Line 2006, record types 1, 4, 5 and 6): the layout of their lines, and their record types.
 use Rattle.std.specs.Prelude.{ℕ}
 use Rattle.tl_records.specs.Layout.{type1, type4, type5, type6}
 use Rattle.tl_records.specs.declared.layout.Layout.{Layout}
 use Rattle.tl_segments.specs.declared.fault.CountyFile.{CountyFile}
 use Rattle.tl_segments.specs.declared.fault.CountyFile.TheVariants.{Rt1, Rt4, Rt5, Rt6}
 
--- what the lines of the file are like
+-- the layout of the file's lines
 abbrev pub layout : CountyFile → Layout
 layout Rt1 = type1
 layout Rt4 = type4

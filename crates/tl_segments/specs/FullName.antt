@@ -11,21 +11,21 @@ use Rattle.tl_segments.specs.declared.name.TheConstants.{NAME_LENGTH}
 use Rattle.tl_segments.specs.declared.range.RangeFields.{RangeFields}
 pub use Rattle.tl_segments.specs.declared.full_name.FullNameFields.{FullNameFields}
 
--- the fields have the lengths that the layout gives them
+-- the fields have the layout's lengths
 pub record HasNameLengths (name : FullNameFields) : Type 0 where
   pub fedirp : length name.fedirp ≡ DIRECTION_LENGTH
   pub fename : length name.fename ≡ NAME_LENGTH
   pub fetype : length name.fetype ≡ TYPE_LENGTH
   pub fedirs : length name.fedirs ≡ DIRECTION_LENGTH
 
--- the fields are bytes, of the lengths that the layout gives them
+-- the fields are bytes and have the layout's lengths
 pub record IsFullName (name : FullNameFields) : Type 0 where
   pub fedirp : AreBytes DIRECTION_LENGTH name.fedirp
   pub fename : AreBytes NAME_LENGTH name.fename
   pub fetype : AreBytes TYPE_LENGTH name.fetype
   pub fedirs : AreBytes DIRECTION_LENGTH name.fedirs
 
--- the fields of a lent full name
+-- the fields of a borrowed full name
 abbrev pub full_name_of : FullName → FullNameFields
 full_name_of name = record {
   fedirp = name.fedirp.now;

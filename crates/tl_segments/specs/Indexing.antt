@@ -1,4 +1,4 @@
--- An index of what is joined to type 1 lines, as the lines of types 4, 5 and 6 that it's made of.
+-- An index of what is joined to type 1 lines, described by the lines of types 4, 5 and 6 that it was built from.
 use Rattle.std.specs.Prelude.{◌≡◌, ◌⊎◌, ℕ, List, [], Option, Some, None, Result, Ok, Err}
 use Rattle.std.specs.List.{flat_map}
 use Rattle.tl_fields.specs.Device.{Reader}
@@ -28,7 +28,7 @@ pub record LoadsIndex {A : Type 0} (index : Index A) (old new : Readers) : Type 
   pub index_of : IsIndexOf index lines
   pub reads : ReadsJoined lines old new
 
--- the alternate names that the index has of a TLID
+-- the alternate names that the index has for a TLID
 abbrev pub names_in : {A : Type 0} → Index A → ℕ → List FullNameFields
 names_in index tlid = flat_map (names_among index.names) (list_at index.features tlid)
 
@@ -41,13 +41,13 @@ abbrev pub IsNextFault : LineFault → LineParts → LineParts → Reader → Re
 IsNextFault fault line line' old new =
     IsLineRead line line' old new (Err fault) ⊎ (IsLineRead line line' old new (Ok (Some tt)) × IsLineFault (layout Rt1) line' fault)
 
--- what reading the next line of a type 1 file does to the line and the reader: it was read and is good, and its TLID has this number
+-- the effect of reading the next type 1 line on the line and the reader: the line was read and is good, and its TLID has this number
 abbrev pub IsRt1Read : LineParts → LineParts → Reader → Reader → Result (Option ℕ) LineFault → Type 0
 IsRt1Read line line' old new (Ok (Some tlid)) = ReadsGoodLine line line' old new × (number_in Rt1 line'.bytes ≡ Some tlid)
 IsRt1Read line line' old new (Ok None) = IsLineRead line line' old new (Ok None)
 IsRt1Read line line' old new (Err fault) = IsNextFault fault line line' old new
 
--- The same of a segment that the line is read into, and of the line's number. At the end of the input and after a fault the segment is blank,
+-- The same for a segment that the line is read into, and for the line's number. At the end of the input and after a fault the segment is blank,
 -- whatever bytes the line had.
 abbrev pub IsRecordRead : LineParts → ℕ → Contents → Reader → Reader → Result (Option ℕ) LineFault → Type 0
 IsRecordRead line number segment old new (Ok (Some tlid)) =
@@ -56,9 +56,9 @@ IsRecordRead line number segment old new (Ok (Some tlid)) =
 IsRecordRead line number segment old new result =
     ((bytes : List ℕ) × IsRt1Read line (record { number = number; bytes = bytes }) old new result) × (segment ≡ blank_segment)
 
--- What reading the next segment does to the number of lines, the segment and the reader: its line was read and is good, and it has what the
--- index's lines give it; or it is blank, at the end of the input or after a fault. It runs out of memory only if something is joined to the
--- line.
+-- The effect of reading the next segment on the line number, the segment and the reader. Either the line was read and is good, and the segment has
+-- what the index's lines give it; or, at the end of the input or after a fault, the segment is blank. Memory runs out only if something is joined to
+-- the line.
 abbrev pub IsSegmentRead : {A : Type 0} → Index A → LineParts → ℕ → Contents → Reader → Reader → Result (Option (Unit {0})) LoadFault → Type 0
 IsSegmentRead index line number segment old new (Ok (Some done)) =
     ReadsGoodLine line (line_of number segment) old new × ((lines : JoinedLines) → IsIndexOf index lines → segment ≡ segment_of lines segment.bytes)

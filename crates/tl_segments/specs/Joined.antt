@@ -1,4 +1,4 @@
--- The lists of a segment: shared ones, followed by its own.
+-- The lists of a segment: shared ones, followed by the segment's own.
 use Rattle.std.specs.Prelude.{ℕ, List, [], ◌++◌, Option, Some, None}
 use Rattle.std.specs.declared.rc.Rc.{Rc}
 use Rattle.tl_segments.specs.FullName.{FullNameFields, contents}
@@ -18,7 +18,7 @@ abbrev pub shared_ranges : {A : Type 0} → Option (Rc (Joined A) A) → List Ra
 shared_ranges None = []
 shared_ranges (Some joined) = joined.value.ranges.items
 
--- the contents of a segment with this record: its own names and ranges follow the shared ones
+-- the contents of a segment with this record, whose own names and ranges follow the shared ones
 abbrev pub contents_with : {A : Type 0} → Option (Rc (Joined A) A) → List ℕ → List FullNameFields → List RangeFields → Contents
 contents_with shared bytes names ranges = contents bytes (shared_names shared ++ names) (shared_ranges shared ++ ranges)
 

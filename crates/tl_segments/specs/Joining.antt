@@ -1,5 +1,5 @@
--- Street segments, joined from the lines of a county's files by TLID and by FEAT (TIGER/Line 2006, record types 1, 4, 5 and 6). Lists of lines
--- are in the order of their files, and have lines that are good for their record types alone.
+-- Street segments, joined from the lines of a county's files by TLID and by FEAT (TIGER/Line 2006, record types 1, 4, 5 and 6). Lists of lines are in
+-- file order and contain only lines that are good for their record types.
 use Rattle.std.specs.Prelude.{ℕ, ◌≤◌, nat_eq, Bool, List, [], ◌∷◌, length, map, filter, find, Option, Some, option_map}
 use Rattle.std.specs.List.{filter_map, flat_map}
 use Rattle.std.specs.Option.{option_eq, option_map_or}
@@ -26,7 +26,7 @@ pub record JoinedLines : Type 0 where
 abbrev pub no_lines : JoinedLines
 no_lines = record { rt4 = []; rt5 = []; rt6 = [] }
 
--- the number that each line of the file has: its TLID, or in the file of type 5 its FEAT
+-- the number of a line of the file: its FEAT in the type 5 file, its TLID in any other
 abbrev pub number_in : CountyFile → List ℕ → Option ℕ
 number_in file line = number_of (field_at (layout file).number line)
 
@@ -37,7 +37,7 @@ has_number file number line = option_eq nat_eq (number_in file line) (Some numbe
 abbrev pub lines_with : CountyFile → ℕ → List (List ℕ) → List (List ℕ)
 lines_with file number lines = filter (has_number file number) lines
 
--- the numbers of a type 4 line's FEATs, in order: of those that have one
+-- the numbers of a type 4 line's FEATs in order, without those that have none
 abbrev pub features_of : List ℕ → List ℕ
 features_of line = filter_map (λ feat. number_of (field_at feat line)) (FEAT1 ∷ FEAT2 ∷ FEAT3 ∷ FEAT4 ∷ FEAT5 ∷ [])
 
@@ -49,7 +49,7 @@ feature_name rt5 feat = option_map (field_at FENAME) (find (has_number Rt5 feat)
 abbrev pub affixes_in : List ℕ → Affixes
 affixes_in line = record { fedirp = field_at FEDIRP line; fetype = field_at FETYPE line; fedirs = field_at FEDIRS line }
 
--- the affixes of a FEAT: those in the same line as its name, the first type 5 line that has its number
+-- the affixes of a FEAT, from the same line as its name: the first type 5 line that has its number
 abbrev pub feature_affixes : List (List ℕ) → ℕ → Option Affixes
 feature_affixes rt5 feat = option_map affixes_in (find (has_number Rt5 feat) rt5)
 
@@ -64,7 +64,7 @@ further_range line = record {
   zipr = field_at ZIPR line;
 }
 
--- the alternate names of a TLID: of each FEAT of each of its type 4 lines the name, where it has one
+-- the alternate names of a TLID: the name of each FEAT in each of its type 4 lines, if the FEAT has one
 abbrev pub alternate_names : JoinedLines → ℕ → List (List ℕ)
 alternate_names lines tlid = filter_map (feature_name lines.rt5) (flat_map features_of (lines_with Rt4 tlid lines.rt4))
 
@@ -76,7 +76,7 @@ alternate_affixes lines tlid = filter_map (feature_affixes lines.rt5) (flat_map 
 abbrev pub further_ranges : JoinedLines → ℕ → List RangeFields
 further_ranges lines tlid = map further_range (lines_with Rt6 tlid lines.rt6)
 
--- the segment of a type 1 line, with what its TLID has
+-- the segment of a type 1 line, with what belongs to its TLID
 abbrev pub segment_of : JoinedLines → List ℕ → Contents
 segment_of lines line = record {
   bytes = line;
@@ -85,15 +85,15 @@ segment_of lines line = record {
   ranges = option_map_or (further_ranges lines) (number_in Rt1 line) [];
 }
 
--- the segments of the four files, one of each type 1 line
+-- the segments of the four files, one for each type 1 line
 abbrev pub segments_of : JoinedLines → List (List ℕ) → List Contents
 segments_of lines rt1 = map (segment_of lines) rt1
 
--- each number stands in 1,000 lines of the file at most
+-- each number occurs in at most 1,000 lines of the file
 abbrev pub FewHaveEach : CountyFile → List (List ℕ) → Type 0
 FewHaveEach file lines = (number : ℕ) → length (lines_with file number lines) ≤ LINE_LIMIT
 
--- the limits of a county: of each TLID there are at most 1,000 lines of type 4 and 1,000 of type 6, also of one that no type 1 line has
+-- the limits of a county: at most 1,000 type 4 lines and 1,000 type 6 lines per TLID, including TLIDs that no type 1 line has
 abbrev pub IsWithinLimits : CountyFile → List (List ℕ) → Type 0
 IsWithinLimits Rt4 lines = FewHaveEach Rt4 lines
 IsWithinLimits Rt6 lines = FewHaveEach Rt6 lines

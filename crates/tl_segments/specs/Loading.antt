@@ -1,4 +1,4 @@
--- What loading a county's files does to their readers, and the first fault of a file.
+-- The effect of loading a county's files on their readers, and the first fault of a file.
 use Rattle.std.specs.Prelude.{◌≡◌, ◌≢◌, ℕ, ◌+◌, ◌^◌, ◌<◌, ◌≤◌, ◌⊎◌, List, [], ◌∷◌, ◌++◌, length, All, Option, Some, IfSome}
 use Rattle.std.specs.Io.KnownBytes.{IsAtEnd}
 use Rattle.tl_fields.specs.Device.{Reader, reader}
@@ -14,13 +14,13 @@ use Rattle.tl_segments.specs.declared.fault.CountyFile.TheVariants.{Rt4, Rt5, Rt
 use Rattle.tl_segments.specs.declared.fault.LoadFault.{LoadFault}
 use Rattle.tl_segments.specs.declared.fault.LoadFault.TheVariants.{Line, TooManyNames, TooManyRanges, Memory}
 
--- lines of a file without a fault: each is good for its type, and they are within the limits
+-- lines of a file without a fault: each is good for its type, and together they are within the limits
 pub record AreGoodLines (file : CountyFile) (lines : List (List ℕ)) : Type 0 where
   pub good : All (IsGoodLine (layout file)) lines
   pub within : IsWithinLimits file lines
 
--- A file was read to its end, and no read failed: these are good lines, at most 2^32 - 1, and where the reader's bytes are known they are
--- that file's.
+-- A file was read to its end, and no read failed. These are good lines, at most 2^32 - 1 of them; if the reader's bytes are known, they are the
+-- file's lines.
 pub record ReadsFile (file : CountyFile) (lines : List (List ℕ)) (old new : Reader) : Type 0 where
   pub good : AreGoodLines file lines
   pub few : length lines < 2 ^ 32
@@ -28,8 +28,7 @@ pub record ReadsFile (file : CountyFile) (lines : List (List ℕ)) (old new : Re
   pub at_end : IsAtEnd new.left
   pub reads : new.failed ≡ old.failed
 
--- These are the first lines of a file that was read so far, without a fault: no read failed, and where the reader's bytes are known the rest
--- is left.
+-- These are the first lines of a file, read so far without a fault. No read failed; if the reader's bytes are known, the rest is left.
 pub record ReadsLines (file : CountyFile) (lines : List (List ℕ)) (old new : Reader) : Type 0 where
   pub good : AreGoodLines file lines
   pub known : WhereKnown old.left new.left (λ bytes rest. AreFirstLines bytes lines rest)
@@ -39,12 +38,12 @@ pub record ReadsLines (file : CountyFile) (lines : List (List ℕ)) (old new : R
 abbrev pub HasNoFault : CountyFile → Reader → Reader → Type 0
 HasNoFault file old new = (lines : List (List ℕ)) × ReadsFile file lines old new
 
--- after these first lines of a file's bytes comes one byte more, of a line that is too many
+-- after these first lines of a file's bytes comes one more byte, which begins a line too many
 abbrev pub HasMoreAfter : List (List ℕ) → List ℕ → List ℕ → Type 0
 HasMoreAfter lines bytes rest = (after : List ℕ) × AreFirstLines bytes lines after × HasOneMore after rest
 
--- After these first lines of a file's bytes comes a line with this flaw, and this is left: what follows the line, if it ends within 231
--- bytes, or else what follows its 231st byte, where it's refused as too long.
+-- After these first lines of a file's bytes comes a line with this flaw. If the line ends within 231 bytes, what follows it is left; otherwise it is
+-- refused as too long, and what follows its 231st byte is left.
 pub record HasFlawAfter (file : CountyFile) (flaw : LineFlaw) (lines : List (List ℕ)) (bytes left : List ℕ) : Type 0 where
   pub after : List ℕ
   pub line : List ℕ
@@ -54,17 +53,17 @@ pub record HasFlawAfter (file : CountyFile) (flaw : LineFlaw) (lines : List (Lis
   pub flawed : line_flaw (layout file) line ≡ Some flaw
   pub stands : ((left ≡ rest) × (length after ≤ length rest + 231)) ⊎ BeginsTooLong after left
 
--- after these first lines of a file's bytes a read failed, in the line that comes next
+-- after these first lines of a file's bytes a read failed in the next line
 abbrev pub FailsAfter : List (List ℕ) → List ℕ → List ℕ → Type 0
 FailsAfter lines bytes rest = (after : List ℕ) × AreFirstLines bytes lines after × FailsWithin (most_bytes (length lines)) after rest
 
--- the flaws that a line of the file may have of its own: its length, its record type, or the number that it must have
+-- the flaws that a line of the file can have itself: in its length, its record type, or its required number
 abbrev pub MayHave : CountyFile → LineFlaw → Type 0
 MayHave file flaw = (flaw ≡ WrongLength) ⊎ (flaw ≡ WrongType) ⊎ (flaw ≡ (layout file).without_number)
 
--- What holds where the line of this number, after these lines, has this flaw. Lines are numbered below 2^32: only a read fails there too,
--- and the line that is too many stands there. Where the reader's bytes are known they have the line, and nothing was read after the fault.
--- A read has failed where that is the flaw, and nowhere else.
+-- What holds if the line with this number, which follows these lines, has this flaw. Line numbers are below 2^32, except that a read can fail at line
+-- 2^32, and that a line too many has this number. If the reader's bytes are known, they contain the line, and nothing after the fault was read. A
+-- read failed if and only if that is the flaw.
 abbrev pub ComesAfter : CountyFile → LineFlaw → ℕ → List (List ℕ) → Reader → Reader → Type 0
 ComesAfter file Read number lines old new =
     (number ≤ 2 ^ 32) × WhereKnown old.left new.left (FailsAfter lines) × (new.failed ≢ old.failed)
@@ -73,14 +72,14 @@ ComesAfter file TooManyLines number lines old new =
 ComesAfter file flaw number lines old new =
     (number < 2 ^ 32) × MayHave file flaw × WhereKnown old.left new.left (HasFlawAfter file flaw lines) × (new.failed ≡ old.failed)
 
--- the first fault of a file is a line's own: these lines come before it, without a fault
+-- the first fault of a file is in a line itself, after these lines without a fault
 pub record IsFirstFault (file : CountyFile) (fault : LineFault) (lines : List (List ℕ)) (old new : Reader) : Type 0 where
   pub good : AreGoodLines file lines
   pub counted : fault.line ≡ length lines + 1
   pub follows : ComesAfter file fault.flaw fault.line lines old new
 
--- The first fault of a file is that the line of this number is one too many of its TLID: lines without a fault come before it, it is good, and
--- with it they are beyond the limits. Where the reader's bytes are known they begin with these lines, and the rest is left.
+-- The first fault of a file is that the line with this number is one too many for its TLID. The lines before it have no fault, and it is good itself,
+-- but with it the lines exceed the limits. If the reader's bytes are known, they begin with these lines, and the rest is left.
 pub record IsOneTooMany (file : CountyFile) (number : ℕ) (old new : Reader) : Type 0 where
   pub lines : List (List ℕ)
   pub line : List ℕ
@@ -99,13 +98,13 @@ IsFileFault file (TooManyNames line) old new = (file ≡ Rt4) × IsOneTooMany fi
 IsFileFault file (TooManyRanges line) old new = (file ≡ Rt6) × IsOneTooMany file line old new
 IsFileFault file Memory old new = new.failed ≡ old.failed
 
--- the readers of the files that are joined to that of type 1
+-- the readers of the files that are joined to the type 1 file
 pub record Readers : Type 0 where
   pub rt4 : Reader
   pub rt5 : Reader
   pub rt6 : Reader
 
--- their values, by the members of their trait
+-- their values, built from the members of their trait
 abbrev pub readers : {R : Type 0} → (R → Option (List ℕ)) → (R → ℕ) → R → R → R → Readers
 readers remaining failed_reads rt4 rt5 rt6 = record {
   rt4 = reader remaining failed_reads rt4;
@@ -113,7 +112,7 @@ readers remaining failed_reads rt4 rt5 rt6 = record {
   rt6 = reader remaining failed_reads rt6;
 }
 
--- the files of types 4, 5 and 6 were read to their ends without a fault, and have these lines
+-- the files of types 4, 5 and 6 were read to their ends without a fault, and contain these lines
 pub record ReadsJoined (lines : JoinedLines) (old new : Readers) : Type 0 where
   pub rt4 : ReadsFile Rt4 lines.rt4 old.rt4 new.rt4
   pub rt5 : ReadsFile Rt5 lines.rt5 old.rt5 new.rt5
@@ -123,7 +122,7 @@ pub record ReadsJoined (lines : JoinedLines) (old new : Readers) : Type 0 where
 abbrev pub AreFaultless : Readers → Readers → Type 0
 AreFaultless old new = (lines : JoinedLines) × ReadsJoined lines old new
 
--- why these files can't be loaded: they are read in this order, each to its end, up to the first that can't be
+-- why these files can't be loaded: they are read in this order, each to its end, up to the first one with a fault
 pub data IsJoinedFault (fault : LoadFault) (old new : Readers) : Type 0 where
   in_rt4 : IsFileFault Rt4 fault old.rt4 new.rt4 → new.rt5 ≡ old.rt5 → new.rt6 ≡ old.rt6 → IsJoinedFault fault old new
   in_rt5 : HasNoFault Rt4 old.rt4 new.rt4 → IsFileFault Rt5 fault old.rt5 new.rt5 → new.rt6 ≡ old.rt6 → IsJoinedFault fault old new

@@ -3,17 +3,17 @@ use Rattle.std.specs.Prelude.{ℕ, ◌+◌, ◌*◌, ◌/◌, ◌%◌, ◌^◌, 
 use Rattle.std.specs.Int.{w64, from_le_bytes}
 use Rattle.tl_segments.specs.declared.near_hash.NearHasher.{NearHasher}
 
--- the 24 low bits of the hash: four neighbours have a place, and places follow each other
+-- the low 24 bits of the hash: four neighbours share a place, and the next four have the next place
 abbrev pub near_place : ℕ → ℕ
 near_place number = number / 2 ^ 2 % 2 ^ 24
 
--- the 8 bits above them
+-- the next 8 bits
 abbrev pub near_tag : ℕ → ℕ
 near_tag number = (number * 0x9e37_79b9_7f4a_7c15) % 2 ^ 64 / 2 ^ 56
 
 unfoldable pub near_hash : ℕ → ℕ
 near_hash number = near_tag number * 2 ^ 24 + near_place number
 
--- a write of 8 bytes is a number, the lowest byte first
+-- a write of 8 bytes is a number in little-endian order
 abbrev pub near_hash_write : NearHasher → List ℕ → NearHasher
 near_hash_write hasher bytes = if nat_eq (length bytes) 8 then record { number = from_le_bytes w64 bytes } else hasher

@@ -7,12 +7,12 @@ use Rattle.tl_segments.specs.declared.range.Range.{Range}
 use Rattle.tl_segments.specs.declared.range.RangeFields.{RangeFields}
 use Rattle.tl_segments.specs.declared.range.TheConstants.{ADDRESS_LENGTH, ZIP_LENGTH}
 
--- so many bytes
+-- a field of `count` bytes
 pub record AreBytes (count : ℕ) (field : List ℕ) : Type 0 where
   pub length : length field ≡ count
   pub bytes : (i : ℕ) → slice_index field i < 2 ^ 8
 
--- the fields have the lengths that the layout gives them
+-- the fields have the layout's lengths
 pub record HasFieldLengths (range : RangeFields) : Type 0 where
   pub fraddl : length range.fraddl ≡ ADDRESS_LENGTH
   pub toaddl : length range.toaddl ≡ ADDRESS_LENGTH
@@ -21,7 +21,7 @@ pub record HasFieldLengths (range : RangeFields) : Type 0 where
   pub zipl : length range.zipl ≡ ZIP_LENGTH
   pub zipr : length range.zipr ≡ ZIP_LENGTH
 
--- the fields are bytes, of the lengths that the layout gives them
+-- the fields are bytes and have the layout's lengths
 pub record IsRange (range : RangeFields) : Type 0 where
   pub fraddl : AreBytes ADDRESS_LENGTH range.fraddl
   pub toaddl : AreBytes ADDRESS_LENGTH range.toaddl
@@ -30,7 +30,7 @@ pub record IsRange (range : RangeFields) : Type 0 where
   pub zipl : AreBytes ZIP_LENGTH range.zipl
   pub zipr : AreBytes ZIP_LENGTH range.zipr
 
--- the fields of a lent range
+-- the fields of a borrowed range
 abbrev pub fields_of : Range → RangeFields
 fields_of range = record {
   fraddl = range.fraddl.now;
@@ -41,7 +41,7 @@ fields_of range = record {
   zipr = range.zipr.now;
 }
 
--- the range that a type 1 record itself has
+-- the range in a type 1 record itself
 abbrev pub own_range : List ℕ → RangeFields
 own_range bytes = record {
   fraddl = field_at FRADDL bytes;
@@ -52,11 +52,11 @@ own_range bytes = record {
   zipr = field_at ZIPR bytes;
 }
 
--- between two numbers, both included, whichever is greater
+-- between two numbers, inclusive, in either order
 abbrev pub is_between : ℕ → ℕ → ℕ → Bool
 is_between from to number = nat_le (min from to) number && nat_le number (max from to)
 
--- where both ends are even or both odd, the number is too
+-- if both ends are even or both odd, the number has the same parity
 abbrev pub keeps_parity : ℕ → ℕ → ℕ → Bool
 keeps_parity from to number = not (from % 2 == to % 2) || number % 2 == from % 2
 
@@ -65,6 +65,6 @@ abbrev pub lies_between : ℕ → Option ℕ → Option ℕ → Bool
 lies_between number (Some from) (Some to) = is_between from to number && keeps_parity from to number
 lies_between number from to = false
 
--- a house number lies on the side whose FR and TO addresses these fields are: both have a number, and it lies between them
+-- a house number lies on the side with these FR and TO addresses: both have a number, and it lies between them
 abbrev pub lies_on : ℕ → List ℕ → List ℕ → Bool
 lies_on number fr to = lies_between number (number_of fr) (number_of to)

@@ -9,14 +9,14 @@ use Rattle.tl_segments.specs.declared.name.TheConstants.{NAME_LENGTH}
 use Rattle.tl_segments.specs.declared.range.RangeFields.{RangeFields}
 use Rattle.tl_segments.specs.declared.segment.TheConstants.{NAME_LIMIT, RANGE_LIMIT, RECORD_LENGTH}
 
--- what a segment consists of: the bytes of its type 1 record, its alternate names, the affixes of each of these, and its further ranges
+-- the contents of a segment: the bytes of its type 1 record, its alternate names, the affixes of each of them, and its further ranges
 pub record Contents : Type 0 where
   pub bytes : List ℕ
   pub names : List (List ℕ)
   pub affixes : List Affixes
   pub ranges : List RangeFields
 
--- the record, the names and the fields of the ranges have their lengths, there are as many names and ranges as there may be, and each
+-- the record, the names and the fields of the ranges have the right lengths, the numbers of names and ranges are within the limits, and each
 -- alternate name has its affixes
 pub record IsSegment (segment : Contents) : Type 0 where
   pub bytes : AreBytes RECORD_LENGTH segment.bytes
@@ -27,11 +27,11 @@ pub record IsSegment (segment : Contents) : Type 0 where
   pub ranges : All IsRange segment.ranges
   pub few_ranges : length segment.ranges ≤ RANGE_LIMIT
 
--- blanks for a record, and nothing else
+-- a blank record, and nothing else
 abbrev pub blank_segment : Contents
 blank_segment = record { bytes = replicate RECORD_LENGTH 32; names = []; affixes = []; ranges = [] }
 
--- the line of this number, whose bytes are the segment's record
+-- the line with this number whose bytes are the segment's record
 abbrev pub line_of : ℕ → Contents → LineParts
 line_of number segment = record { number = number; bytes = segment.bytes }
 

@@ -1,4 +1,4 @@
--- Lists of names and ranges that the segments of a TLID share.
+-- Lists of names and ranges shared by the segments of a TLID.
 use Rattle.std.specs.Prelude.{◌≡◌, ℕ, nat_eq, List, Some, IfSome}
 use Rattle.std.specs.HashMap.{get}
 use Rattle.tl_segments.specs.FullName.{contents}

@@ -1,4 +1,4 @@
--- Tables of what a county's lines have, by number.
+-- Tables of the contents of a county's lines, by number.
 use Rattle.std.specs.Prelude.{◌≡◌, ℕ, ◌+◌, ◌<◌, ◌≤◌, cond, if◌then◌else◌, ◌-◌, nat_eq, nat_le, List, [], ◌∷◌, ◌++◌, length, map, slice_get, Option, Some, None, unwrap_or, option_and_then}
 use Rattle.std.specs.HashMap.{get}
 use Rattle.std.specs.List.{filter_map, find}
@@ -17,36 +17,36 @@ use Rattle.tl_segments.specs.declared.grouped.Grouped.{Grouped}
 use Rattle.tl_segments.specs.declared.range.RangeFields.{RangeFields}
 use Rattle.tl_segments.specs.declared.segment.TheConstants.{LINE_LIMIT}
 
--- the values that a number has
+-- the values for a number
 abbrev pub list_at : {V A : Type 0} → Grouped V A → ℕ → List V
 list_at grouped number = option_map_or (λ list. list.items) (get nat_eq grouped.lists number) []
 
--- a value was added after those of a number, which had room
+-- a value was appended to those for a number, which had room
 pub record AddsAt {V A : Type 0} (old new : Grouped V A) (number : ℕ) (value : V) : Type 0 where
   pub room : length (list_at old number) < LINE_LIMIT
   pub lists : (q : ℕ) → list_at new q ≡ (if nat_eq number q then list_at old q ++ value ∷ [] else list_at old q)
 
--- the full name that a FEAT has in the list of those that follow the first one
+-- the full name of a FEAT in the list of FEATs that follow the first one
 abbrev pub following_name : {A : Type 0} → FeatureNames A → ℕ → Option FullNameFields
 following_name table feat = if nat_le table.first feat then slice_get table.following.items (feat - table.first) else None
 
--- the full name that a FEAT has, if it has one
+-- the full name of a FEAT, if it has one
 abbrev pub name_at : {A : Type 0} → FeatureNames A → ℕ → Option FullNameFields
 name_at table feat = option_or (following_name table feat) (get nat_eq table.others feat)
 
--- a FEAT has this full name, if it had none yet
+-- a FEAT got this full name, unless it already had one
 abbrev pub AddsNameAt : {A : Type 0} → FeatureNames A → FeatureNames A → ℕ → FullNameFields → Type 0
 AddsNameAt old new feat name = (q : ℕ) → name_at new q ≡ (if nat_eq feat q then Some (unwrap_or (name_at old q) name) else name_at old q)
 
--- the numbers of a type 4 line's FEATs, in order, each where it has one
+-- the numbers of a type 4 line's FEATs in order, or none for a FEAT without one
 abbrev pub feature_numbers : List ℕ → List (Option ℕ)
 feature_numbers line = map (λ feat. number_of (field_at feat line)) (FEAT1 ∷ FEAT2 ∷ FEAT3 ∷ FEAT4 ∷ FEAT5 ∷ [])
 
--- the full names of these FEATs: of each that has a number and a name
+-- the full names of these FEATs, for each one that has a number and a name
 abbrev pub names_among : {A : Type 0} → FeatureNames A → List (Option ℕ) → List FullNameFields
 names_among table feats = filter_map (option_and_then (name_at table)) feats
 
--- each TLID has what these lines of type 4, of type 6, have of it
+-- each TLID has what these lines have for it (of type 4, and of type 6)
 abbrev pub KeepsFeatures : {A : Type 0} → Grouped (List (Option ℕ)) A → List (List ℕ) → Type 0
 KeepsFeatures table lines = (tlid : ℕ) → list_at table tlid ≡ map feature_numbers (lines_with Rt4 tlid lines)
 
@@ -66,7 +66,7 @@ full_name_in line = record {
 abbrev pub feature_full_name : List (List ℕ) → ℕ → Option FullNameFields
 feature_full_name rt5 feat = option_map full_name_in (find (has_number Rt5 feat) rt5)
 
--- each FEAT has the full name that these lines of type 5 give it
+-- each FEAT has the full name that these type 5 lines give it
 abbrev pub KeepsNames : {A : Type 0} → FeatureNames A → List (List ℕ) → Type 0
 KeepsNames table lines = (feat : ℕ) → name_at table feat ≡ feature_full_name lines feat
 
@@ -74,15 +74,15 @@ KeepsNames table lines = (feat : ℕ) → name_at table feat ≡ feature_full_na
 abbrev pub HasShortLists : {V A : Type 0} → Grouped V A → Type 0
 HasShortLists table = (number : ℕ) → length (list_at table number) ≤ LINE_LIMIT
 
--- how many lines a number has
+-- the count of lines with a number
 abbrev pub count_at : {T A : Type 0} → Counts T A → ℕ → ℕ
 count_at counts number = unwrap_or (get nat_eq counts.counts number) 0
 
--- a line more was counted of a number, which had room
+-- one more line was counted for a number, which had room
 pub record CountsAt {T A : Type 0} (old new : Counts T A) (number : ℕ) : Type 0 where
   pub room : count_at old number < LINE_LIMIT
   pub counts : (q : ℕ) → count_at new q ≡ count_at old q + cond (nat_eq number q) 1 0
 
--- each number has as many lines as these of the file are that have it
+-- each number's count is the number of these lines of the file that have it
 abbrev pub KeepsCounts : {T A : Type 0} → CountyFile → Counts T A → List (List ℕ) → Type 0
 KeepsCounts file counts lines = (number : ℕ) → count_at counts number ≡ length (lines_with file number lines)

@@ -1,4 +1,4 @@
--- What a table does with the lines of a county's file.
+-- How a table takes the lines of a county's file.
 use Rattle.std.specs.Prelude.{◌≡◌, ℕ, Bool, true, false, List, [], ◌∷◌, ◌++◌, Result, Ok, Err}
 use Rattle.tl_fields.specs.Device.{Reader}
 use Rattle.tl_records.specs.Lines.{LineParts}
@@ -11,7 +11,7 @@ use Rattle.tl_segments.specs.declared.fault.CountyFile.TheVariants.{Rt4, Rt6}
 use Rattle.tl_segments.specs.declared.fault.LoadFault.{LoadFault}
 use Rattle.tl_segments.specs.declared.fault.LoadFault.TheVariants.{Line, TooManyNames, TooManyRanges, Memory}
 
--- a line is good, but with it the lines are beyond the limits
+-- a line is good, but with it the lines exceed the limits
 pub record IsBeyond (file : CountyFile) (lines : List (List ℕ)) (line : LineParts) : Type 0 where
   pub good : IsGoodLine (layout file) line.bytes
   pub beyond : ¬ IsWithinLimits file (lines ++ line.bytes ∷ [])
@@ -21,12 +21,12 @@ pub record IsNextOf (file : CountyFile) (lines : List (List ℕ)) (line : LinePa
   pub good : IsGoodLine (layout file) line.bytes
   pub within : IsWithinLimits file (lines ++ line.bytes ∷ [])
 
--- a line is kept after these, or with it they are beyond the limits
+-- the line is kept after these, or with it they exceed the limits
 abbrev pub IsAdded : CountyFile → List (List ℕ) → List ℕ → (List (List ℕ) → Type 0) → Bool → Type 0
 IsAdded file lines line keeps true = IsWithinLimits file (lines ++ line ∷ []) × keeps (lines ++ line ∷ [])
 IsAdded file lines line keeps false = ¬ IsWithinLimits file (lines ++ line ∷ [])
 
--- the line after these is kept with them, or refused by the fault that it has
+-- the line after these is kept along with them, or refused because of its fault
 abbrev pub IsTaken : CountyFile → List (List ℕ) → LineParts → Result (Unit {0}) LoadFault → (List (List ℕ) → Type 0) → Type 0
 IsTaken file lines line (Ok done) keeps = IsNextOf file lines line × keeps (lines ++ line.bytes ∷ [])
 IsTaken file lines line (Err (Line of_file fault)) keeps = (of_file ≡ file) × IsLineFault (layout file) line fault

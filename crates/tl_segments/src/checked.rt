@@ -11,7 +11,7 @@ use std::hash::BuildHasherDefault;
 use std::marker::PhantomData;
 use tl_records::{Record, Type5};
 
-/// How many lines each TLID has, at most [`LINE_LIMIT`].
+/// The number of lines of each TLID, at most [`LINE_LIMIT`].
 #[derive(Drop)]
 pub(crate) struct Counts<T, A: Allocator> {
     counts: HashMap<u64, u16, BuildHasherDefault<NearHasher>, A>,
@@ -28,7 +28,7 @@ impl<T, A: Allocator + Copy> Counts<T, A> {
         }
     }
 
-    /// Counts a line more of a number, if it has room for it.
+    /// Counts one more line with a number, and returns whether there was room for it.
     fn count(&mut self, number: u64) -> Result<bool, AllocError>
         ensures { IfOk result (λ counted.
             MatchBool counted (CountsAt self.old self.new number) (LINE_LIMIT ≤ count_at self.old number)) }
@@ -52,7 +52,7 @@ impl<T: Limited, A: Allocator + Copy> Table for Counts<T, A> {
     }
 }
 
-/// Nothing of type 5 lines, which have no limit.
+/// A table that keeps nothing of type 5 lines, which have no limit.
 #[derive(Drop)]
 pub(crate) struct NoNames;
 

@@ -19,8 +19,8 @@ use std::marker::Model;
 use tl_fields::CountedRead;
 use tl_records::{Line, Type1, read_line};
 
-/// The segments of a county, one of each line of its type 1 file, in their order: fewer than 2^32. The TLID of each has a number. Contracts see
-/// it as a record with the field `segments`.
+/// The segments of a county, one for each line of its type 1 file, in file order: fewer than 2^32. Each segment's TLID has a number. Contracts see it
+/// as a record with the field `segments`.
 #[derive(Drop)]
 pub struct County<A: Allocator> {
     segments: Vec<Segment<A>, A>,
@@ -39,7 +39,7 @@ impl<A: Allocator> Model for County<A> {
 }
 
 impl<A: Allocator + Copy> County<A> {
-    /// Reads the files of types 4, 5, 6 and 1, in this order, each to its end, or answers the first fault, at which the input then stands.
+    /// Reads the files of types 4, 5, 6 and 1, in this order, each to its end, or returns the first fault, leaving the input where it occurred.
     pub fn load<R: CountedRead>(
         alloc: A,
         rt1: &mut R,
@@ -60,7 +60,7 @@ impl<A: Allocator + Copy> County<A> {
 }
 
 impl<A: Allocator> County<A> {
-    /// The segments, in the order of the type 1 lines.
+    /// Returns the segments, in the order of the type 1 lines.
     #[tactic(auto, using(crate::proofs::IndexLemmas::has_tlids))]
     pub fn segments(&self) -> &[Segment<A>]
         ensures value { result.now ≡ self.now.segments }
@@ -70,7 +70,7 @@ impl<A: Allocator> County<A> {
         self.segments.as_slice()
     }
 
-    /// The numbers of the segments' TLIDs, in the same order.
+    /// Returns the numbers of the segments' TLIDs, in the same order.
     pub fn tlids(&self) -> &[u64]
         ensures { AreTlids result.now self.now.segments }
     {
@@ -78,7 +78,7 @@ impl<A: Allocator> County<A> {
     }
 }
 
-/// Reads a type 1 file to its end, up to the first fault, with what the index has of each line's TLID. The segments of a TLID share its lists.
+/// Reads a type 1 file to its end or its first fault, joining what the index has for each line's TLID. The segments of a TLID share its lists.
 fn read_segments<A: Allocator + Copy, R: CountedRead>(
     alloc: A,
     index: &Index<A>,
@@ -103,7 +103,7 @@ fn read_segments<A: Allocator + Copy, R: CountedRead>(
     }
 }
 
-/// Appends the segment of a type 1 line and the number of its TLID, or returns the fault of the line.
+/// Appends the segment of a type 1 line and its TLID's number, or returns the line's fault.
 fn push_segment<A: Allocator + Copy>(
     index: &Index<A>,
     line: &Line,

@@ -15,7 +15,7 @@ use std::alloc::AllocError;
 use tl_fields::CountedRead;
 use tl_records::{Line, Record, RecordType, Type1, Type4, Type5, Type6, read_line};
 
-/// A record type, with the county's file that has its lines.
+/// A record type together with the county file that has its lines.
 pub(crate) trait FileType: RecordType {
     ghost use Rattle.tl_segments.specs.declared.fault.CountyFile.{CountyFile};
 
@@ -58,7 +58,7 @@ impl FileType for Type6 {
     const FILE: CountyFile = CountyFile::Rt6;
 }
 
-/// The type of a file that may have so many lines of a TLID and no more.
+/// The record type of a file with a limited number of lines per TLID.
 pub(crate) trait Limited: FileType {
     ghost limited: { (lines : List (List ℕ)) → IsWithinLimits Self.FILE lines → FewHaveEach Self.FILE lines };
 }
@@ -71,21 +71,21 @@ impl Limited for Type6 {
     ghost limited = { λ lines few. few };
 }
 
-/// What the lines of a county's file are kept in.
+/// A table for the lines of a county's file.
 pub(crate) trait Table {
-    // the type of the file's lines
+    // The record type of the file's lines.
     type Lines: FileType;
 
-    // it keeps these lines
+    // The table keeps these lines.
     ghost keeps: { Self → List (List ℕ) → Type 0 };
 
-    /// Keeps a line more, after those that it has, and answers whether there was room for it.
+    /// Keeps one more line after the previous ones, and returns whether there was room for it.
     fn add(&mut self, rt: &Record<'_, Self::Lines>) -> Result<bool, AllocError>
         ensures { (lines : List (List ℕ)) → keeps self.old lines → IsWithinLimits Self.Lines.FILE lines
             → IfOk result (IsAdded Self.Lines.FILE lines rt.now.bytes (keeps self.new)) };
 }
 
-/// Reads a file to its end into an empty table, up to the first fault, where the input then stands.
+/// Reads a file into an empty table, to its end or its first fault, leaving the input there.
 pub(crate) fn read_file<T: Table, R: CountedRead>(
     table: &mut T,
     input: &mut R,
@@ -111,7 +111,7 @@ pub(crate) fn read_file<T: Table, R: CountedRead>(
     }
 }
 
-/// Keeps a line more, after those that the table has, or answers the fault that it is.
+/// Keeps one more line after those in the table, or returns its fault.
 fn take<T: Table>(table: &mut T, line: &Line) -> Result<(), LoadFault>
     ensures { (lines : List (List ℕ)) → T.keeps table.old lines → IsWithinLimits T.Lines.FILE lines
         → IsTaken T.Lines.FILE lines line.now result (T.keeps table.new) }
@@ -123,12 +123,12 @@ fn take<T: Table>(table: &mut T, line: &Line) -> Result<(), LoadFault>
     let line = u64::from(line.number());
     match T::Lines::FILE {
         CountyFile::Rt4 => Err(LoadFault::TooManyNames { line }),
-        // Of type 6, as no other file has a limit.
+        // Type 6: no other file has a limit.
         _ => Err(LoadFault::TooManyRanges { line }),
     }
 }
 
-/// The line as a record of its file's type, or the fault that it is.
+/// Parses the line as a record of its file's type, or returns its fault.
 pub(crate) fn record_in<T: FileType>(line: &Line) -> Result<Record<'_, T>, LoadFault>
     ensures ok { IfOk result (λ rt. (rt.bytes ≡ line.now.bytes) × IsGoodLine (layout T.FILE) line.now.bytes) }
     ensures err { IfErr result (λ fault. (flaw : LineFault)

@@ -12,7 +12,7 @@ use std::alloc::{AllocError, AllocFailed};
 use thiserror::Error;
 use tl_records::LineFault;
 
-/// The files of a county that are read (TIGER/Line 2006), by their record types.
+/// The files that are read for a county (TIGER/Line 2006), by record type.
 #[derive(Clone, Copy, Debug, PartialEq, Eq)]
 pub enum CountyFile {
     Rt1,
@@ -40,10 +40,10 @@ impl CountyFile {
 pub enum LoadFault {
     #[error("{file:?}: {fault}")]
     Line { file: CountyFile, fault: LineFault },
-    /// This line of type 4 is the first that is one too many of its TLID.
+    /// This type 4 line is the first one over the limit for its TLID.
     #[error("Rt4: line {line}: too many names")]
     TooManyNames { line: u64 },
-    /// This line of type 6 is the first that is one too many of its TLID.
+    /// This type 6 line is the first one over the limit for its TLID.
     #[error("Rt6: line {line}: too many ranges")]
     TooManyRanges { line: u64 },
     #[error("out of memory")]
@@ -67,7 +67,7 @@ impl<T: Drop> From<AllocFailed<T>> for LoadFault {
 }
 
 impl LoadFault {
-    /// Returns the refusal's line of text, as `refused 6 rt4 line 1001 TooManyNames`, without an end of line. It takes no memory.
+    /// Returns the refusal's line of text, such as `refused 6 rt4 line 1001 TooManyNames`, without a line terminator. It doesn't allocate.
     pub fn line(&self) -> ArrayString<64>
         ensures { result.bytes ≡ refusal_line (load_fault.refusal self.now) }
     {

@@ -9,9 +9,9 @@ use std::alloc::{AllocError, Allocator};
 use std::collections::HashMap;
 use std::hash::BuildHasherDefault;
 
-/// The full name that each FEAT has: the first one that was added.
+/// The full name of each FEAT: the first one that was added.
 ///
-/// A county's FEATs mostly follow each other, so the names of those that follow the first one are a list, and the others are in a map.
+/// A county's FEATs are mostly consecutive, so the names of those that follow the first one are in a list, and the rest are in a map.
 #[derive(Drop)]
 pub(crate) struct FeatureNames<A: Allocator> {
     first: u64,
@@ -30,7 +30,7 @@ impl<A: Allocator + Copy> FeatureNames<A> {
         }
     }
 
-    /// Gives a FEAT this name, if it has none yet.
+    /// Sets the name of a FEAT, unless it already has one.
     pub(crate) fn set(&mut self, feat: u64, name: FullName<'_>) -> Result<(), AllocError>
         requires { HasNameLengths (full_name_of name) }
         ensures ok { OnOk result (AddsNameAt self.old self.new feat (full_name_of name.entry)) }
@@ -51,7 +51,7 @@ impl<A: Allocator + Copy> FeatureNames<A> {
 }
 
 impl<A: Allocator> FeatureNames<A> {
-    /// The full name of a FEAT, if it has a number and this has a name.
+    /// Returns the full name of a FEAT, if it has a number and that number has a name.
     #[inline(always)]
     pub(crate) fn name(&self, feat: Option<u32>) -> Option<&FullNameFields>
         ensures { option_copied result ≡ option_and_then (name_at self.now) feat }

@@ -7,14 +7,14 @@ use crate::range::copy_of;
 use crate::segment::RECORD_LENGTH;
 use tl_records::Type1;
 
-/// How many bytes each of FEDIRP and FEDIRS has, including the blanks after it.
+/// The length of FEDIRP and of FEDIRS, including trailing blanks.
 pub const DIRECTION_LENGTH: usize = 2;
 
-/// How many bytes FETYPE has, including the blanks after it.
+/// The length of FETYPE, including trailing blanks.
 pub const TYPE_LENGTH: usize = 4;
 
-/// A complete street name, lent: the fields of record type 1 or 5, named as there. FEDIRP is the prefix direction (`N`, `SE`), FETYPE the feature
-/// type (`St`, `Ave`) and FEDIRS the suffix direction. A field that the name lacks is blank.
+/// A borrowed complete street name: the fields of record type 1 or 5, under their names there. FEDIRP is the prefix direction (`N`, `SE`), FETYPE the
+/// feature type (`St`, `Ave`) and FEDIRS the suffix direction. A field that the name lacks is blank.
 #[derive(Clone, Copy)]
 pub struct FullName<'a> {
     pub fedirp: &'a [u8],
@@ -23,7 +23,7 @@ pub struct FullName<'a> {
     pub fedirs: &'a [u8],
 }
 
-/// The fields of a complete street name, kept.
+/// The owned fields of a complete street name.
 #[derive(Clone, Copy)]
 pub(crate) struct FullNameFields {
     fedirp: [u8; DIRECTION_LENGTH],
@@ -48,7 +48,7 @@ impl FullNameFields {
         }
     }
 
-    /// Lends the name without its affixes.
+    /// Returns the name without its affixes.
     #[inline(always)]
     pub(crate) fn fename(&self) -> &[u8; NAME_LENGTH]
         ensures { result.now ≡ self.now.fename }
@@ -56,7 +56,7 @@ impl FullNameFields {
         &self.fename
     }
 
-    /// Lends the fields.
+    /// Borrows the fields.
     #[inline(always)]
     pub(crate) fn as_full_name(&self) -> FullName<'_>
         ensures value { full_name_of result ≡ self.now }

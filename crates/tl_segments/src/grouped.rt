@@ -8,7 +8,7 @@ use std::alloc::{AllocError, Allocator};
 use std::collections::HashMap;
 use std::hash::BuildHasherDefault;
 
-/// Lists of values by number, each of at most [`LINE_LIMIT`].
+/// Lists of values by number, each with at most [`LINE_LIMIT`] values.
 #[derive(Drop)]
 pub(crate) struct Grouped<V, A: Allocator> {
     lists: HashMap<u64, Vec<V, A>, BuildHasherDefault<NearHasher>, A>,
@@ -23,7 +23,7 @@ impl<V: Drop, A: Allocator + Copy> Grouped<V, A> {
         }
     }
 
-    /// Adds a value after those with this number, if there is room for it.
+    /// Appends a value to those with this number, and returns whether there was room for it.
     pub(crate) fn push(&mut self, number: u64, value: V) -> Result<bool, AllocError>
         ensures { IfOk result (λ added.
             MatchBool added (AddsAt self.old self.new number value) (LINE_LIMIT ≤ length (list_at self.old number))) }
@@ -33,7 +33,7 @@ impl<V: Drop, A: Allocator + Copy> Grouped<V, A> {
             return Ok(false);
         }
         if list.is_empty() {
-            // Most have one value, so the first asks for no more than its own room.
+            // Most lists have one value, so the first allocation has room for just that one.
             list.reserve_exact(1)?;
         }
         list.push(value)?;
@@ -42,7 +42,7 @@ impl<V: Drop, A: Allocator + Copy> Grouped<V, A> {
 }
 
 impl<V, A: Allocator> Grouped<V, A> {
-    /// The values that have this number, in the order in which they were added.
+    /// Returns the values with this number, in the order in which they were added.
     pub(crate) fn list(&self, number: u64) -> &[V]
         ensures value { result.now ≡ list_at self.now number }
     {

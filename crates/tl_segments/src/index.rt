@@ -22,7 +22,7 @@ use std::alloc::{AllocError, Allocator};
 use tl_fields::CountedRead;
 use tl_records::{LineFault, Rt1, Type4, Type6};
 
-/// The alternate names and the further ranges of a county's segments, by TLID: what its files of types 4, 5 and 6 have.
+/// The alternate names and further ranges of a county's segments, by TLID: the contents of its files of types 4, 5 and 6.
 #[derive(Drop)]
 pub struct Index<A: Allocator> {
     alloc: A,
@@ -36,7 +36,7 @@ pub struct Index<A: Allocator> {
 impl<A: Allocator + Copy> Index<A> {
     ghost use Rattle.tl_segments.specs.Indexing.{IsIndexOf, IsSegmentRead, LoadsIndex, names_in};
 
-    /// The index of files without a line: a segment that it makes is the type 1 record alone, and takes no memory.
+    /// Creates the index of empty files. A segment made with it is the type 1 record alone and doesn't allocate.
     #[tactic(auto, using(crate::proofs::TableLemmas::no_lists_short))]
     pub fn new(alloc: A) -> Self
         ensures { IsIndexOf result no_lines }
@@ -49,7 +49,7 @@ impl<A: Allocator + Copy> Index<A> {
         }
     }
 
-    /// Reads the files of types 4, 5 and 6, in this order, each to its end, or answers the first fault, at which the input then stands.
+    /// Reads the files of types 4, 5 and 6, in this order, each to its end, or returns the first fault, leaving the input where it occurred.
     pub fn load<R: CountedRead>(
         alloc: A,
         rt4: &mut R,
@@ -75,8 +75,8 @@ impl<A: Allocator + Copy> Index<A> {
         })
     }
 
-    /// Reads and checks the files as [`load`](Self::load) does, with the same first fault, and keeps nothing of them: while they are read, how
-    /// many lines each TLID has.
+    /// Reads and checks the files as [`load`](Self::load) does, with the same first fault, but keeps none of their contents. While it reads, it holds
+    /// only the number of lines of each TLID.
     pub fn check<R: CountedRead>(
         alloc: A,
         rt4: &mut R,
@@ -94,8 +94,7 @@ impl<A: Allocator + Copy> Index<A> {
         Ok(())
     }
 
-    /// The segment of a type 1 line, with the alternate names and the further ranges of its TLID. It asks for memory only where there are
-    /// any.
+    /// Returns the segment of a type 1 line, with the alternate names and further ranges of its TLID. It allocates only if there are any.
     #[inline(always)]
     pub fn segment(&self, rt1: &Rt1<'_>) -> Result<Segment<A>, AllocError>
         ensures ok { IfOk result (λ segment. (lines : JoinedLines) → IsIndexOf self.now lines → segment ≡ segment_of lines rt1.now.bytes) }
@@ -109,16 +108,16 @@ impl<A: Allocator + Copy> Index<A> {
         Ok(segment)
     }
 
-    /// A blank segment, for [`next_segment`](Self::next_segment) to read into. It takes no memory.
+    /// Returns a blank segment for [`next_segment`](Self::next_segment) to read into. It doesn't allocate.
     pub fn blank_segment(&self) -> Segment<A>
         ensures { result ≡ blank_segment }
     {
         Segment::blank(self.alloc)
     }
 
-    /// Reads the next line of a type 1 file, and makes the segment that of this line; `None` at the end of the input. `number` is that of the line
-    /// before, 0 before the first one, and then of this line. A line without an alternate name and a further range takes no memory. At the end and
-    /// after a fault the segment is blank; if memory runs out it has the line's bytes.
+    /// Reads the next line of a type 1 file into `segment`, with what the index has for its TLID, or returns `None` at the end of the input. `number`
+    /// is the previous line's number (0 before the first one) and becomes this line's. A line without alternate names and further ranges doesn't
+    /// allocate. At the end and after a fault the segment is blank; if an allocation fails, it has the line's bytes.
     #[inline(always)]
     pub fn next_segment<R: CountedRead>(
         &self,
@@ -185,7 +184,7 @@ impl<A: Allocator + Copy> Index<A> {
     }
 }
 
-/// The fault of a type 1 line.
+/// Returns the fault of a type 1 line as a fault of its file.
 #[cold]
 pub(crate) fn rt1_fault(fault: LineFault) -> LoadFault
     ensures { result ≡ load_fault.Line county_file.Rt1 fault }

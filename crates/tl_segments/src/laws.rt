@@ -1,11 +1,11 @@
-//! Laws over the definitions, as contracts of functions that do nothing.
+//! Laws about the definitions, stated as contracts of functions that do nothing.
 ghost use Rattle.std.specs.Prelude.{◌≡◌};
 
 use crate::name::NAME_LENGTH;
 use crate::range::{ADDRESS_LENGTH, ZIP_LENGTH};
 use crate::segment::{LINE_LIMIT, NAME_LIMIT, RANGE_LIMIT, RECORD_LENGTH};
 
-/// The lengths of the record layouts.
+/// States the lengths of the record layouts.
 pub fn lengths()
     ensures record { RECORD_LENGTH ≡ 228 }
     ensures name { NAME_LENGTH ≡ 30 }
@@ -13,7 +13,7 @@ pub fn lengths()
     ensures zip { ZIP_LENGTH ≡ 5 }
 {}
 
-/// How many lines of record types 4 and 6 may have one TLID, and so how many alternate names and further ranges a segment has at most.
+/// States how many lines of record types 4 and 6 a TLID may have, and thus the maximum numbers of a segment's alternate names and further ranges.
 pub fn limits()
     ensures lines { LINE_LIMIT ≡ 1000 }
     ensures names { NAME_LIMIT ≡ 5000 }

@@ -1,4 +1,4 @@
-//! Street segments (TIGER/Line 2006, record types 1, 4, 5 and 6): their names and address ranges, and how a county's files give them.
+//! Street segments (TIGER/Line 2006, record types 1, 4, 5 and 6): their names and address ranges, and how they are built from a county's files.
 #![tactic(auto)]
 
 mod checked;

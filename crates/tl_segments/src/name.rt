@@ -4,11 +4,10 @@ ghost use Rattle.tl_segments.specs.Name.{name_equals};
 
 use tl_fields::blank;
 
-/// How many bytes a name has, including the blanks after it.
+/// The length of a name in bytes, including trailing blanks.
 pub const NAME_LENGTH: usize = 30;
 
-/// Whether a name equals the wanted bytes: each of them is the name's byte at its place, where ASCII letters are compared without case, and
-/// the rest of the name is blank.
+/// Returns whether a name equals the wanted bytes, ignoring ASCII case. The rest of the name must be blank.
 pub fn name_equals(name: &[u8], wanted: &[u8]) -> bool
     requires name { length name.now ≡ NAME_LENGTH }
     requires some { 1 ≤ length wanted.now }

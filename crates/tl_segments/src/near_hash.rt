@@ -4,16 +4,16 @@ ghost use Rattle.tl_segments.specs.NearHash.{near_hash, near_hash_write};
 use crate::range::copy_of;
 use std::hash::Hasher;
 
-// Odd, and near the golden ratio of 2^64: the high bits of a product with it depend on all bits of the number.
+// Odd and close to 2^64 divided by the golden ratio: the high bits of a product with it depend on all bits of the number.
 const TAG_SPREAD: u64 = 0x9e37_79b9_7f4a_7c15;
 
-/// Hashes a number of 64 bits so that a map finds neighbours near each other.
+/// A hasher of 64-bit numbers that lets a map find neighbours near each other.
 ///
-/// std's map takes the place where it looks from the low bits of a hash, and compares its highest 8 of 32 there. The TLIDs of a county's lines mostly
-/// ascend, so the places do, too, and are in the cache when they are looked at. Four neighbours share a place, since one has room for twelve.
+/// std's map derives the place to look in from a hash's low bits, and compares the highest 8 of its 32 bits there. The TLIDs of a county's lines are
+/// mostly ascending, so their places are too, and are in the cache when they are looked up. Four neighbours share a place, which has room for twelve.
 ///
-/// A write of 8 bytes is a number, any other write counts for nothing, and the last number alone is hashed. Whoever picks the numbers can make
-/// them collide.
+/// A write of 8 bytes sets the number, any other write is ignored, and only the last number is hashed. Anyone who chooses the numbers can make them
+/// collide.
 #[derive(Clone, Copy, Default)]
 pub(crate) struct NearHasher {
     number: u64,

@@ -7,14 +7,14 @@ use crate::segment::RECORD_LENGTH;
 use tl_fields::number;
 use tl_records::Type1;
 
-/// How many bytes an address has, its blanks counted.
+/// The length of an address in bytes, including blanks.
 pub const ADDRESS_LENGTH: usize = 11;
 
-/// How many bytes a ZIP code has.
+/// The length of a ZIP code in bytes.
 pub const ZIP_LENGTH: usize = 5;
 
-/// An address range: the fields of record type 1 or 6, named as there. FR and TO are the ends of a side, L is the left side and R the
-/// right one. An end that isn't known is blank.
+/// An address range: the fields of record type 1 or 6, under their names there. FR and TO are the ends of a side; L is the left side, R the right. An
+/// unknown end is blank.
 #[derive(Clone, Copy)]
 pub struct Range<'a> {
     pub fraddl: &'a [u8],
@@ -25,7 +25,7 @@ pub struct Range<'a> {
     pub zipr: &'a [u8],
 }
 
-/// The fields of an address range, kept.
+/// The owned fields of an address range.
 #[derive(Clone, Copy)]
 pub(crate) struct RangeFields {
     fraddl: [u8; ADDRESS_LENGTH],
@@ -37,7 +37,7 @@ pub(crate) struct RangeFields {
 }
 
 impl RangeFields {
-    /// The fields, copied.
+    /// Copies the fields.
     pub(crate) fn of(range: Range<'_>) -> Self
         requires { HasFieldLengths (fields_of range) }
         ensures value { result ≡ fields_of range.entry }
@@ -53,7 +53,7 @@ impl RangeFields {
         }
     }
 
-    /// The fields, lent.
+    /// Borrows the fields.
     pub(crate) fn as_range(&self) -> Range<'_>
         ensures value { fields_of result ≡ self.now }
         ensures lengths { HasFieldLengths (fields_of result) }
@@ -69,7 +69,7 @@ impl RangeFields {
     }
 }
 
-/// The bytes, copied.
+/// Copies the bytes into an array.
 pub(crate) fn copy_of<const N: usize>(bytes: &[u8]) -> [u8; N]
     requires { length bytes.now ≡ N }
     ensures value { result ≡ bytes.now }
@@ -78,7 +78,7 @@ pub(crate) fn copy_of<const N: usize>(bytes: &[u8]) -> [u8; N]
     *bytes.first_chunk().unwrap()
 }
 
-/// The range that a type 1 record itself has.
+/// Returns the range in a type 1 record itself.
 pub(crate) fn own_range(line: &[u8]) -> Range<'_>
     requires { length line.now ≡ RECORD_LENGTH }
     ensures value { fields_of result ≡ own_range line.now }
@@ -94,8 +94,8 @@ pub(crate) fn own_range(line: &[u8]) -> Range<'_>
     }
 }
 
-/// Whether a house number lies on a side of a street, by the FR and TO addresses of that side: both have a number, it lies between them
-/// (both included, whichever is greater), and where both are even or both odd, it is too.
+/// Returns whether a house number lies on a side of a street with these FR and TO addresses. Both must have a number, and `n` must lie between them,
+/// inclusive, in either order. If both are even or both are odd, `n` must be too.
 pub fn lies_on(n: u64, fr: &[u8], to: &[u8]) -> bool
     ensures { result ≡ lies_on n fr.now to.now }
 {

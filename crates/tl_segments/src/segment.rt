@@ -20,26 +20,26 @@ use std::rc::Rc;
 use tl_fields::{CountedRead, LONGEST_CONTENT};
 use tl_records::{LineFault, Rt1, Type1, read_line_into};
 
-/// How many bytes a type 1 record has, its end of line not counted (TIGER/Line 2006, record type 1).
+/// The length of a type 1 record in bytes, without its line terminator (TIGER/Line 2006, record type 1).
 pub const RECORD_LENGTH: usize = 228;
 
-/// How many lines of record type 4, and how many of record type 6, may have one TLID.
+/// The maximum number of type 4 lines, and of type 6 lines, with the same TLID.
 pub const LINE_LIMIT: usize = 1000;
 
-/// How many alternate names a segment has at most: five of each line of record type 4.
+/// The maximum number of a segment's alternate names: five for each type 4 line.
 pub const NAME_LIMIT: usize = 5000;
 
-/// How many further ranges a segment has at most: one of each line of record type 6.
+/// The maximum number of a segment's further ranges: one for each type 6 line.
 pub const RANGE_LIMIT: usize = 1000;
 
-/// A street segment: its type 1 record, its alternate names and its further address ranges. Contracts see it as a record with the fields
-/// `bytes`, `names`, `affixes` (one for each of the names) and `ranges`. It keeps the allocator that it was made with; one without alternate names and
-/// further ranges asks for no memory. The segments of a TLID in a county share one copy of both lists.
+/// A street segment: its type 1 record, its alternate names and its further address ranges. Contracts see it as a record with the fields `bytes`,
+/// `names`, `affixes` (one for each name) and `ranges`. It keeps the allocator that it was made with; a segment without alternate names and further
+/// ranges doesn't allocate. The segments of a TLID in a county share one copy of both lists.
 #[derive(Drop)]
 pub struct Segment<A: Allocator> {
-    // A line is read into it, so it has room for the longest one.
+    // Lines are read into it, so it has room for the longest one.
     record: ArrayVec<u8, LONGEST_CONTENT>,
-    // Shared with the other segments of its TLID. What is pushed to this segment alone goes to its own lists, which follow these.
+    // Shared with the other segments of the TLID. Items pushed to this segment alone go to its own lists, which follow the shared ones.
     shared: Option<Rc<Joined<A>, A>>,
     names: Vec<FullNameFields, A>,
     ranges: Vec<RangeFields, A>,
@@ -57,8 +57,8 @@ impl<A: Allocator> Model for Segment<A> {
 }
 
 impl<A: Allocator + Copy> Segment<A> {
-    /// The segment of a type 1 record without its end of line, with no alternate name and no further range. The bytes are copied, and may
-    /// be any: no field is looked at.
+    /// Creates the segment of a type 1 record without its line terminator, with no alternate names and no further ranges. The bytes are copied and
+    /// may be any: no field is inspected.
     pub fn of(alloc: A, bytes: &[u8]) -> Self
         requires { length bytes.now ≡ RECORD_LENGTH }
         ensures { result ≡ record { bytes = bytes.now; names = []; affixes = []; ranges = [] } }
@@ -71,7 +71,7 @@ impl<A: Allocator + Copy> Segment<A> {
         }
     }
 
-    /// Creates the segment of a type 1 record, with shared lists.
+    /// Creates the segment of a type 1 record with shared lists.
     pub(crate) fn sharing(alloc: A, bytes: &[u8], joined: Rc<Joined<A>, A>) -> Self
         requires length { length bytes.now ≡ RECORD_LENGTH }
         requires lists { MayJoin joined.value }
@@ -85,7 +85,8 @@ impl<A: Allocator + Copy> Segment<A> {
         }
     }
 
-    /// Makes its own lists shared ones and returns them too. Returns `None` with it if it has none, or has shared ones already.
+    /// Turns the segment's own lists into shared ones and returns them with it. They are `None` if the segment has no lists of its own or already has
+    /// shared ones.
     pub(crate) fn share(self, alloc: A) -> Result<(Self, Option<Rc<Joined<A>, A>>), AllocError>
         ensures same { IfOk result (λ both. both.0 ≡ self) }
         ensures shares { IfOk result (λ both. IfSome both.1 (λ joined.
@@ -107,7 +108,7 @@ impl<A: Allocator + Copy> Segment<A> {
         Ok((segment, Some(shared)))
     }
 
-    /// The segment of a blank record, for a line to be read into.
+    /// Creates the segment of a blank record, for a line to be read into.
     pub(crate) fn blank(alloc: A) -> Self
         ensures { result ≡ blank_segment }
     {
@@ -121,9 +122,9 @@ impl<A: Allocator + Copy> Segment<A> {
 }
 
 impl<A: Allocator> Segment<A> {
-    /// Reads the next line of a type 1 file in place of all that the segment has, and answers the number of its TLID, `None` at the end of the
-    /// input. `number` is that of the line before, and then of this one. At the end and after a fault the segment is blank. The room for names
-    /// and ranges is kept.
+    /// Reads the next line of a type 1 file, replacing the segment's contents, and returns the number of its TLID, or `None` at the end of the input.
+    /// `number` is the previous line's number and becomes this line's. At the end and after a fault the segment is blank. The room for names and
+    /// ranges is kept.
     #[inline(always)]
     pub(crate) fn read_record<R: CountedRead>(
         &mut self,
@@ -149,7 +150,7 @@ impl<A: Allocator> Segment<A> {
         }
     }
 
-    /// Adds an alternate name after the others. Its other three fields are blank.
+    /// Appends an alternate name whose other three fields are blank.
     pub fn push_name(&mut self, name: &[u8]) -> Result<(), AllocError>
         requires length { length name.now ≡ NAME_LENGTH }
         requires room { length self.old.names < NAME_LIMIT }
@@ -165,7 +166,7 @@ impl<A: Allocator> Segment<A> {
         })
     }
 
-    /// Adds an alternate name with all four fields after the others.
+    /// Appends an alternate name with all four fields.
     pub fn push_full_name(&mut self, name: FullName<'_>) -> Result<(), AllocError>
         requires lengths { HasNameLengths (full_name_of name) }
         requires room { length self.old.names < NAME_LIMIT }
@@ -176,7 +177,7 @@ impl<A: Allocator> Segment<A> {
         Ok(())
     }
 
-    /// Adds a further range after the others.
+    /// Appends a further range.
     pub fn push_range(&mut self, range: Range<'_>) -> Result<(), AllocError>
         requires lengths { HasFieldLengths (fields_of range) }
         requires room { length self.old.ranges < RANGE_LIMIT }
@@ -187,7 +188,7 @@ impl<A: Allocator> Segment<A> {
         Ok(())
     }
 
-    /// The type 1 record without its end of line, lent. Offsets count from 0, so the field at place p of the layout begins at p - 1.
+    /// Returns the type 1 record without its line terminator. Offsets count from 0, so the field at column p of the layout begins at p - 1.
     pub fn bytes(&self) -> &[u8]
         ensures value { result.now ≡ self.now.bytes }
         ensures whole { IsSegment self.now }
@@ -195,7 +196,7 @@ impl<A: Allocator> Segment<A> {
         self.record.as_slice()
     }
 
-    /// How many alternate names it has.
+    /// Returns the number of alternate names.
     pub fn names(&self) -> u64
         ensures value { result ≡ length self.now.names }
         ensures few { result ≤ NAME_LIMIT }
@@ -203,8 +204,8 @@ impl<A: Allocator> Segment<A> {
         (shared_names(&self.shared).len() + self.names.len()) as u64
     }
 
-    /// The name with a number, counted from 0: name 0 is the record's FENAME, and the alternate names follow it. None where it has no such
-    /// name.
+    /// Returns the name with number `n`, counted from 0: name 0 is the record's FENAME, and the alternate names follow. Returns `None` if there is no
+    /// such name.
     pub fn name(&self, n: u64) -> Option<&[u8]>
         ensures value { option_copied result ≡ slice_get (names_of self.now) n }
         ensures bytes { IfSome result (λ name. AreBytes NAME_LENGTH name.now) }
@@ -223,8 +224,8 @@ impl<A: Allocator> Segment<A> {
         Some(name.fename())
     }
 
-    /// Returns the full name with a number, counted as for [`name`](Self::name): the four fields of the record, or of an alternate name's type 5
-    /// line. `None` if there is no such name.
+    /// Returns the full name with number `n`, counted as for [`name`](Self::name): the four fields in the record, or in an alternate name's type 5
+    /// line. Returns `None` if there is no such name.
     pub fn full_name(&self, n: u64) -> Option<FullName<'_>>
         ensures value { option_map full_name_of result ≡ slice_get (full_names_of self.now) n }
         ensures name { option_map (λ name. name.fename.now) result ≡ slice_get (names_of self.now) n }
@@ -253,7 +254,7 @@ impl<A: Allocator> Segment<A> {
         kept_at(shared_names(&self.shared), self.names.as_slice(), index)
     }
 
-    /// How many ranges it has: the record's own, and the further ones.
+    /// Returns the number of ranges: the record's own, plus the further ones.
     pub fn ranges(&self) -> u64
         ensures value { result ≡ length (ranges_of self.now) }
         ensures some { 1 ≤ result }
@@ -262,8 +263,8 @@ impl<A: Allocator> Segment<A> {
         (shared_ranges(&self.shared).len() + self.ranges.len()) as u64 + 1
     }
 
-    /// The range with a number, counted from 0: range 0 is the record's own, and the further ranges follow it. None where it has no such
-    /// range.
+    /// Returns the range with number `n`, counted from 0: range 0 is the record's own, and the further ranges follow. Returns `None` if there is no
+    /// such range.
     #[tactic(auto, using(crate::proofs::SegmentLemmas::slice_get_own))]
     pub fn range(&self, n: u64) -> Option<Range<'_>>
         ensures value { option_map fields_of result ≡ slice_get (ranges_of self.now) n }
@@ -304,7 +305,7 @@ fn shared_ranges<A: Allocator>(shared: &Option<Rc<Joined<A>, A>>) -> &[RangeFiel
     }
 }
 
-/// Copies the items into a list with no room for more.
+/// Copies the items into a list without spare room.
 fn exact_copy<T: Copy, A: Allocator>(alloc: A, items: &[T]) -> Result<Vec<T, A>, AllocError>
     ensures { IfOk result (λ copy. copy.items ≡ items.now) }
 {
@@ -314,7 +315,7 @@ fn exact_copy<T: Copy, A: Allocator>(alloc: A, items: &[T]) -> Result<Vec<T, A>,
     Ok(copy)
 }
 
-/// Returns the item with an index, counted through both lists.
+/// Returns the item at an index that counts through both lists.
 #[inline]
 fn kept_at<'a, T>(shared: &'a [T], own: &'a [T], index: u64) -> Option<&'a T>
     ensures { option_copied result ≡ slice_get (shared.now ++ own.now) index }
@@ -325,7 +326,7 @@ fn kept_at<'a, T>(shared: &'a [T], own: &'a [T], index: u64) -> Option<&'a T>
     }
 }
 
-/// The bytes, in room for a line.
+/// Copies the bytes into a buffer with room for a line.
 fn record_of(bytes: &[u8]) -> ArrayVec<u8, LONGEST_CONTENT>
     requires { length bytes.now ≡ RECORD_LENGTH }
     ensures value { result.items ≡ bytes.now }
@@ -344,7 +345,7 @@ fn blank_record() -> ArrayVec<u8, LONGEST_CONTENT>
     record_of(&[b' '; RECORD_LENGTH])
 }
 
-/// Reads the next line of a type 1 file, and answers the number of its TLID, `None` at the end of the input.
+/// Reads the next line of a type 1 file and returns the number of its TLID, or `None` at the end of the input.
 #[inline(always)]
 fn read_rt1<R: CountedRead>(
     input: &mut R,

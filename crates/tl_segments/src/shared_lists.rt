@@ -1,4 +1,4 @@
-//! Lists of names and ranges that the segments of a TLID share.
+//! Lists of names and ranges shared by the segments of a TLID.
 ghost use Rattle.std.specs.Prelude.{◌≡◌, ℕ, nat_eq, if◌then◌else◌, None, Some, IfOk, OnOk};
 ghost use Rattle.std.specs.HashMap.{get};
 ghost use Rattle.tl_segments.specs.Indexing.{IsIndexOf};
@@ -16,14 +16,14 @@ use std::hash::BuildHasherDefault;
 use std::rc::Rc;
 use tl_records::Rt1;
 
-/// The alternate names and the further ranges of a TLID.
+/// The alternate names and further ranges of a TLID.
 #[derive(Drop)]
 pub(crate) struct Joined<A: Allocator> {
     pub(crate) names: Vec<FullNameFields, A>,
     pub(crate) ranges: Vec<RangeFields, A>,
 }
 
-/// The lists of each TLID whose first segment was made, if an alternate name or a further range is joined to it.
+/// The lists of each TLID whose first segment has been created, if an alternate name or a further range is joined to it.
 #[derive(Drop)]
 pub(crate) struct SharedLists<A: Allocator> {
     alloc: A,
@@ -40,7 +40,7 @@ impl<A: Allocator + Copy> SharedLists<A> {
         }
     }
 
-    /// Creates the segment of a type 1 line from the index. The first segment of a TLID makes its lists, and later ones share them.
+    /// Creates the segment of a type 1 line from the index. The first segment of a TLID creates its lists, and later ones share them.
     pub(crate) fn segment(
         &mut self,
         index: &Index<A>,

@@ -14,7 +14,7 @@ use std::alloc::{AllocError, Allocator};
 use tl_fields::number;
 use tl_records::{Rt4, Rt5, Rt6, Type4, Type5, Type6};
 
-/// The numbers of a type 4 line's FEATs, each where it has one.
+/// The numbers of a type 4 line's FEATs, or `None` for a FEAT without one.
 pub(crate) type Features = [Option<u32>; 5];
 
 impl<A: Allocator + Copy> Table for Grouped<Features, A> {
@@ -39,7 +39,7 @@ fn feature_numbers(rt4: &Rt4<'_>) -> Features
     ]
 }
 
-/// The number of a FEAT, which has 8 places.
+/// Returns the number of a FEAT, a field of 8 bytes.
 fn feature_number(feat: &[u8]) -> Option<u32>
     requires { length feat.now ≡ 8 }
     ensures { result ≡ number_of feat.now }
