@@ -1,4 +1,4 @@
--- Extracting line by line: what was read and written so far, and the outcome at each end.
+-- Extracting line by line: what has been read and written so far, and the outcome at each end.
 use Rattle.std.proofs.Common.{◌≡◌, ◌≢◌, ℕ, ◌+◌, ◌≤◌, inl, inr, List, [], ◌∷◌, ◌++◌, Some, None, Ok, Err, refl, sym, ap, ◌∙◌}
 use Rattle.std.proofs.Common.{subst, arith}
 use Rattle.std.specs.Io.KnownBytes.{Appends}
@@ -30,8 +30,8 @@ use Rattle.extract.specs.Rows.{WritesRow}
 use Rattle.extract.specs.declared.fault.ExtractFault.TheVariants.{Write}
 use Rattle.extract.proofs.RowLemmas.{chosen_count-le, extract_alike, row_alike}
 
--- Lines were read so far, all good, segments made of them with what the index has, and all of the extract of these written: so many rows,
--- at most one a line. Nothing failed.
+-- The lines read so far are all good, and segments were made of them with what the index has. The complete extract of these segments was written:
+-- this number of rows, at most one per line. Nothing failed.
 pub record IsExtractedSoFar {A : Type 0} (index : Index A) (code : List Insn) (rows : ℕ) (line : LineParts) (rt1 rt1' : Reader)
     (out out' : Writer) : Type 0 where
   pub lines : List (List ℕ)
@@ -58,7 +58,7 @@ nothing_so_far index code rows line rt1 out none zeroth = record {
   counts = refl;
 }
 
--- a code answers alike on the segments of any lines as on those of none, where it reads the record alone
+-- code that reads the record alone gives the same answers on the segments of any lines as on those of no lines
 pub alike_alone : (code : List Insn) (joined : JoinedLines) → IsTrue (reads_record_alone code) → AnswersAlike code no_lines joined
 alike_alone code joined alone = record {
   same = λ line answer score. answers_alike code (segment_of no_lines line) (segment_of joined line) answer score alone refl;
@@ -75,7 +75,7 @@ alike_alone code joined alone = record {
 pub alike_itself : (code : List Insn) (joined : JoinedLines) → AnswersAlike code joined joined
 alike_itself code joined = record { same = λ line answer score answers. answers; more = λ line some. some }
 
--- where memory runs out for what is joined to type 1 lines, no read failed
+-- if memory runs out for what is joined to type 1 lines, no read failed
 joined_unfailed : (rt1 : Reader) (old new : Readers) → IsJoinedFault load_fault.Memory old new
     → AreUnfailed (record { rt1 = rt1; joined = old }) (record { rt1 = rt1; joined = new })
 joined_unfailed rt1 old new (in_rt4 wants rt5 rt6) =
@@ -85,7 +85,7 @@ joined_unfailed rt1 old new (in_rt5 rt4 wants rt6) =
 joined_unfailed rt1 old new (in_rt6 rt4 rt5 wants) =
     record { rt1 = refl; rt4 = rt4.1.reads; rt5 = rt5.1.reads; rt6 = wants }
 
--- a refused file that is joined to that of type 1
+-- a file that is joined to the type 1 file is refused
 pub joined_outcome : {program : List ℕ} {code : List Insn} (fault : LoadFault) (rt1 : Reader) {old new : Readers} (out : Writer)
     → IsSafeProgram program code → IsJoinedFault fault old new
     → IsOutcome program (Err (of_load fault)) (record { rt1 = rt1; joined = old }) (record { rt1 = rt1; joined = new }) out out
@@ -103,7 +103,7 @@ pub record ReadsNext {A : Type 0} (index : Index A) (line : LineParts) (now : Re
 
 module _ {A : Type 0} {index : Index A} {code : List Insn} {rows : ℕ} {line : LineParts} {rt1 now : Reader} {out between : Writer}
     (so_far : IsExtractedSoFar index code rows line rt1 now out between) where
-  -- a segment more, and its row if it is chosen
+  -- one more segment, and its row if it is selected
   pub one_row_more : (next : ReadsNext index line now (Ok (Some tt))) (more : ℕ) (out' : Writer)
       → WritesRow code next.segment (Ok more) between out'
       → IsExtractedSoFar index code (rows + more) (line_of next.number next.segment) rt1 next.after out out'
@@ -189,7 +189,7 @@ module _ {A : Type 0} {index : Index A} {code : List Insn} {rows : ℕ} {line : 
           reads = record { rt1 = more.reads.reads; rt4 = joined.rt4.reads; rt5 = joined.rt5.reads; rt6 = joined.rt6.reads };
         }
 
-    -- the writer fails
+    -- a write fails
     pub write_outcome : (next : ReadsNext index line now (Ok (Some tt))) (fault : WriteFault) (out' : Writer)
         → WritesRow code next.segment (Err fault) between out' → IsOutcome program (Err (Write fault)) (record { rt1 = rt1; joined = old })
         (record { rt1 = next.after; joined = new }) out out'

@@ -1,4 +1,4 @@
--- How the rows of segments join, that they are alike where the answers are, and how a row is put over another one.
+-- How the rows of segments are joined, why equal answers give equal rows, and how a row is written over another one.
 use Rattle.std.proofs.Common.{◌≡◌, ◌+◌, ℕ, Err, ◌≤◌, List, [], ◌∷◌, ◌++◌, length, take, ap, ◌∙◌, append_assoc}
 use Rattle.std.proofs.Common.{arith}
 use Rattle.std.specs.List.{refill}
@@ -17,11 +17,11 @@ use Rattle.bpf_meaning.specs.Extract.{IsExtract, chosen_count}
 use Rattle.extract.specs.Extracting.{AnswersAlike}
 use Rattle.extract.specs.Rows.{WritesRow}
 
--- a segment gives one row at most
+-- a segment has at most one row
 pub chosen_count-le : (answer : ℕ) → chosen_count answer ≤ 1
 chosen_count-le answer = grind (arith, nat_tests)
 
--- where a code answers alike, so are the extract and a row that a write's fault ended
+-- if code gives the same answers, the extract is the same, and so is a row cut short by a write fault
 
 pub extract_alike : (code : List Insn) (own joined : JoinedLines) (lines : List (List ℕ)) (text : List ℕ) (rows : ℕ)
     → AnswersAlike code own joined → IsExtract code (segments_of own lines) text rows → IsExtract code (segments_of joined lines) text rows
@@ -34,7 +34,7 @@ pub row_alike : {code : List Insn} {own joined : JoinedLines} (line : List ℕ) 
     → WritesRow code (segment_of joined line) (Err fault) out out'
 row_alike line fault out out' alike row = (row.0, row.1, alike.same line row.0 row.1 row.2, row.3, row.4, row.5)
 
--- a row that is put over a text of the same length: the digits, the tab, the record from `start` on, and the line feed at `end`
+-- a row written over a text of the same length: the digits, the tab, the record from `start` on, and the line feed at `end`
 module _ (old digits bytes : List ℕ) (start k end : ℕ) (start_is : start ≡ length digits + 1) (k_is : k ≡ length bytes) (end_is : end ≡ start + k)
     (long : length old ≡ end + 1) where
   abbrev with_digits : List ℕ

@@ -1,4 +1,4 @@
--- A program has one verdict, out of memory aside.
+-- A program has one verdict, unless memory runs out.
 use Rattle.std.proofs.Common.{◌≡◌, ◌≢◌, ℕ, List, Result, Ok, Err, IfErr, refl, sym, ap, ◌∙◌, subst}
 use Rattle.bpf_flow.proofs.FlowLemmas.{has_no_fault, one_fault_lem}
 use Rattle.bpf_insn.proofs.CodeLemmas as code_of
@@ -12,14 +12,14 @@ use Rattle.extract.specs.declared.program.ProgramFault.TheVariants.{Code, Flow, 
 pub same_code : (program : List ℕ) (a b : List Insn) → IsCodeOf program a → IsCodeOf program b → a ≡ b
 same_code program a b is also = code_of.one_code a b (sym is.words ∙ also.words)
 
--- a code that is accepted has no fault
+-- accepted code has no fault
 no_fault_of_code : (code : List Insn) (fault : ProgramFault) → IsSafeCode code → IsFaultOfCode code fault → fault ≡ Memory
 no_fault_of_code code (Code fault) safe is = absurd is
 no_fault_of_code code (Flow fault) safe is = absurd (has_no_fault code fault safe.forward is)
 no_fault_of_code code (Verify fault) safe is = absurd (is.2 (verdict.refused_for_memory code fault is.1 safe.accepted))
 no_fault_of_code code Memory safe is = refl
 
--- nor has a program
+-- nor does an accepted program
 pub no_fault : (program : List ℕ) (code : List Insn) (fault : ProgramFault) → IsSafeProgram program code → IsProgramFault program fault
     → fault ≡ Memory
 no_fault program code (Code fault) safe is = absurd (is.1 (code_of.memory_alone program code fault safe.is_code is.0))
@@ -47,7 +47,7 @@ one_fault program a (Code b) is also first second = absurd (also.1 (code_of.memo
 one_fault program a b is also first second = one_fault_of_code also.0 a b
     (subst (λ (c : List Insn). IsFaultOfCode c a) (same_code program is.0 also.0 is.1 also.1) is.2) also.2 first second
 
--- a fault of a program's code is one of the program
+-- a fault of a program's code is a fault of the program
 program_fault : (program : List ℕ) (code : List Insn) (fault : ProgramFault) → IsCodeOf program code → IsFaultOfCode code fault
     → IsProgramFault program fault
 program_fault program code (Code fault) is of = absurd of

@@ -1,4 +1,4 @@
--- The refusal of an extract's fault.
+-- The refusal for an extract's fault.
 use Rattle.refusals.specs.Refusal.{RefusalParts, memory}
 use Rattle.tl_fields.specs.Writing as write_fault
 use Rattle.extract.specs.ProgramFault as program_fault
@@ -10,7 +10,7 @@ use Rattle.tl_segments.specs.declared.fault.LoadFault.TheVariants as load_varian
 use Rattle.extract.specs.declared.fault.ExtractFault.{ExtractFault}
 use Rattle.extract.specs.declared.fault.ExtractFault.TheVariants.{Program, Load, Write, Memory}
 
--- out of memory is one fault, wherever it came from
+-- out of memory is a single fault, wherever it came from
 abbrev pub of_program : ProgramFault → ExtractFault
 of_program program_variant.Memory = Memory
 of_program fault = Program fault

@@ -1,4 +1,4 @@
--- What an extract promises: a case a branch of its outcome.
+-- What an extract guarantees: one case for each kind of outcome.
 use Rattle.std.specs.Prelude.{◌≡◌, ◌≢◌, ◌⊎◌, ℕ, List, [], ◌∷◌, ◌++◌, Result, Ok, Err}
 use Rattle.std.specs.Io.KnownBytes.{Appends}
 use Rattle.tl_fields.specs.Device.{Writer}
@@ -23,8 +23,8 @@ use Rattle.extract.specs.declared.fault.ExtractFault.TheVariants.{Program, Load,
 use Rattle.extract.specs.declared.program.ProgramFault.{ProgramFault}
 use Rattle.extract.specs.declared.program.ProgramFault.TheVariants as program_fault
 
--- The program is safe, and for the segments of the county's files, which were all read to their ends, exactly the rows that the program's
--- meaning chooses were written, in file order with their scores, after what the writer held, so many. Nothing failed.
+-- The program is safe, and the county's files were all read to their ends. Exactly the rows of the segments that the program's meaning selects were
+-- appended to the writer, in file order and with their scores, and `rows` is their count. Nothing failed.
 pub record IsExtracted (program : List ℕ) (rows : ℕ) (old new : CountyReaders) (out out' : Writer) : Type 0 where
   pub code : List Insn
   pub is_program : IsSafeProgram program code
@@ -35,14 +35,14 @@ pub record IsExtracted (program : List ℕ) (rows : ℕ) (old new : CountyReader
   pub written : Appends out.held out'.held text
   pub counts : out'.counts ≡ out.counts
 
--- What a code answers on the segment of a type 1 line with what the first lines join to it, it answers with what the others do. These join
--- something wherever the first do.
+-- Whatever the code answers on the segment of a type 1 line with the first lines joined to it, it also answers with the second lines joined. The
+-- second lines join something wherever the first do.
 pub record AnswersAlike (code : List Insn) (own joined : JoinedLines) : Type 0 where
   pub same : (line : List ℕ) (answer score : ℕ)
       → Answers code (segment_of own line) answer score → Answers code (segment_of joined line) answer score
   pub more : (line : List ℕ) → HasJoined (segment_of own line) → HasJoined (segment_of joined line)
 
--- The files of types 4, 5 and 6 were read to their ends without a fault, and the code answers with what the index has as with what they have.
+-- The files of types 4, 5 and 6 were read to their ends without a fault, and the code gives the same answers with the index as with these files.
 pub record ServesCode {A : Type 0} (code : List Insn) (index : Index A) (old new : Readers) : Type 0 where
   pub own : JoinedLines
   pub index_of : IsIndexOf index own
@@ -57,11 +57,11 @@ pub record IsProgramRefusal (program : List ℕ) (fault : ProgramFault) (old new
   pub unread : new ≡ old
   pub unwritten : out' ≡ out
 
--- some code makes the program safe
+-- the program has code that is safe
 abbrev pub HasSafeCode : List ℕ → Type 0
 HasSafeCode program = (code : List Insn) × IsSafeProgram program code
 
--- The program is safe, and the extract of these type 1 lines, with what the others join to them, was written whole; no write failed.
+-- The program is safe, and the extract of these type 1 lines, with the others joined to them, was written completely. No write failed.
 pub record HasWritten (program : List ℕ) (joined : JoinedLines) (lines : List (List ℕ)) (out out' : Writer) : Type 0 where
   pub code : List Insn
   pub is_program : IsSafeProgram program code
@@ -71,8 +71,8 @@ pub record HasWritten (program : List ℕ) (joined : JoinedLines) (lines : List 
   pub written : Appends out.held out'.held text
   pub counts : out'.counts ≡ out.counts
 
--- A file is refused, by the first fault of the county's files in the order in which they are read: of type 4, 5 or 6, where nothing of type
--- 1 was read and nothing was written; or of type 1, after good lines of which all of the extract was written.
+-- A file is refused because of the first fault in the county's files, in the order in which they are read. If the file is of type 4, 5 or 6, nothing
+-- was read of type 1 and nothing was written. If it is of type 1, the complete extract of the good lines before the fault was written.
 pub data IsLoadRefusal (program : List ℕ) (fault : LoadFault) (old new : CountyReaders) (out out' : Writer) : Type 0 where
   before_rt1 : HasSafeCode program → fault ≢ load_fault.Memory → IsJoinedFault fault old.joined new.joined → new.rt1 ≡ old.rt1 → out' ≡ out
       → IsLoadRefusal program fault old new out out'
@@ -80,8 +80,8 @@ pub data IsLoadRefusal (program : List ℕ) (fault : LoadFault) (old new : Count
       → ReadsJoined joined old.joined new.joined → IsFirstFault Rt1 line lines old.rt1 new.rt1 → HasWritten program joined lines out out'
       → IsLoadRefusal program fault old new out out'
 
--- A write failed: all of the extract of good lines was written, and then a beginning of the row of the line after them, which is good as
--- well. Nothing was read after that line, and no read failed.
+-- A write failed. The complete extract of some good lines was written, then a beginning of the row of the next line, which is also good. Nothing was
+-- read after that line, and no read failed.
 pub record IsWriteRefusal (program : List ℕ) (fault : WriteFault) (old new : CountyReaders) (out out' : Writer) : Type 0 where
   pub joined : JoinedLines
   pub reads_joined : ReadsJoined joined old.joined new.joined
@@ -92,8 +92,8 @@ pub record IsWriteRefusal (program : List ℕ) (fault : WriteFault) (old new : C
   pub before : HasWritten program joined lines out between
   pub row : WritesRow before.code (segment_of joined line) (Err fault) between out'
 
--- Memory runs out for the segment of a good line of type 1, to which something is joined: all of the extract of the good lines before it
--- was written, and nothing was read after it.
+-- Memory runs out for the segment of a good type 1 line that has something joined to it. The complete extract of the good lines before it was
+-- written, and nothing was read after it.
 pub record StopsAtLine (program : List ℕ) (old new : CountyReaders) (out out' : Writer) : Type 0 where
   pub joined : JoinedLines
   pub reads_joined : ReadsJoined joined old.joined new.joined
@@ -110,13 +110,13 @@ pub record AreUnfailed (old new : CountyReaders) : Type 0 where
   pub rt5 : new.joined.rt5.failed ≡ old.joined.rt5.failed
   pub rt6 : new.joined.rt6.failed ≡ old.joined.rt6.failed
 
--- Memory runs out: nothing of type 1 was read and nothing was written, or it stops at a line of type 1. No read or write failed.
+-- Memory runs out. Either nothing was read of type 1 and nothing was written, or the extract stops at a type 1 line. No read or write failed.
 pub record IsMemoryRefusal (program : List ℕ) (old new : CountyReaders) (out out' : Writer) : Type 0 where
   pub written : (new.rt1 ≡ old.rt1) × (out' ≡ out) ⊎ StopsAtLine program old new out out'
   pub counts : out'.counts ≡ out.counts
   pub reads : AreUnfailed old new
 
--- what an extract does to the readers of the county's files and to the writer, by its outcome
+-- the effect of an extract on the readers of the county's files and on the writer, by outcome
 abbrev pub IsOutcome : List ℕ → Result ℕ ExtractFault → CountyReaders → CountyReaders → Writer → Writer → Type 0
 IsOutcome program (Ok rows) old new out out' = IsExtracted program rows old new out out'
 IsOutcome program (Err (Program fault)) old new out out' = IsProgramRefusal program fault old new out out'

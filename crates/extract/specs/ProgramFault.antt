@@ -11,7 +11,7 @@ use Rattle.bpf_verify.specs.declared.fault.VerifyFault.TheVariants as verify_var
 use Rattle.extract.specs.declared.program.ProgramFault.{ProgramFault}
 use Rattle.extract.specs.declared.program.ProgramFault.TheVariants.{Code, Flow, Verify, Memory}
 
--- out of memory is one fault, wherever it came from
+-- out of memory is a single fault, wherever it came from
 abbrev pub of_code : CodeFault → ProgramFault
 of_code code_variant.Memory = Memory
 of_code fault = Code fault

@@ -16,13 +16,13 @@ use std::alloc::Allocator;
 use tl_fields::{CountedRead, CountedWrite};
 use tl_segments::{Index, LoadFault};
 
-/// Writes the rows of the segments of a county's files that a program chooses, in the order of the type 1 file, and answers their number.
+/// Writes the rows of a county's segments that a program selects, in the order of the type 1 file, and returns their number.
 ///
-/// The program is accepted first. Then the files of types 4, 5 and 6 are read, in this order, each to its end, and kept as far as segments
-/// need them for the program. The type 1 file is then read line by line: a line's row is handed to the writer before the next line is read,
-/// and nothing of a line is kept after its row. So the first fault is answered of the program, of type 4, 5, 6, and of type 1, in this
-/// order; with a fault of line n of type 1 the rows of all lines before it were written, and with any fault before that nothing was.
-/// Nothing is flushed, and no read or write is tried again, not after `Interrupted` either.
+/// The program is accepted first. Then the files of types 4, 5 and 6 are read, in this order, each to its end; only what the program's segments need
+/// is kept. Finally the type 1 file is read line by line: a line's row is passed to the writer before the next line is read, and nothing of a line is
+/// kept after its row. The first fault is therefore reported from the program, then the files of types 4, 5 and 6, then the type 1 file. After a
+/// fault in line n of type 1, the rows of all earlier lines have been written; after any earlier fault, nothing has. Nothing is flushed, and no read
+/// or write is retried, not even after `Interrupted`.
 pub fn extract<A: Allocator + Copy, R: CountedRead, W: CountedWrite>(
     alloc: A,
     program: &[u8],
@@ -36,7 +36,7 @@ pub fn extract<A: Allocator + Copy, R: CountedRead, W: CountedWrite>(
         (record { rt1 = reader R.remaining R.failed_reads rt1.old; joined = readers R.remaining R.failed_reads rt4.old rt5.old rt6.old })
         (record { rt1 = reader R.remaining R.failed_reads rt1.new; joined = readers R.remaining R.failed_reads rt4.new rt5.new rt6.new })
         (writer W.contents W.counts out.old) (writer W.contents W.counts out.new) }
-    // A refused program leaves all as they were, in all that they are.
+    // If the program is refused, the readers and the writer are entirely unchanged.
     ensures untouched { (fault : ProgramFault) → result ≡ Err (ExtractFault.Program fault)
         → (rt1.new ≡ rt1.old) × (rt4.new ≡ rt4.old) × (rt5.new ≡ rt5.old) × (rt6.new ≡ rt6.old) × (out.new ≡ out.old) }
 {
@@ -45,7 +45,7 @@ pub fn extract<A: Allocator + Copy, R: CountedRead, W: CountedWrite>(
     write_rows(&verified, &index, rt1, out)
 }
 
-/// Reads the files of types 4, 5 and 6 to their ends, and keeps what the code asks for: nothing for one that reads the record alone.
+/// Reads the files of types 4, 5 and 6 to their ends and keeps what the code uses: nothing if it reads the record alone.
 fn load_index<A: Allocator + Copy, R: CountedRead>(
     alloc: A,
     verified: &Verified<A>,
@@ -66,8 +66,8 @@ fn load_index<A: Allocator + Copy, R: CountedRead>(
     Ok(index)
 }
 
-/// Writes the rows of the lines of a type 1 file that are chosen, each before the next line is read, and answers their number. The index may
-/// lack what the code doesn't ask for.
+/// Writes the rows of the selected lines of a type 1 file, each before the next line is read, and returns their number. The index may lack what the
+/// code doesn't use.
 fn write_rows<A: Allocator + Copy, R: CountedRead, W: CountedWrite>(
     verified: &Verified<A>,
     index: &Index<A>,

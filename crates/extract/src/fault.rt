@@ -1,4 +1,4 @@
-//! Why there is no extract, or no whole one.
+//! Why there is no complete extract.
 ghost use Rattle.std.specs.Prelude.{◌≡◌};
 ghost use Rattle.extract.specs.ExtractFault.{of_program, of_load};
 ghost use Rattle.extract.specs.declared.fault.ExtractFault.TheVariants.{Write};
@@ -12,8 +12,7 @@ use thiserror::Error;
 use tl_fields::WriteFault;
 use tl_segments::LoadFault;
 
-/// Why there is no extract, or no whole one: each branch is the fault of one part of the work, and running out of memory is a branch of its
-/// own.
+/// Why there is no complete extract: one variant for each part of the work that can fail, and one for running out of memory.
 #[derive(Clone, Copy, Debug, PartialEq, Eq, Error)]
 pub enum ExtractFault {
     #[error("{0}")]
@@ -57,7 +56,7 @@ impl From<WriteFault> for ExtractFault {
 }
 
 impl ExtractFault {
-    /// Returns the refusal's line of text, as `refused 1 rt1 line 2 WrongLength`, without an end of line. It takes no memory.
+    /// Returns the refusal's line of text, such as `refused 1 rt1 line 2 WrongLength`, without a line terminator. It doesn't allocate.
     pub fn line(&self) -> ArrayString<64>
         ensures { result.bytes ≡ refusal_line (extract_fault.refusal self.now) }
     {

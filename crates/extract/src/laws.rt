@@ -1,11 +1,11 @@
-//! What holds of the definitions themselves. The functions do nothing: each one's contract is the law.
+//! Laws about the definitions, stated as contracts of functions that do nothing.
 ghost use Rattle.std.specs.Prelude.{◌≡◌, ◌≢◌, ℕ, List};
 ghost use Rattle.bpf_insn.specs.declared.instruction.Insn.{Insn};
 ghost use Rattle.extract.specs.Program.{IsSafeProgram, IsProgramFault};
 ghost use Rattle.extract.specs.declared.program.ProgramFault.{ProgramFault};
 ghost use Rattle.extract.specs.declared.program.ProgramFault.TheVariants.{Memory};
 
-/// A program has at most one verdict, out of memory aside: one that is accepted has no fault, and any other has at most one.
+/// States that a program has at most one verdict, unless memory runs out: an accepted program has no fault, and any other has at most one.
 #[tactic(auto, using(crate::proofs::VerdictLemmas::no_fault, crate::proofs::VerdictLemmas::one_fault))]
 pub fn verdicts()
     ensures accepted { (program : List ℕ) (code : List Insn) (fault : ProgramFault) → IsSafeProgram program code

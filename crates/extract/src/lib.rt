@@ -1,4 +1,4 @@
-//! Extracts: the rows of the street segments (TIGER/Line 2006) that a BPF program (RFC 9669) chooses.
+//! Extracts: the rows of the street segments (TIGER/Line 2006) that a BPF program (RFC 9669) selects.
 #![tactic(auto)]
 
 mod extractor;

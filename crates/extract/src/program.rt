@@ -1,4 +1,4 @@
-//! Programs that are accepted: their bytes are a code that is safe to run.
+//! Accepted programs: their bytes encode code that is safe to run.
 ghost use Rattle.std.specs.Prelude.{◌≡◌, List, IfOk, IfErr, OnOk};
 ghost use Rattle.bpf_insn.specs.declared.instruction.Insn.{Insn};
 ghost use Rattle.extract.specs.Program.{IsSafeProgram, IsProgramFault, IsSafeCode, IsFaultOfCode};
@@ -17,13 +17,13 @@ use thiserror::Error;
 /// Why a program isn't accepted.
 #[derive(Clone, Copy, Debug, PartialEq, Eq, Error)]
 pub enum ProgramFault {
-    /// The bytes are no code.
+    /// The bytes don't encode code.
     #[error("{0}")]
     Code(CodeFault),
-    /// A jump of the code leads elsewhere than forward to an instruction, or its last instruction is no exit.
+    /// A jump doesn't lead forward to an instruction, or the last instruction isn't an exit.
     #[error("{0}")]
     Flow(FlowFault),
-    /// The code may be stuck on some segment, as far as its checks can tell.
+    /// The code may get stuck on some segment, as far as the checks can tell.
     #[error("{0}")]
     Verify(VerifyFault),
     #[error("out of memory")]
@@ -61,7 +61,7 @@ impl From<VerifyFault> for ProgramFault {
 }
 
 impl ProgramFault {
-    /// Returns the refusal's line of text, as `refused 44 place 2 OutOfBounds`, without an end of line. It takes no memory.
+    /// Returns the refusal's line of text, such as `refused 44 place 2 OutOfBounds`, without a line terminator. It doesn't allocate.
     pub fn line(&self) -> ArrayString<64>
         ensures { result.bytes ≡ refusal_line (program_fault.refusal self.now) }
     {
@@ -84,13 +84,13 @@ impl Fault for ProgramFault {
     }
 }
 
-/// Accepts a program, which `bpf_machine::run` then takes, or refuses it: its bytes are looked at first, and then its code, as `accept_code`
-/// does. What is accepted keeps the allocator, and nothing of `program`.
+/// Accepts a program for `bpf_machine::run`, or refuses it. Its bytes are checked first, and then its code, as in `accept_code`. The result keeps the
+/// allocator, but nothing of `program`.
 #[tactic(auto, using(crate::proofs::VerdictLemmas::refused_by_code, crate::proofs::VerdictLemmas::refused_for_memory))]
 pub fn accept<A: Allocator + Copy>(alloc: A, program: &[u8]) -> Result<Verified<A>, ProgramFault>
     ensures ok { IfOk result (λ verified. IsSafeProgram program.now verified.code) }
     ensures err { IfErr result (IsProgramFault program.now) }
-    // A program that has a safe code is refused only if memory runs out.
+    // A program with safe code is refused only if memory runs out.
     ensures only { (code : List Insn) → IsSafeProgram program.now code → IfErr result (λ fault. fault ≡ ProgramFault.Memory) }
 {
     let code = decode(alloc, program)?;
@@ -119,15 +119,15 @@ pub fn check_program<A: Allocator + Copy>(alloc: A, program: &[u8]) -> Result<()
     check_code(alloc, code)
 }
 
-/// Accepts a code, or refuses it: where its jumps lead and how it ends is looked at first, and then what its instructions do. Who decodes a
-/// program and frees its bytes before this call doesn't hold them while the code is verified.
+/// Accepts code or refuses it. Its jumps and its end are checked first, and then what its instructions do. A caller can decode a program and free its
+/// bytes before this call, so that they aren't held during verification.
 pub fn accept_code<A: Allocator + Copy>(
     alloc: A,
     code: Code<A>,
 ) -> Result<Verified<A>, ProgramFault>
     ensures ok { IfOk result (λ verified. (verified.code ≡ code) × IsSafeCode code) }
     ensures err { IfErr result (IsFaultOfCode code) }
-    // A safe code is refused only if memory runs out.
+    // Safe code is refused only if memory runs out.
     ensures only { IsSafeCode code → IfErr result (λ fault. fault ≡ ProgramFault.Memory) }
 {
     let flow = Flow::of(code)?;

@@ -13,10 +13,10 @@ use std::alloc::{AllocError, Allocator};
 use tl_fields::{CountedWrite, WriteFault, write_whole};
 use tl_segments::Segment;
 
-/// How many bytes a row has at most: a score of 20 digits, a tab, the record, a line feed.
+/// The maximum length of a row in bytes: a score of 20 digits, a tab, the record, a line feed.
 pub const LONGEST_ROW: usize = 250;
 
-/// The row of a segment with a score: the score in decimal, a tab, the type 1 record, a line feed.
+/// Returns the row of a segment with a score: the score in decimal, a tab, the type 1 record, a line feed.
 pub fn row_text<A: Allocator>(score: u64, segment: &Segment<A>) -> ArrayVec<u8, LONGEST_ROW>
     ensures { result.items ≡ row_of score segment.now }
 {
@@ -30,7 +30,7 @@ pub fn row_text<A: Allocator>(score: u64, segment: &Segment<A>) -> ArrayVec<u8, 
     text
 }
 
-/// Writes the row of a segment with a score. Nothing is tried again, and nothing is flushed.
+/// Writes the row of a segment with a score. Nothing is retried, and nothing is flushed.
 pub fn row<A: Allocator, W: CountedWrite>(
     score: u64,
     segment: &Segment<A>,
@@ -42,8 +42,8 @@ pub fn row<A: Allocator, W: CountedWrite>(
     write_whole(out, row_text(score, segment).as_slice())
 }
 
-/// The score with which a code chooses a segment, `None` where it doesn't choose it. The code runs in the machine, whatever it holds. It takes
-/// no memory.
+/// Returns the score with which the code selects a segment, or `None` if it doesn't select it. Reuses `bare`; its previous contents don't matter. It
+/// doesn't allocate.
 #[inline]
 pub fn score_if_chosen<A: Allocator, B: Allocator>(
     verified: &Verified<A>,
@@ -59,7 +59,7 @@ pub fn score_if_chosen<A: Allocator, B: Allocator>(
     Some(answer.score)
 }
 
-/// Appends the row of a segment if the code chooses it. If memory runs out the rows stay as they were.
+/// Appends the row of a segment if the code selects it. If an allocation fails, the rows are unchanged.
 #[inline]
 pub fn push_row_if_chosen<A: Allocator, B: Allocator, C: Allocator>(
     verified: &Verified<A>,
@@ -77,7 +77,7 @@ pub fn push_row_if_chosen<A: Allocator, B: Allocator, C: Allocator>(
     }
 }
 
-/// Puts the row of a segment with a score in place of another row. Nothing is cleared if both have the same length, as most rows have.
+/// Replaces a row with the row of a segment with a score. If both have the same length, as most rows do, nothing is cleared.
 #[inline]
 fn put_row<A: Allocator>(text: &mut ArrayVec<u8, LONGEST_ROW>, score: u64, segment: &Segment<A>)
     ensures { text.new.items ≡ row_of score segment.now }
@@ -97,7 +97,7 @@ fn put_row<A: Allocator>(text: &mut ArrayVec<u8, LONGEST_ROW>, score: u64, segme
     row[end] = b'\n';
 }
 
-/// Puts a row of another length in place. It is a function of its own since a new text is cleared, which most rows do without.
+/// Replaces a row with one of another length. This is a separate function because a new text is cleared, which most rows don't need.
 #[cold]
 #[inline(never)]
 fn replace_row<A: Allocator>(text: &mut ArrayVec<u8, LONGEST_ROW>, score: u64, segment: &Segment<A>)
@@ -106,8 +106,8 @@ fn replace_row<A: Allocator>(text: &mut ArrayVec<u8, LONGEST_ROW>, score: u64, s
     *text = row_text(score, segment);
 }
 
-/// Writes the row of a segment if the code chooses it, and returns how many rows that were. Reuses the machine and the text; their previous
-/// contents don't matter.
+/// Writes the row of a segment if the code selects it, and returns the number of rows written. Reuses `bare` and `text`; their previous contents
+/// don't matter.
 #[inline]
 pub(crate) fn write_row_if_chosen<A: Allocator, B: Allocator, W: CountedWrite>(
     verified: &Verified<A>,
