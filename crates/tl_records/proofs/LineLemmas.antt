@@ -1,4 +1,4 @@
--- The lines of a file are one list: a file that isn't empty has one first line.
+-- A file has exactly one list of lines: a nonempty file has exactly one first line.
 use Rattle.std.proofs.Common.{zero, suc, ◌≡◌, ◌≢◌, ℕ, ◌<◌, ◌≤◌, inl, inr, List, [], ◌∷◌, ◌++◌, length, Some, refl, sym, ap, ◌∙◌, subst}
 use Rattle.std.proofs.Common.{append_assoc, length-append, arith}
 use Rattle.std.proofs.lemmas.List.{append_cancel_right}
@@ -7,7 +7,7 @@ use Rattle.std.proofs.lemmas.List.Elements.{All-nil, All-cons, All-head, All-tai
 use Rattle.tl_fields.specs.Content.{HasNoLineFeed}
 use Rattle.tl_records.specs.Lines.{EndsInReturn, IsEnded, by_lf, by_cr_lf, missing, IsFirstLine, AreLines, IsWithoutReturn}
 
--- what stands before the first line feed, and what follows it, is one
+-- the bytes before the first line feed, and those after it, are unique
 pub one_cut : (front other rest after : List ℕ) → HasNoLineFeed front → HasNoLineFeed other → front ++ 10 ∷ rest ≡ other ++ 10 ∷ after
     → (front ≡ other) × (rest ≡ after)
 one_cut [] [] rest after p q e = (refl, cc)
@@ -18,7 +18,7 @@ one_cut (b ∷ front) (c ∷ other) rest after p q e =
     let cut = one_cut front other rest after (All-tail (λ b. b ≢ 10) b front p) (All-tail (λ b. b ≢ 10) c other q) tails in
     (cc, cut.1)
 
--- bytes without a line feed aren't cut by one
+-- bytes without a line feed can't be split at one
 pub no_cut : (front rest whole : List ℕ) → HasNoLineFeed whole → whole ≡ front ++ 10 ∷ rest → ⊥
 no_cut [] rest [] p e = cc
 no_cut [] rest (c ∷ whole) p e = All-head (λ b. b ≢ 10) c whole p (cc)
@@ -26,14 +26,14 @@ no_cut (b ∷ front) rest [] p e = cc
 no_cut (b ∷ front) rest (c ∷ whole) p e =
     no_cut front rest whole (All-tail (λ b. b ≢ 10) c whole p) (cc)
 
--- CR and LF after a line are LF after the line with CR
+-- a line followed by CR and LF is the line with CR, followed by LF
 pub cr_lf : (line rest : List ℕ) → line ++ 13 ∷ 10 ∷ rest ≡ (line ++ 13 ∷ []) ++ 10 ∷ rest
 cr_lf line rest = sym (append_assoc line (13 ∷ []) (10 ∷ rest))
 
 with_return : (line : List ℕ) → HasNoLineFeed line → HasNoLineFeed (line ++ 13 ∷ [])
 with_return line p = All-push (λ b. b ≢ 10) line 13 p (λ e. cc)
 
--- a file has one first line
+-- a file has at most one first line
 pub one_first_line_by : {file line other rest after : List ℕ} → HasNoLineFeed line → HasNoLineFeed other → IsEnded file line rest
     → IsEnded file other after → (line ≡ other) × (rest ≡ after)
 one_first_line_by {line} {other} {rest} {after} p q (by_lf e n) (by_lf f m) = one_cut line other rest after p q (sym e ∙ f)
@@ -69,7 +69,7 @@ ended_not_empty line rest (by_lf e n) = append_not_empty line rest 10 e
 ended_not_empty line rest (by_cr_lf e) = append_not_empty line (10 ∷ rest) 13 e
 ended_not_empty line rest (missing e f g) = g (sym e)
 
--- a file has one list of lines
+-- a file has at most one list of lines
 pub one_list_of_lines_lem : (file : List ℕ) (lines others : List (List ℕ)) → AreLines file lines → AreLines file others → lines ≡ others
 one_list_of_lines_lem file [] [] a b = refl
 one_list_of_lines_lem file [] (other ∷ others) a b =
@@ -81,7 +81,7 @@ one_list_of_lines_lem file (line ∷ lines) (other ∷ others) a b =
     let rest = one_list_of_lines_lem b.0 lines others (subst (λ after. AreLines after lines) same.1 a.2) b.2 in
     let first = same.0 in cc
 
--- a file up to its first line feed, or all of it
+-- a file split at its first line feed, or without a line feed
 pub data IsCut (file : List ℕ) : Type 0 where
   at_lf : (front rest : List ℕ) → HasNoLineFeed front → file ≡ front ++ 10 ∷ rest → IsCut file
   nowhere : HasNoLineFeed file → IsCut file
@@ -99,7 +99,7 @@ not_later : (b : ℕ) (content front : List ℕ) → content ≢ [] → ¬ EndsI
 not_later b content [] p n e = p (cc)
 not_later b content (c ∷ front) p n e = n (front, cc)
 
--- a byte before bytes leaves their last byte as it was
+-- prepending a byte to nonempty bytes leaves their last byte unchanged
 return_later : (b : ℕ) (content line : List ℕ) → content ≢ [] → IsWithoutReturn content line → IsWithoutReturn (b ∷ content) (b ∷ line)
 return_later b content line p (inl e) = inl (ap (λ s. b ∷ s) e)
 return_later b content line p (inr (e, n)) =
@@ -109,7 +109,7 @@ one_byte : (b : ℕ) (front : List ℕ) → b ≢ 13 → b ∷ [] ≡ front ++ 1
 one_byte b [] p e = p (cc)
 one_byte b (c ∷ front) p e = append_not_empty front [] 13 (cc)
 
--- bytes end in the carriage return, or they don't
+-- bytes end in a carriage return, or they don't
 pub without_return : (content : List ℕ) → (line : List ℕ) × IsWithoutReturn content line
 without_return [] = ([], inr (refl, λ ends. append_not_empty ends.0 [] 13 ends.1))
 without_return (b ∷ []) =
@@ -118,7 +118,7 @@ without_return (b ∷ c ∷ content) =
     let rest = without_return (c ∷ content) in
     (b ∷ rest.0, return_later b (c ∷ content) rest.0 (λ e. cc) rest.1)
 
--- a line that an LF follows, without the CR before the LF
+-- a line followed by LF, without the CR before the LF
 pub ended_by_lf : (file content line rest : List ℕ) → HasNoLineFeed content → file ≡ content ++ 10 ∷ rest → IsWithoutReturn content line
     → IsFirstLine file line rest
 ended_by_lf file content line rest p e (inl f) = record {
@@ -130,7 +130,7 @@ ended_by_lf file content line rest p e (inr (f, n)) = record {
   ended = by_lf (e ∙ ap (λ s. s ++ 10 ∷ rest) f) (λ ends. n (ends.0, f ∙ ends.1));
 }
 
--- a file that isn't empty, and its first line
+-- the first line of a nonempty file
 pub record HasFirstLine (file : List ℕ) : Type 0 where
   pub line : List ℕ
   pub rest : List ℕ

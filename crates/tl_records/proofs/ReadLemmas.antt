@@ -1,4 +1,4 @@
--- Reading a line, where the reader's bytes are known and where they aren't.
+-- Reading a line, for readers with known and with unknown bytes.
 use Rattle.std.proofs.Common.{◌≡◌, ◌≢◌, ℕ, ◌≤◌, inl, inr, List, [], ◌∷◌, ◌++◌, length, Option, Some, None, ap, subst, ◌∙◌, append_assoc}
 use Rattle.std.proofs.Common.{length-append, arith}
 use Rattle.std.proofs.lemmas.List.Elements.{All-pop}
@@ -15,7 +15,7 @@ pub line_whole : (content line : List ℕ) → HasNoLineFeed content → IsWitho
 line_whole content line p (inl e) = (All-pop (λ b. b ≢ 10) content line (Some 13) e p).0
 line_whole content line p (inr (e, n)) = subst (λ s. HasNoLineFeed s) e p
 
--- a line that ended with LF
+-- a line that ends with LF
 pub line_by_lf : (bytes left : Option (List ℕ)) (content line : List ℕ) → HasNoLineFeed content → length content ≤ 230
     → Consumes bytes left (content ++ 10 ∷ []) → IsWithoutReturn content line → WhereKnown bytes left (IsNextLine line)
 line_by_lf None left content line p short taken without = tt

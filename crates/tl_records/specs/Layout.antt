@@ -1,24 +1,24 @@
--- Fields by the places of a record layout (TIGER/Line 2006, record layouts, columns Beg and End).
+-- Fields by the columns of a record layout (TIGER/Line 2006, record layouts, columns Beg and End).
 use Rattle.std.specs.Prelude.{ℕ, ◌≤◌, List}
 use Rattle.tl_fields.specs.Field.{field_of}
 use Rattle.tl_records.specs.declared.fault.LineFlaw.TheVariants.{BadTlid, BadFeature}
 use Rattle.tl_records.specs.declared.layout.Layout.{Layout}
 use Rattle.tl_records.specs.declared.layout.Places.{Places}
 
--- from one place of a line to another, counted from 1, both included
+-- from one column of a line to another, counted from 1, both inclusive
 abbrev pub places : ℕ → ℕ → Places
 places first last = record { 0 = first; 1 = last }
 
--- the field at these places of a line
+-- the field in these columns of a line
 abbrev pub field_at : Places → List ℕ → List ℕ
 field_at places line = field_of line places.0 places.1
 
--- these are places of a line of so many bytes: counted from 1, the last one not before the first
+-- these are columns of a line of `count` bytes: counted from 1, the last not before the first
 abbrev pub IsWithin : Places → ℕ → Type 0
 IsWithin places count = (1 ≤ places.0) × (places.0 ≤ places.1) × (places.1 ≤ count)
 
--- What the lines of each record type are like: how many bytes they have, the first of them (its type's digit), which field has a number, and
--- the flaw of a line in which it has none.
+-- The layout of each record type's lines: their length, their first byte (the digit of the type), the field that must have a number, and the flaw of
+-- a line in which it has none.
 abbrev pub type1 : Layout
 type1 = record { length = 228; tag = 49; number = places 6 15; without_number = BadTlid }
 

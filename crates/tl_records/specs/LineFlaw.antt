@@ -1,4 +1,4 @@
--- The refusal of a line's flaw, without its file and its line.
+-- The refusal for a line's flaw, without its file and its line.
 use Rattle.std.specs.Prelude.{codes}
 use Rattle.refusals.specs.Refusal.{RefusalParts, device, refused}
 use Rattle.tl_records.specs.declared.fault.LineFlaw.{LineFlaw}

@@ -7,40 +7,40 @@ use Rattle.tl_records.specs.declared.fault.LineFault.{LineFault}
 use Rattle.tl_records.specs.declared.fault.LineFlaw.{LineFlaw}
 use Rattle.tl_records.specs.declared.fault.LineFlaw.TheVariants.{WrongLength, Read, TooManyLines}
 
--- a line without its end, and its number, counted from 1
+-- a line without its terminator, and its number, counted from 1
 pub record LineParts : Type 0 where
   pub number : ℕ
   pub bytes : List ℕ
 
--- no bytes, and the number as it was
+-- the same line number, without any bytes
 abbrev pub emptied : LineParts → LineParts
 emptied line = record { number = line.number; bytes = [] }
 
--- the last byte is the carriage return, 13
+-- the last byte is a carriage return, 13
 abbrev pub EndsInReturn : List ℕ → Type 0
 EndsInReturn bytes = (front : List ℕ) × (bytes ≡ front ++ 13 ∷ [])
 
--- how a line ends: by LF, where it has no CR before it, by CR LF, or where a last line without an end isn't empty
+-- how a line ends: with LF that isn't preceded by CR, with CR LF, or, if it is a nonempty last line, without a terminator
 pub data IsEnded (file line rest : List ℕ) : Type 0 where
   by_lf : file ≡ line ++ 10 ∷ rest → ¬ EndsInReturn line → IsEnded file line rest
   by_cr_lf : file ≡ line ++ 13 ∷ 10 ∷ rest → IsEnded file line rest
   missing : file ≡ line → rest ≡ [] → line ≢ [] → IsEnded file line rest
 
--- a file begins with this line, and the rest follows the line's end
+-- a file begins with this line, and the rest follows the line's terminator
 pub record IsFirstLine (file line rest : List ℕ) : Type 0 where
   pub no_line_feed : HasNoLineFeed line
   pub ended : IsEnded file line rest
 
--- a file begins with these lines, one after the other, and then has the rest
+-- a file begins with these lines, one after the other, followed by the rest
 abbrev pub AreFirstLines : List ℕ → List (List ℕ) → List ℕ → Type 0
 AreFirstLines file [] rest = file ≡ rest
 AreFirstLines file (line ∷ lines) rest = (after : List ℕ) × IsFirstLine file line after × AreFirstLines after lines rest
 
--- the lines of a file: first lines are taken until nothing is left
+-- the lines of a file: first lines until nothing is left
 abbrev pub AreLines : List ℕ → List (List ℕ) → Type 0
 AreLines file lines = AreFirstLines file lines []
 
--- what is said of a reader's bytes before and after a call, where they are known
+-- a property of a reader's bytes before and after a call, if they are known
 abbrev pub WhereKnown : Option (List ℕ) → Option (List ℕ) → (List ℕ → List ℕ → Type 0) → Type 0
 WhereKnown None after P = Unit {0}
 WhereKnown (Some file) None P = ⊥
@@ -54,11 +54,11 @@ IsNextLine line file rest = IsFirstLine file line rest × (length line ≤ 230) 
 abbrev pub BeginsTooLong : List ℕ → List ℕ → Type 0
 BeginsTooLong file rest = (taken : List ℕ) × (file ≡ taken ++ rest) × HasNoLineFeed taken × (length taken ≡ 231)
 
--- how many bytes are read of the line after this number, before it is refused: none where it has no number in 32 bits
+-- the maximum number of bytes read from the line after this number before it is refused: none if its number doesn't fit in 32 bits
 abbrev pub most_bytes : ℕ → ℕ
 most_bytes number = if number == 2 ^ 32 - 1 then 0 else 230
 
--- a file begins with at most so many bytes without a line feed, after which a read failed
+-- a file begins with at most this many bytes without a line feed, after which a read failed
 abbrev pub FailsWithin : ℕ → List ℕ → List ℕ → Type 0
 FailsWithin most file rest = (taken : List ℕ) × (file ≡ taken ++ rest) × HasNoLineFeed taken × (length taken ≤ most)
 
@@ -66,14 +66,14 @@ FailsWithin most file rest = (taken : List ℕ) × (file ≡ taken ++ rest) × H
 abbrev pub HasOneMore : List ℕ → List ℕ → Type 0
 HasOneMore file rest = (byte : ℕ) × (file ≡ byte ∷ rest)
 
--- why the line after this number can't be read: it's too long, a read failed, or it would be line 2^32
+-- why the line after this number can't be read: it is too long, a read failed, or it would be line 2^32
 abbrev pub IsUnreadLine : ℕ → LineFlaw → Reader → Reader → Type 0
 IsUnreadLine number WrongLength old new = (new.failed ≡ old.failed) × (number < 2 ^ 32 - 1) × WhereKnown old.left new.left BeginsTooLong
 IsUnreadLine number Read old new = (new.failed ≢ old.failed) × WhereKnown old.left new.left (FailsWithin (most_bytes number))
 IsUnreadLine number TooManyLines old new = (new.failed ≡ old.failed) × (number ≡ 2 ^ 32 - 1) × WhereKnown old.left new.left HasOneMore
 IsUnreadLine number flaw old new = ⊥
 
--- what reading the next line does to the line and the reader; a line has no line feed and at most 230 bytes, whatever reader it came from
+-- the effect of reading the next line on the line and the reader; a line has no line feed and at most 230 bytes, whatever reader it came from
 abbrev pub IsLineRead : LineParts → LineParts → Reader → Reader → Result (Option (Unit {0})) LineFault → Type 0
 IsLineRead line new_line old new (Ok (Some done)) =
     (new.failed ≡ old.failed) × (line.number < 2 ^ 32 - 1) × (new_line.number ≡ line.number + 1) × WhereKnown old.left new.left (IsNextLine new_line.bytes) × HasNoLineFeed new_line.bytes × (length new_line.bytes ≤ 230)
@@ -82,6 +82,6 @@ IsLineRead line new_line old new (Ok None) =
 IsLineRead line new_line old new (Err fault) =
     (new_line ≡ emptied line) × (fault.line ≡ line.number + 1) × IsUnreadLine line.number fault.flaw old new
 
--- a line's bytes without the carriage return at their end, if they have one
+-- a line's bytes without a trailing carriage return, if they have one
 abbrev pub IsWithoutReturn : List ℕ → List ℕ → Type 0
 IsWithoutReturn content line = (content ≡ line ++ 13 ∷ []) ⊎ ((content ≡ line) × (¬ EndsInReturn content))

@@ -1,4 +1,4 @@
--- Records: lines that are good for their record type (TIGER/Line 2006, record types 1, 4, 5 and 6), and the flaws of those that aren't.
+-- Records: lines that are good for their record type (TIGER/Line 2006, record types 1, 4, 5 and 6), and the flaws of lines that aren't.
 use Rattle.std.specs.Prelude.{◌≡◌, ℕ, ◌^◌, ◌<◌, ◌==◌, if◌then◌else◌, List, length, slice_index, Option, Some, None, is_some}
 use Rattle.tl_fields.specs.Number.{number_of}
 use Rattle.tl_records.specs.Layout.{field_at}
@@ -8,8 +8,8 @@ use Rattle.tl_records.specs.declared.fault.LineFlaw.{LineFlaw}
 use Rattle.tl_records.specs.declared.fault.LineFlaw.TheVariants.{WrongLength, WrongType}
 use Rattle.tl_records.specs.declared.layout.Layout.{Layout}
 
--- the first flaw of a line of this record type, if it has one: it hasn't the length, it begins with another byte than the tag, or the field
--- that has a number in such lines has none
+-- the first flaw of a line of this record type, if any: it has the wrong length, its first byte isn't the tag, or the field that must have a number
+-- has none
 abbrev pub line_flaw : Layout → List ℕ → Option LineFlaw
 line_flaw layout line =
     if length line == layout.length
@@ -23,15 +23,15 @@ pub record IsGoodLine (layout : Layout) (line : List ℕ) : Type 0 where
   pub no_flaw : line_flaw layout line ≡ None
   pub are_bytes : (i : ℕ) → slice_index line i < 2 ^ 8
 
--- this is the fault of a line with a flaw, by the line's number
+-- this is the fault of a flawed line, with the line's number
 abbrev pub IsLineFault : Layout → LineParts → LineFault → Type 0
 IsLineFault layout line fault = (fault.line ≡ line.number) × (line_flaw layout line.bytes ≡ Some fault.flaw)
 
--- what a record consists of: the bytes of its line, without the end
+-- the contents of a record: the bytes of its line, without the terminator
 pub record RecordParts : Type 0 where
   pub bytes : List ℕ
 
--- a record of this type, in which the field that has a number has this one
+-- a record of this type, whose required number is this one
 pub record IsRecord (layout : Layout) (line : List ℕ) (number : ℕ) : Type 0 where
   pub good : IsGoodLine layout line
   pub len : length line ≡ layout.length

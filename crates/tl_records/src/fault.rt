@@ -38,12 +38,12 @@ impl LineFlaw {
     }
 }
 
-/// Why a file's lines can't be read further. Lines are counted from 1.
+/// Why no more lines of a file can be read. Lines are counted from 1.
 #[derive(Clone, Copy, Debug, PartialEq, Eq, Error)]
 #[error("line {line}: {flaw}")]
 pub struct LineFault {
-    /// The number of the line, counted from 1: at most 2^32, which is that of the first line without a number in 32 bits.
+    /// The number of the line, counted from 1: at most 2^32, the first number that doesn't fit in 32 bits.
     pub line: u64,
-    /// What is wrong with it, or with reading it.
+    /// What is wrong with the line, or with reading it.
     pub flaw: LineFlaw,
 }

@@ -1,24 +1,24 @@
-//! Laws over the definitions, as contracts of functions that do nothing.
+//! Laws about the definitions, stated as contracts of functions that do nothing.
 ghost use Rattle.std.specs.Prelude.{◌≡◌, ℕ, List};
 ghost use Rattle.tl_records.specs.Layout.{places};
 ghost use Rattle.tl_records.specs.Lines.{AreLines};
 
 use crate::layout::{Type1, Type4, Type5, Type6};
 
-/// A file has at most one list of lines.
+/// States that a file has at most one list of lines.
 #[tactic(auto, using(crate::proofs::LineLemmas::one_list_of_lines_lem))]
 pub fn one_list_of_lines()
     ensures { (file : List ℕ) (lines others : List (List ℕ))
         → AreLines file lines → AreLines file others → lines ≡ others }
 {}
 
-/// Every file has lines.
+/// States that every file has a list of lines.
 #[tactic(auto, using(crate::proofs::LineLemmas::every_file_has_lines_lem))]
 pub fn every_file_has_lines()
     ensures { (file : List ℕ) → (lines : List (List ℕ)) × AreLines file lines }
 {}
 
-/// The places of the fields of record type 1.
+/// States the columns of the fields of record type 1.
 pub fn type1_fields()
     ensures start { (Type1.RT ≡ places 1 1) × (Type1.VERSION ≡ places 2 5) × (Type1.TLID ≡ places 6 15) × (Type1.SIDE1 ≡ places 16 16)
         × (Type1.SOURCE ≡ places 17 17) }
@@ -37,21 +37,21 @@ pub fn type1_fields()
         × (Type1.TOLAT ≡ places 220 228) }
 {}
 
-/// The places of the fields of record type 4.
+/// States the columns of the fields of record type 4.
 pub fn type4_fields()
     ensures start { (Type4.RT ≡ places 1 1) × (Type4.VERSION ≡ places 2 5) × (Type4.TLID ≡ places 6 15) × (Type4.RTSQ ≡ places 16 18) }
     ensures names { (Type4.FEAT1 ≡ places 19 26) × (Type4.FEAT2 ≡ places 27 34) × (Type4.FEAT3 ≡ places 35 42)
         × (Type4.FEAT4 ≡ places 43 50) × (Type4.FEAT5 ≡ places 51 58) }
 {}
 
-/// The places of the fields of record type 5.
+/// States the columns of the fields of record type 5.
 pub fn type5_fields()
     ensures start { (Type5.RT ≡ places 1 1) × (Type5.VERSION ≡ places 2 5) × (Type5.FEAT ≡ places 11 18) }
     ensures name { (Type5.FEDIRP ≡ places 19 20) × (Type5.FENAME ≡ places 21 50) × (Type5.FETYPE ≡ places 51 54)
         × (Type5.FEDIRS ≡ places 55 56) }
 {}
 
-/// The places of the fields of record type 6.
+/// States the columns of the fields of record type 6.
 pub fn type6_fields()
     ensures start { (Type6.RT ≡ places 1 1) × (Type6.VERSION ≡ places 2 5) × (Type6.TLID ≡ places 6 15) × (Type6.RTSQ ≡ places 16 18) }
     ensures addresses { (Type6.FRADDL ≡ places 19 29) × (Type6.TOADDL ≡ places 30 40) × (Type6.FRADDR ≡ places 41 51)

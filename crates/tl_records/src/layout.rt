@@ -1,4 +1,4 @@
-//! The table of record types (TIGER/Line 2006, record layouts): what their lines are like, and their fields by place.
+//! The table of record types (TIGER/Line 2006, record layouts): the layout of their lines, and the columns of their fields.
 ghost use Rattle.std.proofs.Common.{lit≤};
 ghost use Rattle.std.specs.Prelude.{◌≡◌, ◌+◌, ◌-◌, length};
 ghost use Rattle.tl_records.specs.Layout.{IsWithin, field_at, type1, type4, type5, type6};
@@ -6,13 +6,12 @@ ghost use Rattle.tl_records.specs.Layout.{IsWithin, field_at, type1, type4, type
 use crate::fault::LineFlaw;
 use tl_fields::field;
 
-/// The places of a field in its line, the first and the last, as in the columns Beg and End of the record layouts: counted from 1, both
-/// included.
+/// The first and last column of a field in its line, like Beg and End in the record layouts: counted from 1, both inclusive.
 #[derive(Clone, Copy, PartialEq, Eq)]
 pub struct Places(pub usize, pub usize);
 
 impl Places {
-    /// The field at these places of a line.
+    /// Returns the field in these columns of a line.
     #[inline]
     pub fn of(self, line: &[u8]) -> &[u8]
         requires { IsWithin self (length line.now) }
@@ -23,16 +22,16 @@ impl Places {
     }
 }
 
-/// What the lines of a record type are like.
+/// The layout of a record type's lines.
 #[derive(Clone, Copy, PartialEq, Eq)]
 pub struct Layout {
-    /// How many bytes a line has, its end not counted.
+    /// The length of a line in bytes, without its terminator.
     pub length: usize,
     /// The first byte of a line.
     pub tag: u8,
-    /// The field that has a number in each line.
+    /// The field that must have a number in each line.
     pub number: Places,
-    /// The flaw of a line in which that field has none.
+    /// The flaw of a line in which that field has no number.
     pub without_number: LineFlaw,
 }
 
@@ -44,7 +43,7 @@ pub trait RecordType {
 
     ghost number_is_within: { IsWithin LAYOUT.number LAYOUT.length };
 
-    /// What its lines are like.
+    /// The layout of its lines.
     const LAYOUT: Layout;
 }
 

@@ -10,10 +10,10 @@ use tl_fields::{CountedRead, LONGEST_CONTENT, Stop};
 
 const CARRIAGE_RETURN: u8 = b'\r';
 
-// The number of the first line that has no number in 32 bits.
+// The first line number that doesn't fit in 32 bits.
 const LINE_TOO_MANY: u64 = 4_294_967_296;
 
-/// A line without its end, of at most 230 bytes, and its number, counted from 1; 0 before the first line.
+/// A line of at most 230 bytes without its terminator, and its number, counted from 1; the number is 0 before the first line.
 #[derive(Drop)]
 pub struct Line {
     content: ArrayVec<u8, LONGEST_CONTENT>,
@@ -29,7 +29,7 @@ impl Model for Line {
 }
 
 impl Line {
-    /// No line yet: no bytes, and the number 0.
+    /// Creates the state before the first line: no bytes, and the number 0.
     pub fn new() -> Self
         ensures { result ≡ record { number = 0; bytes = [] } }
     {
@@ -39,7 +39,7 @@ impl Line {
         }
     }
 
-    /// The bytes of the line, without its end.
+    /// Returns the bytes of the line, without its terminator.
     #[inline]
     pub fn bytes(&self) -> &[u8]
         ensures value { result.now ≡ self.now.bytes }
@@ -48,7 +48,7 @@ impl Line {
         self.content.as_slice()
     }
 
-    /// The number of the line, counted from 1.
+    /// Returns the number of the line, counted from 1.
     #[inline]
     pub fn number(&self) -> u32
         ensures { result ≡ self.now.number }
@@ -57,12 +57,11 @@ impl Line {
     }
 }
 
-/// Reads the next line, without its end, as if one byte a read.
+/// Reads the next line, without its terminator, as if byte by byte.
 ///
-/// A line ends with CR LF or with LF, and the last one may lack its end. No read is tried again. After
-/// `None`, which is the end of the input, and after a fault the line is empty with the number that it
-/// had, and the input stands where the reading stopped. A line of more than 230 bytes is left after
-/// its 231st byte.
+/// A line ends with CR LF or LF, and the last one may lack its terminator. No read is retried. After `None`, which marks the end of the input, and
+/// after a fault, the line is empty, its number is unchanged, and the input is left where reading stopped. A line of more than 230 bytes is abandoned
+/// after its 231st byte.
 #[inline(always)]
 pub fn read_line<R: CountedRead>(input: &mut R, line: &mut Line) -> Result<Option<()>, LineFault>
     ensures { IsLineRead line.old line.new
@@ -71,7 +70,7 @@ pub fn read_line<R: CountedRead>(input: &mut R, line: &mut Line) -> Result<Optio
     read_line_into(input, &mut line.number, &mut line.content)
 }
 
-/// The same for a number and bytes that don't stand in a [`Line`].
+/// Reads the next line like [`read_line`], into a number and bytes outside a [`Line`].
 #[inline(always)]
 pub fn read_line_into<R: CountedRead>(
     input: &mut R,
@@ -116,7 +115,7 @@ pub fn read_line_into<R: CountedRead>(
     }
 }
 
-// After the last line that has a number: the input has to end there.
+// After the line with the last 32-bit number, the input must end.
 #[cold]
 fn expect_end<R: CountedRead>(input: &mut R) -> Result<Option<()>, LineFault>
     ensures { IsLineRead (record { number = 2 ^ 32 - 1; bytes = [] }) (record { number = 2 ^ 32 - 1; bytes = [] })
@@ -136,7 +135,7 @@ fn expect_end<R: CountedRead>(input: &mut R) -> Result<Option<()>, LineFault>
     }
 }
 
-// Takes off the CR that stands before an LF.
+// Removes the CR before an LF.
 #[inline]
 fn take_off_return(content: &mut ArrayVec<u8, LONGEST_CONTENT>)
     ensures { IsWithoutReturn content.old.items content.new.items }

@@ -1,4 +1,4 @@
-//! Records: lines that are good for their record type, the checks that tell, and their fields.
+//! Records: lines that are good for their record type, the checks that establish it, and their fields.
 ghost use Rattle.std.specs.Prelude.{◌≡◌, ◌+◌, ◌-◌, ◌^◌, ◌<◌, Some, length, IfErr, IfOk};
 ghost use Rattle.tl_fields.specs.Number.{number_of};
 ghost use Rattle.tl_records.specs.Layout.{IsWithin, field_at, type1, type4, type5, type6};
@@ -10,7 +10,7 @@ use crate::lines::Line;
 use std::marker::{Model, PhantomData};
 use tl_fields::number;
 
-/// A line of a record type, lent. Contracts see it as a record with the field `bytes`.
+/// A borrowed line of a record type. Contracts see it as a record with the field `bytes`.
 #[derive(Drop)]
 pub struct Record<'a, T: RecordType> {
     line: &'a [u8],
@@ -41,7 +41,7 @@ impl<'a, T: RecordType> Model for Record<'a, T> {
 }
 
 impl<'a, T: RecordType> Record<'a, T> {
-    /// The line with a number as a record of its type, or its first flaw: `WrongLength`, `WrongType`, and `BadTlid`, in type 5 `BadFeature`.
+    /// Returns a line as a record of its type, or its first flaw: `WrongLength`, `WrongType`, then `BadTlid` (`BadFeature` in type 5).
     #[inline]
     pub fn of(number: u32, line: &'a [u8]) -> Result<Self, LineFault>
         ensures ok { IfOk result (λ rt. (rt.bytes ≡ line.now) × IsGoodLine T.LAYOUT line.now) }
@@ -60,7 +60,7 @@ impl<'a, T: RecordType> Record<'a, T> {
         }
     }
 
-    /// All of the line, without its end.
+    /// Returns the whole line, without its terminator.
     #[inline]
     pub fn bytes(&self) -> &'a [u8]
         ensures value { result.now ≡ self.now.bytes }
@@ -70,7 +70,7 @@ impl<'a, T: RecordType> Record<'a, T> {
         self.line
     }
 
-    /// The field at these places, lent with its blanks.
+    /// Returns the field in these columns, including its blanks.
     #[inline]
     pub fn field(&self, places: Places) -> &'a [u8]
         requires { IsWithin places T.LAYOUT.length }
@@ -80,7 +80,7 @@ impl<'a, T: RecordType> Record<'a, T> {
         places.of(self.line)
     }
 
-    /// The number of the field that has one in each line of the record type: of TLID, in type 5 of FEAT.
+    /// Returns the number that each line of the record type must have: of TLID, or of FEAT in type 5.
     #[inline]
     #[tactic(auto, using(tl_fields::proofs::NumberLemmas::number_of_lt))]
     pub fn number(&self) -> u64
@@ -91,7 +91,7 @@ impl<'a, T: RecordType> Record<'a, T> {
     }
 }
 
-/// The number of the field that has one in each line of a record type, or the first flaw of the line.
+/// Returns the number that each line of a record type must have, or the line's first flaw.
 #[inline]
 fn flawless_number(layout: Layout, line: &[u8]) -> Result<u64, LineFlaw>
     requires { IsWithin layout.number layout.length }
@@ -108,7 +108,7 @@ fn flawless_number(layout: Layout, line: &[u8]) -> Result<u64, LineFlaw>
     number(layout.number.of(line)).ok_or(layout.without_number)
 }
 
-/// The line as a record of type 1, or its first flaw: `WrongLength`, `WrongType`, `BadTlid`.
+/// Returns a line as a record of type 1, or its first flaw: `WrongLength`, `WrongType`, `BadTlid`.
 pub fn rt1(line: &Line) -> Result<Rt1<'_>, LineFault>
     ensures ok { IfOk result (λ rt1. (rt1.bytes ≡ line.now.bytes) × IsGoodLine type1 line.now.bytes) }
     ensures err { IfErr result (λ fault. IsLineFault type1 line.now fault) }
@@ -116,7 +116,7 @@ pub fn rt1(line: &Line) -> Result<Rt1<'_>, LineFault>
     Record::of(line.number(), line.bytes())
 }
 
-/// The line as a record of type 4, or its first flaw: `WrongLength`, `WrongType`, `BadTlid`.
+/// Returns a line as a record of type 4, or its first flaw: `WrongLength`, `WrongType`, `BadTlid`.
 pub fn rt4(line: &Line) -> Result<Rt4<'_>, LineFault>
     ensures ok { IfOk result (λ rt4. (rt4.bytes ≡ line.now.bytes) × IsGoodLine type4 line.now.bytes) }
     ensures err { IfErr result (λ fault. IsLineFault type4 line.now fault) }
@@ -124,7 +124,7 @@ pub fn rt4(line: &Line) -> Result<Rt4<'_>, LineFault>
     Record::of(line.number(), line.bytes())
 }
 
-/// The line as a record of type 5, or its first flaw: `WrongLength`, `WrongType`, `BadFeature`.
+/// Returns a line as a record of type 5, or its first flaw: `WrongLength`, `WrongType`, `BadFeature`.
 pub fn rt5(line: &Line) -> Result<Rt5<'_>, LineFault>
     ensures ok { IfOk result (λ rt5. (rt5.bytes ≡ line.now.bytes) × IsGoodLine type5 line.now.bytes) }
     ensures err { IfErr result (λ fault. IsLineFault type5 line.now fault) }
@@ -132,7 +132,7 @@ pub fn rt5(line: &Line) -> Result<Rt5<'_>, LineFault>
     Record::of(line.number(), line.bytes())
 }
 
-/// The line as a record of type 6, or its first flaw: `WrongLength`, `WrongType`, `BadTlid`.
+/// Returns a line as a record of type 6, or its first flaw: `WrongLength`, `WrongType`, `BadTlid`.
 pub fn rt6(line: &Line) -> Result<Rt6<'_>, LineFault>
     ensures ok { IfOk result (λ rt6. (rt6.bytes ≡ line.now.bytes) × IsGoodLine type6 line.now.bytes) }
     ensures err { IfErr result (λ fault. IsLineFault type6 line.now fault) }
