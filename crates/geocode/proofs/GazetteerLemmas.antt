@@ -22,7 +22,7 @@ use Rattle.geocode.specs.declared.span.Span.{Span}
 use Rattle.geocode.proofs.HitLemmas.{flat_map-at, tlid_at, tlids-long}
 use Rattle.geocode.proofs.NameHashLemmas.{has_name-key}
 
--- what the elements that pass a test give
+-- the results for the elements that pass a test
 pub flat_map-filter : {X Y : Type 0} (test : X → Bool) (f : X → List Y) (xs : List X)
     → flat_map f (filter test xs) ≡ flat_map (λ x. if test x then f x else []) xs
 flat_map-filter test f [] = refl
@@ -33,7 +33,7 @@ flat_map-filter {X} {Y} test f (x ∷ xs) = pick (test x) (flat_map-filter test 
   pick true after = ap (λ ys. f x ++ ys) after
   pick false after = after
 
--- the numbers are below the length
+-- the numbers are less than the length
 abbrev pub AreBelow : ℕ → List ℕ → Type 0
 AreBelow count [] = Unit {0}
 AreBelow count (n ∷ numbers) = (n < count) × AreBelow count numbers
@@ -50,7 +50,7 @@ numbers-below test count n (segment ∷ segments) few =
     pick-below (test segment) count n (numbers_with test (n + 1) segments) (omega (arith, few))
     (numbers-below test count (n + 1) segments (omega (arith, few)))
 
--- the segment with a number, and those after it
+-- the segment with a number, and the ones after it
 segment_at-drop : (segments : List Contents) (n : ℕ) (segment : Contents) (rest : List Contents) → drop n segments ≡ segment ∷ rest
     → (segment_at segments n ≡ segment) × (drop (n + 1) segments ≡ rest)
 segment_at-drop segments n segment rest is =
@@ -82,7 +82,7 @@ pick-give : {Y : Type 0} (passes : Bool) (g : ℕ → List Y) (n : ℕ) (numbers
 pick-give true g n numbers is nothing rest = cc
 pick-give false g n numbers {here} is nothing rest = let none : here ≡ [] = nothing refl in rw none rest
 
--- what the segments with a number give, where the others give nothing
+-- the results for the numbered segments that pass a test, if the other segments have no results
 numbers-give : {Y : Type 0} (f : Contents → List Y) (test : Contents → Bool) (segments : List Contents) (n : ℕ) (rest : List Contents)
     → drop n segments ≡ rest → ((segment : Contents) → test segment ≡ false → f segment ≡ [])
     → flat_map (λ n. f (segment_at segments n)) (numbers_with test n rest) ≡ flat_map f rest
@@ -92,14 +92,14 @@ numbers-give f test segments n (segment ∷ rest) is nothing =
     pick-give (test segment) (λ n. f (segment_at segments n)) n (numbers_with test (n + 1) rest)
     (ap f at.0) (nothing segment) (numbers-give f test segments (n + 1) rest at.1 nothing)
 
--- the walk came to this link: what it has so far, and what the segments from there on give, are the whole
+-- the walk has reached this link: the results so far and the results for the remaining segments are all the results
 pub record IsWalked {Y : Type 0} (f : ℕ → List Y) (links : List Link) (count number : ℕ) (now whole : List Y) : Type 0 where
   pub rest : List ℕ
   pub chain : IsChain links number rest
   pub below : AreBelow count rest
   pub so_far : now ++ flat_map f rest ≡ whole
 
--- it begins with the first link of the name's key
+-- the walk starts with the first link of the name's key
 pub walked-start : {A Y : Type 0} (index : NameIndex A) (f : Contents → List Y) (segments : List Contents) (name : List ℕ) (start : List Y)
     → IsIndexOf index segments → ((segment : Contents) → has_name name segment ≡ false → f segment ≡ [])
     → IsWalked (λ n. f (segment_at segments n)) index.links.items (length segments)
@@ -114,7 +114,7 @@ walked-start index f segments name start indexed nothing =
           (λ segment none. nothing segment (has_name-key index.keys name segment none)));
     }
 
--- the link of a number that begins a chain
+-- the first link of a chain, by its number
 chain-link : (links : List Link) (number : ℕ) (numbers : List ℕ) (link : Link) → IsChain links number numbers
     → Some link ≡ link_at links number
     → (rest : List ℕ) × (numbers ≡ link.segment ∷ rest) × (link.next < number) × IsChain links link.next rest
@@ -151,14 +151,14 @@ walked-next f links count number now whole {link} walked is =
       };
     }
 
--- a link whose segment gives nothing is passed over
+-- a link whose segment has no results is skipped
 pub walked-past : {Y : Type 0} (f : ℕ → List Y) (links : List Link) (count number : ℕ) (now whole : List Y) {link : Link}
     → IsWalked f links count number now whole → Some link ≡ link_at links number → f link.segment ≡ []
     → IsWalked f links count link.next now whole
 walked-past f links count number now whole {link} walked is nothing =
     (walked-next f links count number now whole walked is).walked now (sym (append-nil now) ∙ ap (λ ys. now ++ ys) (sym nothing))
 
--- after the last link it has all
+-- after the last link the walk has all results
 pub walked-end : {Y : Type 0} (f : ℕ → List Y) (links : List Link) (count number : ℕ) (now whole : List Y)
     → IsWalked f links count number now whole → None ≡ link_at links number → now ≡ whole
 walked-end f links count number now whole walked none = end walked.rest walked.chain walked.so_far where
@@ -166,7 +166,7 @@ walked-end f links count number now whole walked none = end walked.rest walked.c
   end [] chain so_far = sym (append-nil now) ∙ so_far
   end (n ∷ numbers) (next, at, rest) so_far = let clash = none ∙ at.link in cc
 
--- a walk over the hits of a county
+-- a walk over the hits in a county
 pub hits-walked : {A : Type 0} (index : NameIndex A) (segments : List Contents) (name : List ℕ) (house : House) (start : List Hit)
     → IsIndexOf index segments
     → IsWalked (λ n. hits_if_named name house (segment_at segments n)) index.links.items (length segments)
@@ -188,7 +188,7 @@ hits-uncovered name house span segment includes none = by (has_name name segment
     by true nothing = nothing
     by false nothing = refl
 
--- the indexes of counties, and one more
+-- the indexes of counties, and of one more county
 AreIndexesOf-push : {A : Type 0} (indexes : List (NameIndex A)) (counties : List CountyParts) (index : NameIndex A) (county : CountyParts)
     → AreIndexesOf indexes counties → IsIndexOf index county.segments → AreIndexesOf (indexes ++ index ∷ []) (counties ++ county ∷ [])
 AreIndexesOf-push [] [] index county are is = (is, tt)
@@ -205,7 +205,7 @@ AreIndexesOf-next indexes counties n index county at are is =
     ap (λ (county : CountyParts). take n counties ++ county ∷ []) at.1 ∙ sym (take_at_read counties n county at.0).1 in
     subst (AreIndexesOf (indexes ++ index ∷ [])) split (AreIndexesOf-push indexes (take n counties) index county are is)
 
--- there are as many as counties
+-- there are as many indexes as counties
 pub AreIndexesOf-long : {A : Type 0} (indexes : List (NameIndex A)) (counties : List CountyParts) → AreIndexesOf indexes counties
     → length indexes ≡ length counties
 AreIndexesOf-long [] [] are = refl
@@ -213,7 +213,7 @@ AreIndexesOf-long [] (county ∷ counties) are = absurd are
 AreIndexesOf-long (index ∷ indexes) [] are = absurd are
 AreIndexesOf-long (index ∷ indexes) (county ∷ counties) are = ap (λ (n : ℕ). suc n) (AreIndexesOf-long indexes counties are.1)
 
--- the index at a place
+-- the index at a position in the list
 pub IsIndexOf-at : {A : Type 0} (indexes : List (NameIndex A)) (counties : List CountyParts) (n : ℕ) (index : NameIndex A)
     (county : CountyParts) → AreIndexesOf indexes counties → (n < length counties) × (county ≡ get_or counties n county)
     → index ≡ get_or indexes n index → IsIndexOf index county.segments
@@ -226,7 +226,7 @@ IsIndexOf-at (first ∷ indexes) (other ∷ counties) zero index county are at i
 IsIndexOf-at (first ∷ indexes) (other ∷ counties) (suc n) index county are at is =
     IsIndexOf-at indexes counties n index county are.1 (omega (arith, at.0), at.1) is
 
--- what the elements up to one more give
+-- the results for the elements up to one more
 pub flat_map-turn : {X Y : Type 0} (f : X → List Y) (now : List Y) (xs : List X) (n : ℕ) (x : X) → (n < length xs) × (x ≡ get_or xs n x)
     → now ≡ flat_map f (take n xs) → now ++ f x ≡ flat_map f (take (n + 1) xs)
 flat_map-turn f now xs n x at so_far =

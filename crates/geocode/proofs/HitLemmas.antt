@@ -1,4 +1,4 @@
--- Hits of the elements of a list, up to one more.
+-- Hits for the elements of a list, up to one more.
 use Rattle.std.proofs.Common.{◌≡◌, ℕ, ◌+◌, ◌<◌, Bool, true, false, cond, List, [], ◌∷◌, ◌++◌, length, filter, get_or, take, slice_get, Some}
 use Rattle.std.proofs.Common.{None, refl, ap, sym, ◌∙◌}
 use Rattle.std.specs.List.{flat_map, list_any}
@@ -10,7 +10,7 @@ use Rattle.std.proofs.lemmas.Option.{get_or_from_slice_get, slice_get-get_or, sl
 use Rattle.tl_segments.specs.County.{AreTlids, tlid_of}
 use Rattle.tl_segments.specs.Segment.{Contents}
 
--- what the elements up to one more give, by what is read at a number, where it was added after what those before give
+-- the results for the elements up to one more, after the results for the element that was read were appended to those before it
 pub flat_map-at : {X Y : Type 0} (f : X → List Y) (start now : List Y) (xs : List X) (n : ℕ) (x : X) → Some x ≡ slice_get xs n
     → now ≡ start ++ flat_map f (take n xs) → now ++ f x ≡ start ++ flat_map f (take (n + 1) xs)
 flat_map-at f start now xs n x is so_far =
@@ -18,7 +18,7 @@ flat_map-at f start now xs n x is so_far =
     ∙ ap (λ x. start ++ flat_map f (take n xs ++ x ∷ [])) (sym (get_or_from_slice_get xs n x x (sym is)))
     ∙ ap (λ xs. start ++ flat_map f xs) (sym (take_at_read xs n x (slice_get_within xs n x (sym is))).1)
 
--- something is read at a number below the length
+-- a number less than the length reads an element
 pub read-within : {X : Type 0} (xs : List X) (n : ℕ) (d : X) → n < length xs → ¬ (None ≡ slice_get xs n)
 read-within xs n d inside none =
     let clash : None ≡ Some (get_or xs n d) = none ∙ slice_get-get_or xs n d inside in cc
@@ -35,7 +35,7 @@ list_any-next p xs n x is fails so_far =
     let at_n : p (get_or xs n x) ≡ false = ap p (get_or_from_slice_get xs n x x (sym is)) ∙ sym fails in
     list_any_more p xs n x (slice_get_within xs n x (sym is)) ∙ rw (so_far, at_n) refl
 
--- the elements that pass the test, with one more that passes it or doesn't
+-- the elements that pass the test, after one more that passes or fails
 filter-next : {X : Type 0} (test : X → Bool) (xs : List X) (i : ℕ) (x : X) → i < length xs → x ≡ get_or xs i x
     → filter test (take (i + 1) xs) ≡ filter test (take i xs) ++ cond (test x) (x ∷ []) []
 filter-next test xs i x inside is =
@@ -43,9 +43,9 @@ filter-next test xs i x inside is =
     ∙ filter-append test (take i xs) (get_or xs i x ∷ [])
     ∙ ap (λ x. filter test (take i xs) ++ cond (test x) (x ∷ []) []) (sym is)
 
--- one more of the elements, and what those before it give that pass the test
+-- one more element, after the results for the previous elements that pass the test
 module _ {X Y : Type 0} (test : X → Bool) (f : X → List Y) (start : List Y) (xs : List X) (i : ℕ) where
-  -- with one that passes it
+  -- the element passes
   pub flat_map-passes : {now : List Y} {x : X} → (i < length xs) × (x ≡ get_or xs i x) → test x ≡ true
       → now ≡ start ++ flat_map f (filter test (take i xs)) → now ++ f x ≡ start ++ flat_map f (filter test (take (i + 1) xs))
   flat_map-passes {x} is passes so_far =
@@ -54,7 +54,7 @@ module _ {X Y : Type 0} (test : X → Bool) (f : X → List Y) (start : List Y) 
       ∙ ap (λ b. start ++ flat_map f (filter test (take i xs) ++ cond b (x ∷ []) [])) (sym passes)
       ∙ ap (λ xs. start ++ flat_map f xs) (sym (filter-next test xs i x is.0 is.1))
 
-  -- and with one that doesn't
+  -- the element fails
   pub flat_map-fails : {now : List Y} {x : X} → (i < length xs) × (x ≡ get_or xs i x) → test x ≡ false
       → now ≡ start ++ flat_map f (filter test (take i xs)) → now ≡ start ++ flat_map f (filter test (take (i + 1) xs))
   flat_map-fails {x} is fails so_far =

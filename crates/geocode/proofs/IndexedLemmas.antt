@@ -17,7 +17,7 @@ use Rattle.geocode.specs.declared.hits.House.{House}
 use Rattle.geocode.specs.declared.name_index.NameIndex.{NameIndex}
 use Rattle.geocode.proofs.GazetteerLemmas.{IsWalked, walked-start}
 
--- a value is there as long as what is made of it is
+-- a value is present if and only if its image is
 pub is_some-option_map : {X Y : Type 0} (f : X → Y) (found : Option X) → is_some (option_map f found) ≡ is_some found
 is_some-option_map f None = refl
 is_some-option_map f (Some x) = refl
@@ -29,11 +29,11 @@ or-false : (a b : Bool) → (a || b) ≡ false → (a ≡ false) × (b ≡ false
 or-false true b none = absurd (cc)
 or-false false b none = (refl, none)
 
--- a full name whose FENAME isn't the street's name doesn't fit
+-- a full name doesn't fit if its FENAME isn't the street's name
 fits-not : (street : StreetParts) (name : FullNameFields) → name_equals name.fename street.name ≡ false → fits street name ≡ false
 fits-not street name other = rw other refl
 
--- nor does one of names that aren't
+-- and if no FENAME is, no full name fits
 find-not : (street : StreetParts) (affixes : List Affixes) (names : List (List ℕ))
     → list_any (λ named. name_equals named street.name) names ≡ false → find (fits street) (all_with_affixes affixes names) ≡ None
 find-not street [] names others = refl
@@ -51,7 +51,7 @@ name_on-not street segment others =
     find-cons (fits street) own (all_with_affixes segment.affixes segment.names) (fits-not street own parts.0)
     (find-not street segment.affixes segment.names parts.1)
 
--- a walk over the matches of a county
+-- a walk over the matches in a county
 pub matches-walked : {A : Type 0} (index : NameIndex A) (segments : List Contents) (street : StreetParts) (house : House) (place : ℕ)
     (start : List MatchParts) → IsIndexOf index segments
     → IsWalked (λ n. matches_on_segment street house place (segment_at segments n)) index.links.items (length segments)
@@ -62,11 +62,11 @@ matches-walked index segments street house place start indexed =
     ap (λ name. option_map_or (λ name. matches_under house (record { county = place; segment = segment; name = name })) name [])
     (name_on-not street segment other))
 
--- whether a segment is on the street, as a list that then has an element
+-- whether a segment is on the street, as a list that has an element if it is
 abbrev pub sign_of : StreetParts → Contents → List Bool
 sign_of street segment = if is_on_street street segment then true ∷ [] else []
 
--- there is an element
+-- the list has an element
 abbrev pub has_any : List Bool → Bool
 has_any [] = false
 has_any (sign ∷ signs) = true
@@ -80,7 +80,7 @@ signs-walked index segments street indexed =
     (λ (segment : Contents) (other : has_name street.name segment ≡ false).
     ap (λ name. if is_some name then true ∷ [] else []) (name_on-not street segment other))
 
--- a segment is on the street where there is a sign of one
+-- some segment is on the street if and only if there is a sign of one
 pub list_any-signs : (street : StreetParts) (segments : List Contents)
     → list_any (is_on_street street) segments ≡ has_any (flat_map (sign_of street) segments)
 list_any-signs street [] = refl

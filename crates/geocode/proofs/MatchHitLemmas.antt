@@ -26,7 +26,7 @@ use Rattle.geocode.specs.declared.hits.House.{House}
 use Rattle.geocode.specs.declared.span.Span.{Span}
 use Rattle.geocode.proofs.GazetteerLemmas.{flat_map-filter}
 
--- the parts of what a list gives
+-- mapping over the results for a list
 map-flat_map : {X Y Z : Type 0} (part : Y → Z) (f : X → List Y) (g : X → List Z) (xs : List X) → ((x : X) → map part (f x) ≡ g x)
     → map part (flat_map f xs) ≡ flat_map g xs
 map-flat_map part f g [] same = refl
@@ -34,7 +34,7 @@ map-flat_map part f g (x ∷ xs) same =
     map-append part (f x) (flat_map f xs) ∙ ap (λ zs. zs ++ map part (flat_map f xs)) (same x)
     ∙ ap (λ zs. g x ++ zs) (map-flat_map part f g xs same)
 
--- and of what is made of what each gives, if it gives anything
+-- mapping over optional results
 map-filter_map : {X Y Z : Type 0} (part : Z → Y) (f : X → Option Y) (make : X → Y → Z) (xs : List X)
     → ((x : X) (y : Y) → part (make x y) ≡ y) → map part (filter_map (λ x. option_map (make x) (f x)) xs) ≡ filter_map f xs
 map-filter_map part f make [] same = refl
@@ -106,7 +106,7 @@ hits-from street house place (county ∷ counties) =
     ∙ ap (λ hits. flat_map (hits_on_segment house) (filter (is_on_street street) county.segments) ++ hits)
     (hits-from street house (suc place) counties)
 
--- the hits of matches are those on the segments that are on the street
+-- the hits of matches are the hits on the segments that are on the street
 pub hits_of_matches : (street : StreetParts) (house : House) (counties : List CountyParts)
     → map (λ (found : MatchParts). found.hit) (matches street house counties) ≡ hits_on_street street house counties
 hits_of_matches street house counties = hits-from street house 0 counties
@@ -118,7 +118,7 @@ and-trues : (a b c d : Bool) → b ≡ true → c ≡ true → d ≡ true → (a
 and-trues true b c d is is' is'' = rw (is, is', is'') refl
 and-trues false b c d is is' is'' = refl
 
--- a full name fits where its FENAME does
+-- with the name alone wanted, a full name fits if and only if its FENAME does
 fits-name : (street : StreetParts) (name : FullNameFields) → WantsNameAlone street
     → fits street name ≡ name_equals name.fename street.name
 fits-name street name alone =
@@ -127,7 +127,7 @@ fits-name street name alone =
     (agrees-blank street.kind name.fetype alone.kind)
     (agrees-blank street.sufdir name.fedirs alone.sufdir)
 
--- some full name fits where the FENAME of some does
+-- and some full name fits if and only if some FENAME does
 is_some-find : (street : StreetParts) (names : List FullNameFields) → WantsNameAlone street
     → is_some (find (fits street) names)
     ≡ list_any (λ named. name_equals named street.name) (map (λ (name : FullNameFields). name.fename) names)
@@ -143,14 +143,14 @@ is_some-find street (name ∷ names) alone =
     by true later = refl
     by false later = later
 
--- a segment is on the street where it has its name
+-- and a segment is on the street if and only if it has the street's name
 on_street-named : (street : StreetParts) (segment : Contents) → WantsNameAlone street → IsSegment segment
     → is_on_street street segment ≡ has_name street.name segment
 on_street-named street segment alone is =
     is_some-find street (full_names_of segment) alone
     ∙ ap (list_any (λ named. name_equals named street.name)) (names_of_full_names segment is)
 
--- tests that agree pass the same elements
+-- equivalent tests pass the same elements
 filter-same : {X : Type 0} (P : X → Type 0) (test other : X → Bool) (xs : List X) → ((x : X) → P x → test x ≡ other x) → All P xs
     → filter test xs ≡ filter other xs
 filter-same P test other [] same all = refl
@@ -170,7 +170,7 @@ hits-named street house (county ∷ counties) alone all =
     ∙ ap (λ hits. hits_in_county street.name house county ++ hits)
     (hits-named street house counties alone (All-tail whole county counties all))
 
--- with neither a direction nor a type, the hits of matches are those of the name
+-- with neither a direction nor a type, the hits of matches are the hits of the name
 pub hits_of_name : (street : StreetParts) (house : House) (counties : List CountyParts) → WantsNameAlone street
     → All (λ (county : CountyParts). All IsSegment county.segments) counties
     → map (λ (found : MatchParts). found.hit) (matches street house counties) ≡ find_hits street.name house counties

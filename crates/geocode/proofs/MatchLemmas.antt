@@ -43,7 +43,7 @@ find-next p xs n x is fails none =
     ap (find p) (take_at_read xs n x (slice_get_within xs n x (sym is))).1
     ∙ find-push p (take n xs) (get_or xs n x) none (ap p here ∙ sym fails)
 
--- what the elements up to one more give, by the one that is read, where it was added after what those before give
+-- the results for the elements up to one more, after the results for the element that was read were appended to those before it
 pub flat_map-read : {X Y : Type 0} (f : X → List Y) (start now : List Y) (xs : List X) (n : ℕ) (x : X) → n < length xs → x ≡ get_or xs n x
     → now ≡ start ++ flat_map f (take n xs) → now ++ f x ≡ start ++ flat_map f (take (n + 1) xs)
 flat_map-read f start now xs n x inside is so_far =
@@ -56,11 +56,11 @@ with_affixes-short [] names = omega arith
 with_affixes-short (affix ∷ affixes) [] = omega arith
 with_affixes-short (affix ∷ affixes) (name ∷ names) = let others = with_affixes-short affixes names in omega (arith, others)
 
--- a segment has no more full names than names
+-- a segment has at most as many full names as names
 pub full_names-short : (segment : Contents) → length (full_names_of segment) ≤ length segment.names + 1
 full_names-short segment = let short = with_affixes-short segment.affixes segment.names in omega (arith, short)
 
--- the matches of counties, with one county more
+-- the matches in counties, with one more county
 matches_from-push : (street : StreetParts) (house : House) (place : ℕ) (counties : List CountyParts) (county : CountyParts)
     → matches_from street house place (counties ++ county ∷ [])
     ≡ matches_from street house place counties ++ matches_in_county street house (place + length counties) county

@@ -19,26 +19,26 @@ use Rattle.geocode.specs.declared.name_index.NameIndex.{NameIndex}
 use Rattle.geocode.specs.declared.name_index.Link.{Link}
 use Rattle.geocode.specs.declared.span.Span.{Span}
 
--- a link that is there has a number up to the length
+-- an existing link has a number of at most the length
 pub link_at-within : (links : List Link) (number : ℕ) (link : Link) → link_at links number ≡ Some link → number ≤ length links
 link_at-within links number link is = grind (arith, nat_tests, common_steps, gets)
 
--- with one more link, the others stay
+-- one more link leaves the others unchanged
 link_at-push : (links : List Link) (more : Link) (number : ℕ) (link : Link) → link_at links number ≡ Some link
     → link_at (links ++ more ∷ []) number ≡ Some link
 link_at-push links more number link is = grind (arith, nat_tests, common_steps, gets)
 
--- and it has the number of the length
+-- and its number is the new length
 link_at-last : (links : List Link) (more : Link) → link_at (links ++ more ∷ []) (length links + 1) ≡ Some more
 link_at-last links more = grind (arith, nat_tests, common_steps, gets)
 
--- no chain begins past the last link
+-- no chain starts after the last link
 pub IsChain-within : (links : List Link) (number : ℕ) (segments : List ℕ) → IsChain links number segments → number ≤ length links
 IsChain-within links number [] chain = omega (arith, chain)
 IsChain-within links number (segment ∷ segments) (next, link, rest) =
     link_at-within links number (record { segment = segment; span = link.span; next = next }) link.link
 
--- a chain stays with one more link
+-- one more link leaves a chain unchanged
 pub IsChain-push : (links : List Link) (more : Link) (number : ℕ) (segments : List ℕ) → IsChain links number segments
     → IsChain (links ++ more ∷ []) number segments
 IsChain-push links more number [] chain = chain
@@ -52,7 +52,7 @@ IsChain-push links more number (segment ∷ segments) (next, link, rest) = (
   IsChain-push links more next segments rest,
 )
 
--- one more link before a chain
+-- one more link in front of a chain
 pub IsChain-more : (links : List Link) (segment : ℕ) (span : Span) (next : ℕ) (segments : List ℕ) → IsChain links next segments
     → IsChain (links ++ record { segment = segment; span = span; next = next } ∷ []) (length links + 1) (segment ∷ segments)
 IsChain-more links segment span next segments chain =
@@ -62,7 +62,7 @@ IsChain-more links segment span next segments chain =
       IsChain-push links more next segments chain,
     )
 
--- one more link, that of a segment which isn't the first of a chain
+-- one more link, for a segment that isn't the first of the chain
 pub IsChain-first : (links : List Link) (segment : ℕ) (span : Span) (next : ℕ) (segments : List ℕ) → IsChain links next segments
     → is_link_of links next segment ≡ false
     → IsChain (links ++ record { segment = segment; span = span; next = next } ∷ []) (length links + 1) (with_first segment segments)
@@ -72,7 +72,7 @@ IsChain-first links segment span next (first ∷ rest) (next', link, chain) othe
     sym (ap (λ link. option_map_or (λ (link : Link). nat_eq link.segment segment) link false) link.link) ∙ other in
     rw apart (IsChain-more links segment span next (first ∷ rest) (next', link, chain))
 
--- and one that is
+-- for a segment that is the first, the chain is unchanged
 pub with_first-same : (links : List Link) (segment number : ℕ) (segments : List ℕ) → IsChain links number segments
     → is_link_of links number segment ≡ true → with_first segment segments ≡ segments
 with_first-same links segment number [] chain is = absurd (grind (arith, nat_tests, common_steps, gets))
@@ -81,13 +81,13 @@ with_first-same links segment number (first ∷ rest) (next', link, chain) is =
     sym (ap (λ link. option_map_or (λ (link : Link). nat_eq link.segment segment) link false) link.link) ∙ is in
     rw same refl
 
--- a chain of either list
+-- a chain of one list or the other
 pub IsChain-cases : (test : Bool) (links : List Link) (number : ℕ) (some other : List ℕ) → (test ≡ true → IsChain links number some)
     → (test ≡ false → IsChain links number other) → IsChain links number (if test then some else other)
 IsChain-cases true links number some other is_some is_other = is_some refl
 IsChain-cases false links number some other is_some is_other = is_other refl
 
--- a segment before a chain that hasn't it yet, for one more name
+-- a segment in front of a chain that it isn't in yet, for one more name
 chain-next : (segment : ℕ) (chain : List ℕ) (before now : Bool) → with_first segment chain ≡ segment ∷ chain
     → (if now then with_first segment (if before then segment ∷ chain else chain) else (if before then segment ∷ chain else chain))
     ≡ (if before || now then segment ∷ chain else chain)
@@ -97,7 +97,7 @@ chain-next segment chain true false new = refl
 chain-next segment chain false true new = new
 chain-next segment chain false false new = refl
 
--- a segment is put before the chains of one more of its names
+-- a segment is put in front of the chains for one more of its names
 pub AddsNames-next : {A : Type 0} (old now new : NameIndex A) (segment : ℕ) (span : Span) (names : List (List ℕ)) (n : ℕ) {name : List ℕ}
     → Some name ≡ slice_get names n
     → AddsNames old now segment span (take n names) × AddsTo now new (key_of now.keys (hash_of name)) segment span
@@ -122,13 +122,13 @@ AddsNames-next old now new segment span names n {name} is (so_far, more) = recor
   spans = λ segments includes spanned. more.spans segments includes (so_far.spans segments includes spanned);
 }
 
--- a number before others that don't begin with it, where one after it is put before them or isn't
+-- a number stays new to a list when a greater number is put in front of it or not
 pick-new : (test : Bool) (n m : ℕ) (numbers : List ℕ) → n < m → with_first n numbers ≡ n ∷ numbers
     → with_first n (if test then m ∷ numbers else numbers) ≡ n ∷ (if test then m ∷ numbers else numbers)
 pick-new true n m numbers below new = let apart : nat_eq m n ≡ false = grind (arith, nat_tests) in rw apart refl
 pick-new false n m numbers below new = new
 
--- the numbers of segments after one begin with none up to it
+-- the numbers of later segments never begin with an earlier number
 numbers-new : (test : Contents → Bool) (n m : ℕ) (segments : List Contents) → n < m
     → with_first n (numbers_with test m segments) ≡ n ∷ numbers_with test m segments
 numbers-new test n m [] below = refl
@@ -150,12 +150,12 @@ IsIndexFrom-next old new n span segments {segment} at so_far more key =
     subst (λ (keys : ℕ). IsChain new.links.items (first_of new key) (numbers_with (has_key keys key) n (drop n segments))) (sym more.keys)
     (subst (λ segments. IsChain new.links.items (first_of new key) (numbers_with (has_key old.keys key) n segments)) split chain)
 
--- the links with one more, that has its segment's span
+-- one more link, with the span of its segment
 pub AddsSpans-push : (links : List Link) (more : Link) → AddsSpans links (links ++ more ∷ []) more.segment more.span
 AddsSpans-push links more segments includes spanned =
     All-push (λ (link : Link). IncludesHits link.span (segment_at segments link.segment)) links more spanned includes
 
--- the span of a link that is read
+-- the span of a link that was read
 pub HasSpans-at : (links : List Link) (segments : List Contents) (number : ℕ) {link : Link} → HasSpans links segments
     → Some link ≡ link_at links number → IncludesHits link.span (segment_at segments link.segment)
 HasSpans-at links segments number {link} spanned is = by (nat_le 1 number) is

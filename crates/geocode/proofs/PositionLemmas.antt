@@ -1,4 +1,4 @@
--- How great a share of a way is.
+-- The size of a share of a distance.
 use Rattle.std.proofs.Common.{◌≡◌, ◌≢◌, ℕ, ◌*◌, ◌/◌, ◌^◌, ◌<◌, ◌≤◌, zero, suc, ℤ, pos, negsuc, neg_ℤ, ◌+ℤ◌, ◌-ℤ◌, ◌*ℤ◌, nat_abs, int_div}
 use Rattle.std.proofs.Common.{to_z, of_z, FitsSigned, refl, arith}
 use Rattle.std.specs.Int.{w128}
@@ -21,19 +21,19 @@ abs-div (negsuc a) (negsuc d) = refl
 product-le : (m k n : ℕ) → k ≤ n → m * k ≤ n * m
 product-le m k n le = rw (mul_comm m k) (mul-le-mul_right m le)
 
--- a share of a way is no longer than the way
+-- a share of a distance is no longer than the distance
 pub abs-share : (way gone whole : ℤ) → nat_abs gone ≤ nat_abs whole → nat_abs (int_div (way *ℤ gone) whole) ≤ nat_abs way
 abs-share way gone whole part =
     rw (abs-div (way *ℤ gone) whole, unsigned_abs-mul way gone)
     (div-le_of_le-mul (nat_abs whole) (product-le (nat_abs way) (nat_abs gone) (nat_abs whole) part))
 
--- the product has 128 bits at most
+-- the product fits in 128 bits
 pub product-fits : (way gone whole : ℤ) → nat_abs way < 2 * 10 ^ 9 → nat_abs gone ≤ nat_abs whole → nat_abs whole < 10 ^ 11
     → FitsSigned w128 (way *ℤ gone)
 product-fits way gone whole short part small = fits_signed_mul w128 way gone (2 * 10 ^ 9) (10 ^ 11) (omega arith) (omega arith)
     (omega arith)
 
--- and so has the quotient
+-- so does the quotient
 pub share-fits : (way gone whole : ℤ) → nat_abs way < 2 * 10 ^ 9 → nat_abs gone ≤ nat_abs whole
     → FitsSigned w128 (int_div (way *ℤ gone) whole)
 share-fits way gone whole short part = fits_signed_from_abs w128 (int_div (way *ℤ gone) whole)
@@ -61,7 +61,7 @@ difference_is a b x y is is' small small' =
     let difference : FitsSigned w128 (a -ℤ b) = grind (arith, ints) in
     rw (is, is', to_z-of_z w128 a fits, to_z-of_z w128 b fits', to_z-of_z w128 (a -ℤ b) difference) refl
 
--- a coordinate between two others, where the addresses aren't equal
+-- a coordinate between two others if the addresses differ
 pub coordinate_along-apart : (from to : ℤ) (position : Position) → position.from ≢ position.to
     → coordinate_along from to position ≡ from +ℤ int_div ((to -ℤ from) *ℤ (pos position.number -ℤ pos position.from))
     (pos position.to -ℤ pos position.from)

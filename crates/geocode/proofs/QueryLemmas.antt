@@ -1,4 +1,4 @@
--- Digits have no blanks among them.
+-- Digits contain no blanks.
 use Rattle.std.proofs.Common.{◌≡◌, ℕ, Bool, true, false, ◌==◌, if◌then◌else◌, List, [], ◌∷◌, ◌++◌, reverse, refl, ap, sym, subst, arith}
 use Rattle.std.specs.List.{list_all}
 use Rattle.std.specs.Char.{is_ascii_digit}
@@ -25,12 +25,12 @@ digits-reversed (b ∷ bs) all =
     rw (list_all-append is_ascii_digit (reverse bs) (b ∷ []), digits-reversed bs parts.1, parts.0) refl in
     subst (λ (bytes : List ℕ). list_all is_ascii_digit bytes ≡ true) (sym (reverse-append (b ∷ []) bs)) split
 
--- nothing is taken off digits
+-- trimming digits removes nothing
 trim-digits : (digits : List ℕ) → list_all is_ascii_digit digits ≡ true → trim digits ≡ digits
 trim-digits digits all =
     rw (no-blanks-before digits all, no-blanks-before (reverse digits) (digits-reversed digits all)) (reverse-reverse digits)
 
--- the number of a field of digits alone
+-- the number of a field that consists of digits
 pub number_of_digits : (digits : List ℕ) → list_all is_ascii_digit digits ≡ true → number_of digits ≡ decimal_in 11 digits
 unfolding number_of
 number_of_digits digits all = ap (decimal_in 11) (trim-digits digits all)

@@ -11,15 +11,15 @@ abbrev pub letter : Side → List ℕ
 letter Left = codes "L"
 letter Right = codes "R"
 
--- longitude and latitude in decimal, without a plus; a minus alone where there's no place
+-- longitude and latitude in decimal, without a plus sign; each is a single minus if there is no place
 abbrev pub place_text : Option Place → List ℕ
 place_text (Some place) = signed_decimal place.longitude ++ codes "\t" ++ signed_decimal place.latitude
 place_text None = codes "-\t-"
 
--- TLID, the side's letter, longitude and latitude, with tabs between them and LF at the end
+-- TLID, the side's letter, longitude and latitude, separated by tabs and terminated by LF
 abbrev pub line : Hit → List ℕ
 line hit = decimal hit.tlid ++ codes "\t" ++ letter hit.side ++ codes "\t" ++ place_text hit.place ++ codes "\n"
 
--- the lines of hits, one after the other
+-- the lines of the hits, one after the other
 abbrev pub hit_lines : List Hit → List ℕ
 hit_lines hits = flat_map line hits

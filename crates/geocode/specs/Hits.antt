@@ -26,18 +26,18 @@ abbrev pub has_zip : Option ℕ → List ℕ → Bool
 has_zip None field = true
 has_zip (Some zip) field = option_eq nat_eq (number_of field) (Some zip)
 
--- the house number lies on the side, in the wanted ZIP code
+-- the house number lies on the side, and in the wanted ZIP code
 abbrev pub is_on : House → SideParts → Bool
 is_on house side = lies_on house.number side.from side.to && has_zip house.zip side.zip
 
--- the hit on a side of a range, of a segment with this type 1 record, if the house is on it; each segment of a county has a number for TLID
+-- the hit on a side of a range of a segment with this type 1 record, if the house is on it; each segment of a county has a numeric TLID
 abbrev pub hit_on : House → List ℕ → RangeFields → Side → Option Hit
 hit_on house bytes range side =
     if is_on house (side_of range side)
     then option_map (λ tlid. record { tlid = tlid; side = side; place = place_on house.number bytes (side_of range side) }) (number_of (field_at TLID bytes))
     else None
 
--- the hits on the sides of a range: left before right
+-- the hits on the sides of a range, left before right
 abbrev pub hits_on_range : House → List ℕ → RangeFields → List Hit
 hits_on_range house bytes range = filter_map (hit_on house bytes range) (Left ∷ Right ∷ [])
 
@@ -45,10 +45,10 @@ hits_on_range house bytes range = filter_map (hit_on house bytes range) (Left �
 abbrev pub hits_on_segment : House → Contents → List Hit
 hits_on_segment house segment = flat_map (hits_on_range house segment.bytes) (ranges_of segment)
 
--- the hits of a county: on its segments with this name, in their order
+-- the hits in a county, on its segments with this name, in order
 abbrev pub hits_in_county : List ℕ → House → CountyParts → List Hit
 hits_in_county name house county = flat_map (hits_on_segment house) (filter (has_name name) county.segments)
 
--- the hits of counties, in their order
+-- the hits in counties, in order
 abbrev pub find : List ℕ → House → List CountyParts → List Hit
 find name house counties = flat_map (hits_in_county name house) counties

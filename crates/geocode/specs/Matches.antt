@@ -17,7 +17,7 @@ use Rattle.geocode.specs.declared.hits.House.{House}
 use Rattle.geocode.specs.declared.matching.Match.{Match}
 use Rattle.geocode.specs.declared.matching.Named.{Named}
 
--- a hit, with the place of its county in the list, the name that matched and its side's fields
+-- a hit, with the index of its county in the list, the name that matched and the fields of its side
 pub record MatchParts : Type 0 where
   pub hit : Hit
   pub county : ℕ
@@ -32,7 +32,7 @@ match_of found = record {
   side = record { from = found.from.now; to = found.to.now; zip = found.zip.now };
 }
 
--- where a street name matched: the place of the county in the list, the segment, and the name
+-- a match of a street name: the index of the county in the list, the segment and the name
 pub record NamedSegment : Type 0 where
   pub county : ℕ
   pub segment : Contents
@@ -47,7 +47,7 @@ match_on house named range side =
     option_map (λ hit. record { hit = hit; county = named.county; name = named.name; side = side_of range side })
     (hit_on house named.segment.bytes range side)
 
--- the matches on the sides of a range: left before right
+-- the matches on the sides of a range, left before right
 abbrev pub matches_on_range : House → NamedSegment → RangeFields → List MatchParts
 matches_on_range house named range = filter_map (match_on house named range) (Left ∷ Right ∷ [])
 
@@ -60,21 +60,21 @@ abbrev pub matches_on_segment : StreetParts → House → ℕ → Contents → L
 matches_on_segment street house county segment =
     option_map_or (λ name. matches_under house (record { county = county; segment = segment; name = name })) (name_on street segment) []
 
--- the matches of a county, which has this place in the list
+-- the matches in a county, which has this index in the list
 abbrev pub matches_in_county : StreetParts → House → ℕ → CountyParts → List MatchParts
 matches_in_county street house county parts = flat_map (matches_on_segment street house county) parts.segments
 
--- the matches of counties, of which the first has this place in the list
+-- the matches in counties, the first of which has this index in the list
 abbrev pub matches_from : StreetParts → House → ℕ → List CountyParts → List MatchParts
 matches_from street house county [] = []
 matches_from street house county (parts ∷ others) =
     matches_in_county street house county parts ++ matches_from street house (suc county) others
 
--- the matches of counties, in their order
+-- the matches in counties, in order
 abbrev pub matches : StreetParts → House → List CountyParts → List MatchParts
 matches street house counties = matches_from street house 0 counties
 
--- the hits on the segments of counties that are on the street, in their order
+-- the hits on the segments of counties that are on the street, in order
 abbrev pub hits_on_street : StreetParts → House → List CountyParts → List Hit
 hits_on_street street house counties =
     flat_map (λ county. flat_map (hits_on_segment house) (filter (is_on_street street) county.segments)) counties

@@ -1,5 +1,5 @@
--- Where along a street segment a house number is (TIGER/Line 2006, record type 1: FRLONG, FRLAT, TOLONG and TOLAT; record types 1 and 6:
--- address ranges).
+-- Where a house number lies along a street segment (TIGER/Line 2006, record type 1: FRLONG, FRLAT, TOLONG and TOLAT; record types 1 and 6: address
+-- ranges).
 use Rattle.std.specs.Prelude.{ℕ, nat_abs, ◌^◌, ◌<◌, ℤ, pos, ◌+ℤ◌, ◌-ℤ◌, ◌*ℤ◌, int_div, ◌==◌, if◌then◌else◌, IsTrue, List, Option, Some, None}
 use Rattle.tl_fields.specs.Coordinate.{coordinate_of}
 use Rattle.tl_fields.specs.Number.{number_of}
@@ -11,7 +11,7 @@ use Rattle.geocode.specs.Sides.{SideParts}
 use Rattle.geocode.specs.declared.hit.Place.{Place}
 use Rattle.geocode.specs.declared.position.Position.{Position}
 
--- a house number, and the addresses of its side, where both have a number
+-- a house number and the addresses of its side, if both have a number
 abbrev pub position_between : ℕ → Option ℕ → Option ℕ → Option Position
 position_between number (Some from) (Some to) = Some (record { number = number; from = from; to = to })
 position_between number from to = None
@@ -20,34 +20,34 @@ position_between number from to = None
 abbrev pub position_on : ℕ → SideParts → Option Position
 position_on number side = position_between number (number_of side.from) (number_of side.to)
 
--- a house number between addresses of 11 digits at most
+-- a house number between addresses of at most 11 digits
 pub record IsPosition (position : Position) : Type 0 where
   pub from : position.from < 10 ^ 11
   pub to : position.to < 10 ^ 11
   pub between : IsTrue (is_between position.from position.to position.number)
 
--- As far from one coordinate to the other as the number is from the FR to the TO address, the quotient cut towards zero. Where the
--- addresses are equal it's the first coordinate.
+-- As far from one coordinate to the other as the number is from the FR to the TO address, with the quotient truncated toward zero. If the addresses
+-- are equal, it is the first coordinate.
 abbrev pub coordinate_along : ℤ → ℤ → Position → ℤ
 coordinate_along from to position =
     if position.from == position.to then from
     else from +ℤ int_div ((to -ℤ from) *ℤ (pos position.number -ℤ pos position.from)) (pos position.to -ℤ pos position.from)
 
--- the place with these coordinates, where both are known
+-- the place with these coordinates, if both are known
 abbrev pub known_place : Option ℤ → Option ℤ → Option Place
 known_place (Some longitude) (Some latitude) = Some (record { longitude = longitude; latitude = latitude })
 known_place longitude latitude = None
 
--- its coordinates have 9 digits at most
+-- its coordinates have at most 9 digits
 pub record IsNear (place : Place) : Type 0 where
   pub longitude : nat_abs place.longitude < 10 ^ 9
   pub latitude : nat_abs place.latitude < 10 ^ 9
 
--- the place whose longitude and latitude stand at these places of a type 1 record
+-- the place whose longitude and latitude are in these columns of a type 1 record
 abbrev pub place_at : Places → Places → List ℕ → Option Place
 place_at longitude latitude bytes = known_place (coordinate_of (field_at longitude bytes)) (coordinate_of (field_at latitude bytes))
 
--- the place of a house number between those of the segment's ends, where all four coordinates are known
+-- the place of a house number between the ends of the segment, if all four coordinates are known
 abbrev pub place_between : Option Place → Option Place → Option Position → Option Place
 place_between (Some from) (Some to) (Some position) = Some (record {
   longitude = coordinate_along from.longitude to.longitude position;

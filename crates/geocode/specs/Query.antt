@@ -1,4 +1,4 @@
--- What a geocoder is asked for: a house number on a street, in a ZIP code where one is given.
+-- A geocoder's query: a house number on a street, optionally in a ZIP code.
 use Rattle.std.specs.Prelude.{ℕ, List, Option, Some, None, option_map, Result, Ok, Err}
 use Rattle.tl_fields.specs.Number.{decimal_in}
 use Rattle.tl_segments.specs.County.{CountyParts}
@@ -10,7 +10,7 @@ use Rattle.geocode.specs.declared.query.QueryFault.{QueryFault}
 use Rattle.geocode.specs.declared.query.QueryFault.TheVariants.{Number, Name, Zip}
 use Rattle.geocode.specs.declared.query.TheConstants.{MOST_DIGITS}
 
--- what is asked for, wherever its name is kept
+-- the contents of a query, wherever its name is stored
 pub record QueryParts : Type 0 where
   pub number : ℕ
   pub name : List ℕ
@@ -19,26 +19,26 @@ pub record QueryParts : Type 0 where
 abbrev pub parts_of : Query → QueryParts
 parts_of query = record { number = query.number; name = query.name.text.now; zip = query.zip }
 
--- the number of a house or of a ZIP code that a text writes: 1 to 11 digits, and nothing else
+-- the number of a house or of a ZIP code in a text: 1 to 11 digits, and nothing else
 abbrev pub house_number : List ℕ → Option ℕ
 house_number text = decimal_in MOST_DIGITS text
 
--- the number of a ZIP code, where one is given; none where its text writes no number
+-- the number of a ZIP code, if one is given; none if its text isn't a number
 abbrev pub zip_number : Option (List ℕ) → Option (Option ℕ)
 zip_number None = Some None
 zip_number (Some text) = option_map Some (house_number text)
 
--- the query of what is in its form; the first that isn't, of the number, the name and the ZIP code
+-- the query made of valid parts, or the first invalid part, in the order number, name, ZIP code
 abbrev pub query_with : Option ℕ → Option (List ℕ) → Option (Option ℕ) → Result QueryParts QueryFault
 query_with (Some number) (Some name) (Some zip) = Ok (record { number = number; name = name; zip = zip })
 query_with None name zip = Err Number
 query_with (Some number) None zip = Err Name
 query_with (Some number) (Some name) None = Err Zip
 
--- the query that texts make: of a number, a name and maybe a ZIP code
+-- the query made of texts: a number, a name and optionally a ZIP code
 abbrev pub query_of : List ℕ → List ℕ → Option (List ℕ) → Result QueryParts QueryFault
 query_of number name zip = query_with (house_number number) (street_name name) (zip_number zip)
 
--- the hits of a query over counties, in their order
+-- the hits of a query in counties, in order
 abbrev pub hits_of : QueryParts → List CountyParts → List Hit
 hits_of query counties = find query.name (record { number = query.number; zip = query.zip }) counties

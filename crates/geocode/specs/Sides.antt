@@ -5,13 +5,13 @@ use Rattle.geocode.specs.declared.hit.Side.{Side}
 use Rattle.geocode.specs.declared.hit.Side.TheVariants.{Left, Right}
 use Rattle.geocode.specs.declared.sides.SideFields.{SideFields}
 
--- the fields of a range that one side has
+-- the fields of a range that belong to one side
 pub record SideParts : Type 0 where
   pub from : List ℕ
   pub to : List ℕ
   pub zip : List ℕ
 
--- the fields of a lent side
+-- the fields of a borrowed side
 abbrev pub parts_of : SideFields → SideParts
 parts_of side = record { from = side.from.now; to = side.to.now; zip = side.zip.now }
 

@@ -1,4 +1,4 @@
--- Spans of house numbers: which numbers may be on a segment, told without its records.
+-- Spans of house numbers: which numbers may be on a segment, without reading its records.
 use Rattle.std.specs.Prelude.{◌≡◌, ℕ, ◌/◌, ◌-◌, ◌^◌, min, max, nat_le, Bool, false, ◌&&◌, []}
 use Rattle.tl_segments.specs.Range.{lies_on}
 use Rattle.tl_segments.specs.Segment.{Contents}
@@ -9,7 +9,7 @@ use Rattle.geocode.specs.declared.hit.Side.{Side}
 use Rattle.geocode.specs.declared.hits.House.{House}
 use Rattle.geocode.specs.declared.span.Span.{Span}
 
--- half a house number, or the greatest of 16 bits if that is less
+-- half a house number, at most the greatest 16-bit number
 abbrev pub coarse : ℕ → ℕ
 coarse number = min (number / 2) (2 ^ 16 - 1)
 
@@ -17,7 +17,7 @@ coarse number = min (number / 2) (2 ^ 16 - 1)
 abbrev pub covers : Span → ℕ → Bool
 covers span number = nat_le span.low (coarse number) && nat_le (coarse number) span.high
 
--- the span that has this number too
+-- the span extended by this number
 abbrev pub widened : Span → ℕ → Span
 widened span number = record { low = min span.low (coarse number); high = max span.high (coarse number) }
 
@@ -25,12 +25,12 @@ widened span number = record { low = min span.low (coarse number); high = max sp
 abbrev pub IncludesHits : Span → Contents → Type 0
 IncludesHits span segment = (house : House) → covers span house.number ≡ false → hits_on_segment house segment ≡ []
 
--- the new span covers what the old one does, and the numbers on the side
+-- the new span covers what the old one does, plus the numbers on the side
 abbrev pub IncludesSide : Span → Span → SideParts → Type 0
 IncludesSide old new side =
     (number : ℕ) → covers new number ≡ false → (covers old number ≡ false) × (lies_on number side.from side.to ≡ false)
 
--- and the numbers on both sides of a range
+-- and plus the numbers on both sides of a range
 abbrev pub IncludesRange : Span → Span → RangeFields → Type 0
 IncludesRange old new range =
     (number : ℕ) → covers new number ≡ false

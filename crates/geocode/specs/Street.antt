@@ -1,4 +1,4 @@
--- Streets that are looked for (TIGER/Line 2006, FEDIRP, FENAME, FETYPE and FEDIRS of record types 1 and 5).
+-- Streets to look for (TIGER/Line 2006, FEDIRP, FENAME, FETYPE and FEDIRS of record types 1 and 5).
 use Rattle.std.specs.Prelude.{◌≡◌, ℕ, Bool, true, ◌&&◌, ◌||◌, List, find, Option, is_some}
 use Rattle.tl_fields.specs.Number.{is_blank}
 use Rattle.tl_segments.specs.FullName.{full_names_of}
@@ -7,7 +7,7 @@ use Rattle.tl_segments.specs.Segment.{Contents}
 use Rattle.tl_segments.specs.declared.full_name.FullNameFields.{FullNameFields}
 use Rattle.geocode.specs.declared.street.Street.{Street}
 
--- a street's name, and its directions and type where they are wanted
+-- a street's name, and its directions and type if they are wanted
 pub record StreetParts : Type 0 where
   pub name : List ℕ
   pub predir : List ℕ
@@ -17,7 +17,7 @@ pub record StreetParts : Type 0 where
 abbrev pub parts_of : Street → StreetParts
 parts_of street = record { name = street.name.text.now; predir = street.predir.now; kind = street.kind.now; sufdir = street.sufdir.now }
 
--- a field is the wanted text, by the rule of names; blanks want nothing
+-- a field equals the wanted text, compared as names are; a blank text matches any field
 abbrev pub agrees : List ℕ → List ℕ → Bool
 agrees wanted field = is_blank wanted || name_equals field wanted
 

@@ -1,7 +1,7 @@
--- Names of streets that are looked for.
+-- Names of streets to look for.
 use Rattle.std.specs.Prelude.{ℕ, ◌&&◌, if◌then◌else◌, nat_le, List, length, Option, Some, None}
 use Rattle.tl_segments.specs.declared.name.TheConstants.{NAME_LENGTH}
 
--- the name of a street that a text is: 1 to 30 bytes
+-- a text as a street's name: 1 to 30 bytes
 abbrev pub street_name : List ℕ → Option (List ℕ)
 street_name text = if nat_le 1 (length text) && nat_le (length text) NAME_LENGTH then Some text else None

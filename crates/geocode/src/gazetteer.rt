@@ -19,23 +19,21 @@ use crate::street::Street;
 use std::alloc::{AllocError, Allocator};
 use tl_segments::{County, NAME_LENGTH};
 
-/// An index of the street names of counties, made once and kept beside them: it doesn't borrow them.
+/// An index of the street names of counties. It is built once and kept next to the counties, without borrowing them.
 ///
-/// In each county the segments are in chains by a key of their names: the name's hash, reduced to one key for eight names. [`find`](Self::find)
-/// looks the key up in each county and walks along its chain, which has the segments with the name and, on average, at most eight others.
-/// Segments without a name have a chain of their own. A chain keeps the span of each segment's house numbers, so most segments that don't have the
-/// number aren't read.
+/// In each county, segments are chained by a key of their names: the name's hash, reduced to one key per eight names. [`find`](Self::find) looks up
+/// the key in each county and walks its chain, which has the segments with the name and, on average, at most eight others. Segments without a name
+/// have a chain of their own. A chain keeps the span of each segment's house numbers, so most segments that don't have the number aren't read.
 ///
-/// Each name of a segment takes 16 bytes, alternate names included, and the keys take at most 7 bytes for each name, if each key is used and the
-/// map of the keys has just grown, and about 4 typically. So a county takes at most 23 bytes for each name of its segments, about 20 typically, and
-/// less than 600 bytes beside that.
+/// Each name of a segment, including alternate names, takes 16 bytes. The keys add at most 7 bytes per name (if every key is used and their map has
+/// just grown), typically about 4. A county therefore takes at most 23 bytes per name of its segments, typically about 20, plus less than 600 bytes.
 #[derive(Drop)]
 pub struct Gazetteer<A: Allocator> {
     indexes: Vec<NameIndex<A>, A>,
 }
 
 impl<A: Allocator + Copy> Gazetteer<A> {
-    /// Indexes the names of all segments of counties.
+    /// Indexes the names of all segments of the counties.
     pub fn of(alloc: A, counties: &[County<A>]) -> Result<Self, AllocError>
         ensures { IfOk result (λ gazetteer. IsGazetteerOf gazetteer counties.now) }
     {
@@ -46,8 +44,8 @@ impl<A: Allocator + Copy> Gazetteer<A> {
         Ok(Gazetteer { indexes })
     }
 
-    /// Returns what [`find`](crate::find) does over the counties that the gazetteer was made of, without a walk over all their segments. Allocates
-    /// only for hits.
+    /// Returns the same hits as [`find`](crate::find) over the counties that the gazetteer was made from, without visiting all their segments.
+    /// Allocates only for hits.
     pub fn find(
         &self,
         alloc: A,
@@ -70,8 +68,8 @@ impl<A: Allocator + Copy> Gazetteer<A> {
         Ok(hits)
     }
 
-    /// Returns what [`matches`](crate::matches) does over the counties that the gazetteer was made of, without a walk over all their segments.
-    /// Allocates only for matches.
+    /// Returns the same matches as [`matches`](crate::matches) over the counties that the gazetteer was made from, without visiting all their
+    /// segments. Allocates only for matches.
     pub fn matches<'a>(
         &self,
         alloc: A,
@@ -103,7 +101,7 @@ impl<A: Allocator + Copy> Gazetteer<A> {
 }
 
 impl<A: Allocator> Gazetteer<A> {
-    /// Tells whether some segment of the counties that the gazetteer was made of is on the street. Allocates nothing.
+    /// Returns whether some segment of the counties that the gazetteer was made from is on the street. Doesn't allocate.
     pub fn has_street(&self, counties: &[County<A>], street: Street<'_>) -> bool
         requires of { IsGazetteerOf self.now counties.now }
         ensures { result ≡ has_street (looked_for.parts_of street.entry) counties.now }
@@ -118,7 +116,7 @@ impl<A: Allocator> Gazetteer<A> {
     }
 }
 
-/// Appends the hits in a county, by its index and the hash of the name.
+/// Appends the hits in a county, using its index and the hash of the name.
 fn push_in_county<A: Allocator + Copy>(
     name: &[u8],
     hash: u64,

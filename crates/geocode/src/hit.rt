@@ -1,4 +1,4 @@
-//! Hits, and the line of text that each gets.
+//! Hits and their lines of text.
 ghost use Rattle.std.specs.Prelude.{◌≡◌, ◌≤◌, ◌<◌, ◌+◌, ◌++◌, length, IfOk};
 ghost use Rattle.geocode.specs.HitLine.{hit_lines, letter, line, place_text};
 
@@ -6,10 +6,10 @@ use arrayvec::ArrayString;
 use itoa::Buffer;
 use std::alloc::{AllocError, Allocator};
 
-/// How many bytes the longest line of a hit has, its end counted.
+/// The length of the longest line of a hit in bytes, including its terminator.
 pub const LINE_LENGTH: usize = 65;
 
-/// A side of a street segment, as one goes from its FR to its TO end.
+/// A side of a street segment, seen when going from its FR end to its TO end.
 #[derive(Clone, Copy, PartialEq, Eq)]
 pub enum Side {
     Left,
@@ -29,13 +29,13 @@ pub struct Hit {
     /// The number of the segment's TLID.
     pub tlid: u64,
     pub side: Side,
-    /// Where the house number is along the segment: none where one of the coordinates of the segment's ends isn't known.
+    /// The place of the house number along the segment, or `None` if a coordinate of the segment's ends is unknown.
     pub place: Option<Place>,
 }
 
 impl Hit {
-    /// The hit as a line of text: TLID, `L` or `R`, longitude and latitude, with tabs between them and LF at the end, as in
-    /// `123456789\tL\t-86494898\t32405102\n`. Without a place longitude and latitude are `-`. It takes no memory.
+    /// Returns the hit as a line of text: TLID, `L` or `R`, longitude and latitude, separated by tabs and terminated by LF, as in
+    /// `123456789\tL\t-86494898\t32405102\n`. Without a place, longitude and latitude are `-`. It doesn't allocate.
     pub fn line(&self) -> ArrayString<LINE_LENGTH>
         ensures { result.bytes ≡ line self.now }
     {
@@ -50,7 +50,7 @@ impl Hit {
     }
 }
 
-/// The lines of hits, one after the other.
+/// Returns the lines of the hits, one after the other.
 pub fn hit_lines<A: Allocator>(alloc: A, hits: &[Hit]) -> Result<Vec<u8, A>, AllocError>
     ensures { IfOk result (λ text. text.items ≡ hit_lines hits.now) }
 {
@@ -62,7 +62,7 @@ pub fn hit_lines<A: Allocator>(alloc: A, hits: &[Hit]) -> Result<Vec<u8, A>, All
 }
 
 impl Side {
-    /// Returns the letter that a line of text has for the side: `L` or `R`.
+    /// Returns the side's letter in a line of text: `L` or `R`.
     pub fn letter(self) -> &'static str
         ensures value { result.now ≡ letter self }
         ensures one { length result.now ≡ 1 }

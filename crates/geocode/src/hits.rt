@@ -1,4 +1,4 @@
-//! Hits of a house number over counties.
+//! Hits of a house number in counties.
 ghost use Rattle.std.specs.Prelude.{◌≡◌, ◌<◌, ◌≤◌, ◌++◌, length, Some, IfOk, OnOk};
 ghost use Rattle.geocode.specs.Gazetteer.{hits_if_named};
 ghost use Rattle.geocode.specs.Hits.{find, has_name, has_zip, hit_on, hits_in_county, hits_on_range, hits_on_segment, is_on};
@@ -17,18 +17,18 @@ use std::alloc::{AllocError, Allocator};
 use tl_fields::number as number_of;
 use tl_segments::{County, NAME_LENGTH, RECORD_LENGTH, Range, Segment, lies_on, name_equals};
 
-/// A house that is looked for: its number, and the number of its ZIP code where only that one will do.
+/// A house to look for: its number and, if it must be in a particular ZIP code, the number of that code.
 #[derive(Clone, Copy)]
 pub(crate) struct House {
     pub number: u64,
     pub zip: Option<u64>,
 }
 
-/// Where a house number is on a street: over the counties, segments and ranges in their order, and the left side before the right one, a hit
-/// for each side on which the number lies, of the segments that have the street's name among their names. ASCII letters of names are compared
-/// without case. Where a ZIP code is given, it's that of the range's side.
+/// Returns the hits of a house number on a street: one for each side that the number lies on, for every segment that has the street's name among its
+/// names. They are in the order of counties, segments and ranges, the left side before the right. ASCII case is ignored in names. If a ZIP code is
+/// given, the range's side must have it.
 ///
-/// It asks for memory only for hits.
+/// It allocates only for hits.
 pub fn find<A: Allocator + Copy>(
     alloc: A,
     counties: &[County<A>],
@@ -66,7 +66,7 @@ fn push_in_county<A: Allocator + Copy>(
     Ok(())
 }
 
-/// Appends the hits on the segment with a number, if it has the name.
+/// Appends the hits on segment `n`, if it has the name.
 pub(crate) fn push_if_named<A: Allocator + Copy>(
     name: &[u8],
     house: House,
@@ -86,7 +86,7 @@ pub(crate) fn push_if_named<A: Allocator + Copy>(
     Ok(())
 }
 
-/// Whether some name of the segment equals this one.
+/// Returns whether some name of the segment equals this one.
 fn has_name<A: Allocator>(name: &[u8], segment: &Segment<A>) -> bool
     requires some { 1 ≤ length name.now }
     requires few { length name.now ≤ NAME_LENGTH }
@@ -139,7 +139,7 @@ fn push_on_range<A: Allocator + Copy>(
     Ok(())
 }
 
-/// The hit on a side of a range, of a segment with this type 1 record and this number for TLID, if the house is on it.
+/// Returns the hit on a side of a range of a segment with this type 1 record and this TLID number, if the house is on it.
 pub(crate) fn hit_on(
     house: House,
     tlid: u64,
@@ -159,7 +159,7 @@ pub(crate) fn hit_on(
     Some(Hit { tlid, side, place })
 }
 
-/// Whether a side's ZIP code has the wanted number, if one is wanted.
+/// Returns whether a side's ZIP code has the wanted number, if one is wanted.
 fn has_zip(wanted: Option<u64>, zip: &[u8]) -> bool
     ensures { result ≡ has_zip wanted zip.now }
 {

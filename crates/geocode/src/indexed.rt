@@ -1,4 +1,4 @@
-//! Matches on the segments of a county that its index has.
+//! Matches on the segments of a county, found through its index.
 ghost use Rattle.std.specs.Prelude.{◌≡◌, ◌<◌, ◌++◌, length, map, OnOk};
 ghost use Rattle.std.specs.List.{list_any};
 ghost use Rattle.geocode.specs.Matches.{match_of, matches_in_county, matches_on_segment};
@@ -14,7 +14,7 @@ use crate::street::Street;
 use std::alloc::{AllocError, Allocator};
 use tl_segments::County;
 
-/// Appends the matches in a county, by its index and the hash of the street's name.
+/// Appends the matches in a county, using its index and the hash of the street's name.
 pub(crate) fn push_matches<'a, A: Allocator + Copy>(
     street: Street<'_>,
     hash: u64,
@@ -39,7 +39,7 @@ pub(crate) fn push_matches<'a, A: Allocator + Copy>(
     Ok(())
 }
 
-/// Appends the matches on the segment with a number.
+/// Appends the matches on segment `n`.
 fn push_matches_at<'a, A: Allocator + Copy>(
     street: Street<'_>,
     house: House,
@@ -65,7 +65,7 @@ fn push_matches_at<'a, A: Allocator + Copy>(
     named.push_matches(house, matches)
 }
 
-/// Whether some segment of the county is on the street, by the county's index and the hash of the street's name.
+/// Returns whether some segment of the county is on the street, using the county's index and the hash of the street's name.
 pub(crate) fn has_street<A: Allocator>(
     street: Street<'_>,
     hash: u64,
@@ -86,7 +86,7 @@ pub(crate) fn has_street<A: Allocator>(
     false
 }
 
-/// Whether the segment with a number is on the street.
+/// Returns whether segment `n` is on the street.
 fn is_on_street<A: Allocator>(street: Street<'_>, county: &County<A>, n: usize) -> bool
     requires { n < length county.now.segments }
     ensures { result ≡ is_on_street (looked_for.parts_of street.entry) (segment_at county.now.segments n) }

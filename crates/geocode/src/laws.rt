@@ -1,4 +1,4 @@
-//! Laws over the definitions, as contracts of functions that do nothing.
+//! Laws about the definitions, stated as contracts of functions that do nothing.
 ghost use Rattle.std.specs.Prelude.{◌≡◌, List, map, All};
 ghost use Rattle.tl_segments.specs.County.{CountyParts};
 ghost use Rattle.tl_segments.specs.Segment.{IsSegment};
@@ -7,14 +7,15 @@ ghost use Rattle.geocode.specs.Matches.{hits_on_street, matches};
 ghost use Rattle.geocode.specs.Street.{StreetParts, WantsNameAlone};
 ghost use Rattle.geocode.specs.declared.hits.House.{House};
 
-/// The hits of matches are those on the segments that are on the street, so with a direction or a type they are some of those of its name.
+/// States that the hits of matches are those on the segments that are on the street. With a direction or a type they are some of the hits of its
+/// name.
 #[tactic(auto, using(crate::proofs::MatchHitLemmas::hits_of_matches))]
 pub fn matches_are_hits()
     ensures { (street : StreetParts) (house : House) (counties : List CountyParts)
         → map (λ found. found.hit) (matches street house counties) ≡ hits_on_street street house counties }
 {}
 
-/// With no direction and no type, the hits of matches are those that are found by the street's name.
+/// States that with no direction and no type, the hits of matches are those found by the street's name.
 #[tactic(auto, using(crate::proofs::MatchHitLemmas::hits_of_name))]
 pub fn matches_of_a_name()
     ensures { (street : StreetParts) (house : House) (counties : List CountyParts) → WantsNameAlone street

@@ -1,4 +1,4 @@
-//! Places of house numbers: which segments of a county have a street's name and a house number on a side, and where along them it is.
+//! Places of house numbers: which segments of a county have a street's name and a house number on one side, and where along them it lies.
 #![tactic(auto)]
 
 mod gazetteer;

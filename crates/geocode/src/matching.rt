@@ -14,11 +14,11 @@ use crate::street::Street;
 use std::alloc::{AllocError, Allocator};
 use tl_segments::{County, FullName, Range, Segment};
 
-/// A hit, with the street name that matched and the fields of its side, as the records have them.
+/// A hit, with the street name that matched and the fields of its side as they are in the records.
 #[derive(Clone, Copy)]
 pub struct Match<'a> {
     pub hit: Hit,
-    /// The county's place in the list of counties, counted from 0.
+    /// The county's index in the list of counties, counted from 0.
     pub county: usize,
     /// The first of the segment's names that is the street's.
     pub name: FullName<'a>,
@@ -39,8 +39,8 @@ pub(crate) struct Named<'a, A: Allocator> {
     pub name: FullName<'a>,
 }
 
-/// Returns the hits of a house number on a street, over the counties, segments and ranges in their order, and the left side before the right one.
-/// It allocates memory only for matches.
+/// Returns the hits of a house number on a street, in the order of counties, segments and ranges, the left side before the right. It allocates only
+/// for matches.
 pub fn matches<'a, A: Allocator + Copy>(
     alloc: A,
     counties: &'a [County<A>],
@@ -59,7 +59,7 @@ pub fn matches<'a, A: Allocator + Copy>(
     Ok(matches)
 }
 
-/// Whether some segment of the counties is on the street.
+/// Returns whether some segment of the counties is on the street.
 pub fn has_street<A: Allocator>(counties: &[County<A>], street: Street<'_>) -> bool
     ensures { result ≡ has_street (looked_for.parts_of street.entry) counties.now }
 {
@@ -71,7 +71,7 @@ pub fn has_street<A: Allocator>(counties: &[County<A>], street: Street<'_>) -> b
     false
 }
 
-/// Whether some segment of the county is on the street.
+/// Returns whether some segment of the county is on the street.
 fn is_street_in<A: Allocator>(street: Street<'_>, county: &County<A>) -> bool
     ensures { result ≡ list_any (is_on_street (looked_for.parts_of street.entry)) county.now.segments }
 {
@@ -143,7 +143,7 @@ impl<'a, A: Allocator + Copy> Named<'a, A> {
         Ok(())
     }
 
-    /// The match on a side of a range, if the house is on it.
+    /// Returns the match on a side of a range, if the house is on it.
     fn match_on(&self, house: House, range: Range<'a>, side: Side) -> Option<Match<'a>>
         requires { tlid_of self.now.segment.now ≡ Some self.now.tlid }
         ensures { option_map match_of result ≡ match_on house (named_of self.now) (fields_of range.entry) side }

@@ -10,19 +10,19 @@ use std::collections::HashMap;
 use std::hash::{BuildHasherDefault, FoldHasher};
 use tl_segments::Segment;
 
-/// How many names of segments there are for each key, of which names with letters have at least one and fewer than a map holds.
+/// The number of segment names per key. Nonblank names have at least one key, and fewer keys than a map can hold.
 const NAMES_PER_KEY: usize = 8;
 
 const MOST_KEYS: usize = 1 << 31;
 
-/// A segment that has a name with some key.
+/// A segment that has a name with a certain key.
 #[derive(Clone, Copy)]
 pub(crate) struct Link {
     /// The segment's number in its county, counted from 0.
     pub segment: u32,
     /// The span of its house numbers.
     pub span: Span,
-    /// The number of the link of the next segment that has a name with the key, counted from 1; 0 if there is none.
+    /// The number of the link of the next segment that has a name with the key, counted from 1, or 0 if there is none.
     pub next: usize,
 }
 
@@ -39,13 +39,13 @@ pub(crate) struct NameIndex<A: Allocator> {
 impl<A: Allocator + Copy> NameIndex<A> {
     ghost use Rattle.geocode.specs.NameIndex.{AddsNames, AddsTo, HasChains, IsIndexOf};
 
-    /// Makes the index of segments, with room for a link of each name and no more.
+    /// Creates the index of the segments, with room for exactly one link per name.
     pub(crate) fn of(alloc: A, segments: &[Segment<A>]) -> Result<Self, AllocError>
         requires { length segments.now < 2 ^ 32 }
         ensures { IfOk result (λ index. IsIndexOf index segments.now) }
     {
         let mut index = NameIndex::with_room(alloc, names_in(segments))?;
-        // A link is put before the others of its key, so the last segment comes first.
+        // Each link is put in front of the others of its key, so the segments are added in reverse order.
         for n in (0..segments.len()).rev() {
             let segment = &segments[n];
             index.add_names(n as u32, Span::of(segment), segment)?;
@@ -65,7 +65,7 @@ impl<A: Allocator + Copy> NameIndex<A> {
         })
     }
 
-    /// Puts a segment before the others of the keys of its names, once for each key.
+    /// Puts a segment in front of the others of the keys of its names, once for each key.
     fn add_names(&mut self, n: u32, span: Span, segment: &Segment<A>) -> Result<(), AllocError>
         ensures { OnOk result (AddsNames self.old self.new n span (names_of segment.now)) }
     {
@@ -77,7 +77,7 @@ impl<A: Allocator + Copy> NameIndex<A> {
         Ok(())
     }
 
-    /// Puts a segment before the others of a hash's key, unless it's the first of them.
+    /// Puts a segment in front of the others of a hash's key, unless it is already the first.
     fn add(&mut self, segment: u32, span: Span, hash: u64) -> Result<(), AllocError>
         ensures { OnOk result (AddsTo self.old self.new (key_of self.old.keys hash) segment span) }
     {
@@ -99,14 +99,14 @@ impl<A: Allocator + Copy> NameIndex<A> {
 impl<A: Allocator> NameIndex<A> {
     ghost use Rattle.geocode.specs.NameIndex.{first_of, is_link_of, link_at};
 
-    /// The number of the first link of the key of a name with this hash, 0 if it has none.
+    /// Returns the number of the first link of the key of a name with this hash, or 0 if there is none.
     pub(crate) fn first(&self, hash: u64) -> usize
         ensures { result ≡ first_of self.now (key_of self.now.keys hash) }
     {
         self.first_of_key(self.key(hash))
     }
 
-    /// The link with a number, counted from 1.
+    /// Returns the link with a number, counted from 1.
     pub(crate) fn link(&self, number: usize) -> Option<Link>
         ensures { result ≡ link_at self.now.links.items number }
     {
@@ -122,7 +122,7 @@ impl<A: Allocator> NameIndex<A> {
         }
     }
 
-    /// The key of a name with this hash. Many segments have no name, so blank names have a key of their own.
+    /// Returns the key of a name with this hash. Many segments have no name, so blank names have a key of their own.
     #[tactic(auto, unfolding(crate::specs::NameHash::key_of))]
     fn key(&self, hash: u64) -> u32
         ensures { result ≡ key_of self.now.keys hash }
@@ -140,7 +140,7 @@ impl<A: Allocator> NameIndex<A> {
     }
 }
 
-/// How many names the segments have.
+/// Returns the number of names that the segments have.
 fn names_in<A: Allocator>(segments: &[Segment<A>]) -> usize {
     let mut names: usize = 0;
     for segment in segments {

@@ -1,4 +1,4 @@
-//! Where along a street segment a house number is.
+//! Where a house number lies along a street segment.
 ghost use Rattle.std.specs.Prelude.{◌≡◌, ◌^◌, ◌*◌, ◌<◌, ◌≤◌, ◌*ℤ◌, int_div, nat_abs, length, IfSome, IsTrue};
 ghost use Rattle.geocode.specs.Position.{IsPosition, IsNear, coordinate_along, place_at, place_on, position_on};
 ghost use Rattle.geocode.specs.Sides.{parts_of};
@@ -11,7 +11,7 @@ use tl_fields::{coordinate, number as number_of};
 use tl_records::{Places, Type1};
 use tl_segments::RECORD_LENGTH;
 
-/// A house number, and the numbers of the FR and the TO address of the side that it lies on.
+/// A house number, and the numbers of the FR and TO addresses of the side that it lies on.
 #[derive(Clone, Copy)]
 pub(crate) struct Position {
     pub number: u64,
@@ -19,7 +19,7 @@ pub(crate) struct Position {
     pub to: u64,
 }
 
-/// The place of a house number on the side of a segment with this type 1 record.
+/// Returns the place of a house number on the side of a segment with this type 1 record.
 pub(crate) fn place_on(number: u64, bytes: &[u8], side: SideFields<'_>) -> Option<Place>
     requires bytes { length bytes.now ≡ RECORD_LENGTH }
     requires side { IsTrue (lies_on number side.from.now side.to.now) }
@@ -34,7 +34,7 @@ pub(crate) fn place_on(number: u64, bytes: &[u8], side: SideFields<'_>) -> Optio
     })
 }
 
-/// The place whose longitude and latitude stand at these places of a type 1 record.
+/// Returns the place whose longitude and latitude are in these columns of a type 1 record.
 fn place_at(longitude: Places, latitude: Places, bytes: &[u8]) -> Option<Place>
     requires longitude { IsWithin longitude (length bytes.now) }
     requires latitude { IsWithin latitude (length bytes.now) }
@@ -59,7 +59,7 @@ fn position_on(number: u64, side: SideFields<'_>) -> Option<Position>
     })
 }
 
-/// The coordinate as far from one to the other as the house is along its side.
+/// Returns the coordinate as far from `from` to `to` as the house is along its side.
 fn coordinate_along(from: i64, to: i64, position: Position) -> i64
     requires from { nat_abs from < 10 ^ 9 }
     requires to { nat_abs to < 10 ^ 9 }
@@ -75,7 +75,7 @@ fn coordinate_along(from: i64, to: i64, position: Position) -> i64
     from + share_of(way, gone, whole)
 }
 
-/// So much of the way as is gone of the whole.
+/// Returns the share of `way` that `gone` is of `whole`.
 fn share_of(way: i128, gone: i128, whole: i128) -> i64
     requires way { nat_abs way < 2 * 10 ^ 9 }
     requires gone { nat_abs gone ≤ nat_abs whole }

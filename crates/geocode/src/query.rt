@@ -1,4 +1,4 @@
-//! What a geocoder is asked for, as texts write it.
+//! A geocoder's query, parsed from texts.
 ghost use Rattle.std.specs.Prelude.{◌≡◌, IfOk, MatchResult, Ok, Err};
 ghost use Rattle.std.specs.Char.{is_ascii_digit};
 ghost use Rattle.std.specs.List.{list_all};
@@ -14,20 +14,20 @@ use std::alloc::{AllocError, Allocator};
 use tl_fields::number;
 use tl_segments::County;
 
-/// A house number and a ZIP code have as many digits at most, as an address field has.
+/// The maximum number of digits in a house number or a ZIP code: the length of an address field.
 pub const MOST_DIGITS: usize = 11;
 
-/// What a geocoder is asked for.
+/// A geocoder's query.
 #[derive(Clone, Copy)]
 pub struct Query<'a> {
     /// The house number.
     pub number: u64,
     pub name: StreetName<'a>,
-    /// The number of the ZIP code, where only that one will do.
+    /// The number of the ZIP code, if the house must be in a particular one.
     pub zip: Option<u64>,
 }
 
-/// Which text of a query isn't in its form.
+/// The text of a query that is invalid.
 #[derive(Clone, Copy)]
 pub enum QueryFault {
     /// The house number isn't 1 to 11 digits.
@@ -39,7 +39,7 @@ pub enum QueryFault {
 }
 
 impl<'a> Query<'a> {
-    /// The query that these texts make, or the first of them that isn't in its form.
+    /// Parses a query from these texts, or returns the first of them that is invalid.
     pub fn of(
         number: &'a [u8],
         name: &'a [u8],
@@ -55,7 +55,7 @@ impl<'a> Query<'a> {
         Ok(Query { number, name, zip })
     }
 
-    /// The hits over these counties, in their order. It asks for memory only for hits.
+    /// Returns the hits in these counties, in order. It allocates only for hits.
     pub fn find<A: Allocator + Copy>(
         self,
         alloc: A,
@@ -66,7 +66,7 @@ impl<'a> Query<'a> {
         find(alloc, counties, self.number, self.name.text, self.zip)
     }
 
-    /// Returns what [`find`](Self::find) does, by the gazetteer of these counties. Allocates only for hits.
+    /// Returns the same hits as [`find`](Self::find), using the gazetteer of these counties. Allocates only for hits.
     pub fn find_in<A: Allocator + Copy>(
         self,
         alloc: A,
@@ -80,7 +80,7 @@ impl<'a> Query<'a> {
     }
 }
 
-/// The number of a house or of a ZIP code that a text writes: digits, without a sign or blanks.
+/// Parses the number of a house or of a ZIP code: digits, without a sign or blanks.
 #[tactic(auto, using(crate::proofs::QueryLemmas::number_of_digits))]
 fn house_number(text: &[u8]) -> Option<u64>
     ensures { result ≡ house_number text.now }
@@ -97,7 +97,7 @@ fn are_digits(text: &[u8]) -> bool
     text.iter().all(|byte| byte.is_ascii_digit())
 }
 
-/// The number of a ZIP code, where one is given.
+/// Parses the number of a ZIP code, if one is given.
 fn zip_number(text: Option<&[u8]>) -> Option<Option<u64>>
     ensures { result ≡ zip_number (option_copied text.entry) }
 {

@@ -6,7 +6,7 @@ ghost use Rattle.tl_segments.specs.Range.{fields_of};
 use crate::hit::Side;
 use tl_segments::Range;
 
-/// The fields of a range that one side has, lent: the addresses at its ends and its ZIP code.
+/// The borrowed fields of a range that belong to one side: the addresses at its ends and its ZIP code.
 #[derive(Clone, Copy)]
 pub(crate) struct SideFields<'a> {
     pub from: &'a [u8],

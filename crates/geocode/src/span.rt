@@ -10,7 +10,8 @@ use std::alloc::Allocator;
 use tl_fields::number as number_of;
 use tl_segments::{Range, Segment};
 
-/// The least and the greatest house number of a segment, each halved, and 65,535 if that is more: a walk over segments reads it instead of them.
+/// The least and the greatest house number of a segment, each halved and capped at 65,535. A walk over segments reads the span first, to skip
+/// segments.
 #[derive(Clone, Copy)]
 pub(crate) struct Span {
     low: u16,
@@ -18,13 +19,13 @@ pub(crate) struct Span {
 }
 
 impl Span {
-    /// The span of no house number.
+    /// The span without any house number.
     const EMPTY: Span = Span {
         low: u16::MAX,
         high: 0,
     };
 
-    /// Returns the span of the numbers at the ends of all sides of the segment that have one at both.
+    /// Returns the span of the numbers at the ends of those sides of the segment that have a number at both ends.
     pub(crate) fn of<A: Allocator>(segment: &Segment<A>) -> Self
         ensures { IncludesHits result segment.now }
     {
@@ -37,7 +38,7 @@ impl Span {
         span
     }
 
-    /// Tells whether a house with this number may be on the segment.
+    /// Returns whether a house with this number may be on the segment.
     pub(crate) fn covers(self, number: u64) -> bool
         ensures { result ≡ covers self number }
     {
@@ -72,7 +73,7 @@ impl Span {
     }
 }
 
-/// Half a house number, or 65,535 if that is less.
+/// Returns half a house number, at most 65,535.
 fn coarse(number: u64) -> u16
     ensures { result ≡ coarse number }
 {

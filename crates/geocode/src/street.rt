@@ -1,4 +1,4 @@
-//! Streets that are looked for.
+//! Streets to look for.
 ghost use Rattle.std.specs.Prelude.{◌≡◌, option_map};
 ghost use Rattle.geocode.specs.Street.{agrees, fits, name_on, parts_of};
 ghost use Rattle.tl_segments.specs.FullName.{HasNameLengths, full_name_of};
@@ -9,8 +9,7 @@ use std::alloc::Allocator;
 use tl_fields::blank;
 use tl_segments::{FullName, Segment, name_equals};
 
-/// A street that is looked for: its name, and whichever of its directions and its type have to be those of the name that matches. One that is
-/// empty or blank may be any.
+/// A street to look for: its name, and the directions and type that the matching name must have. An empty or blank direction or type matches any.
 #[derive(Clone, Copy)]
 pub struct Street<'a> {
     pub name: StreetName<'a>,
@@ -37,7 +36,7 @@ impl Street<'_> {
         None
     }
 
-    /// Whether a full name is the street's.
+    /// Returns whether a full name is the street's.
     fn fits(self, name: FullName<'_>) -> bool
         requires { HasNameLengths (full_name_of name) }
         ensures { result ≡ fits (parts_of self.entry) (full_name_of name.entry) }
@@ -49,14 +48,14 @@ impl Street<'_> {
     }
 }
 
-/// Whether a field is the wanted text, or none is wanted.
+/// Returns whether a field equals the wanted text, or none is wanted.
 fn agrees(wanted: &[u8], field: &[u8]) -> bool
     ensures { result ≡ agrees wanted.now field.now }
 {
     blank(wanted) || equals(field, wanted)
 }
 
-/// Whether a field is the text and blanks after it, ASCII letters compared without case.
+/// Returns whether a field is the text followed by blanks, ignoring ASCII case.
 fn equals(field: &[u8], text: &[u8]) -> bool
     ensures { result ≡ name_equals field.now text.now }
 {

@@ -1,11 +1,11 @@
-//! Names of streets that are looked for.
+//! Names of streets to look for.
 ghost use Rattle.std.specs.Prelude.{◌≡◌, ◌≤◌, length, option_map};
 ghost use Rattle.tl_segments.specs.declared.name.TheConstants.{NAME_LENGTH};
 ghost use Rattle.geocode.specs.StreetName.{street_name};
 
 use tl_segments::NAME_LENGTH;
 
-/// A street's name that is looked for, without its type and direction: 1 to 30 bytes.
+/// The name of a street to look for, without its type and direction: 1 to 30 bytes.
 #[derive(Clone, Copy)]
 pub struct StreetName<'a> {
     pub text: &'a [u8],
@@ -14,7 +14,7 @@ pub struct StreetName<'a> {
 }
 
 impl<'a> StreetName<'a> {
-    /// The name that a text is, if it is as long as a name may be.
+    /// Returns a text as a name, if its length is valid.
     pub fn of(text: &'a [u8]) -> Option<StreetName<'a>>
         ensures { option_map (λ name. name.text.now) result ≡ street_name text.now }
     {

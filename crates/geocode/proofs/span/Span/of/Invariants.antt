@@ -6,7 +6,7 @@ use Rattle.geocode.specs.Span.{covers}
 use Rattle.geocode.specs.declared.hits.House.{House}
 use Rattle.geocode.proofs.span.Span.of.Given as goal
 
--- a house that isn't covered has no hit on the ranges so far
+-- a house that the span doesn't cover has no hit on the ranges so far
 abbrev pub invariant-loop-n : goal.invariant-loop-n
 invariant-loop-n g l = (house : House) → covers l.span house.number ≡ false
     → flat_map (hits_on_range house l.segment.bytes) (take l.n (ranges_of l.segment)) ≡ []
