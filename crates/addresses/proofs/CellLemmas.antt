@@ -1,4 +1,4 @@
--- Cells without white space at their ends, and the columns that they name.
+-- Cells without leading and trailing white space, and the columns that they name.
 use Rattle.std.proofs.Common.{◌≡◌, ℕ, ◌+◌, ◌<◌, suc, zero, Bool, true, false, List, [], ◌∷◌, Some, None, length, drop, map, refl, add-one, arith}
 use Rattle.std.specs.Bool.{Decides}
 use Rattle.std.specs.Char.{to_ascii_lowercase}
@@ -20,7 +20,7 @@ is-named-trimmed name cell trim named is decides =
     same_from_decides named (is_named name cell) (rw is at decides)
     (bytes_eq-Decides (map to_ascii_lowercase (trimmed cell)) (map to_ascii_lowercase name))
 
--- the cell at an index, and those after it
+-- the cell at an index, and the ones after it
 pub from-cell : (header : Fields) (column : ℕ) (cell : List ℕ) → field_at header column ≡ Some cell
     → drop column header ≡ cell ∷ drop (column + 1) header
 unfolding field_at

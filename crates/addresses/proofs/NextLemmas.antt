@@ -1,4 +1,4 @@
--- Reading on after a file's first text.
+-- Reading on after the first text of a file.
 use Rattle.std.proofs.Common.{◌≡◌, ℕ, ◌+◌, List, [], ◌∷◌, Ok, Err, true, false, length, refl}
 use Rattle.addresses.specs.Reading.{IsNextRead, Reading, at_end, followed, preceded, reading_from}
 use Rattle.addresses.specs.Record.{Fields, IsRecordRead, record_in}
@@ -19,7 +19,7 @@ pub nothing-left : (line : ℕ) (file : List ℕ) → file ≡ [] → reading_fr
 unfolding reading_from texts_from
 nothing-left line file empty = rw empty refl
 
--- a record's text couldn't be read, and other records follow it
+-- a record's text couldn't be read; the later records are left
 pub record IsFailed (line : ℕ) (fields : Fields) (text : List ℕ) (old : Reading) (fault : AddressFault) : Type 0 where
   pub later : Reading
   pub is : IsRecordRead line fields (record_in text) (Err fault)
@@ -31,7 +31,7 @@ failed line fields text old new (At at flaw) failure = rw failure.is.0 (rw failu
 failed line fields text old new NoHeader failure = absurd failure.is
 failed line fields text old new Memory failure = tt
 
--- the text has a record, or none
+-- the text has a record or it has none
 pub found : (line : ℕ) (fields : Fields) (text : List ℕ) (old later : Reading) → IsRecordRead line fields (record_in text) (Ok true)
     → old ≡ followed line (record_in text) later → old ≡ preceded (record { line = line; fields = fields }) later
 found line fields text old later is from = rw is at from

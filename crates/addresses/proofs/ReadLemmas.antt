@@ -1,4 +1,4 @@
--- What two reads of a fresh reader say of its text.
+-- What two reads with a new reader show about its text.
 use Rattle.std.proofs.Common.{◌≡◌, ◌∙◌, ℕ, Bool, true, false, List, [], ◌∷◌, Option, Some, None, Ok, Err, refl, sym, inl, inr}
 use Rattle.std.specs.Prelude.{is_some}
 use Rattle.std.specs.List.{list_all}
@@ -38,7 +38,7 @@ took : (next : Option Read) (fields : List (List ℕ)) (state : State) (rest : L
 took None fields state rest is = cc is
 took (Some read) fields state rest is = rw (is.1, is.2, is.3) refl
 
--- the record that was read, and what is left
+-- the record that was read, and what remains
 taken : (config : Config) (before after : State) (text : List ℕ) (left : Option (List ℕ)) (fields : List (List ℕ))
     → ReadsNext config before (Some text) left true fields after
     → (rest : List ℕ) × (left ≡ Some rest) × (next_record config before [] [] text ≡ Some (fields, after, rest))
@@ -75,7 +75,7 @@ read-not-utf8 a b text fields fresh reads mixed =
     let read = taken default_config StartRecord b.state text (pending_of (marked_left b.rdr) b) fields next in
     rw (read.2, not-all-utf8 fields mixed) refl
 
--- the first record's fields are UTF-8, and a second read found another record or none
+-- the fields of the first record are UTF-8, and a second read found another record or none
 pub record ReadTwice (text : List ℕ) (fields : Fields) (found : Bool) : Type 0 where
   pub a : Reader Marked
   pub b : Reader Marked
@@ -108,7 +108,7 @@ read-more text fields read =
     let found = more-found text fields true read in
     rw (found.1, all-utf8 fields read.utf8, found.2) refl
 
--- an error of the first read is of its text or of memory
+-- an error of the first read is caused by its text or by memory
 pub as-read : (line : ℕ) (a b : Reader Marked) (text : List ℕ) (fields : Fields) (error : ErrorKind) → IsTextReader text a
     → ExplainsRead marked_left a b true error → IsRecordRead line fields (fields_in text) (Err (fault_of line error))
 as-read line a b text fields (kind.Utf8 pos err) fresh why =

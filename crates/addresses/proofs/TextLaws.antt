@@ -1,4 +1,4 @@
--- What holds of the texts that a file is cut into.
+-- Laws about the texts that a file is split into.
 use Rattle.std.proofs.Common.{◌≡◌, ◌≢◌, ◌∙◌, ◌⊎◌, ℕ, zero, suc, Bool, true, false, not, ◌&&◌, List, [], ◌∷◌, ◌++◌}
 use Rattle.std.proofs.Common.{Some, length, take, refl, ap, sym, inl, inr, arith}
 use Rattle.std.specs.Prelude.{slice_get, ◌+◌, ◌%◌, ◌==◌, if◌then◌else◌}
@@ -29,7 +29,7 @@ concat-texts inside (byte ∷ rest) =
 pub whole_file_lem : (file : List ℕ) → concat (record_texts file) ≡ file
 whole_file_lem file = concat-texts false file
 
--- the same as EndsAt, of bytes that may begin inside quotation marks
+-- like EndsAt, for bytes that may begin inside quotation marks
 abbrev EndsFrom : Bool → List ℕ → ℕ → Type 0
 EndsFrom inside text at = (slice_get text at ≡ Some 10) × (fold inside_after inside (take at text) ≡ false)
 
@@ -38,7 +38,7 @@ record IsFirstFrom (inside : Bool) (file text rest : List ℕ) : Type 0 where
   first : (at : ℕ) → EndsFrom inside text at → suc at ≡ length text
   ended : ((at : ℕ) × EndsFrom inside text at) ⊎ (rest ≡ [])
 
--- a line feed leaves it as it is
+-- a line feed leaves the state of the quotation marks unchanged
 feed-keeps : (byte : ℕ) (inside : Bool) → byte ≡ 10 → inside_after inside byte ≡ inside
 feed-keeps byte inside feed = rw feed refl
 
@@ -72,7 +72,7 @@ one-byte : (byte at : ℕ) → slice_get (byte ∷ []) at ≡ Some 10 → suc at
 one-byte byte zero is = refl
 one-byte byte (suc at) is = cc is
 
--- a record's text that is one byte
+-- a record's text of one byte
 ends-here : (inside : Bool) (byte : ℕ) (rest : List ℕ) → (is_line_feed byte && not (inside_after inside byte)) ≡ true
     → IsFirstFrom inside (byte ∷ rest) (byte ∷ []) rest
 ends-here inside byte rest ends =
@@ -86,7 +86,7 @@ is-last inside byte rest none = record {
   ended = inr refl;
 }
 
--- a record's text that goes on after a byte
+-- a record's text that continues after a byte
 goes-on : (inside : Bool) (byte : ℕ) (file text rest : List ℕ) → (is_line_feed byte && not (inside_after inside byte)) ≡ false
     → IsFirstFrom (inside_after inside byte) file text rest → IsFirstFrom inside (byte ∷ file) (byte ∷ text) rest
 goes-on inside byte file text rest more later = record {
@@ -156,14 +156,14 @@ not-not : (b : Bool) → not (not b) ≡ b
 not-not true = refl
 not-not false = refl
 
--- one more mark turns it
+-- one more mark inverts the state
 turned : (n : ℕ) (inside : Bool) → (if n % 2 == 1 then not (not inside) else not inside) ≡ (if (1 + n) % 2 == 1 then not inside else inside)
 turned n inside = elim (cases_Bool (n % 2 == 1)) [
   | inl odd ↦ rw (odd, odd-next n odd) (not-not inside)
   | inr even ↦ rw (even, even-next n even) refl
 ]
 
--- after an even number of marks it is as before, and after an odd number the other way round
+-- after an even number of marks the state is unchanged; after an odd number it is inverted
 parity : (inside : Bool) (bytes : List ℕ) → fold inside_after inside bytes ≡ (if quotation_marks bytes % 2 == 1 then not inside else inside)
 parity inside [] = refl
 parity inside (byte ∷ bytes) =

@@ -1,4 +1,4 @@
--- A scan for the end of a file's first record.
+-- Scanning for the end of a file's first record.
 use Rattle.std.proofs.Common.{◌≡◌, ◌≢◌, ◌∙◌, ℕ, ◌+◌, ◌<◌, ◌≤◌, Bool, true, false, not, ◌&&◌, List, [], ◌∷◌, ◌++◌}
 use Rattle.std.proofs.Common.{length, take, drop, get_or, refl, ap, sym, subst, drop-cons, add-one, arith}
 use Rattle.std.proofs.Math.Seq.{take-suc}
@@ -7,7 +7,7 @@ use Rattle.std.proofs.lemmas.Bool.Decides.{nat_tests}
 use Rattle.std.proofs.lemmas.List.Sums.{fold-append}
 use Rattle.addresses.specs.RecordText.{inside_after, is_line_feed, is_open, joined, record_texts, texts_from, with_byte}
 
--- bytes and the texts after them, to the first of which they belong
+-- bytes followed by texts, joined to the first of the texts
 abbrev pub all_joined : List ℕ → List (List ℕ) → List (List ℕ)
 all_joined [] texts = texts
 all_joined (byte ∷ bytes) texts = joined byte (all_joined bytes texts)
@@ -24,12 +24,12 @@ all_joined-nil : (x : ℕ) (xs : List ℕ) → all_joined (x ∷ xs) [] ≡ (x �
 all_joined-nil x [] = refl
 all_joined-nil x (y ∷ ys) = ap (joined x) (all_joined-nil y ys)
 
--- these bytes of a file were scanned, and its first record goes on after them
+-- these bytes of a file were scanned, and its first record continues after them
 pub record IsScanned (file : List ℕ) (at : ℕ) (inside : Bool) : Type 0 where
   pub within : inside ≡ is_open (take at file)
   pub texts : record_texts file ≡ all_joined (take at file) (texts_from inside (drop at file))
 
--- the byte after those that were scanned
+-- the byte after the scanned ones
 pub record IsNextByte (file : List ℕ) (at byte : ℕ) : Type 0 where
   pub below : at < length file
   pub is : get_or file at 0 ≡ byte
@@ -45,7 +45,7 @@ pub open-next : (file : List ℕ) (at byte : ℕ) (inside : Bool) → IsNextByte
 open-next file at byte inside next within =
     rw (front-next file at byte next, fold-append inside_after false (take at file) (byte ∷ []), sym within) refl
 
--- the record goes on with a byte, after which it is inside quotation marks or not
+-- the record continues with a byte, after which it is inside quotation marks or not
 abbrev Goes : List ℕ → ℕ → ℕ → Bool → Type 0
 Goes file at byte now = record_texts file ≡ all_joined (take at file) (with_byte byte now (texts_from now (drop (at + 1) file)))
 
@@ -85,7 +85,7 @@ whole-text : (file : List ℕ) → file ≢ [] → all_joined file [] ≡ file �
 whole-text [] some = absurd (some refl)
 whole-text (x ∷ xs) some = all_joined-nil x xs
 
--- a file without an end of a record is one text
+-- a file in which no record ends is one text
 pub scanned-whole : (file : List ℕ) (at : ℕ) (inside : Bool) → length file ≤ at → IsScanned file at inside → file ≢ []
     → record_texts file ≡ file ∷ record_texts []
 unfolding texts_from
@@ -98,7 +98,7 @@ open-whole file at inside past scanned = rw (take_all at file past) at scanned.w
 pub is-feed : (byte : ℕ) → byte ≡ 10 → is_line_feed byte ≡ true
 is-feed byte feed = rw feed refl
 
--- a byte that is no line feed, or one inside quotation marks
+-- a byte that isn't a line feed, or a line feed inside quotation marks
 pub not-feed : (byte : ℕ) (inside : Bool) → byte ≢ 10 → (is_line_feed byte && not inside) ≡ false
 not-feed byte inside other = grind (arith, nat_tests)
 

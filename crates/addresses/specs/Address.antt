@@ -1,4 +1,4 @@
--- An address: the cells of a record that its file's columns name.
+-- An address: the cells of a record, named by the columns of its file.
 use Rattle.std.specs.Prelude.{ℕ, List, [], Option, Some, None, option_map, unwrap_or}
 use Rattle.csv.specs.Records.{field_at, fields_of}
 use Rattle.addresses.specs.Columns.{trimmed}
@@ -8,7 +8,7 @@ use Rattle.addresses.specs.declared.columns.Columns.{Columns}
 use Rattle.addresses.specs.declared.row.Address.{Address}
 use Rattle.addresses.specs.declared.row.Row.{Row}
 
--- an address, wherever its text is kept
+-- an address, wherever its text is stored
 pub record AddressParts : Type 0 where
   pub line : ℕ
   pub id : Option (List ℕ)
@@ -31,16 +31,16 @@ parts_of address = record {
   sufdir = address.sufdir.now;
 }
 
--- the cell of a column, empty where a record is shorter
+-- the cell in a column, empty if the record is too short
 abbrev pub cell_in : Fields → ℕ → List ℕ
 cell_in fields column = unwrap_or (field_at fields column) []
 
--- the same without white space at its ends, empty also where there is no such column
+-- the same without leading and trailing white space, also empty if there is no such column
 abbrev pub value_in : Fields → Option ℕ → List ℕ
 value_in fields None = []
 value_in fields (Some column) = trimmed (cell_in fields column)
 
--- the address of a record, whose id stays as it is
+-- the address of a record; its id is not trimmed
 abbrev pub address_of : Columns → RecordParts → AddressParts
 address_of columns row = record {
   line = row.line;
@@ -57,6 +57,6 @@ address_of columns row = record {
 abbrev pub address_in : Row → AddressParts
 address_in row = address_of row.columns (record { line = row.line; fields = fields_of row.cells })
 
--- a row before the first
+-- the row before the first address
 abbrev pub no_address : AddressParts
 no_address = record { line = 0; id = None; number = []; name = []; zip = []; predir = []; kind = []; sufdir = [] }

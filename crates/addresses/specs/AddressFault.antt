@@ -1,4 +1,4 @@
--- The refusal of an address file's fault.
+-- The refusal for an address file's fault.
 use Rattle.std.specs.Prelude.{codes}
 use Rattle.refusals.specs.Refusal.{RefusalParts, at_line, memory, refused}
 use Rattle.addresses.specs.AddressFlaw as address_flaw

@@ -1,4 +1,4 @@
--- The refusal of a flaw in a record, without its line.
+-- The refusal for a flaw in a record, without its line.
 use Rattle.std.specs.Prelude.{codes}
 use Rattle.refusals.specs.Refusal.{RefusalParts, refused}
 use Rattle.addresses.specs.declared.fault.AddressFlaw.{AddressFlaw}

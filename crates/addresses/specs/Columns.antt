@@ -1,4 +1,4 @@
--- The columns of a file of addresses, as its header names them.
+-- The columns of a file of addresses, as named by its header.
 use Rattle.std.specs.Prelude.{ℕ, ◌-◌, Bool, List, length, take, drop, Option, Some, None, codes}
 use Rattle.std.specs.Char.{is_ascii_whitespace}
 use Rattle.std.specs.List.{position_from, prefix_len, suffix_len}
@@ -9,15 +9,15 @@ use Rattle.addresses.specs.declared.columns.Columns.{Columns}
 abbrev pub without_space_after : List ℕ → List ℕ
 without_space_after cell = take (length cell - suffix_len is_ascii_whitespace cell) cell
 
--- a cell without the ASCII white space at its ends
+-- a cell without leading and trailing ASCII white space
 abbrev pub trimmed : List ℕ → List ℕ
 trimmed cell = without_space_after (drop (prefix_len is_ascii_whitespace cell) cell)
 
--- whether a cell of the header is this name: white space at its ends and the case of ASCII letters don't count
+-- whether a cell of the header is this name, ignoring leading and trailing white space and ASCII case
 abbrev pub is_named : List ℕ → List ℕ → Bool
 is_named name cell = str_eq_ignore_ascii_case (trimmed cell) name
 
--- the first column of this name
+-- the first column with this name
 abbrev pub column_named : List ℕ → Fields → Option ℕ
 column_named name header = position_from (is_named name) 0 header
 

@@ -1,4 +1,4 @@
--- The addresses of a file, and the fault that ends them, if one does.
+-- The addresses of a file, and the fault that ends them, if any.
 use Rattle.std.specs.Prelude.{◌≡◌, ⊤, ℕ, Bool, true, false, List, [], ◌∷◌, ◌++◌, map, Option, Some, None, Result, Ok, Err}
 use Rattle.addresses.specs.Address.{AddressParts, address_of}
 use Rattle.addresses.specs.Columns.{columns_of}
@@ -9,23 +9,23 @@ use Rattle.addresses.specs.declared.fault.AddressFault.{AddressFault}
 use Rattle.addresses.specs.declared.fault.AddressFault.TheVariants.{NoHeader, At, Memory}
 use Rattle.addresses.specs.declared.fault.AddressFlaw.TheVariants.{NoColumn}
 
--- the addresses that can be read, and the fault of the record after them, if there is one
+-- the addresses that can be read, and the fault of the record after them, if any
 pub record Listing : Type 0 where
   pub addresses : List AddressParts
   pub fault : Option AddressFault
 
--- no address and no fault
+-- no addresses and no fault
 abbrev pub ended : Listing
 ended = record { addresses = []; fault = None }
 
 abbrev pub ended_by : AddressFault → Listing
 ended_by fault = record { addresses = []; fault = Some fault }
 
--- addresses, and then those of a listing
+-- addresses, followed by those of a listing
 abbrev pub with_addresses : List AddressParts → Listing → Listing
 with_addresses first later = record { addresses = first ++ later.addresses; fault = later.fault }
 
--- the records under a header of these columns
+-- the records under a header with these columns
 abbrev pub listed : Columns → Reading → Listing
 listed columns reading = record { addresses = map (address_of columns) reading.records; fault = reading.fault }
 
@@ -43,19 +43,19 @@ under_header (header ∷ rows) fault = under_columns header.line (columns_of hea
 abbrev pub addresses_in : List ℕ → Result Listing AddressFault
 addresses_in file = under_header (reading_of file).records (reading_of file).fault
 
--- the addresses that are left
+-- the remaining addresses
 abbrev pub addresses_left : Addresses → Listing
 addresses_left addresses = listed addresses.columns (left_in addresses.unread)
 
--- What reading the header returns: the file's addresses, all of them left, or the header's fault. Otherwise an allocation failed.
+-- The result of reading the header: the file's addresses, none of them read yet, or the header's fault. Otherwise an allocation failed.
 abbrev pub IsHeaderRead : Result Addresses AddressFault → Result Listing AddressFault → Type 0
 IsHeaderRead (Ok addresses) held = held ≡ Ok (addresses_left addresses)
 IsHeaderRead (Err (At line flaw)) held = held ≡ Err (At line flaw)
 IsHeaderRead (Err NoHeader) held = held ≡ Err NoHeader
 IsHeaderRead (Err Memory) held = ⊤
 
--- What reading the next address returns: true with the address, the later ones left, false at the end, or the fault that comes next.
--- Otherwise an allocation failed.
+-- The result of reading the next address: true with the address, leaving the later ones; false at the end; or the next fault. Otherwise an allocation
+-- failed.
 abbrev pub IsAddressRead : Result Bool AddressFault → AddressParts → Listing → Listing → Type 0
 IsAddressRead (Ok true) address old new = old ≡ with_addresses (address ∷ []) new
 IsAddressRead (Ok false) address old new = (old ≡ ended) × (new ≡ ended)

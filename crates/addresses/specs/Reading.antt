@@ -1,4 +1,4 @@
--- The records of a file, each with the line in which it begins, and the fault that ends them, if one does.
+-- The records of a file, each with the line in which it begins, and the fault that ends them, if any.
 use Rattle.std.specs.Prelude.{◌≡◌, ⊤, ℕ, ◌+◌, List, [], ◌∷◌, Option, Some, None, Result, Ok, Err}
 use Rattle.csv.specs.Reading.{strip_bom}
 use Rattle.addresses.specs.Record.{Fields, record_in}
@@ -13,7 +13,7 @@ pub record RecordParts : Type 0 where
   pub line : ℕ
   pub fields : Fields
 
--- the records that can be read, and the fault of the one after them, if there is one
+-- the records that can be read, and the fault of the one after them, if any
 pub record Reading : Type 0 where
   pub records : List RecordParts
   pub fault : Option AddressFault
@@ -27,7 +27,7 @@ failing fault = record { records = []; fault = Some fault }
 abbrev pub preceded : RecordParts → Reading → Reading
 preceded first later = record { records = first ∷ later.records; fault = later.fault }
 
--- what a text in this line holds, and then the later records: nothing follows a flaw
+-- the contents of a text in this line, followed by the later records; nothing follows a flaw
 abbrev pub followed : ℕ → Result (Option Fields) AddressFlaw → Reading → Reading
 followed line (Ok None) later = later
 followed line (Ok (Some fields)) later = preceded (record { line = line; fields = fields }) later
@@ -38,16 +38,16 @@ unfoldable pub reading_from : ℕ → List (List ℕ) → Reading
 reading_from line [] = at_end
 reading_from line (text ∷ texts) = followed line (record_in text) (reading_from (line + line_feeds text) texts)
 
--- the records of a file, after its byte order mark if it has one
+-- the records of a file, after its byte order mark, if any
 abbrev pub reading_of : List ℕ → Reading
 reading_of file = reading_from 1 (record_texts (strip_bom file))
 
--- the records that are left
+-- the remaining records
 abbrev pub left_in : Unread → Reading
 left_in unread = reading_from unread.line (record_texts unread.text.now)
 
--- What reading the next record returns: its line, with these fields and the later records left, nothing at the end, or the fault that comes
--- next. Otherwise an allocation failed.
+-- The result of reading the next record: its line, with these fields, leaving the later records; nothing at the end; or the next fault. Otherwise an
+-- allocation failed.
 abbrev pub IsNextRead : Result (Option ℕ) AddressFault → Fields → Reading → Reading → Type 0
 IsNextRead (Ok (Some line)) fields old new = old ≡ preceded (record { line = line; fields = fields }) new
 IsNextRead (Ok None) fields old new = (old ≡ at_end) × (new ≡ at_end)

@@ -1,4 +1,4 @@
--- What a record's text holds: its fields, as the machine of csv reads them, a flaw, or no record, as in an empty line.
+-- The contents of a record's text: its fields, as the state machine of the crate csv reads them; a flaw; or no record, as in an empty line.
 use Rattle.std.specs.Prelude.{◌≡◌, ⊤, ℕ, Bool, true, false, not, nat_lt, if◌then◌else◌, List, [], length, Option, Some, None, is_some, Result, Ok, Err}
 use Rattle.std.specs.List.{list_all}
 use Rattle.std.specs.Str.{is_utf8}
@@ -34,7 +34,7 @@ abbrev pub record_in : List ℕ → Result (Option Fields) AddressFlaw
 record_in text =
     if is_open text then Err OpenQuote else (if nat_lt RECORD_LIMIT (length text) then Err LineTooLong else fields_in text)
 
--- What reading a record that begins in this line returns is what its text holds, unless an allocation fails.
+-- Reading a record that begins in this line returns the contents of its text, unless an allocation fails.
 abbrev pub IsRecordRead : ℕ → Fields → Result (Option Fields) AddressFlaw → Result Bool AddressFault → Type 0
 IsRecordRead line fields held (Ok true) = held ≡ Ok (Some fields)
 IsRecordRead line fields held (Ok false) = held ≡ Ok None
@@ -42,7 +42,7 @@ IsRecordRead line fields held (Err (At at flaw)) = (at ≡ line) × (held ≡ Er
 IsRecordRead line fields held (Err NoHeader) = ⊥
 IsRecordRead line fields held (Err Memory) = ⊤
 
--- the fault that an error of the crate csv is
+-- the fault that corresponds to an error of the crate csv
 abbrev pub fault_of : ℕ → ErrorKind → AddressFault
 fault_of line (kind.Utf8 pos err) = At line NotUtf8
 fault_of line (kind.Io e) = Memory

@@ -22,12 +22,12 @@ inside_after inside byte = if is_quotation_mark byte then not inside else inside
 abbrev pub is_open : List ℕ → Bool
 is_open bytes = fold inside_after false bytes
 
--- a byte and the texts after it, to the first of which it belongs
+-- a byte followed by texts, joined to the first of them
 abbrev pub joined : ℕ → List (List ℕ) → List (List ℕ)
 joined byte [] = (byte ∷ []) ∷ []
 joined byte (text ∷ texts) = (byte ∷ text) ∷ texts
 
--- a line feed that isn't inside quotation marks ends a text
+-- a line feed outside quotation marks ends a text
 abbrev pub with_byte : ℕ → Bool → List (List ℕ) → List (List ℕ)
 with_byte byte inside texts = if is_line_feed byte && not inside then (byte ∷ []) ∷ texts else joined byte texts
 
@@ -35,12 +35,12 @@ unfoldable pub texts_from : Bool → List ℕ → List (List ℕ)
 texts_from inside [] = []
 texts_from inside (byte ∷ rest) = with_byte byte (inside_after inside byte) (texts_from (inside_after inside byte) rest)
 
--- The texts of a file's records, each with its line end. A record ends with the first line feed that an even number of its quotation marks
--- precede. The last record may lack its line end.
+-- The texts of a file's records, each with its line end. A record ends with the first line feed preceded by an even number of its quotation marks.
+-- The last record may lack its line end.
 abbrev pub record_texts : List ℕ → List (List ℕ)
 record_texts file = texts_from false file
 
--- a line feed that an even number of quotation marks precede
+-- a line feed preceded by an even number of quotation marks
 abbrev pub EndsAt : List ℕ → ℕ → Type 0
 EndsAt text at = (slice_get text at ≡ Some 10) × (is_open (take at text) ≡ false)
 

@@ -1,4 +1,4 @@
--- A reader of the crate csv that is before a record's text, with a byte order mark in front of it.
+-- A reader of the crate csv positioned before a record's text, with a byte order mark in front of it.
 use Rattle.std.specs.Prelude.{◌≡◌, ℕ, List, Option, Some}
 use Rattle.std.specs.Io.Chain.{chain_remaining}
 use Rattle.std.specs.declared.io.traits.Chain.{Chain}
@@ -8,7 +8,7 @@ use Rattle.csv.specs.declared.parser.State.TheVariants.{StartRecord}
 use Rattle.csv.specs.declared.reader.Reader.{Reader}
 use Rattle.csv.specs.declared.reader.Trim.TheVariants as trim
 
--- the mark, and then the text
+-- the mark, followed by the text
 abbrev pub Marked : Type 0
 Marked = Chain (Bor (List ℕ)) (Bor (List ℕ))
 

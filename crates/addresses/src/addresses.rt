@@ -10,11 +10,11 @@ use crate::unread::Unread;
 use csv::StringRecord;
 use std::alloc::Global;
 
-/// The addresses of a file that are left.
+/// The remaining addresses of a file.
 ///
-/// The file is CSV (RFC 4180). Its first record is the header and names the columns: `number` and `name`, and optionally `id`, `zip`,
-/// `predir`, `type` and `sufdir`. White space around a column's name and the case of ASCII letters don't matter. Of several columns with
-/// the same name, the first is used. Other columns are ignored, as are empty lines and a byte order mark at the start of the file.
+/// The file is CSV (RFC 4180). Its first record is the header and names the columns: `number` and `name`, and optionally `id`, `zip`, `predir`,
+/// `type` and `sufdir`. White space around a column's name and ASCII case are ignored. If several columns have the same name, the first is used.
+/// Other columns are ignored, as are empty lines and a byte order mark at the start of the file.
 #[derive(Drop)]
 pub struct Addresses<'a> {
     alloc: Global,
@@ -23,7 +23,7 @@ pub struct Addresses<'a> {
 }
 
 impl<'a> Addresses<'a> {
-    /// Reads the header of a file, given as its whole bytes.
+    /// Reads the header of a file, given the file's complete bytes.
     pub fn of(alloc: Global, file: &'a [u8]) -> Result<Addresses<'a>, AddressFault>
         ensures { IsHeaderRead result (addresses_in file.now) }
     {
@@ -43,8 +43,8 @@ impl<'a> Addresses<'a> {
         })
     }
 
-    /// Reads the next address into a row. Returns false after the last one; then, and after a fault, the row's contents are unspecified. A
-    /// call after a fault reads the same record again.
+    /// Reads the next address into a row. Returns false after the last one; then, and after a fault, the row's contents are unspecified. A call after
+    /// a fault reads the same record again.
     pub fn read(&mut self, row: &mut Row) -> Result<bool, AddressFault>
         ensures next { IsAddressRead result (address_in row.new) (addresses_left self.old) (addresses_left self.new) }
         ensures stays { OnErr result (self.new ≡ self.old) }

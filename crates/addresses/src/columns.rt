@@ -19,7 +19,7 @@ pub(crate) struct Columns {
 }
 
 impl Columns {
-    /// Finds the columns that a header names. Returns `None` if there is no `number` or no `name`.
+    /// Finds the columns that a header names. Returns `None` if it has no `number` or no `name`.
     pub(crate) fn of(header: &StringRecord) -> Option<Columns>
         ensures { result ≡ columns_of (fields_of header.now) }
     {
@@ -37,7 +37,7 @@ impl Columns {
     }
 }
 
-/// Finds the first column of a name.
+/// Finds the first column with a name.
 fn column_named(header: &StringRecord, name: &str) -> Option<usize>
     ensures { result ≡ column_named name.now (fields_of header.now) }
 {

@@ -20,7 +20,7 @@ pub enum AddressFlaw {
     NotOneRecord,
 }
 
-/// Why a file's addresses can't be read, or that an allocation failed.
+/// Why a file's addresses can't be read, including a failed allocation.
 #[derive(Clone, Copy, Debug, PartialEq, Eq, Error)]
 pub enum AddressFault {
     #[error("the file has no header")]

@@ -1,4 +1,4 @@
-//! Laws over the definitions, as contracts of functions that do nothing.
+//! Laws about the definitions, stated as contracts of functions that do nothing.
 ghost use Rattle.std.specs.Prelude.{◌≡◌, ◌%◌, ◌==◌, [], ◌∷◌, ◌++◌, ℕ, List, None, Some};
 ghost use Rattle.std.specs.List.{concat};
 ghost use Rattle.addresses.specs.Address.{AddressParts};
@@ -6,19 +6,19 @@ ghost use Rattle.addresses.specs.Listing.{Listing, ended, ended_by, with_address
 ghost use Rattle.addresses.specs.RecordText.{IsFirstText, is_open, quotation_marks, record_texts};
 ghost use Rattle.addresses.specs.declared.fault.AddressFault.{AddressFault as AnAddressFault};
 
-/// A file's record texts are the file, one after the other.
+/// States that a file consists of its record texts, one after the other.
 #[tactic(auto, using(crate::proofs::TextLaws::whole_file_lem))]
 pub fn record_texts_are_the_file()
     ensures { (file : List ℕ) → concat (record_texts file) ≡ file }
 {}
 
-/// Quotation marks are open after an odd number of them.
+/// States that a quotation is open after an odd number of quotation marks.
 #[tactic(auto, using(crate::proofs::TextLaws::open_if_odd_lem))]
 pub fn open_if_odd()
     ensures { (bytes : List ℕ) → is_open bytes ≡ (quotation_marks bytes % 2 == 1) }
 {}
 
-/// A record's text ends with the first line feed that an even number of its quotation marks precede, or with the file. The other texts are
+/// States that a record's text ends with the first line feed preceded by an even number of its quotation marks, or with the file. The other texts are
 /// those of the rest.
 #[tactic(auto, using(crate::proofs::TextLaws::first_text_lem))]
 pub fn record_text_ends_first()
@@ -26,7 +26,7 @@ pub fn record_text_ends_first()
         → (rest : List ℕ) × IsFirstText file text rest × (texts ≡ record_texts rest) }
 {}
 
-/// Each read adds its address to those before it. The last one shows that these are all addresses, or all before a fault.
+/// States that each read adds its address to those before it. The last read shows that these are all the addresses, or all before a fault.
 #[tactic(auto, using(crate::proofs::ListingLaws::reads))]
 pub fn reads_in_turn()
     ensures further { (rows : List AddressParts) (address : AddressParts) (file old new : Listing) → file ≡ with_addresses rows old

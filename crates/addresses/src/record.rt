@@ -11,7 +11,7 @@ use csv::{ByteRecord, Error, ErrorKind, Reader, ReaderBuilder, StringRecord};
 use std::alloc::Global;
 use std::io::{Chain, Read};
 
-/// The most bytes that a record may have, its line end counted.
+/// The maximum length of a record in bytes, including its line end.
 pub const RECORD_LIMIT: usize = 65_536;
 
 /// Reads the text of a record that begins in this line. Returns false if it has no record, as in an empty line.
@@ -39,11 +39,11 @@ pub(crate) fn read_fields(
     }
 }
 
-/// Makes a reader of a record's text.
+/// Creates a reader of a record's text.
 fn text_reader<'a>(alloc: Global, text: &'a [u8]) -> Reader<Chain<&'a [u8], &'a [u8]>>
     ensures { IsTextReader text.now result }
 {
-    // The reader skips one byte order mark: this one, so a mark of the text's own stays in its first field.
+    // The reader skips one byte order mark. It skips this one, so a mark in the text itself stays in its first field.
     let marked = BYTE_ORDER_MARK.as_slice().chain(text);
     ReaderBuilder::new()
         .has_headers(false)
@@ -51,7 +51,7 @@ fn text_reader<'a>(alloc: Global, text: &'a [u8]) -> Reader<Chain<&'a [u8], &'a 
         .from_reader(alloc, marked)
 }
 
-/// Returns the fault that an error is. A reader of bytes fails for its text or for memory.
+/// Returns the fault that an error corresponds to. A reader of bytes fails only because of its text or of memory.
 fn fault_of(line: u64, error: &Error) -> AddressFault
     ensures { result ≡ fault_of line (error_kind error.now) }
 {

@@ -7,7 +7,7 @@ use crate::columns::Columns;
 use csv::StringRecord;
 use std::alloc::Global;
 
-/// An address: a record's cells, without ASCII white space at their ends. Only the id keeps it. A cell is empty if the file has no such
+/// An address: a record's cells, without leading and trailing ASCII white space, which only the id keeps. A cell is empty if the file has no such
 /// column or the record is too short for it.
 #[derive(Clone, Copy, Debug, PartialEq, Eq)]
 pub struct Address<'a> {
@@ -33,7 +33,7 @@ pub struct Row {
 }
 
 impl Row {
-    /// Makes an empty row for [`Addresses::read`](crate::Addresses::read). Allocates nothing.
+    /// Creates an empty row for [`Addresses::read`](crate::Addresses::read). Doesn't allocate.
     pub fn new(alloc: Global) -> Row
         ensures { address_in result ≡ no_address }
     {
@@ -52,7 +52,7 @@ impl Row {
         }
     }
 
-    /// Returns the address that was read last.
+    /// Returns the address that was last read.
     pub fn address(&self) -> Address<'_>
         ensures { parts_of result ≡ address_in self.now }
     {
@@ -71,7 +71,7 @@ impl Row {
     }
 }
 
-/// The id as it stands, if there is such a column.
+/// Returns the untrimmed id, if there is such a column.
 fn id_in(cells: &StringRecord, column: Option<usize>) -> Option<&str>
     ensures { option_map (λ id. id.now) result ≡ option_map (cell_in (fields_of cells.now)) column }
 {
@@ -81,7 +81,7 @@ fn id_in(cells: &StringRecord, column: Option<usize>) -> Option<&str>
     }
 }
 
-/// The cell of a column without white space at its ends.
+/// Returns the cell in a column, without leading and trailing white space.
 fn value_in(cells: &StringRecord, column: Option<usize>) -> &str
     ensures { result.now ≡ value_in (fields_of cells.now) column }
 {

@@ -1,10 +1,10 @@
-//! Files that were worked by hand.
+//! Files whose contents were worked out by hand.
 use crate::{Address, AddressFault, AddressFlaw, Addresses, RECORD_LIMIT, Row};
 use refusals::Fault;
 use std::alloc::{AllocError, Global};
 
-// A file, and what is read of it: each address as its line, its id in brackets if there is such a column, and the other cells in order, then
-// the end or the refusal. `|` is a line feed, `^` a carriage return, `~` a byte order mark, `$` a tab and `%` a byte that is no UTF-8.
+// A file, and what is read from it: each address as its line, its id in brackets if there is such a column, and the other cells in order, then the
+// end or the refusal. `|` is a line feed, `^` a carriage return, `~` a byte order mark, `$` a tab and `%` a byte that isn't UTF-8.
 const FILES: &str = r#"
 number,name|1,A ;; 2 1/A////. end
 number,name|1,A|2,B| ;; 2 1/A////. 3 2/B////. end
@@ -120,7 +120,7 @@ fn files(rt: HostRuntime) -> Result<(), std::test::Fail> {
     Ok(())
 }
 
-// A file with a record of this many bytes, its line end counted.
+// A file with a record of this many bytes, including its line end.
 fn with_record(alloc: Global, length: usize) -> Result<Vec<u8>, AllocError> {
     let mut file = Vec::new(alloc);
     file.extend_from_slice(b"number,name\n1,A\n2,")?;

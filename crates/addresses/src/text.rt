@@ -6,12 +6,12 @@ ghost use Rattle.csv.specs.Reading.{strip_bom};
 /// U+FEFF in UTF-8.
 pub(crate) const BYTE_ORDER_MARK: [u8; 3] = [0xef, 0xbb, 0xbf];
 
-/// The first record's text of a file, with its line end, and what follows it.
+/// The text of a file's first record, with its line end, and what follows it.
 #[derive(Clone, Copy)]
 pub(crate) struct FirstText<'a> {
     pub text: &'a [u8],
     pub rest: &'a [u8],
-    /// Whether the record's quotation marks don't close before the end of the file.
+    /// Whether the record's quotation marks are still open at the end of the file.
     pub is_open: bool,
 }
 
@@ -55,7 +55,7 @@ fn inside_after(inside: bool, byte: u8) -> bool
     if byte == b'"' { !inside } else { inside }
 }
 
-/// Counts the line feeds of a text.
+/// Counts the line feeds in a text.
 pub(crate) fn line_feeds(text: &[u8]) -> usize
     ensures value { result ≡ line_feeds text.now }
     ensures few { result ≤ length text.now }

@@ -1,7 +1,7 @@
-//! What is left of a file.
+//! The rest of a file.
 ghost use Rattle.std.specs.Prelude.{◌+◌, ◌^◌, ◌<◌, length};
 
-/// The part of a file that isn't read yet.
+/// The part of a file that hasn't been read yet.
 #[derive(Clone, Copy)]
 pub(crate) struct Unread<'a> {
     pub text: &'a [u8],
