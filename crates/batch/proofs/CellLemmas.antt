@@ -1,15 +1,15 @@
--- Cells of a line, one after the other.
+-- Cells of a line, appended one after the other.
 use Rattle.std.proofs.Common.{◌≡◌, ℕ, ◌+◌, ◌<◌, List, [], ◌∷◌, ◌++◌, length, get_or, take, ap, sym, ◌∙◌}
 use Rattle.std.specs.List.{flat_map}
 use Rattle.std.proofs.lemmas.Grind.{take_at_read}
 use Rattle.std.proofs.lemmas.List.{flat_map_more}
 
--- one cell more
+-- one more cell
 pub with_cell : {before cells next : List (List ℕ)} {cell wanted : List ℕ} → cells ≡ before → next ≡ cells ++ cell ∷ [] → cell ≡ wanted
     → next ≡ before ++ wanted ∷ []
 with_cell {before} {cell} so_far added is = added ∙ ap (λ cells. cells ++ cell ∷ []) so_far ∙ ap (λ cell. before ++ cell ∷ []) is
 
--- what the elements up to one more give, where it was added after what those before give
+-- the results for the elements up to one more, after its results were appended to those before it
 pub flat_map-next : {X : Type 0} (f : X → List ℕ) (start now : List ℕ) (xs : List X) (n : ℕ) (d : X) → n < length xs
     → now ≡ start ++ flat_map f (take n xs) → now ++ f (get_or xs n d) ≡ start ++ flat_map f (take (n + 1) xs)
 flat_map-next f start now xs n d inside so_far =

@@ -1,4 +1,4 @@
--- What is answered to an address.
+-- The answer for an address.
 use Rattle.std.specs.Prelude.{ℕ, Bool, false, ◌&&◌, List, [], ◌∷◌, map, if◌then◌else◌, Option, Some, None, Result, Ok, Err}
 use Rattle.std.specs.List.{list_all}
 use Rattle.std.specs.Ordering.{int_eq}
@@ -14,7 +14,7 @@ use Rattle.geocode.specs.Matches.{MatchParts, has_street, match_of, matches}
 use Rattle.geocode.specs.declared.hit.Place.{Place}
 use Rattle.tl_segments.specs.County.{CountyParts}
 
--- the matches of an address, or why there is none
+-- the matches of an address, or why there are none
 pub data AnswerParts : Type 0 where
   Found : List MatchParts → AnswerParts
   Nowhere : Reason → AnswerParts
@@ -23,7 +23,7 @@ abbrev pub parts_of : {A : Type 0} → Answer A → AnswerParts
 parts_of (answer.Found found) = Found (map match_of found.items)
 parts_of (answer.Nowhere reason) = Nowhere reason
 
--- both places are known, and one
+-- both places are known and equal
 abbrev pub is_at : Option Place → Option Place → Bool
 is_at (Some place) (Some other) = int_eq place.longitude other.longitude && int_eq place.latitude other.latitude
 is_at place other = false
@@ -31,12 +31,12 @@ is_at place other = false
 abbrev pub are_all_at : Option Place → List MatchParts → Bool
 are_all_at place found = list_all (λ other. is_at place other.hit.place) found
 
--- all matches are in the place of the first; of one alone it needn't be known
+-- all matches are in the place of the first; the place of a single match may be unknown
 abbrev pub status_of : List MatchParts → Status
 status_of [] = NoMatch
 status_of (first ∷ others) = if are_all_at first.hit.place others then Match else Tie
 
--- what matches, in this ZIP code or in any
+-- the matches, in this ZIP code or in any
 abbrev pub found_in : List CountyParts → QuestionParts → Option ℕ → List MatchParts
 found_in counties question zip = matches question.street (record { number = question.number; zip = zip }) counties
 
@@ -45,17 +45,17 @@ abbrev pub why_not_in_zip : List MatchParts → Reason
 why_not_in_zip [] = NoSuchNumber
 why_not_in_zip (found ∷ others) = OtherZip
 
--- why nothing is found
+-- why nothing was found
 abbrev pub why_none : List CountyParts → QuestionParts → Reason
 why_none counties question =
     if has_street question.street counties then why_not_in_zip (found_in counties question None) else NoSuchStreet
 
--- what is found, or why nothing is
+-- what was found, or why nothing was
 abbrev pub found_or : Reason → List MatchParts → AnswerParts
 found_or reason [] = Nowhere reason
 found_or reason (first ∷ others) = Found (first ∷ others)
 
--- what is answered to what is asked for, over counties
+-- the answer to a question in counties
 abbrev pub answer_in : List CountyParts → QuestionParts → AnswerParts
 answer_in counties question = found_or (why_none counties question) (found_in counties question question.zip)
 
@@ -63,6 +63,6 @@ abbrev pub answer_asked : List CountyParts → Result QuestionParts Reason → A
 answer_asked counties (Ok question) = answer_in counties question
 answer_asked counties (Err reason) = Nowhere reason
 
--- what is answered to an address
+-- the answer for an address
 abbrev pub answer_of : List CountyParts → AddressParts → AnswerParts
 answer_of counties address = answer_asked counties (question_of address)

@@ -1,4 +1,4 @@
--- Counties in which addresses are looked for, with their codes.
+-- Counties to look for addresses in, with their codes.
 use Rattle.std.specs.Prelude.{ℕ, List}
 use Rattle.tl_segments.specs.County.{CountyParts}
 

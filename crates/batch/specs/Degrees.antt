@@ -1,7 +1,7 @@
--- Coordinates as people write them: decimal degrees (TIGER/Line 2006 has millionths of a degree).
+-- Coordinates in human-readable form: decimal degrees (TIGER/Line 2006 has millionths of a degree).
 use Rattle.std.specs.Prelude.{ℕ, ◌+◌, ◌/◌, ◌%◌, ◌^◌, ℤ, pos, negsuc, nat_abs, List, [], ◌∷◌, ◌++◌, map, codes, decimal}
 
--- a minus, or nothing
+-- a minus sign, or nothing
 abbrev pub sign : ℤ → List ℕ
 sign (pos n) = []
 sign (negsuc n) = codes "-"
@@ -10,10 +10,10 @@ sign (negsuc n) = codes "-"
 abbrev pub digit : ℕ → ℕ
 digit number = 48 + number % 10
 
--- the last six digits of a number, with zeros in front
+-- the last six digits of a number, with leading zeros
 abbrev pub six_digits : ℕ → List ℕ
 six_digits number = map (λ place. digit (number / 10 ^ place)) (5 ∷ 4 ∷ 3 ∷ 2 ∷ 1 ∷ 0 ∷ [])
 
--- whole degrees, a point, and six decimals
+-- whole degrees, a decimal point and six decimals
 abbrev pub degrees : ℤ → List ℕ
 degrees coordinate = sign coordinate ++ decimal (nat_abs coordinate / 10 ^ 6) ++ codes "." ++ six_digits (nat_abs coordinate % 10 ^ 6)

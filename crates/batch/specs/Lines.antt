@@ -1,4 +1,4 @@
--- The lines of output (RFC 4180): a header, and one line for each match of an address, or one that says why there is none.
+-- The lines of output (RFC 4180): a header, and for each address one line per match, or one line that says why there is none.
 use Rattle.std.specs.Prelude.{ℕ, List, [], ◌∷◌, ◌++◌, replicate, codes, decimal, slice_get, unwrap_or, Option, Some, None}
 use Rattle.std.specs.List.{flat_map}
 use Rattle.csv.specs.Records.{fields_of}
@@ -34,7 +34,7 @@ reason_text reason.NotANumber = codes "not_a_number"
 reason_text reason.NameTooLong = codes "name_too_long"
 reason_text reason.Missing = codes "missing"
 
--- decimal degrees, empty where there is no place
+-- decimal degrees, or empty if there is no place
 abbrev pub longitude_cell : Option Place → List ℕ
 longitude_cell (Some place) = degrees place.longitude
 longitude_cell None = []
@@ -43,7 +43,7 @@ abbrev pub latitude_cell : Option Place → List ℕ
 latitude_cell (Some place) = degrees place.latitude
 latitude_cell None = []
 
--- the code of the county with this place in the list
+-- the code of the county with this index in the list
 abbrev pub code_at : List (List ℕ) → ℕ → List ℕ
 code_at counties county = unwrap_or (slice_get counties county) []
 
@@ -60,23 +60,23 @@ match_cells id status counties found =
 abbrev pub none_cells : List ℕ → Reason → List (List ℕ)
 none_cells id reason = id ∷ status_text NoMatch ∷ reason_text reason ∷ replicate 12 []
 
--- a record as the crate csv writes it, with LF at its end
+-- a record as the crate csv writes it, terminated by LF
 abbrev pub line : List (List ℕ) → List ℕ
 line cells = row_text default_writer cells
 
--- the cells that are kept for a line
+-- the cells kept for a line
 abbrev pub cells_of : Cells → List (List ℕ)
 cells_of cells = fields_of cells.cells
 
--- a line for each match
+-- one line for each match
 abbrev pub lines_with : List ℕ → List (List ℕ) → AnswerParts → List ℕ
 lines_with id counties (Found found) = flat_map (λ one. line (match_cells id (status_of found) counties one)) found
 lines_with id counties (Nowhere reason) = line (none_cells id reason)
 
--- the lines of an address over counties, which have these codes
+-- the lines of an address in counties with these codes
 abbrev pub lines_of : List (List ℕ) → List CountyParts → AddressParts → List ℕ
 lines_of codes counties address = lines_with (id_of address) codes (answer_of counties address)
 
--- the output for addresses, in their order
+-- the output for addresses, in order
 abbrev pub lines_of_all : List (List ℕ) → List CountyParts → List AddressParts → List ℕ
 lines_of_all codes counties addresses = header ++ flat_map (lines_of codes counties) addresses

@@ -1,4 +1,4 @@
-//! What is answered to an address.
+//! The answer for an address.
 ghost use Rattle.std.specs.Prelude.{◌≡◌, ◌≢◌, [], map, IfOk};
 ghost use Rattle.batch.specs.Answer.{answer_in, are_all_at, is_at, parts_of, status_of, why_none};
 ghost use Rattle.batch.specs.Question as question;
@@ -10,23 +10,23 @@ use geocode::{Gazetteer, Match, Place};
 use std::alloc::{AllocError, Allocator};
 use tl_segments::County;
 
-/// What came of an address.
+/// The outcome of looking for an address.
 #[derive(Clone, Copy, PartialEq, Eq)]
 pub enum Status {
     /// It is in one place.
     Match,
-    /// It is in several places, or its places aren't known.
+    /// It is in several places, or its places are unknown.
     Tie,
-    /// It is nowhere.
+    /// It wasn't found.
     NoMatch,
 }
 
-/// Why an address is nowhere.
+/// Why an address wasn't found.
 #[derive(Clone, Copy, PartialEq, Eq)]
 pub enum Reason {
     /// No segment has the street among its names.
     NoSuchStreet,
-    /// The number is on no range of the street.
+    /// The number isn't in any range of the street.
     NoSuchNumber,
     /// The number is on the street, but not in the ZIP code.
     OtherZip,
@@ -38,7 +38,7 @@ pub enum Reason {
     Missing,
 }
 
-/// The matches of an address, one at least, or why there is none.
+/// The matches of an address, at least one, or why there are none.
 #[derive(Drop)]
 pub(crate) enum Answer<'a, A: Allocator> {
     Found(Vec<Match<'a>, A>),
@@ -46,7 +46,7 @@ pub(crate) enum Answer<'a, A: Allocator> {
 }
 
 impl Question<'_> {
-    /// Looks for what is asked for in counties, by their gazetteer.
+    /// Looks for the answer to the question in counties, using their gazetteer.
     pub(crate) fn answer<'c, A: Allocator + Copy>(
         self,
         alloc: A,
@@ -63,7 +63,7 @@ impl Question<'_> {
         Ok(Answer::Nowhere(self.why_none(alloc, gazetteer, counties)?))
     }
 
-    /// Returns why nothing is found of what is asked for.
+    /// Returns why nothing was found.
     fn why_none<A: Allocator + Copy>(
         self,
         alloc: A,
@@ -84,7 +84,7 @@ impl Question<'_> {
     }
 }
 
-/// Returns what came of an address with these matches.
+/// Returns the status of an address with these matches.
 pub(crate) fn status_of(found: &[Match<'_>]) -> Status
     ensures { result ≡ status_of (map match_of found.now) }
 {
@@ -97,7 +97,7 @@ pub(crate) fn status_of(found: &[Match<'_>]) -> Status
     Status::Tie
 }
 
-/// Whether all matches are in this place.
+/// Returns whether all matches are in this place.
 fn are_all_at(place: Option<Place>, found: &[Match<'_>]) -> bool
     ensures { result ≡ are_all_at place (map match_of found.now) }
 {
@@ -109,7 +109,7 @@ fn are_all_at(place: Option<Place>, found: &[Match<'_>]) -> bool
     true
 }
 
-/// Whether both places are known and one.
+/// Returns whether both places are known and equal.
 fn is_at(place: Option<Place>, other: Option<Place>) -> bool
     ensures { result ≡ is_at place other }
 {

@@ -1,4 +1,4 @@
-//! Addresses answered over counties.
+//! Addresses looked up in counties.
 ghost use Rattle.std.specs.Prelude.{◌≡◌, map, IfOk};
 
 use crate::answer::Answer;
@@ -11,8 +11,8 @@ use std::alloc::{AllocError, Allocator, Global};
 use std::marker::Model;
 use tl_segments::County;
 
-/// Counties in which addresses are looked for, with their codes and an index of their street names. Contracts see it as a record with the fields
-/// `counties` and `codes`.
+/// Counties to look for addresses in, with their codes and an index of their street names. Contracts see it as a record with the fields `counties`
+/// and `codes`.
 #[derive(Drop)]
 pub struct Batch<'a, A: Allocator> {
     counties: &'a [County<A>],
@@ -38,7 +38,7 @@ impl<'a, A: Allocator + Copy> Batch<'a, A> {
     ghost use Rattle.batch.specs.Answer as answered;
     ghost use Rattle.batch.specs.Lines.{lines_of};
 
-    /// Indexes the street names of counties, to look for addresses there. The codes are those of the counties, in their order.
+    /// Indexes the street names of counties, to look for addresses in them. The codes are in the order of the counties.
     pub fn of(alloc: A, counties: &'a [County<A>], codes: &'a [&'a str]) -> Result<Self, AllocError>
         ensures { IfOk result (λ batch. batch ≡ record { counties = counties.now; codes = map (λ code. code.now) codes.now }) }
     {
@@ -49,7 +49,7 @@ impl<'a, A: Allocator + Copy> Batch<'a, A> {
         })
     }
 
-    /// Returns the lines of an address, one at least. Records of CSV are made in `tables` memory.
+    /// Returns the lines of an address, at least one. CSV records are built in `tables` memory.
     pub fn lines(
         &self,
         alloc: A,

@@ -14,10 +14,10 @@ use geocode::{Match, Place};
 use itoa::Buffer;
 use std::alloc::{AllocError, Allocator, Global};
 
-/// How many cells follow the reason, which an address that is nowhere leaves empty.
+/// The number of cells after the reason, which are empty for an address that wasn't found.
 const EMPTY_CELLS: usize = 12;
 
-/// Returns the first line of output: the names of its columns.
+/// Returns the first line of output: the names of the columns.
 pub fn header() -> &'static str
     ensures { result.now ≡ header }
 {
@@ -90,7 +90,7 @@ fn push_match(
         .write(lines)
 }
 
-/// Appends the line of an address that is nowhere.
+/// Appends the line of an address that wasn't found.
 fn push_none(
     alloc: Global,
     id: &[u8],
@@ -109,14 +109,14 @@ fn push_none(
     cells.write(lines)
 }
 
-/// Returns a field without the blanks around it.
+/// Removes leading and trailing blanks from a field.
 fn trimmed(field: &[u8]) -> &[u8]
     ensures { result.now ≡ trimmed field.now }
 {
     field.trim_ascii()
 }
 
-/// The code of the county with this place in the list.
+/// Returns the code of the county with this index in the list.
 fn code_at<'c>(codes: &[&'c str], county: usize) -> &'c str
     ensures { result.now ≡ code_at (map (λ code. code.now) codes.now) county }
 {
@@ -142,7 +142,7 @@ fn latitude_cell(place: Option<Place>) -> ArrayVec<u8, DEGREES_LENGTH>
 }
 
 impl Status {
-    /// Returns the word for it in the output.
+    /// Returns the status's word in the output.
     fn text(self) -> &'static str
         ensures { result.now ≡ status_text self }
     {
@@ -155,7 +155,7 @@ impl Status {
 }
 
 impl Reason {
-    /// Returns the word for it in the output.
+    /// Returns the reason's word in the output.
     fn text(self) -> &'static str
         ensures { result.now ≡ reason_text self }
     {

@@ -1,18 +1,18 @@
-//! Coordinates as people write them.
+//! Coordinates in human-readable form.
 ghost use Rattle.std.specs.Prelude.{◌≡◌, length};
 ghost use Rattle.batch.specs.Degrees.{degrees, digit, six_digits};
 
 use arrayvec::ArrayVec;
 use itoa::Buffer;
 
-/// How many bytes the longest text of a coordinate has.
+/// The length of the longest text of a coordinate, in bytes.
 pub(crate) const DEGREES_LENGTH: usize = 28;
 
-/// How many parts of a degree a coordinate counts.
+/// The number of coordinate units in a degree.
 const DEGREE: u64 = 1_000_000;
 
-/// Returns a coordinate, in millionths of a degree, as decimal degrees with six decimals, as in `-86.494898`. A negative one has a minus, any
-/// other no sign.
+/// Returns a coordinate, in millionths of a degree, as decimal degrees with six decimals, as in `-86.494898`. A negative coordinate has a minus sign,
+/// any other has no sign.
 pub(crate) fn degrees(coordinate: i64) -> ArrayVec<u8, DEGREES_LENGTH>
     ensures { result.items ≡ degrees coordinate }
 {
@@ -29,7 +29,7 @@ pub(crate) fn degrees(coordinate: i64) -> ArrayVec<u8, DEGREES_LENGTH>
     text
 }
 
-/// Returns the last six digits of a number, with zeros in front.
+/// Returns the last six digits of a number, with leading zeros.
 fn six_digits(number: u64) -> [u8; 6]
     ensures value { result ≡ six_digits number }
     ensures length { length result ≡ 6 }

@@ -1,4 +1,4 @@
-//! Batches of addresses: where each is over counties, or why it is nowhere, as lines of CSV.
+//! Batches of addresses: where each is in counties, or why it wasn't found, as lines of CSV.
 #![tactic(auto)]
 
 mod answer;

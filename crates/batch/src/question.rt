@@ -1,4 +1,4 @@
-//! What an address asks for.
+//! The question that an address asks.
 ghost use Rattle.std.specs.Prelude.{◌≡◌, MatchResult, Ok, Err, option_copied};
 ghost use Rattle.addresses.specs.Address.{parts_of};
 ghost use Rattle.batch.specs.Question.{is_missing, question_of, reason_of, zip_of};
@@ -8,7 +8,7 @@ use crate::answer::Reason;
 use addresses::Address;
 use geocode::{Query, QueryFault, Street};
 
-/// A house number on a street, in a ZIP code where one is given.
+/// A house number on a street, optionally in a ZIP code.
 #[derive(Clone, Copy)]
 pub(crate) struct Question<'a> {
     pub number: u64,
@@ -17,7 +17,7 @@ pub(crate) struct Question<'a> {
 }
 
 impl<'a> Question<'a> {
-    /// Reads what an address asks for, or why it asks for nothing.
+    /// Returns the question that an address asks, or why it asks none.
     pub(crate) fn of(address: &Address<'a>) -> Result<Question<'a>, Reason>
         ensures { MatchResult result
             (λ asked. question_of (parts_of address.now) ≡ Ok (question.parts_of asked))
@@ -46,14 +46,14 @@ impl<'a> Question<'a> {
     }
 }
 
-/// Whether the number or the name is missing.
+/// Returns whether the number or the name is missing.
 fn is_missing(address: &Address<'_>) -> bool
     ensures { result ≡ is_missing (parts_of address.now) }
 {
     address.number.is_empty() || address.name.is_empty()
 }
 
-/// The ZIP code, if one is given.
+/// Returns the ZIP code, if one is given.
 fn zip_of(zip: &str) -> Option<&[u8]>
     ensures { option_copied result ≡ zip_of zip.now }
 {
@@ -63,7 +63,7 @@ fn zip_of(zip: &str) -> Option<&[u8]>
     Some(zip.as_bytes())
 }
 
-/// Returns the reason that a query's fault is.
+/// Returns the reason that corresponds to a query's fault.
 fn reason_of(fault: QueryFault) -> Reason
     ensures { result ≡ reason_of fault }
 {

@@ -1,4 +1,4 @@
-//! Records of CSV.
+//! CSV records.
 ghost use Rattle.std.specs.Prelude.{◌≡◌, ◌∷◌, ◌++◌, [], IfOk, OnOk};
 ghost use Rattle.csv.specs.Records.{partial_of};
 
@@ -34,7 +34,7 @@ impl Cells {
         Ok(Cells { alloc, cells })
     }
 
-    /// Appends the line of the cells (RFC 4180), with LF at its end. A cell with a comma, a quotation mark or a line end is in quotation marks.
+    /// Appends the line of the cells (RFC 4180), terminated by LF. A cell with a comma, a quotation mark or a line end is quoted.
     pub(crate) fn write(self, lines: &mut Vec<u8>) -> Result<(), AllocError>
         ensures { OnOk result (lines.new.items ≡ lines.old.items ++ line (cells_of self)) }
     {
