@@ -1,4 +1,4 @@
-//! Counties, indexes and segments of four files, worked by hand.
+//! Counties, indexes and segments made from four files, worked out by hand.
 use crate::plain;
 use crate::seen::Seen;
 use crate::sweep::growths;
@@ -90,11 +90,11 @@ const REFUSALS: &str = r"
 {rt1 RT=4}\n; {rt4\n*1000}; {rt5\n*1001}; {rt6\n*1001}; refused 7 rt6 line 1001 TooManyRanges
 ";
 
-// A segment to which nothing is joined, which takes no memory by itself.
+// A segment that nothing is joined to, which doesn't allocate by itself.
 const ALONE: &str = r"{rt1}\n;;;; 123456789";
 
-// Files of many lines or with other ends of lines, what is seen of them, and the ways of loading them. The last one has
-// 55,000 segments, of which 25,000 have an alternate name, and 25,000 a further range.
+// Files with many lines or other line ends, what is seen of them, and the ways of loading them. The last one has 55,000 segments, of which 25,000
+// have an alternate name, and 25,000 a further range.
 const OTHERS: &str = r"
 {rt1}\r\n{rt1}\n{rt1}; {rt4}\r\n{rt4}; {rt5}\r\n{rt5}; {rt6}\r\n{rt6};
   123456789+Oak+Oak/201/201 123456789+Oak+Oak/201/201 123456789+Oak+Oak/201/201; county index check
@@ -107,7 +107,7 @@ const OTHERS: &str = r"
 {rt1\n#1..55000}; {rt4\n#1..25000}; {rt5}\n; {rt6\n#30001..55000}; counts 55000 25000 80000; county index check
 ";
 
-/// Loads a county by one of the ways, and shows its segments.
+/// Loads a county in one of the ways, and shows its segments.
 pub fn load<A: Allocator + Copy, R: CountedRead>(
     alloc: A,
     way: &str,
@@ -130,7 +130,7 @@ pub fn load<A: Allocator + Copy, R: CountedRead>(
     }
 }
 
-/// Shows the segments of a county, if it has as many numbers of TLIDs.
+/// Shows the segments of a county, if it has as many TLID numbers as segments.
 fn show_county<A: Allocator>(county: &County<A>, seen: &mut Seen<'_>) {
     if county.tlids().len() != county.segments().len() {
         return;
@@ -160,7 +160,7 @@ fn show_lines<A: Allocator + Copy, R: CountedRead>(
     Ok(())
 }
 
-/// Loads the files of a row by one of the ways, and tells whether its segments are seen.
+/// Loads the files of a row in one of the ways, and returns whether the expected segments are seen.
 pub fn load_row<A: Allocator + Copy>(
     alloc: Global,
     heap: A,
@@ -210,7 +210,7 @@ fn no_memory(rt: HostRuntime) {
     assert!(rt; growths(&rt, rt.alloc(), ALONE, "index check plain") == 0);
 }
 
-/// Tells whether the segments of a row are seen by each of its ways.
+/// Returns whether the segments of a row are seen in each of its ways.
 fn is_loaded(alloc: Global, row: &str) -> bool {
     for way in cell(row, 5).split(' ') {
         if load_row(alloc, alloc, way, row) != Ok(true) {

@@ -1,4 +1,4 @@
-//! Each read of a county's files failing in turn.
+//! Failures of each read of a county's files.
 use crate::counties::load;
 use crate::seen::Seen;
 use fixtures::{Device, Files, Readers, cell, is_refusal};
@@ -8,7 +8,7 @@ use tl_segments::{CountyFile, LoadFault};
 
 const FILES: &str = r"{rt1\n*2}; {rt4\n*2}; {rt5\n*2}; {rt6\n*2}";
 
-// A file, the first and the last of its reads that fail so, how many reads of other files come before, and the refusal.
+// A file, the first and last of its reads that fail like this, the number of earlier reads of other files, and the refusal.
 const READS: &str = "\
 rt4; 1; 59; 0; refused 5 rt4 line 1 Read
 rt4; 60; 118; 0; refused 5 rt4 line 2 Read
@@ -36,13 +36,13 @@ fn file_named(name: &str) -> CountyFile {
     }
 }
 
-/// Gives the fault of a county, loaded in one of the ways over these readers.
+/// Returns the fault of a county loaded in one of the ways through these readers.
 fn fault_of(alloc: Global, way: &str, readers: &mut Readers<'_>) -> Option<LoadFault> {
     let Readers { rt1, rt4, rt5, rt6 } = readers;
     load(alloc, way, rt1, rt4, rt5, rt6, &mut Seen::new("")).err()
 }
 
-/// Tells whether a county's files are refused as a row says where this read of one of them fails, and not read further.
+/// Returns whether a county's files are refused as a row says when this read of one of them fails, and nothing more is read.
 fn is_stopped(alloc: Global, files: &Files, way: &str, row: &str, read: u64) -> bool {
     let device = Device::new(way).at_call(read);
     let mut readers = Readers::new(files, file_named(cell(row, 0)), device);
@@ -55,7 +55,7 @@ fn is_stopped(alloc: Global, files: &Files, way: &str, row: &str, read: u64) -> 
     }
 }
 
-/// Tells whether that is so of each of a row's reads, where they fail in this way.
+/// Returns whether this holds for each of a row's reads, failing in this way.
 fn are_stopped(alloc: Global, files: &Files, way: &str, row: &str) -> bool {
     let first: u64 = cell(row, 1).parse().unwrap_or(1);
     let last: u64 = cell(row, 2).parse().unwrap_or(0);
@@ -67,7 +67,7 @@ fn are_stopped(alloc: Global, files: &Files, way: &str, row: &str) -> bool {
     true
 }
 
-/// Tells whether that is so in each of the ways.
+/// Returns whether this holds for each of the ways.
 fn are_all_stopped(alloc: Global, row: &str) -> bool {
     let Ok(files) = Files::new(alloc, FILES, 0) else {
         return false;

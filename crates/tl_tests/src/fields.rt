@@ -1,9 +1,9 @@
-//! Fields of the record layouts, their values, the sides of ranges and the names of streets, worked by hand.
+//! Fields of the record layouts, their values, the sides of ranges and the names of streets, worked out by hand.
 use fixtures::{RT1, cell};
 use tl_fields::{blank, coordinate, field, number};
 use tl_segments::{NAME_LENGTH, lies_on, name_equals};
 
-// A call, its answer, which is 1 where it says yes and 0 where it says no, and its arguments.
+// A call, its answer (1 for yes, 0 for no), and its arguments.
 const ANSWERS: &str = "\
 field; 1; '1'; 1; 1
 field; 1; '0006'; 2; 5
@@ -108,18 +108,18 @@ equals; 1; 'Abcdefghijklmnopqrstuvwxyzabcd'; 'aBCDEFGHIJKLMNOPQRSTUVWXYZABCD'
 equals; 0; 'Abcdefghijklmnopqrstuvwxyzabcd'; 'abcdefghijklmnopqrstuvwxyzabce'
 equals; 0; 'Abcdefghijklmnopqrstuvwxyzabcd'; 'abcdefghijklmnopqrstuvwxyzabc'";
 
-/// Gives a text between quotes in a row, the first one by 1, the second one by 3, and so on.
+/// Returns a text between quotes in a row: the first one for 1, the second one for 3, and so on.
 fn quoted(row: &str, number: usize) -> Option<&[u8]> {
     let text = row.split('\'').nth(number)?;
     Some(text.as_bytes())
 }
 
-/// Tells whether the line of Main Street has these bytes between two places.
+/// Returns whether the line of Main Street has these bytes in these columns.
 fn has_field(bytes: &[u8], first: usize, last: usize) -> bool {
     1 <= first && first <= last && last <= RT1.len() && field(RT1, first, last) == bytes
 }
 
-/// Tells whether a name of the records' length equals the wanted one.
+/// Returns whether a name of the length used in records equals the wanted one.
 fn is_name(name: &[u8], wanted: &[u8]) -> bool {
     name.len() == NAME_LENGTH
         && !wanted.is_empty()
@@ -127,7 +127,7 @@ fn is_name(name: &[u8], wanted: &[u8]) -> bool {
         && name_equals(name, wanted)
 }
 
-/// Gives the answer of a row's call.
+/// Returns the answer of a row's call.
 fn answer(row: &str) -> Option<i64> {
     let first = quoted(row, 1)?;
     let second = quoted(row, 3).unwrap_or(b"");

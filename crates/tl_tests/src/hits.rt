@@ -1,12 +1,12 @@
-//! Hits of house numbers on streets, worked by hand.
+//! Hits of house numbers on streets, worked out by hand.
 use crate::sweep::growths;
 use fixtures::{Files, bytes, cell, county};
 use geocode::{Gazetteer, Hit, Query, QueryFault, hit_lines};
 use std::alloc::{AllocError, Allocator, Global};
 use tl_segments::{County, LoadFault};
 
-// The house number, the name, and the ZIP code or `-` where none is asked for; the lines of the hits, or which of these
-// isn't in its form; and the files of types 1, 4, 5 and 6 of a county, and of a second one.
+// The house number, the name, and the ZIP code or `-` for none; the lines of the hits, or which of these texts is invalid; and the files of types 1,
+// 4, 5 and 6 of one county, and of a second one.
 const HITS: &str = r"
 151; main; 36067; 123456789\tL\t-86494898\t32405102\n; {rt1}\n
 150; main; 36067; 123456789\tR\t-86494898\t32405102\n; {rt1}\n
@@ -95,7 +95,7 @@ const HITS: &str = r"
 151;; x; name; {rt1}\n
 ";
 
-/// Tells whether what a row asks for is answered as it says.
+/// Returns whether the query of a row has the answer that the row says.
 pub fn is_found<A: Allocator + Copy>(alloc: Global, heap: A, row: &str) -> Result<bool, LoadFault> {
     let counties = counties_of(alloc, heap, row)?;
     is_found_in(alloc, heap, &counties, row)
@@ -133,7 +133,7 @@ fn is_found_in<A: Allocator + Copy>(
     }
 }
 
-/// Tells whether the hits in counties, found by a walk and by a gazetteer, have these lines.
+/// Returns whether the hits in counties, found by a walk and through a gazetteer, have these lines.
 fn has_hits<A: Allocator + Copy>(
     alloc: Global,
     heap: A,

@@ -1,6 +1,5 @@
-//! Tests of the crates of records and segments: `tl_fields`, `tl_records`, `tl_segments` and `geocode`. They go through
-//! public calls, and stand in a crate of their own since a crate with tests is proved once without them and once with
-//! them.
+//! Tests of the crates for records and segments: `tl_fields`, `tl_records`, `tl_segments` and `geocode`. They use public calls, and are in a separate
+//! crate because a crate with tests is proved twice, once without them and once with them.
 #![tactic(auto)]
 
 #[cfg(test)]

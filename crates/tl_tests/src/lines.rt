@@ -1,12 +1,11 @@
-//! The lines of files, worked by hand.
+//! The lines of files, worked out by hand.
 use fixtures::{bytes, cell};
 use std::alloc::Global;
 use std::io::BufReader;
 use tl_fields::{Buffered, CountedRead, Counting};
 use tl_records::{Line, read_line};
 
-// A file, and what is read of it in turn, each followed by LF: a line, or a fault, after which the reading goes on
-// where it stopped.
+// A file, and the results of reading it, each followed by LF: a line, or a fault, after which reading continues where it stopped.
 const FILES: &str = r"
 ;
 ab\ncd\n; ab\ncd\n
@@ -28,15 +27,15 @@ a\rb\r\r\nc\r\n; a\rb\r\nc\n
 a\n{x*233}\nab\n; a\nWrongLength\nxx\nab\n
 {x*462}ab\n{x*231}; WrongLength\nWrongLength\nab\nWrongLength\n";
 
-// A buffer of each size, 0 where there is none: from one byte at a time to more than a line has.
+// The buffer sizes, with 0 for none: from one byte to more than a line has.
 const SIZES: &str = "0 1 3 100 230 231 232 8192";
 
-/// The name in a refusal's line that has no position.
+/// Returns the name in a refusal's line that has no position.
 fn name_of(line: &str) -> &str {
     line.rsplit(' ').next().unwrap_or("")
 }
 
-/// Tells whether these lines and faults are read in turn, each with the next number, and no more.
+/// Returns whether exactly these lines and faults are read one after the other, each with the next number.
 fn are_lines<R: CountedRead>(reader: &mut R, expected: &[u8]) -> bool {
     let mut line = Line::new();
     let mut rest = expected;
@@ -59,7 +58,7 @@ fn are_lines<R: CountedRead>(reader: &mut R, expected: &[u8]) -> bool {
     false
 }
 
-/// Tells whether a file has these lines through a buffer of this size.
+/// Returns whether a file has these lines through a buffer of this size.
 fn are_lines_through(alloc: Global, file: &[u8], lines: &[u8], size: usize) -> bool {
     if size == 0 {
         return are_lines(&mut Counting::new(file), lines);
@@ -70,7 +69,7 @@ fn are_lines_through(alloc: Global, file: &[u8], lines: &[u8], size: usize) -> b
     }
 }
 
-/// Tells whether the file of a row has its lines through a buffer of each size.
+/// Returns whether the file of a row has its lines through a buffer of each size.
 fn is_file(alloc: Global, row: &str) -> bool {
     let (Ok(file), Ok(lines)) = (bytes(alloc, cell(row, 0)), bytes(alloc, cell(row, 1))) else {
         return false;

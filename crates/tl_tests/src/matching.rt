@@ -1,4 +1,4 @@
-//! Matches of house numbers on streets, worked by hand.
+//! Matches of house numbers on streets, worked out by hand.
 use crate::hits::counties_of;
 use crate::sweep::growths;
 use fixtures::{bytes, cell};
@@ -6,9 +6,9 @@ use geocode::{Gazetteer, Match, Query, Street, StreetName, has_street, hit_lines
 use std::alloc::{AllocError, Allocator, Global};
 use tl_segments::{County, LoadFault};
 
-// The house number and the street's name; the directions before and after the name and the type between them, each `-` where it may be any, and
-// whether there is such a street; of each match the county's place, the fields of the name that matched, the side's FR and TO address and ZIP
-// code, and the line of its hit; and the files of types 1, 4, 5 and 6 of a county, and of a second one.
+// The house number and the street's name; the directions before and after the name with the type between them, each `-` if it may be any, and whether
+// there is such a street; for each match the county's index, the fields of the name that matched, the side's FR and TO addresses and ZIP code, and
+// the line of its hit; and the files of types 1, 4, 5 and 6 of one county, and of a second one.
 const MATCHES: &str = r"
 151; main; - - - yes; 0,,Main,,,101,199,36067,123456789\tL\t-86494898\t32405102\n; {rt1}\n
 150; MAIN; - - - yes; 0,,Main,,,100,198,36067,123456789\tR\t-86494898\t32405102\n; {rt1}\n
@@ -30,7 +30,7 @@ const MATCHES: &str = r"
 151; main; E - - yes; 1,E,Main,,,101,199,36067,7\tL\t-86494898\t32405102\n; {rt1}\n;;;; {rt1 TLID=7 FEDIRP=E}\n
 ";
 
-/// Tells whether the matches of a row, found by a walk and by a gazetteer, are as it says.
+/// Returns whether the matches of a row, found by a walk and through a gazetteer, are what the row says.
 pub fn is_matched<A: Allocator + Copy>(
     alloc: Global,
     heap: A,

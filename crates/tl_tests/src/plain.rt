@@ -1,11 +1,11 @@
-//! The segments of four files by plain filters of whole lists of lines.
+//! The segments of four files, computed by plain filters over complete lists of lines.
 use crate::seen::Seen;
 use fixtures::Files;
 use std::alloc::{AllocError, Allocator};
 use tl_fields::{blank, field, number};
 use tl_segments::{FullName, NAME_LIMIT, RANGE_LIMIT, RECORD_LENGTH, Range, Segment};
 
-/// Shows the segments of files of good lines, each of which ends with LF, in the order of the type 1 lines.
+/// Shows the segments of files of good lines, each terminated by LF, in the order of the type 1 lines.
 pub fn show_segments<A: Allocator + Copy>(
     alloc: A,
     files: &Files,
@@ -21,7 +21,7 @@ pub fn show_segments<A: Allocator + Copy>(
     Ok(())
 }
 
-/// Gives the number in a line after one place and up to another.
+/// Returns the number in a line from the column after `before` to column `last`.
 fn number_in(line: &[u8], before: usize, last: usize) -> Option<u64> {
     if before > last || last > line.len() {
         return None;
@@ -29,7 +29,7 @@ fn number_in(line: &[u8], before: usize, last: usize) -> Option<u64> {
     number(&line[before..last])
 }
 
-/// Adds what the type 4 and the type 6 lines with the segment's TLID give it.
+/// Adds to a segment what the type 4 and type 6 lines with its TLID have for it.
 fn push_parts<A: Allocator>(files: &Files, segment: &mut Segment<A>) -> Result<(), AllocError> {
     let tlid = number_in(segment.bytes(), 5, 15);
     for line in files.rt4.chunks(59) {

@@ -1,5 +1,4 @@
-//! How often a device is read, beneath a buffer and without one: not past the end that it tells, and not again after a
-//! failure.
+//! How often a reader is called, with and without a buffer: not after the end that it reported, and not again after a failure.
 use arrayvec::ArrayVec;
 use fixtures::{Device, cell, reader};
 use std::alloc::Global;
@@ -7,14 +6,13 @@ use std::io::{BufReader, Read};
 use tl_fields::{Buffered, CountedRead, Counting, Stop};
 use tl_records::{Line, read_line, read_line_into};
 
-// Two lines, the last of which has no end, and how many bytes are read of each, and of the end.
+// Two lines, the last one without a terminator, and the number of bytes read for each, and at the end.
 const FILE: &[u8] = b"ab\ncde";
 
 const LENGTHS: &str = "2 3 0";
 
-// How a line is read, the size of the buffer, 0 where there is none, how a device fails, and how many lines are read
-// where its first read fails, its second one, and so on up to the first that isn't made: then both lines are read, and
-// the end.
+// How a line is read; the size of the buffer, 0 for none; how the reader fails; and how many lines are read if its first read fails, its second, and
+// so on up to the first that isn't made. In that last case both lines are read, and the end.
 const READS: &str = "\
 content; 0; interrupted; 0 0 0 1 1 1 1 2 3
 content; 1; blocked; 0 0 0 1 1 1 1 2 3
@@ -42,7 +40,7 @@ read; 2; blocked; 0 0 1 1 2 3
 read; 6; pipe; 0 1 2 3
 read; 300; by 2 interrupted; 0 0 1 1 2 3";
 
-/// Gives the length of the next line, read in one of the ways, or none where a read fails.
+/// Returns the length of the next line, read in one of the ways, or `None` if a read fails.
 fn length_read<R: CountedRead>(reader: &mut R, way: &str) -> Option<usize> {
     let mut content = ArrayVec::new();
     match way {
@@ -63,7 +61,7 @@ fn length_read<R: CountedRead>(reader: &mut R, way: &str) -> Option<usize> {
     }
 }
 
-/// Gives the same where bytes are read one by one, up to a line feed or the end.
+/// Returns the same for bytes read one by one, up to a line feed or the end.
 fn byte_count<R: CountedRead>(reader: &mut R, way: &str) -> Option<usize> {
     for count in 0..=FILE.len() {
         let mut byte = [0];
@@ -78,7 +76,7 @@ fn byte_count<R: CountedRead>(reader: &mut R, way: &str) -> Option<usize> {
     None
 }
 
-/// Counts the lines that are read in one of the ways, and the end as one.
+/// Counts the lines that are read in one of the ways, and the end as one more.
 fn lines_read<R: CountedRead>(reader: &mut R, way: &str) -> u64 {
     let mut count = 0;
     for length in LENGTHS.split(' ') {
@@ -90,7 +88,7 @@ fn lines_read<R: CountedRead>(reader: &mut R, way: &str) -> u64 {
     count
 }
 
-/// Counts the same through a buffer of this size, or without one where it is 0.
+/// Counts the same through a buffer of this size, or without one if it is 0.
 fn lines_through<R: Read>(alloc: Global, size: usize, device: &mut R, way: &str) -> Option<u64> {
     if size == 0 {
         return Some(lines_read(&mut Counting::new(device), way));
@@ -99,7 +97,7 @@ fn lines_through<R: Read>(alloc: Global, size: usize, device: &mut R, way: &str)
     Some(lines_read(&mut Buffered::new(buffer), way))
 }
 
-/// Tells whether so many lines are read where this call of a row's device fails, which is the last one then.
+/// Returns whether this many lines are read if this call of a row's reader fails, and whether it is then the last call.
 fn is_read(alloc: Global, row: &str, failing: u64, lines: u64) -> bool {
     let size = cell(row, 1).parse().unwrap_or(0);
     let mut device = reader(FILE, Device::new(cell(row, 2)).at_call(failing));
@@ -109,7 +107,7 @@ fn is_read(alloc: Global, row: &str, failing: u64, lines: u64) -> bool {
     read == Some(lines) && calls == failing && device.failed_reads().wrapping_add(unmade) == 1
 }
 
-/// Tells whether a row's lines are read where each call of its device fails.
+/// Returns whether a row's lines are read as expected for each failing call.
 fn are_read(alloc: Global, row: &str) -> bool {
     let mut failing: u64 = 0;
     for lines in cell(row, 3).split(' ') {

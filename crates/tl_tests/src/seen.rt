@@ -1,15 +1,15 @@
-//! What segments have, as a row says it.
+//! The contents of segments, as a row describes them.
 use std::alloc::Allocator;
 use tl_fields::field;
 use tl_segments::Segment;
 
-/// What is seen of segments, and what a row says of them: of each one the TLID, a `+` before the four fields of each of
-/// its alternate names, and a `/` before the address at which each of its further ranges starts on the left; or `counts`,
-/// how many segments there are, and how many alternate names and ranges they have together.
+/// What was seen of segments, and what a row says about them. For each segment, the row has its TLID, a `+` before the four fields of each alternate
+/// name, and a `/` before the left start address of each further range. Alternatively, it has `counts` and the total numbers of segments, alternate
+/// names and ranges.
 #[derive(Clone, Copy)]
 pub struct Seen<'a> {
     said: &'a str,
-    /// What is still to be said, if all that was seen so far is what the row says.
+    /// What remains of the row's text, if everything seen so far agrees with it.
     rest: Option<&'a [u8]>,
     segments: u64,
     names: u64,
@@ -35,7 +35,7 @@ impl<'a> Seen<'a> {
         self.rest = say_ranges(segment, say_names(segment, self.rest));
     }
 
-    /// Tells whether that is all that the row says.
+    /// Returns whether exactly what the row says was seen.
     pub fn is_all(&self) -> bool {
         self.rest == Some(b"") || self.has_counts()
     }
@@ -49,12 +49,12 @@ impl<'a> Seen<'a> {
     }
 }
 
-/// Takes a sign and what a field holds off what is still to be said, if it begins with them.
+/// Strips a sign and the contents of a field from the remaining text, if it begins with them.
 fn say<'a>(said: Option<&'a [u8]>, sign: &[u8], field: &[u8]) -> Option<&'a [u8]> {
     said?.strip_prefix(sign)?.strip_prefix(field.trim_ascii())
 }
 
-/// Says the TLID of a segment, and its alternate names.
+/// Strips the TLID of a segment and its alternate names.
 fn say_names<'a, A: Allocator>(segment: &Segment<A>, said: Option<&'a [u8]>) -> Option<&'a [u8]> {
     let mut said = say(
         Some(said?.trim_ascii_start()),
@@ -71,7 +71,7 @@ fn say_names<'a, A: Allocator>(segment: &Segment<A>, said: Option<&'a [u8]>) -> 
     said
 }
 
-/// Says the starts of a segment's further ranges.
+/// Strips the starts of a segment's further ranges.
 fn say_ranges<'a, A: Allocator>(segment: &Segment<A>, said: Option<&'a [u8]>) -> Option<&'a [u8]> {
     let mut said = said;
     for n in 1..segment.ranges() {

@@ -1,4 +1,4 @@
-//! Each growth of a call refused in turn.
+//! Refusing each allocation of a call, one at a time.
 use crate::counties::load_row;
 use crate::hits::is_found;
 use crate::matching::is_matched;
@@ -8,7 +8,7 @@ use std::alloc::Global;
 use std::process::Abort;
 use tl_segments::LoadFault;
 
-/// Tells whether a call answers what a row says, or that it is out of memory, exactly where a growth was refused.
+/// Returns whether a call's answer is what a row says, or out of memory exactly if an allocation was refused.
 fn is_answered(alloc: Global, heap: &Refusing<Global>, call: &str, row: &str) -> bool {
     let answer = match call {
         "hits" => is_found(alloc, heap, row),
@@ -22,8 +22,7 @@ fn is_answered(alloc: Global, heap: &Refusing<Global>, call: &str, row: &str) ->
     }
 }
 
-/// Counts the growths of a call that are refused in turn, up to the first that isn't reached, or gives none where an
-/// answer is wrong.
+/// Counts the allocations of a call, refusing one at a time until none is left to refuse. Returns `None` if an answer is wrong.
 fn refusals(alloc: Global, call: &str, row: &str) -> Option<u64> {
     let heap = Refusing::new(alloc);
     for nth in 1..=u64::MAX {
@@ -38,7 +37,7 @@ fn refusals(alloc: Global, call: &str, row: &str) -> Option<u64> {
     None
 }
 
-/// Counts the growths that are refused of each of these calls for each row of a table.
+/// Counts the allocations that are refused, for each of these calls and each row of a table.
 pub fn growths(rt: &impl Abort, alloc: Global, rows: &str, calls: &str) -> u64 {
     let rows = table(alloc, rows).expect(rt, "memory");
     let mut count: u64 = 0;

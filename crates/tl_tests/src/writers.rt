@@ -1,12 +1,12 @@
-//! Writers that fail in mid-stream: what they take, and what they count.
+//! Writers that fail in the middle of their output: what they take, and what they count.
 use fixtures::{Device, Writer, cell, taken, writer};
 use std::alloc::Global;
 use std::io::Write;
 use tl_fields::{CountedWrite, Counting, WriteFault, write_whole};
 
-// How a writer fails, and what it is asked in turn: to write a text, and how many bytes it takes, or `-` where the call
-// fails; to flush; its counts of failed calls, of writes that took nothing and of flushes; the calls of the device; and
-// all that it has taken.
+// How a writer fails, and a sequence of calls and checks: a write of a text, with the number of bytes that it takes, or `-` if the call fails; a
+// flush; the counts of failed calls, of writes that took nothing and of flushes; the number of calls that reach the device; and everything that it
+// has taken.
 const WRITES: &str = "\
 call 2 pipe; write:abc=3 write:de=- write:=0 write:de=2 flush=0 failed=1 empty=0 flushes=1 calls=5 taken:abcde
 call 2 late; write_counted:abc=3 write_counted:de=- write_counted:=0 write_counted:de=2 flush_counted=0 \
@@ -30,7 +30,7 @@ after 5 nothing; write_whole:abcde=5 failed=0 empty=0 calls=1 taken:abcde
 by 1 call 3 blocked; write_whole:abcde=- failed=1 calls=3 taken:ab
 by 1; write_whole:abcde=5 write_whole:=0 failed=0 empty=0 flushes=0 calls=5 taken:abcde";
 
-/// Gives how many bytes of a text a writer takes by one call, or none where it fails.
+/// Returns how many bytes of a text a writer takes in one call, or `None` if it fails.
 fn given<W: CountedWrite>(writer: &mut W, call: &str, text: &[u8]) -> Option<u64> {
     let taken = match call {
         "write" => writer.write(text).ok(),
@@ -46,7 +46,7 @@ fn given<W: CountedWrite>(writer: &mut W, call: &str, text: &[u8]) -> Option<u64
     Some(taken? as u64)
 }
 
-/// Gives the count of a writer's failed calls, of its writes that took nothing, or of its flushes.
+/// Returns a writer's count of failed calls, of writes that took nothing, or of flushes.
 fn count<T>(writer: &Counting<T>, name: &str) -> u64 {
     match name {
         "failed" => writer.failed_writes(),
@@ -55,7 +55,7 @@ fn count<T>(writer: &Counting<T>, name: &str) -> u64 {
     }
 }
 
-/// Tells whether a call or a count of a writer gives what a word says.
+/// Returns whether a call or a count of a writer gives what a word says.
 fn is_given(writer: &mut Writer, word: &str) -> bool {
     let (call, expected) = word.split_once('=').unwrap_or((word, "no answer"));
     let (call, text) = call.split_once(':').unwrap_or((call, ""));
@@ -68,7 +68,7 @@ fn is_given(writer: &mut Writer, word: &str) -> bool {
     }
 }
 
-/// Tells whether a writer does what a row says.
+/// Returns whether a writer behaves as a row says.
 fn is_written(alloc: Global, row: &str) -> bool {
     let mut writer = writer(alloc, Device::new(cell(row, 0)));
     for word in cell(row, 1).split(' ') {
