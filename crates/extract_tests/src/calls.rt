@@ -1,4 +1,4 @@
-//! The calls that an extract is made of, each by itself.
+//! The calls that make up an extract, each on its own.
 use bpf_machine::Bare;
 use bpf_verify::Verified;
 use extract::{accept, row, row_text, score_if_chosen};
@@ -9,7 +9,7 @@ use std::io::ErrorKind;
 use tl_fields::{Burst, Counting, Fuse, WriteFault};
 use tl_segments::Segment;
 
-// Programs, the refusals of those that aren't accepted, and the rows of those that choose the record.
+// Programs, the refusals of those that aren't accepted, and the rows of those that select the record.
 const PROGRAMS: &str = r"every;; 0\t{rt1}\n
 two;; 0\t{rt1}\n
 never
@@ -31,7 +31,7 @@ argument; refused 50 place 5 BadArgument(3)";
 
 type Heap = Refusing<Global>;
 
-/// Tells whether a program is refused, or chooses the record, as a row says.
+/// Returns whether a program is refused, or selects the record, as a row says.
 fn is_right(alloc: Global, row: &str) -> Option<bool> {
     let program = program(alloc, cell(row, 0))?;
     let heap = Refusing::new(alloc);
@@ -43,8 +43,7 @@ fn is_right(alloc: Global, row: &str) -> Option<bool> {
     }
 }
 
-/// Tells whether a code gives the record the row of a cell, and the same score again in the same machine, without a
-/// growth.
+/// Returns whether code gives the record the row of a cell, and gives the same score again in the same machine, without allocating.
 fn is_chosen(alloc: Global, heap: &Heap, verified: &Verified<&Heap>, text: &str) -> bool {
     heap.refuse(1);
     let segment = Segment::of(heap, RT1);
@@ -57,7 +56,7 @@ fn is_chosen(alloc: Global, heap: &Heap, verified: &Verified<&Heap>, text: &str)
     is_row && score == score_if_chosen(verified, &segment, &mut bare) && heap.count() == 0
 }
 
-/// Tells whether the row of a segment with a score is that of a cell.
+/// Returns whether the row of a segment with a score is that of a cell.
 fn is_row(alloc: Global, score: u64, segment: &Segment<&Heap>, text: &str) -> Option<bool> {
     let text = bytes(alloc, text).ok()?;
     let mut out = Counting::new(Vec::new(alloc));
@@ -68,7 +67,7 @@ fn is_row(alloc: Global, score: u64, segment: &Segment<&Heap>, text: &str) -> Op
     )
 }
 
-/// Tells whether a row reports that its write failed.
+/// Returns whether a row reports that its write failed.
 fn is_write_reported(alloc: Global, score: u64, segment: &Segment<&Heap>) -> bool {
     let out = Counting::new(Vec::new(alloc));
     let fuse = Fuse::after_calls(out, 0, Burst::Fails(ErrorKind::Other));

@@ -1,11 +1,11 @@
-//! Extracts of the rows of tables, in a given memory and over given devices.
+//! Extracts for the rows of tables, with a given allocator, readers and writer.
 use extract::extract;
 use fixtures::{Device, Files, Readers, bytes, cell, is_outcome, program, taken, writer};
 use refusals::Fault;
 use std::alloc::{Allocator, Global};
 use tl_segments::CountyFile;
 
-/// A program, a county's files, and the rows that the program chooses of them.
+/// A program, a county's files, and the rows that the program selects from them.
 #[derive(Drop)]
 pub struct Case {
     pub program: Vec<u8>,
@@ -31,8 +31,8 @@ impl Case {
         })
     }
 
-    /// Counts the reads and writes of an extract. `None` unless it has this outcome, and writes so many bytes of the
-    /// rows, or whole rows where no length is given.
+    /// Counts the reads and writes of an extract. Returns `None` unless it has this outcome and writes `length` bytes of the rows, or complete rows
+    /// if no length is given.
     pub fn calls<A: Allocator + Copy>(
         &self,
         alloc: Global,
@@ -51,7 +51,7 @@ impl Case {
     }
 }
 
-/// Tells whether these are the first so many bytes of the rows, or whole rows.
+/// Returns whether these are the first `length` bytes of the rows, or complete rows.
 fn is_front(written: &[u8], rows: &[u8], length: Option<usize>) -> bool {
     let is_end = match length {
         Some(length) => written.len() == length,

@@ -1,5 +1,5 @@
-//! Tests of the crate `extract`. They go through its public calls, and stand in a crate of their own since a crate with
-//! tests is proved once without them and once with them.
+//! Tests of the crate `extract`. They use its public calls, and are in a separate crate because a crate with tests is proved twice, once without them
+//! and once with them.
 #![tactic(auto)]
 
 #[cfg(test)]

@@ -7,8 +7,7 @@ use std::io::{Read, Write};
 use std::test::Fail;
 use tl_fields::Counting;
 
-/// A reader of lines of 229 bytes that asks, before the first byte of each, whether the rows of all lines before it are
-/// written.
+/// A reader of 229-byte lines that checks, before the first byte of each, whether the rows of all earlier lines have been written.
 #[derive(Drop)]
 struct Asking<'a, 'b> {
     bytes: &'a [u8],
@@ -40,7 +39,7 @@ impl Read for Asking<'_, '_> {
     }
 }
 
-/// A writer that tells how many bytes it was handed.
+/// A writer that reports how many bytes it was given.
 #[derive(Drop)]
 struct Telling<'a> {
     written: &'a Cell<usize>,

@@ -1,6 +1,6 @@
-//! Programs, the files of types 1, 4, 5 and 6, the outcome, and the rows that the program chooses.
+//! Programs, the files of types 1, 4, 5 and 6, the outcome, and the rows that the program selects.
 
-/// Extracts of files of type 1. `not_roads` and `roads` choose by the class's first letter.
+/// Extracts of type 1 files. `not_roads` and `roads` select by the first letter of the class.
 pub const EXTRACTS: &str = r"every; {rt1\n*2};;;; ok 2; 0\t{rt1}\n0\t{rt1}\n
 every;;;;; ok 0
 every; {rt1}\r\n{rt1}\n{rt1};;;; ok 3; 0\t{rt1}\n0\t{rt1}\n0\t{rt1}\n
@@ -37,8 +37,8 @@ mov r0, 0 | ldxb r2, [r1+55] | jgt r2, 228, +2 | add r1, r2 | ldxb r0, [r1+0] | 
   refused 44 place 4 OutOfBounds
 mov r0, 0 | ldxb r2, [r1+55] | jsgt r2, 227, +2 | add r1, r2 | ldxb r0, [r1+0] | exit; {rt1}\n;;;; ok 1; 0\t{rt1}\n";
 
-/// Extracts of all four files. The score of `counts` is 10,000 times the number of alternate names, and the number of
-/// ranges; `finds` looks for Oak among the first two alternate names.
+/// Extracts of all four files. The score of `counts` is 10,000 times the number of alternate names, plus the number of ranges; `finds` looks for Oak
+/// among the first two alternate names.
 pub const COUNTIES: &str =
     r"counts; {rt1}\n; {rt4 FEAT2=8}\n; {rt5}\n; {rt6}\n{rt6 RTSQ=2}\n{rt6 TLID=5}\n; ok 1; 10003\t{rt1}\n
 counts; {rt1}\n; {rt4 FEAT3=8}\n; {rt5 FEAT=8 FENAME=Elm}\n{rt5}\n{rt5 FENAME=Ash}\n;; ok 1; 20001\t{rt1}\n

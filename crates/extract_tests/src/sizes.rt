@@ -1,4 +1,4 @@
-//! Extracts by programs of as many words as there may be, of counties of real sizes, and in little memory.
+//! Extracts with programs of the maximum number of words, with counties of realistic size, and with little memory.
 use crate::extracts::Case;
 use extract::extract;
 use fixtures::{cell, is_outcome, table};
@@ -8,11 +8,11 @@ use std::alloc::Global;
 use std::test::Fail;
 use tl_fields::{Buffered, Counting};
 
-// A program, the files of types 1, 4, 5 and 6, the outcome, the rows, and how many bytes of memory there are.
+// A program, the files of types 1, 4, 5 and 6, the outcome, the rows, and the number of bytes of memory.
 //
-// First programs of as many words as there may be, or one more. Then 70,000 lines of type 1 in little memory, and
-// joined files of 25,000 TLIDs each: `every` reads the record alone, so that they are only checked for it. The score of
-// `counts` is 10,000 times the number of alternate names, and the number of ranges.
+// The first programs have the maximum number of words, or one more. Then come 70,000 type 1 lines in little memory, and joined files of 25,000 TLIDs
+// each. `every` reads the record alone, so these files are only checked for it. The score of `counts` is 10,000 times the number of alternate names,
+// plus the number of ranges.
 const LARGE: &str = r"mov r0, 1 *65535 | exit; {rt1\n*3};;;; ok 3; {0\trt1\n*3}; 16777216
 lddw r0, 0x1 *32767 | mov r0, 1 | exit; {rt1\n};;;; ok 1; 0\t{rt1}\n; 16777216
 mov r0, 1 | ja32 +65533 | mov r0, 0 *65533 | exit; {rt1\n*3};;;; ok 3; {0\trt1\n*3}; 16777216
@@ -26,7 +26,7 @@ counts; {rt1 TLID=1}\n{rt1 TLID=25000}\n{rt1 TLID=25001}\n{rt1 TLID=30001}\n{rt1
   {10001\trt1 TLID=1}\n{10001\trt1 TLID=25000}\n{1\trt1 TLID=25001}\n{2\trt1 TLID=30001}\n{2\trt1 TLID=55000}\n;
   16777216";
 
-/// Tells whether an extract through buffers does what a row says.
+/// Returns whether an extract through buffers does what a row says.
 fn is_large(alloc: Global, row: &str) -> Option<bool> {
     let heap = LocalHeap::new(alloc, cell(row, 7).parse().ok()?).ok()?;
     let case = Case::new(alloc, row)?;

@@ -1,4 +1,4 @@
-//! Each growth, each read and each write of an extract fails in turn.
+//! Failures of each allocation, each read and each write of an extract.
 use crate::extracts::{Case, Devices};
 use crate::rows::{COUNTIES, EXTRACTS};
 use fixtures::{Device, Refusing, cell, table};
@@ -6,15 +6,15 @@ use std::alloc::Global;
 use std::test::Fail;
 use tl_segments::CountyFile;
 
-// The extract of two lines of Main Street whose devices fail, without other files and with them.
+// The extract of two lines of Main Street with failing readers and writers, without other files and with them.
 const ALONE: &str = r"every; {rt1\n*2};;;; ok 2; 0\t{rt1}\n0\t{rt1}\n";
 
 const JOINED: &str =
     r"every; {rt1\n*2}; {rt4\n*2}; {rt5\n*2}; {rt6\n*2}; ok 2; 0\t{rt1}\n0\t{rt1}\n";
 
-// What fails, a read of a file or a write, and in which ways; the first and the last read, or how many bytes were taken
-// before, at least and at most; the outcome; how many bytes are written, and how many reads and writes there are. `+3`
-// is three more than the read or the bytes. A read or a byte after the last one changes nothing.
+// What fails, a read of a file or a write, and in which ways; the first and last read, or the least and greatest number of bytes taken before; the
+// outcome; how many bytes are written, and how many reads and writes there are. `+3` is three more than the read or the bytes. A read or a byte after
+// the last one changes nothing.
 const FAILURES: &str = "\
 rt4; pipe, interrupted, blocked, late; 1 1; refused 5 rt4 line 1 Read; 0; +0; 0
 rt5; pipe, interrupted, blocked, late; 1 1; refused 5 rt5 line 1 Read; 0; +1; 0
@@ -68,14 +68,14 @@ fn file_named(name: &str) -> CountyFile {
     }
 }
 
-/// The number of a cell, which counts from a place if it begins with `+`.
+/// Returns the number in a cell, relative to `place` if it begins with `+`.
 fn number(cell: &str, place: u64) -> u64 {
     let from = if cell.starts_with("+") { place } else { 0 };
     let number: u64 = cell.trim_start_matches('+').parse().unwrap_or(0);
     number.wrapping_add(from)
 }
 
-/// Tells whether an extract ends as a row says where the device fails so at a read, or after so many bytes.
+/// Returns whether an extract ends as a row says if the reader fails in this way at a read, or the writer after this many bytes.
 fn is_refused(alloc: Global, case: &Case, row: &str, way: &str, place: u64) -> bool {
     let (sound, device) = (Device::new(""), Device::new(way));
     let name = cell(row, 0);
@@ -94,7 +94,7 @@ fn is_refused(alloc: Global, case: &Case, row: &str, way: &str, place: u64) -> b
     case.calls(alloc, alloc, devices, cell(row, 3), Some(length)) == Some(calls)
 }
 
-/// The first place at which a row is wrong in this way, if there is one.
+/// Returns the first place at which a row is wrong for this way of failing, if any.
 fn wrong_place(alloc: Global, case: &Case, row: &str, way: &str) -> Option<u64> {
     let (first, last) = cell(row, 2).split_once(' ').unwrap_or(("", ""));
     let (first, last) = (first.parse().unwrap_or(1), last.parse().unwrap_or(0));
@@ -106,7 +106,7 @@ fn wrong_place(alloc: Global, case: &Case, row: &str, way: &str) -> Option<u64> 
     (first > last).then_some(first)
 }
 
-/// The first row that is wrong in some way, if there is one.
+/// Returns the first row that is wrong for some way of failing, if any.
 fn wrong_row<'a>(alloc: Global, case: &Case, failures: &'a str) -> Option<&'a str> {
     for row in failures.lines() {
         for way in cell(row, 1).split(", ") {
@@ -127,8 +127,8 @@ fn each_read_and_each_write(rt: HostRuntime) -> Result<(), Fail> {
     Ok(())
 }
 
-/// Counts the growths of an extract, each of which was refused once. `None` where it ends otherwise than expected, or a
-/// refused growth doesn't end it.
+/// Counts the allocations of an extract after refusing each one once. Returns `None` if the extract has another outcome than expected, or if a
+/// refused allocation doesn't end it.
 fn refused_growths(alloc: Global, case: &Case, outcome: &str) -> Option<u64> {
     let heap = Refusing::new(alloc);
     let sound = Device::new("");
@@ -146,7 +146,7 @@ fn refused_growths(alloc: Global, case: &Case, outcome: &str) -> Option<u64> {
     Some(growths)
 }
 
-/// Tells whether there are growths in the extract of a row, each of which was refused.
+/// Returns whether the extract of a row allocates, and each of its allocations was refused.
 fn is_each_refused(alloc: Global, row: &str) -> bool {
     match Case::new(alloc, row) {
         Some(case) => refused_growths(alloc, &case, cell(row, 5)) > Some(0),
