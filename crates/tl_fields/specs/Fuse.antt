@@ -5,7 +5,7 @@ use Rattle.tl_fields.specs.declared.fuse.Burst.{Burst}
 use Rattle.tl_fields.specs.declared.fuse.Burst.TheVariants.{Fails, TakesNothing}
 use Rattle.tl_fields.specs.declared.fuse.Fuse.{Fuse}
 
--- A call that passes this number of bytes fails: no call has failed yet, and either no call is left, or no byte is left and the call passes some.
+-- a call with this many bytes must fail: no call has failed yet, and either no call is left, or no byte is left and the call has some
 abbrev pub is_due : {T : Type 0} → Fuse T → ℕ → Bool
 is_due fuse bytes = not fuse.is_blown && (fuse.calls_left == 0 || (fuse.bytes_left == 0 && nat_lt 0 bytes))
 

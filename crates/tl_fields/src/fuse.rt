@@ -65,7 +65,7 @@ impl<T> Fuse<T> {
         }
     }
 
-    /// Counts a call that passes `bytes` bytes, and returns whether it fails.
+    /// Counts a call with `bytes` bytes, and returns whether it must fail.
     fn blows(&mut self, bytes: usize) -> bool
         ensures value { result ≡ is_due self.old bytes }
         ensures counted { self.new ≡ after_call self.old bytes }
