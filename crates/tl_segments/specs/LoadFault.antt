@@ -8,7 +8,7 @@ use Rattle.tl_segments.specs.declared.fault.CountyFile.TheVariants.{Rt4, Rt6}
 use Rattle.tl_segments.specs.declared.fault.LoadFault.{LoadFault}
 use Rattle.tl_segments.specs.declared.fault.LoadFault.TheVariants.{Line, TooManyNames, TooManyRanges, Memory}
 
--- at a line of a county's file
+-- a refusal at a line of a county's file
 abbrev pub in_file : CountyFile → ℕ → RefusalParts → RefusalParts
 in_file file line refusal = at_file_line (record_type file) line refusal
 
