@@ -62,7 +62,7 @@ most_bytes number = if number == 2 ^ 32 - 1 then 0 else 230
 abbrev pub FailsWithin : ℕ → List ℕ → List ℕ → Type 0
 FailsWithin most file rest = (taken : List ℕ) × (file ≡ taken ++ rest) × HasNoLineFeed taken × (length taken ≤ most)
 
--- a file has one byte more than the rest
+-- a file has one more byte than the rest
 abbrev pub HasOneMore : List ℕ → List ℕ → Type 0
 HasOneMore file rest = (byte : ℕ) × (file ≡ byte ∷ rest)
 
