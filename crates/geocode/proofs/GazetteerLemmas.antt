@@ -61,7 +61,7 @@ segment_at-drop segments n segment rest is =
     let after : drop (n + 1) segments ≡ rest = cc in
     (ap (λ found. unwrap_or found blank_segment) (slice_get-get_or segments n segment inside) ∙ same, after)
 
--- the segment that is read at a number
+-- the segment read at a number
 pub segment_at-read : (segments : List Contents) (n : ℕ) (segment : Contents) → n < length segments → segment ≡ get_or segments n segment
     → segment_at segments n ≡ segment
 segment_at-read segments n segment inside is =
