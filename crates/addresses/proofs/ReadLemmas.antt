@@ -108,7 +108,7 @@ read-more text fields read =
     let found = more-found text fields true read in
     rw (found.1, all-utf8 fields read.utf8, found.2) refl
 
--- an error of the first read is caused by its text or by memory
+-- an error of the first read is caused by its text or by running out of memory
 pub as-read : (line : ℕ) (a b : Reader Marked) (text : List ℕ) (fields : Fields) (error : ErrorKind) → IsTextReader text a
     → ExplainsRead marked_left a b true error → IsRecordRead line fields (fields_in text) (Err (fault_of line error))
 as-read line a b text fields (kind.Utf8 pos err) fresh why =

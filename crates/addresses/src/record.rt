@@ -51,7 +51,7 @@ fn text_reader<'a>(alloc: Global, text: &'a [u8]) -> Reader<Chain<&'a [u8], &'a 
         .from_reader(alloc, marked)
 }
 
-/// Returns the fault that an error corresponds to. A reader of bytes fails only because of its text or of memory.
+/// Returns the fault that an error corresponds to. A reader of bytes fails only because of its text or because memory runs out.
 fn fault_of(line: u64, error: &Error) -> AddressFault
     ensures { result ≡ fault_of line (error_kind error.now) }
 {
