@@ -27,7 +27,7 @@ impl<'a> Seen<'a> {
         }
     }
 
-    /// Sees the next segment.
+    /// Compares the next segment with the row, and counts it.
     pub fn see<A: Allocator>(&mut self, segment: &Segment<A>) {
         self.segments = self.segments.wrapping_add(1);
         self.names = self.names.wrapping_add(segment.names());

@@ -5,7 +5,7 @@ use std::io::Write;
 use tl_fields::{CountedWrite, Counting, WriteFault, write_whole};
 
 // How a writer fails, and a sequence of calls and checks: a write of a text, with the number of bytes that it takes, or `-` if the call fails; a
-// flush; the counts of failed calls, of writes that took nothing and of flushes; the number of calls that reach the device; and everything that it
+// flush; the counts of failed calls, of writes that took nothing and of flushes; the number of calls that its fuse counted; and everything that it
 // has taken.
 const WRITES: &str = "\
 call 2 pipe; write:abc=3 write:de=- write:=0 write:de=2 flush=0 failed=1 empty=0 flushes=1 calls=5 taken:abcde
