@@ -1,4 +1,4 @@
-//! A reader over a buffered one.
+//! A counting reader over a buffered one.
 ghost use Rattle.std.specs.Prelude.{◌≡◌, ◌≤◌, ◌+◌, ◌++◌, ◌∷◌, [], None, IfSome, OnSome, length, take};
 ghost use Rattle.std.specs.Io.{ReadsAtMost};
 ghost use Rattle.std.specs.Io.KnownBytes.{ReadConsumes};
@@ -13,7 +13,7 @@ use memchr::memchr;
 use std::io;
 use std::io::{BufRead, Read};
 
-/// A reader over a buffered one that counts its failures.
+/// A reader that counts the failures of the buffered reader that it wraps.
 ///
 /// The end of a line is searched for in the buffer, and a one-byte read avoids copying a slice. The source is read when the buffer is empty, just as
 /// with one-byte reads.
